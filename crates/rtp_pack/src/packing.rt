@@ -1,0 +1,47 @@
+//! Words are packed into octets.
+
+ghost use Rattle.std.specs.Prelude.{◌≡◌, []};
+ghost use Rattle.rtp_pack.specs.Payload.{IsWordSize, IsPayload, octets_of};
+
+use arrayvec::ArrayVec;
+
+// The bits of an octet.
+const OCTET_BITS: u8 = 8;
+
+/// Makes `out` the payload of these words of `bits` bits (RFC 3551, 4.5.4). What `out` held before is gone.
+///
+/// Each word is below 2^`bits`, and together they are a whole number of octets, 240 at most.
+pub fn pack(bits: u8, words: &[u8], out: &mut ArrayVec<u8, 240>)
+    requires size { IsWordSize bits }
+    requires words { IsPayload bits words.now }
+    ensures { out.new.items ≡ octets_of bits words.now }
+{
+    out.clear();
+    if bits == OCTET_BITS {
+        // a word of 8 bits is an octet, and all of them fit
+        let _ = out.try_extend_from_slice(words);
+    } else {
+        pack_across(bits, words, out);
+    }
+}
+
+// Packs words that run on across octets.
+fn pack_across(bits: u8, words: &[u8], out: &mut ArrayVec<u8, 240>)
+    requires size { IsWordSize bits }
+    requires words { IsPayload bits words.now }
+    requires empty { out.old.items ≡ [] }
+    ensures { out.new.items ≡ octets_of bits words.now }
+{
+    // the bits that have no octet yet, and how many they are
+    let mut pending: u16 = 0;
+    let mut count: u8 = 0;
+    for word in words {
+        pending += u16::from(*word) << count;
+        count += bits;
+        if count >= OCTET_BITS {
+            out.push((pending % 256) as u8);
+            pending /= 256;
+            count -= OCTET_BITS;
+        }
+    }
+}
