@@ -1,0 +1,109 @@
+-- What a layer above may cite of datagrams: the laws, as lemmas.
+use Rattle.std.proofs.Common.{◌≡◌, ◌<◌, ℕ, zero, suc, false, List, [], ◌∷◌, ◌++◌, slice_index, Option, Some, None, refl, sym, ap, ◌∙◌, arith}
+use Rattle.std.specs.Prelude.{Result, Ok, Err, IfOk, IsOkAnd, MatchResult}
+use Rattle.std.specs.List.{All}
+use Rattle.std.proofs.lemmas.List.{append-nil}
+use Rattle.std.proofs.lemmas.List.Elements.{All-head, All-tail}
+use Rattle.rtp_packet.specs.declared.RtpFault.{RtpFault}
+use Rattle.rtp_packet.specs.Rtp.{Parts, IsDatagram, fixed_header, plain_datagram, plain_parts}
+use Rattle.rtp_packet.specs.Fault.{fault}
+use Rattle.rtp_packet.specs.Read.{parts_of, unless_fault, read_of}
+use Rattle.rtp_packet.specs.Laws.{IsDatagramOf, FaultlessIsDatagram, DatagramIsFaultless, PartsAreUnique, ReadsParts, ReadsFault, PlainIsRead}
+use Rattle.rtp_packet.proofs.Joins.{told, joins}
+
+-- an item of a list of octets, also past its end, is below 256
+octet-at : (xs : List ℕ) → All (λ octet. octet < 256) xs → (i : ℕ) → slice_index xs i < 256
+octet-at [] each i = omega arith
+octet-at (x ∷ xs) each zero = All-head (λ octet. octet < 256) x xs each
+octet-at (x ∷ xs) each (suc i) = octet-at xs (All-tail (λ octet. octet < 256) x xs each) i
+
+-- octets without fault are the join of some parts
+pub faultless_is_datagram : FaultlessIsDatagram
+faultless_is_datagram octets each none = joins octets (octet-at octets each) none
+
+-- the join of some parts has no fault
+pub datagram_is_faultless : DatagramIsFaultless
+datagram_is_faultless octets (parts, count, padding, d) = (told octets parts count padding d).faultless
+
+-- octets are the join of at most one record of parts
+pub parts_are_unique : PartsAreUnique
+parts_are_unique octets parts others (count, padding, d) (number, filling, e) =
+    (told octets parts count padding d).parts ∙ sym (told octets others number filling e).parts
+
+-- the join of some parts is read as these parts
+pub read_of-datagram : (octets : List ℕ) (parts : Parts) → IsDatagramOf parts octets → read_of octets ≡ Ok parts
+unfolding read_of
+read_of-datagram octets parts (count, padding, d) =
+    let t = told octets parts count padding d in
+    rw (t.faultless, t.parts) refl
+
+-- parts are read where there is no fault, and are those that stand at their places
+unless_fault-ok : (f : Option RtpFault) (at parts : Parts) → unless_fault f at ≡ Ok parts → (f ≡ None) × (parts ≡ at)
+unless_fault-ok None at parts e = (refl, cc)
+unless_fault-ok (Some f) at parts e = absurd (cc)
+
+-- a fault is told where there is one
+unless_fault-err : (f : Option RtpFault) (at : Parts) (g : RtpFault) → unless_fault f at ≡ Err g → f ≡ Some g
+unless_fault-err None at g e = absurd (cc)
+unless_fault-err (Some f) at g e = cc
+
+-- octets that are read are the join of what they are read as
+pub read_of-ok : (octets : List ℕ) (parts : Parts) → ((i : ℕ) → slice_index octets i < 256) → read_of octets ≡ Ok parts → IsDatagramOf parts octets
+unfolding read_of
+read_of-ok octets parts each e =
+    let t = unless_fault-ok (fault octets) (parts_of octets) parts e in
+    let d = joins octets each t.0 in
+    rw (t.1) (rw (← (told octets d.0 d.1 d.2 d.3).parts) (d.1, d.2, d.3))
+
+-- octets are refused with their first fault
+pub read_of-err : (octets : List ℕ) (f : RtpFault) → read_of octets ≡ Err f → fault octets ≡ Some f
+unfolding read_of
+read_of-err octets f e = unless_fault-err (fault octets) (parts_of octets) f e
+
+-- octets with a fault are refused
+pub read_of-fault : (octets : List ℕ) (f : RtpFault) → fault octets ≡ Some f → read_of octets ≡ Err f
+unfolding read_of
+read_of-fault octets f e = rw e refl
+
+-- octets are read as the parts of which they are the join, and as no others
+pub reads_parts : ReadsParts
+reads_parts octets parts each = (read_of-ok octets parts (octet-at octets each), read_of-datagram octets parts)
+
+-- octets are refused with their first fault, and only with that
+pub reads_fault : ReadsFault
+reads_fault octets f = (read_of-err octets f, read_of-fault octets f)
+
+-- a plain datagram is read as its header and its payload
+pub plain_is_read : PlainIsRead
+unfolding plain_datagram
+plain_is_read header payload fits =
+    read_of-datagram (plain_datagram header payload) (plain_parts header payload) (
+      0,
+      [],
+      record {
+        joined = ap (λ (r : List ℕ). fixed_header false false 0 false header ++ r) (sym (append-nil payload));
+        fields = fits;
+        count_fits = omega arith;
+        whole_sources = refl;
+        whole_words = tt;
+        counted = tt;
+      },
+    )
+
+-- what was read is the join of its parts
+pub read-ok : (octets : List ℕ) (r : Result Parts RtpFault) → ((i : ℕ) → slice_index octets i < 256) → r ≡ read_of octets
+    → IfOk r (λ parts. IsDatagramOf parts octets)
+read-ok octets (Ok parts) each e = read_of-ok octets parts each (sym e)
+read-ok octets (Err f) each e = tt
+
+-- a join of parts was read as these
+pub read-exact : (octets : List ℕ) (r : Result Parts RtpFault) → r ≡ read_of octets
+    → (parts : Parts) (count : ℕ) (padding : List ℕ) → IsDatagram octets parts count padding → IsOkAnd r (λ view. view ≡ parts)
+read-exact octets r e parts count padding d = rw (e ∙ read_of-datagram octets parts (count, padding, d)) refl
+
+-- what was read has no fault, and what was refused has the fault that was told
+pub read-fault : (octets : List ℕ) (r : Result Parts RtpFault) → r ≡ read_of octets
+    → MatchResult r (λ _. fault octets ≡ None) (λ f. fault octets ≡ Some f)
+unfolding read_of
+read-fault octets (Ok parts) e = (unless_fault-ok (fault octets) (parts_of octets) parts (sym e)).0
+read-fault octets (Err f) e = unless_fault-err (fault octets) (parts_of octets) f (sym e)
