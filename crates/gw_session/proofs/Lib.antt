@@ -1,0 +1,7 @@
+pub mod Writes
+pub mod Buffers
+pub mod Firsts
+pub mod Readings
+pub mod Totality
+pub mod PacketLemmas
+pub mod Taking

@@ -1,0 +1,10 @@
+pub mod Stream
+pub mod Streams
+pub mod Records
+pub mod Reading
+pub mod Reader
+pub mod Laws
+pub mod Encode
+pub mod Packets
+pub mod Decode
+pub mod Sessions

@@ -1,0 +1,286 @@
+//! Speech to the records of its datagrams.
+ghost use Rattle.std.specs.Prelude.{◌≡◌, ◌+◌, ◌-◌, ◌*◌, ◌^◌, ◌<◌, ◌≤◌, ℕ, [], ◌++◌, length, replicate, min, IfOk, OnOk, OnErr, IfErr};
+ghost use Rattle.std.specs.Io.KnownBytes.{Appends};
+ghost use Rattle.gw_session.specs.Streams.{Passes, Breaks};
+ghost use Rattle.gw_session.specs.Encode.{packet_len, header_at, packet_record, records_from, full_packets};
+ghost use Rattle.gw_session.specs.Encode.{encode_totals, Encodes, EncodesUntil};
+ghost use Rattle.gw_session.specs.Packets.{header_with, IsPacket, last_packet, last_count};
+ghost use Rattle.gw_session.specs.declared.spec.StreamSpec.{StreamSpec};
+
+use crate::outcome::{RunFault, Totals};
+use crate::reader::{MAX_READS, read_behind};
+use crate::spec::StreamSpec;
+use crate::streams::{Sink, Source};
+use crate::writing::{Waiting, flush, put};
+use arrayvec::ArrayVec;
+use byteorder::{BigEndian, ByteOrder};
+use rtp_packet::Header;
+
+// Room for 32 KiB in each read behind a packet that is not full, which has fewer than 240 octets.
+const SPEECH_LEN: usize = 33_008;
+
+const SAMPLES_IN_MS: usize = 8;
+
+const WORD_BITS: u8 = 8;
+
+const DATAGRAM: u8 = 0x44;
+
+const CIRCUIT: u8 = 1;
+
+// What changes from one packet to the next, and how many packets came before, up to the greatest u64.
+#[derive(Clone, Copy, Debug, PartialEq, Eq)]
+struct Progress {
+    sequence: u16,
+    timestamp: u32,
+    datagrams: u64,
+}
+
+// How many samples a packet has.
+fn packet_len(spec: &StreamSpec) -> usize
+    ensures value { result ≡ packet_len spec.now }
+    ensures least { 0 < result }
+    ensures most { result ≤ 240 }
+{
+    usize::from(spec.ptime) * SAMPLES_IN_MS
+}
+
+// Before the first packet.
+fn first_packet(sequence: u16, timestamp: u32) -> Progress
+    ensures { (s : StreamSpec) → s.sequence ≡ sequence → s.timestamp ≡ timestamp → IsPacket s result 0 }
+{
+    Progress {
+        sequence,
+        timestamp,
+        datagrams: 0,
+    }
+}
+
+// One packet on.
+#[tactic(auto, unfolding(crate::specs::Encode::header_at))]
+fn next_packet(spec: &StreamSpec, progress: &Progress) -> Progress
+    ensures { (k : ℕ) → IsPacket spec.now progress.now k → IsPacket spec.now result (k + 1) }
+{
+    Progress {
+        sequence: progress.sequence.wrapping_add(1),
+        timestamp: progress.timestamp.wrapping_add(packet_len(spec) as u32),
+        datagrams: progress.datagrams.saturating_add(1),
+    }
+}
+
+// The record of the datagram of a packet.
+#[tactic(auto, unfolding(crate::specs::Encode::packet_record))]
+fn packet_record(spec: &StreamSpec, progress: &Progress, words: &[u8]) -> ArrayVec<u8, 256>
+    requires { length words.now ≤ 240 }
+    ensures { result.items ≡ packet_record spec.now (header_with spec.now progress.now) words.now }
+{
+    let header = Header {
+        payload_type: spec.payload_type,
+        sequence: progress.sequence,
+        timestamp: progress.timestamp,
+        ssrc: spec.ssrc,
+    };
+    let mut payload: ArrayVec<u8, 240> = ArrayVec::new();
+    rtp_pack::pack(WORD_BITS, words, &mut payload);
+    let mut datagram: ArrayVec<u8, 252> = ArrayVec::new();
+    let _ = rtp_packet::write(&header, payload.as_slice(), &mut datagram);
+    let mut front = [DATAGRAM, CIRCUIT, 0, 0];
+    BigEndian::write_u16(&mut front[2..4], datagram.len() as u16);
+    let mut record: ArrayVec<u8, 256> = ArrayVec::new();
+    let _ = record.try_extend_from_slice(&front);
+    let _ = record.try_extend_from_slice(datagram.as_slice());
+    record
+}
+
+// Puts the record of a packet behind the octets that wait.
+fn put_packet<K: Sink>(
+    spec: &StreamSpec,
+    progress: &Progress,
+    words: &[u8],
+    waiting: &mut Waiting,
+    sink: &mut K,
+) -> Result<(), RunFault>
+    requires room { length words.now ≤ 240 }
+    requires writes { (K.tells sink.old).failures < 2 ^ 64 - 1 }
+    ensures ok { OnOk result (Passes (K.tells sink.old).taken (K.tells sink.new).taken waiting.new.items
+        (waiting.old.items ++ packet_record spec.now (header_with spec.now progress.now) words.now)) }
+    ensures counts { OnOk result ((K.tells sink.new).failures ≡ (K.tells sink.old).failures) }
+    ensures fault { IfErr result (λ e. (e ≡ RunFault.Write) × Breaks (K.tells sink.old) (K.tells sink.new)
+        (waiting.old.items ++ packet_record spec.now (header_with spec.now progress.now) words.now)) }
+{
+    put(
+        sink,
+        waiting,
+        packet_record(spec, progress, words).as_slice(),
+    )
+}
+
+// Puts the records of the full packets of these octets behind those that wait, and answers how many octets are left.
+fn put_packets<K: Sink>(
+    spec: &StreamSpec,
+    progress: &mut Progress,
+    octets: &[u8],
+    waiting: &mut Waiting,
+    sink: &mut K,
+) -> Result<usize, RunFault>
+    requires { (K.tells sink.old).failures < 2 ^ 64 - 1 }
+    ensures left { IfOk result (λ left. (left < packet_len spec.now)
+        × (length octets.now ≡ packet_len spec.now * full_packets spec.now octets.now + left)) }
+    ensures ok { (k : ℕ) → IsPacket spec.now progress.old k → OnOk result (Passes (K.tells sink.old).taken (K.tells sink.new).taken
+        waiting.new.items (waiting.old.items ++ records_from spec.now k octets.now (full_packets spec.now octets.now))) }
+    ensures next { (k : ℕ) → IsPacket spec.now progress.old k
+        → OnOk result (IsPacket spec.now progress.new (k + full_packets spec.now octets.now)) }
+    ensures counts { OnOk result ((K.tells sink.new).failures ≡ (K.tells sink.old).failures) }
+    ensures fault { IfErr result (λ e. e ≡ RunFault.Write) }
+    ensures cut { (k : ℕ) → IsPacket spec.now progress.old k → OnErr result (Breaks (K.tells sink.old) (K.tells sink.new)
+        (waiting.old.items ++ records_from spec.now k octets.now (full_packets spec.now octets.now))) }
+{
+    let len = packet_len(spec);
+    let mut rest = octets;
+    'packets: while rest.len() >= len {
+        let (packet, others) = rest.split_at(len);
+        match put_packet(spec, progress, packet, waiting, sink) {
+            Ok(()) => {}
+            Err(fault) => return Err(fault),
+        }
+        *progress = next_packet(spec, progress);
+        rest = others;
+    }
+    Ok(rest.len())
+}
+
+// Writes the records of the full packets of these octets, and answers how many octets are left.
+fn write_packets<K: Sink>(
+    spec: &StreamSpec,
+    progress: &mut Progress,
+    octets: &[u8],
+    waiting: &mut Waiting,
+    sink: &mut K,
+) -> Result<usize, RunFault>
+    requires empty { waiting.old.items ≡ [] }
+    requires writes { (K.tells sink.old).failures < 2 ^ 64 - 1 }
+    ensures left { IfOk result (λ left. (left < packet_len spec.now)
+        × (length octets.now ≡ packet_len spec.now * full_packets spec.now octets.now + left)) }
+    ensures ok { (k : ℕ) → IsPacket spec.now progress.old k → OnOk result (Appends (K.tells sink.old).taken (K.tells sink.new).taken
+        (records_from spec.now k octets.now (full_packets spec.now octets.now))) }
+    ensures next { (k : ℕ) → IsPacket spec.now progress.old k
+        → OnOk result (IsPacket spec.now progress.new (k + full_packets spec.now octets.now)) }
+    ensures empty { OnOk result (waiting.new.items ≡ []) }
+    ensures counts { OnOk result ((K.tells sink.new).failures ≡ (K.tells sink.old).failures) }
+    ensures fault { IfErr result (λ e. e ≡ RunFault.Write) }
+    ensures cut { (k : ℕ) → IsPacket spec.now progress.old k → OnErr result (Breaks (K.tells sink.old) (K.tells sink.new)
+        (records_from spec.now k octets.now (full_packets spec.now octets.now))) }
+{
+    match put_packets(spec, progress, octets, waiting, sink) {
+        Ok(left) => match flush(sink, waiting) {
+            Ok(()) => Ok(left),
+            Err(fault) => Err(fault),
+        },
+        Err(fault) => Err(fault),
+    }
+}
+
+// Fills a packet with an octet up to its length.
+fn fill(packet: &mut ArrayVec<u8, 240>, len: usize, octet: u8)
+    requires len { len ≤ 240 }
+    requires open { length packet.old.items ≤ len }
+    ensures { packet.new.items ≡ packet.old.items ++ replicate (len - length packet.old.items) octet }
+{
+    for place in packet.len()..len {
+        prove!(place == packet.len());
+        packet.push(octet);
+    }
+}
+
+// What encoding answers after so many datagrams.
+fn encode_totals(datagrams: u64) -> Totals
+    ensures { result ≡ record { records = 0; octets = 0; datagrams = datagrams; dropped = 0; port_faults = 0 } }
+{
+    Totals {
+        records: 0,
+        octets: 0,
+        datagrams,
+        dropped: 0,
+        port_faults: 0,
+    }
+}
+
+// Writes the record of what is left over, filled with idle octets, and answers the totals.
+fn write_last<K: Sink>(
+    spec: &StreamSpec,
+    progress: &Progress,
+    octets: &[u8],
+    waiting: &mut Waiting,
+    sink: &mut K,
+) -> Result<Totals, RunFault>
+    requires open { length octets.now < packet_len spec.now }
+    requires empty { waiting.old.items ≡ [] }
+    requires writes { (K.tells sink.old).failures < 2 ^ 64 - 1 }
+    ensures ok { (k : ℕ) → IsPacket spec.now progress.now k → OnOk result (Appends (K.tells sink.old).taken (K.tells sink.new).taken
+        (last_packet spec.now k octets.now)) }
+    ensures totals { (k : ℕ) → IsPacket spec.now progress.now k → IfOk result (λ t. t ≡ encode_totals (last_count k octets.now)) }
+    ensures counts { OnOk result ((K.tells sink.new).failures ≡ (K.tells sink.old).failures) }
+    ensures fault { IfErr result (λ e. e ≡ RunFault.Write) }
+    ensures cut { (k : ℕ) → IsPacket spec.now progress.now k → OnErr result (Breaks (K.tells sink.old) (K.tells sink.new)
+        (last_packet spec.now k octets.now)) }
+{
+    if octets.is_empty() {
+        return Ok(encode_totals(progress.datagrams));
+    }
+    let mut words: ArrayVec<u8, 240> = ArrayVec::new();
+    let _ = words.try_extend_from_slice(octets);
+    fill(&mut words, packet_len(spec), e1_g711::idle(spec.law));
+    match put_packet(spec, progress, words.as_slice(), waiting, sink) {
+        Ok(()) => match flush(sink, waiting) {
+            Ok(()) => Ok(encode_totals(progress.datagrams.saturating_add(1))),
+            Err(fault) => Err(fault),
+        },
+        Err(fault) => Err(fault),
+    }
+}
+
+/// Writes speech as RTP datagrams, each in a D record of circuit 1: the octets of the source, a packet of
+/// `spec.ptime` ms at a time, whose sequence numbers and timestamps go on from those of `spec`. A last packet that is
+/// not full is filled with idle octets. All packets that are full are written before the source is read again.
+/// Takes no memory.
+///
+/// # Errors
+///
+/// [`RunFault::Read`] where the source failed, or after 2^62 reads: the full packets of the octets that it gave are
+/// written. [`RunFault::Write`] where the sink failed: it has a prefix of what would be written.
+pub fn encode_stream<S: Source, K: Sink>(
+    spec: &StreamSpec,
+    source: &mut S,
+    sink: &mut K,
+) -> Result<Totals, RunFault>
+    requires reads { (S.tells source.old).failures < 2 ^ 64 - 1 }
+    requires writes { (K.tells sink.old).failures < 2 ^ 64 - 1 }
+    ensures ok { IfOk result (Encodes spec.now (S.tells source.old) (S.tells source.new) (K.tells sink.old) (K.tells sink.new)) }
+    ensures fault { IfErr result (EncodesUntil spec.now (S.tells source.old) (S.tells source.new) (K.tells sink.old) (K.tells sink.new)) }
+{
+    let mut speech = [0u8; SPEECH_LEN];
+    let mut held = 0usize;
+    let mut progress = first_packet(spec.sequence, spec.timestamp);
+    let mut waiting = Waiting::new();
+    'reading: for turn in 0..MAX_READS {
+        prove!(turn < MAX_READS);
+        let n = match read_behind(source, &mut speech, held) {
+            Ok(0) => {
+                return match write_last(spec, &progress, &speech[..held], &mut waiting, sink) {
+                    Ok(totals) => Ok(totals),
+                    Err(fault) => Err(fault),
+                };
+            }
+            Ok(n) => n,
+            Err(_) => return Err(RunFault::Read),
+        };
+        let end = held + n;
+        match write_packets(spec, &mut progress, &speech[..end], &mut waiting, sink) {
+            Ok(left) => {
+                speech.copy_within(end - left..end, 0);
+                held = left;
+            }
+            Err(fault) => return Err(fault),
+        }
+    }
+    Err(RunFault::Read)
+}
