@@ -16,3 +16,6 @@ pub use encode::encode_stream;
 pub use outcome::{RunFault, Totals};
 pub use spec::StreamSpec;
 pub use streams::{FromRead, Sink, SinkFault, Source, SourceFault, ToWrite};
+
+#[cfg(test)]
+mod tests;
