@@ -1,5 +1,7 @@
 -- The speech in the records of datagrams.
-use Rattle.std.specs.Prelude.{◌≡◌, ◌==◌, ◌⊎◌, ◌^◌, ◌-◌, ◌<◌, ◌≤◌, ℕ, min, true, false, if◌then◌else◌, List, [], length, Option, Some, None, unwrap_or, count_by, is_none, Result, Ok, Err}
+use Rattle.std.specs.Prelude.{◌≡◌, ◌==◌, ◌⊎◌, ◌^◌, ◌-◌, ◌<◌, ◌≤◌, if◌then◌else◌}
+use Rattle.std.specs.Prelude.{ℕ, min, true, false, List, [], length, Option, Some, None, unwrap_or, count_by}
+use Rattle.std.specs.Prelude.{is_none, Result, Ok, Err}
 use Rattle.std.specs.List.{flat_map}
 use Rattle.std.specs.Io.KnownBytes.{Appends, IsAtEnd}
 use Rattle.rtp_packet.specs.declared.RtpFault.{RtpFault}
@@ -23,7 +25,7 @@ words_if s (Ok parts) =
     if parts.header.payload_type == s.payload_type then Some (words_of (word_bits s) parts.payload) else None
 words_if s (Err fault) = None
 
--- the code words in the octets of a datagram of the stream; None where they are refused or of another payload type
+-- the code words in the octets of a datagram of the stream; None where they are refused, or of another type
 unfoldable pub datagram_words : StreamSpec → List ℕ → Option (List ℕ)
 datagram_words s octets = words_if s (read_of octets)
 
@@ -63,7 +65,8 @@ decode_totals s records = record {
 }
 
 -- the source gave octets, which are good records and then end so, and the sink took the speech of the records
-pub record Decodes (s : StreamSpec) (source source' : SourceState) (sink sink' : SinkState) (ending : Ending) : Type 0 where
+pub record Decodes (s : StreamSpec) (source source' : SourceState) (sink sink' : SinkState)
+    (ending : Ending) : Type 0 where
   pub octets : List ℕ
   pub gives : Gives source source' octets
   pub records : List Record
@@ -73,13 +76,16 @@ pub record Decodes (s : StreamSpec) (source source' : SourceState) (sink sink' :
   pub no_write : sink'.failures ≡ sink.failures
 
 -- the source gave records up to its end, and the totals are those of the records
-pub record DecodesAll (s : StreamSpec) (source source' : SourceState) (sink sink' : SinkState) (totals : Totals) : Type 0 where
+pub record DecodesAll (s : StreamSpec) (source source' : SourceState) (sink sink' : SinkState)
+    (totals : Totals) : Type 0 where
   pub decodes : Decodes s source source' sink sink' endings.End
   pub ended : IsAtEnd source'.to_come
   pub totals_are : totals ≡ decode_totals s decodes.records
 
--- a read failed, or there were 2 ^ 62 of them, each of which gave an octet; the speech of the whole records was written
-pub record DecodesUntilRead (s : StreamSpec) (source source' : SourceState) (sink sink' : SinkState) : Type 0 where
+-- a read failed, or there were 2 ^ 62 of them, each of which gave an octet; the speech of the whole records
+-- was written
+pub record DecodesUntilRead (s : StreamSpec) (source source' : SourceState) (sink sink' : SinkState)
+    : Type 0 where
   pub octets : List ℕ
   pub gives : Gives source source' octets
   pub records : List Record
@@ -90,7 +96,8 @@ pub record DecodesUntilRead (s : StreamSpec) (source source' : SourceState) (sin
   pub no_write : sink'.failures ≡ sink.failures
 
 -- a write failed; a prefix of the speech of whole records was written
-pub record DecodesUntilWrite (s : StreamSpec) (source source' : SourceState) (sink sink' : SinkState) : Type 0 where
+pub record DecodesUntilWrite (s : StreamSpec) (source source' : SourceState) (sink sink' : SinkState)
+    : Type 0 where
   pub octets : List ℕ
   pub gives : Gives source source' octets
   pub records : List Record
@@ -98,12 +105,14 @@ pub record DecodesUntilWrite (s : StreamSpec) (source source' : SourceState) (si
   pub breaks : Breaks sink sink' (decoded s records)
   pub no_read : source'.failures ≡ source.failures
 
--- How decoding ends before the end of the source: with the fault of the record that is not good, cut only where the
--- source is at its end; by a read or a write; or for want of memory, with nothing read or written. No record that is
--- read here has a command.
+-- How decoding ends before the end of the source: with the fault of the record that is not good, cut only
+-- where the source is at its end; by a read or a write; or for want of memory, with nothing read or written.
+-- No record that is read here has a command.
 abbrev pub DecodesUntil : StreamSpec → SourceState → SourceState → SinkState → SinkState → RunFault → Type 0
-DecodesUntil s source source' sink sink' faults.BadKind = Decodes s source source' sink sink' endings.BadKind
-DecodesUntil s source source' sink sink' faults.BadCircuit = Decodes s source source' sink sink' endings.BadCircuit
+DecodesUntil s source source' sink sink' faults.BadKind =
+    Decodes s source source' sink sink' endings.BadKind
+DecodesUntil s source source' sink sink' faults.BadCircuit =
+    Decodes s source source' sink sink' endings.BadCircuit
 DecodesUntil s source source' sink sink' faults.BadCommand = ⊥
 DecodesUntil s source source' sink sink' faults.Truncated =
     Decodes s source source' sink sink' endings.Truncated × IsAtEnd source'.to_come

@@ -1,5 +1,6 @@
 -- Speech as the datagrams of one stream (RFC 3551, section 4.5): packets of equal length, one datagram each.
-use Rattle.std.specs.Prelude.{◌≡◌, ◌⊎◌, ◌+◌, ◌-◌, ◌*◌, ◌/◌, ◌%◌, ◌^◌, ◌<◌, ◌≤◌, ℕ, zero, suc, min, List, [], ◌++◌, length, take, drop, replicate}
+use Rattle.std.specs.Prelude.{◌≡◌, ◌⊎◌, ◌+◌, ◌-◌, ◌*◌, ◌/◌, ◌%◌, ◌^◌, ◌<◌, ◌≤◌, ◌++◌}
+use Rattle.std.specs.Prelude.{ℕ, zero, suc, min, List, [], length, take, drop, replicate}
 use Rattle.std.specs.Io.KnownBytes.{Appends, IsAtEnd}
 use Rattle.e1_g711.specs.Law.{idle_code}
 use Rattle.rtp_packet.specs.declared.Header.{Header}
@@ -28,8 +29,8 @@ words_for s octets = octets
 abbrev pub packet_at : StreamSpec → List ℕ → ℕ → List ℕ
 packet_at s words k = take (packet_len s) (drop (packet_len s * k) words)
 
--- The header of packet k (RFC 3550, section 5.1): the sequence number goes up by one for each packet, the timestamp
--- by its samples.
+-- The header of packet k (RFC 3550, section 5.1): the sequence number goes up by one for each packet, the
+-- timestamp by its samples.
 unfoldable pub header_at : StreamSpec → ℕ → Header
 header_at s k = record {
   payload_type = s.payload_type;
@@ -75,7 +76,8 @@ encode_totals count =
     record { records = 0; octets = 0; datagrams = min count (2 ^ 64 - 1); dropped = 0; port_faults = 0 }
 
 -- the source gave octets up to its end, and the sink took the records of all of them
-pub record Encodes (s : StreamSpec) (source source' : SourceState) (sink sink' : SinkState) (totals : Totals) : Type 0 where
+pub record Encodes (s : StreamSpec) (source source' : SourceState) (sink sink' : SinkState)
+    (totals : Totals) : Type 0 where
   pub octets : List ℕ
   pub gives : Gives source source' octets
   pub ended : IsAtEnd source'.to_come
@@ -85,7 +87,8 @@ pub record Encodes (s : StreamSpec) (source source' : SourceState) (sink sink' :
   pub no_write : sink'.failures ≡ sink.failures
 
 -- a read failed, or there were 2 ^ 62 of them, each of which gave an octet; the full packets were written
-pub record EncodesUntilRead (s : StreamSpec) (source source' : SourceState) (sink sink' : SinkState) : Type 0 where
+pub record EncodesUntilRead (s : StreamSpec) (source source' : SourceState) (sink sink' : SinkState)
+    : Type 0 where
   pub octets : List ℕ
   pub gives : Gives source source' octets
   pub took : Appends sink.taken sink'.taken (encoded_full s octets)
@@ -93,7 +96,8 @@ pub record EncodesUntilRead (s : StreamSpec) (source source' : SourceState) (sin
   pub no_write : sink'.failures ≡ sink.failures
 
 -- a write failed; a prefix of the records was written
-pub record EncodesUntilWrite (s : StreamSpec) (source source' : SourceState) (sink sink' : SinkState) : Type 0 where
+pub record EncodesUntilWrite (s : StreamSpec) (source source' : SourceState) (sink sink' : SinkState)
+    : Type 0 where
   pub octets : List ℕ
   pub gives : Gives source source' octets
   pub breaks : Breaks sink sink' (encoded s octets)

@@ -7,11 +7,13 @@ use Rattle.gw_session.specs.Records.{Record, Reads}
 -- octets are read as records in one way
 abbrev pub AtMostOneReading : Type 0
 AtMostOneReading = (kinds : Kinds) (octets : List ℕ) (records others : List Record) (ending other : Ending)
-    → Reads kinds octets records ending → Reads kinds octets others other → (records ≡ others) × (ending ≡ other)
+    → Reads kinds octets records ending → Reads kinds octets others other
+    → (records ≡ others) × (ending ≡ other)
 
 -- more octets keep the whole records that are there
 abbrev pub MoreKeepsRecords : Type 0
-MoreKeepsRecords = (kinds : Kinds) (octets more : List ℕ) (records longer : List Record) (ending other : Ending)
+MoreKeepsRecords =
+    (kinds : Kinds) (octets more : List ℕ) (records longer : List Record) (ending other : Ending)
     → Reads kinds octets records ending → Reads kinds (octets ++ more) longer other
     → (others : List Record) × (longer ≡ records ++ others)
 

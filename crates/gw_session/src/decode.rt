@@ -1,5 +1,6 @@
 //! Records of datagrams to their speech.
-ghost use Rattle.std.specs.Prelude.{◌≡◌, ◌-◌, ◌^◌, ◌<◌, ◌++◌, [], Some, None, MatchOption, OnOk, IfOk, IfErr, is_some, unwrap_or};
+ghost use Rattle.std.specs.Prelude.{◌≡◌, ◌-◌, ◌^◌, ◌<◌, ◌++◌};
+ghost use Rattle.std.specs.Prelude.{[], Some, None, MatchOption, OnOk, IfOk, IfErr, is_some, unwrap_or};
 ghost use Rattle.rtp_pack.specs.Payload.{words_of};
 ghost use Rattle.gw_session.specs.Streams.{Passes, Breaks};
 ghost use Rattle.gw_session.specs.Decode.{datagram_words, DecodesAll, DecodesUntil};
@@ -34,7 +35,8 @@ fn payload_words(payload: &[u8]) -> &[u8]
 // The code words of a datagram, if it is one of the stream.
 #[tactic(auto, unfolding(crate::specs::Decode::datagram_words))]
 fn datagram_words<'a>(spec: &StreamSpec, octets: &'a [u8]) -> Option<&'a [u8]>
-    ensures { MatchOption result (datagram_words spec.now octets.now ≡ None) (λ w. datagram_words spec.now octets.now ≡ Some w.now) }
+    ensures { MatchOption result (datagram_words spec.now octets.now ≡ None)
+        (λ w. datagram_words spec.now octets.now ≡ Some w.now) }
 {
     match rtp_packet::parse(octets) {
         Ok(view) if view.payload_type() == spec.payload_type => Some(payload_words(view.payload())),
@@ -94,16 +96,18 @@ fn count_record(totals: Totals, is_decoded: bool) -> Totals
     }
 }
 
-/// Writes the speech in the D records of the source, of any circuits, one datagram after another. A datagram that
-/// `rtp_packet::parse` refuses, or of another payload type than that of `spec`, is counted in `dropped` and passed
-/// over. What is complete is written before the source is read again. Memory is taken once, before the first read.
+/// Writes the speech in the D records of the source, of any circuits, one datagram after another.
+///
+/// A datagram that `rtp_packet::parse` refuses, or of another payload type than that of `spec`, is counted in
+/// `dropped` and passed over. What is complete is written before the source is read again. Memory is taken once,
+/// before the first read.
 ///
 /// # Errors
 ///
-/// The first of [`RunFault::BadKind`], [`RunFault::BadCircuit`] and [`RunFault::Truncated`] that holds of the records,
-/// [`RunFault::Read`] where the source failed, or after 2^62 reads: the speech of all whole records before it is
-/// written. [`RunFault::Write`] where the sink failed: it has a prefix of that speech. [`RunFault::OutOfMemory`] where
-/// memory was refused: nothing is read or written.
+/// The first of [`RunFault::BadKind`], [`RunFault::BadCircuit`] and [`RunFault::Truncated`] that holds of the
+/// records, [`RunFault::Read`] where the source failed, or after 2^62 reads: the speech of all whole records
+/// before it is written. [`RunFault::Write`] where the sink failed: it has a prefix of that speech.
+/// [`RunFault::OutOfMemory`] where memory was refused: nothing is read or written.
 pub fn decode_stream<S: Source, K: Sink>(
     alloc: Global,
     spec: &StreamSpec,
@@ -112,8 +116,10 @@ pub fn decode_stream<S: Source, K: Sink>(
 ) -> Result<Totals, RunFault>
     requires reads { (S.tells source.old).failures < 2 ^ 64 - 1 }
     requires writes { (K.tells sink.old).failures < 2 ^ 64 - 1 }
-    ensures ok { IfOk result (DecodesAll spec.now (S.tells source.old) (S.tells source.new) (K.tells sink.old) (K.tells sink.new)) }
-    ensures fault { IfErr result (DecodesUntil spec.now (S.tells source.old) (S.tells source.new) (K.tells sink.old) (K.tells sink.new)) }
+    ensures ok { IfOk result (DecodesAll spec.now
+        (S.tells source.old) (S.tells source.new) (K.tells sink.old) (K.tells sink.new)) }
+    ensures fault { IfErr result (DecodesUntil spec.now
+        (S.tells source.old) (S.tells source.new) (K.tells sink.old) (K.tells sink.new)) }
 {
     let Ok(mut reader) = Reader::new(alloc) else {
         return Err(RunFault::OutOfMemory);

@@ -1,5 +1,6 @@
 //! Speech to the records of its datagrams.
-ghost use Rattle.std.specs.Prelude.{◌≡◌, ◌+◌, ◌-◌, ◌*◌, ◌^◌, ◌<◌, ◌≤◌, ℕ, [], ◌++◌, length, replicate, min, IfOk, OnOk, OnErr, IfErr};
+ghost use Rattle.std.specs.Prelude.{◌≡◌, ◌+◌, ◌-◌, ◌*◌, ◌^◌, ◌<◌, ◌≤◌, ◌++◌};
+ghost use Rattle.std.specs.Prelude.{ℕ, [], length, replicate, min, IfOk, OnOk, OnErr, IfErr};
 ghost use Rattle.std.specs.Io.KnownBytes.{Appends};
 ghost use Rattle.gw_session.specs.Streams.{Passes, Breaks};
 ghost use Rattle.gw_session.specs.Encode.{packet_len, header_at, packet_record, records_from, full_packets};
@@ -114,7 +115,8 @@ fn put_packet<K: Sink>(
     )
 }
 
-// Puts the records of the full packets of these octets behind those that wait, and answers how many octets are left.
+// Puts the records of the full packets of these octets behind those that wait, and answers how many octets
+// are left.
 fn put_packets<K: Sink>(
     spec: &StreamSpec,
     progress: &mut Progress,
@@ -125,13 +127,15 @@ fn put_packets<K: Sink>(
     requires { (K.tells sink.old).failures < 2 ^ 64 - 1 }
     ensures left { IfOk result (λ left. (left < packet_len spec.now)
         × (length octets.now ≡ packet_len spec.now * full_packets spec.now octets.now + left)) }
-    ensures ok { (k : ℕ) → IsPacket spec.now progress.old k → OnOk result (Passes (K.tells sink.old).taken (K.tells sink.new).taken
-        waiting.new.items (waiting.old.items ++ records_from spec.now k octets.now (full_packets spec.now octets.now))) }
+    ensures ok { (k : ℕ) → IsPacket spec.now progress.old k
+        → OnOk result (Passes (K.tells sink.old).taken (K.tells sink.new).taken waiting.new.items
+        (waiting.old.items ++ records_from spec.now k octets.now (full_packets spec.now octets.now))) }
     ensures next { (k : ℕ) → IsPacket spec.now progress.old k
         → OnOk result (IsPacket spec.now progress.new (k + full_packets spec.now octets.now)) }
     ensures counts { OnOk result ((K.tells sink.new).failures ≡ (K.tells sink.old).failures) }
     ensures fault { IfErr result (λ e. e ≡ RunFault.Write) }
-    ensures cut { (k : ℕ) → IsPacket spec.now progress.old k → OnErr result (Breaks (K.tells sink.old) (K.tells sink.new)
+    ensures cut { (k : ℕ) → IsPacket spec.now progress.old k
+        → OnErr result (Breaks (K.tells sink.old) (K.tells sink.new)
         (waiting.old.items ++ records_from spec.now k octets.now (full_packets spec.now octets.now))) }
 {
     let len = packet_len(spec);
@@ -160,14 +164,16 @@ fn write_packets<K: Sink>(
     requires writes { (K.tells sink.old).failures < 2 ^ 64 - 1 }
     ensures left { IfOk result (λ left. (left < packet_len spec.now)
         × (length octets.now ≡ packet_len spec.now * full_packets spec.now octets.now + left)) }
-    ensures ok { (k : ℕ) → IsPacket spec.now progress.old k → OnOk result (Appends (K.tells sink.old).taken (K.tells sink.new).taken
+    ensures ok { (k : ℕ) → IsPacket spec.now progress.old k
+        → OnOk result (Appends (K.tells sink.old).taken (K.tells sink.new).taken
         (records_from spec.now k octets.now (full_packets spec.now octets.now))) }
     ensures next { (k : ℕ) → IsPacket spec.now progress.old k
         → OnOk result (IsPacket spec.now progress.new (k + full_packets spec.now octets.now)) }
     ensures empty { OnOk result (waiting.new.items ≡ []) }
     ensures counts { OnOk result ((K.tells sink.new).failures ≡ (K.tells sink.old).failures) }
     ensures fault { IfErr result (λ e. e ≡ RunFault.Write) }
-    ensures cut { (k : ℕ) → IsPacket spec.now progress.old k → OnErr result (Breaks (K.tells sink.old) (K.tells sink.new)
+    ensures cut { (k : ℕ) → IsPacket spec.now progress.old k
+        → OnErr result (Breaks (K.tells sink.old) (K.tells sink.new)
         (records_from spec.now k octets.now (full_packets spec.now octets.now))) }
 {
     match put_packets(spec, progress, octets, waiting, sink) {
@@ -193,7 +199,13 @@ fn fill(packet: &mut ArrayVec<u8, 240>, len: usize, octet: u8)
 
 // What encoding answers after so many datagrams.
 fn encode_totals(datagrams: u64) -> Totals
-    ensures { result ≡ record { records = 0; octets = 0; datagrams = datagrams; dropped = 0; port_faults = 0 } }
+    ensures { result ≡ record {
+      records = 0;
+      octets = 0;
+      datagrams = datagrams;
+      dropped = 0;
+      port_faults = 0;
+    } }
 {
     Totals {
         records: 0,
@@ -215,13 +227,15 @@ fn write_last<K: Sink>(
     requires open { length octets.now < packet_len spec.now }
     requires empty { waiting.old.items ≡ [] }
     requires writes { (K.tells sink.old).failures < 2 ^ 64 - 1 }
-    ensures ok { (k : ℕ) → IsPacket spec.now progress.now k → OnOk result (Appends (K.tells sink.old).taken (K.tells sink.new).taken
+    ensures ok { (k : ℕ) → IsPacket spec.now progress.now k
+        → OnOk result (Appends (K.tells sink.old).taken (K.tells sink.new).taken
         (last_packet spec.now k octets.now)) }
-    ensures totals { (k : ℕ) → IsPacket spec.now progress.now k → IfOk result (λ t. t ≡ encode_totals (last_count k octets.now)) }
+    ensures totals { (k : ℕ) → IsPacket spec.now progress.now k
+        → IfOk result (λ t. t ≡ encode_totals (last_count k octets.now)) }
     ensures counts { OnOk result ((K.tells sink.new).failures ≡ (K.tells sink.old).failures) }
     ensures fault { IfErr result (λ e. e ≡ RunFault.Write) }
-    ensures cut { (k : ℕ) → IsPacket spec.now progress.now k → OnErr result (Breaks (K.tells sink.old) (K.tells sink.new)
-        (last_packet spec.now k octets.now)) }
+    ensures cut { (k : ℕ) → IsPacket spec.now progress.now k
+        → OnErr result (Breaks (K.tells sink.old) (K.tells sink.new) (last_packet spec.now k octets.now)) }
 {
     if octets.is_empty() {
         return Ok(encode_totals(progress.datagrams));
@@ -239,14 +253,15 @@ fn write_last<K: Sink>(
 }
 
 /// Writes speech as RTP datagrams, each in a D record of circuit 1: the octets of the source, a packet of
-/// `spec.ptime` ms at a time, whose sequence numbers and timestamps go on from those of `spec`. A last packet that is
-/// not full is filled with idle octets. All packets that are full are written before the source is read again.
-/// Takes no memory.
+/// `spec.ptime` ms at a time, whose sequence numbers and timestamps go on from those of `spec`.
+///
+/// A last packet that is not full is filled with idle octets. All packets that are full are written before the
+/// source is read again. No memory is taken.
 ///
 /// # Errors
 ///
-/// [`RunFault::Read`] where the source failed, or after 2^62 reads: the full packets of the octets that it gave are
-/// written. [`RunFault::Write`] where the sink failed: it has a prefix of what would be written.
+/// [`RunFault::Read`] where the source failed, or after 2^62 reads: the full packets of the octets that it gave
+/// are written. [`RunFault::Write`] where the sink failed: it has a prefix of what would be written.
 pub fn encode_stream<S: Source, K: Sink>(
     spec: &StreamSpec,
     source: &mut S,
@@ -254,8 +269,10 @@ pub fn encode_stream<S: Source, K: Sink>(
 ) -> Result<Totals, RunFault>
     requires reads { (S.tells source.old).failures < 2 ^ 64 - 1 }
     requires writes { (K.tells sink.old).failures < 2 ^ 64 - 1 }
-    ensures ok { IfOk result (Encodes spec.now (S.tells source.old) (S.tells source.new) (K.tells sink.old) (K.tells sink.new)) }
-    ensures fault { IfErr result (EncodesUntil spec.now (S.tells source.old) (S.tells source.new) (K.tells sink.old) (K.tells sink.new)) }
+    ensures ok { IfOk result (Encodes spec.now
+        (S.tells source.old) (S.tells source.new) (K.tells sink.old) (K.tells sink.new)) }
+    ensures fault { IfErr result (EncodesUntil spec.now
+        (S.tells source.old) (S.tells source.new) (K.tells sink.old) (K.tells sink.new)) }
 {
     let mut speech = [0u8; SPEECH_LEN];
     let mut held = 0usize;

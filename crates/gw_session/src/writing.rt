@@ -18,7 +18,8 @@ pub fn write_all<K: Sink>(sink: &mut K, octets: &[u8]) -> Result<(), RunFault>
     requires { (K.tells sink.old).failures < 2 ^ 64 - 1 }
     ensures ok { OnOk result (Appends (K.tells sink.old).taken (K.tells sink.new).taken octets.now) }
     ensures counts { OnOk result ((K.tells sink.new).failures ≡ (K.tells sink.old).failures) }
-    ensures fault { IfErr result (λ e. (e ≡ RunFault.Write) × Breaks (K.tells sink.old) (K.tells sink.new) octets.now) }
+    ensures fault { IfErr result (λ e. (e ≡ RunFault.Write)
+        × Breaks (K.tells sink.old) (K.tells sink.new) octets.now) }
 {
     let mut rest = octets;
     while !rest.is_empty() {
@@ -36,7 +37,8 @@ pub fn flush<K: Sink>(sink: &mut K, waiting: &mut Waiting) -> Result<(), RunFaul
     ensures ok { OnOk result (Appends (K.tells sink.old).taken (K.tells sink.new).taken waiting.old.items) }
     ensures empty { OnOk result (waiting.new.items ≡ []) }
     ensures counts { OnOk result ((K.tells sink.new).failures ≡ (K.tells sink.old).failures) }
-    ensures fault { IfErr result (λ e. (e ≡ RunFault.Write) × Breaks (K.tells sink.old) (K.tells sink.new) waiting.old.items) }
+    ensures fault { IfErr result (λ e. (e ≡ RunFault.Write)
+        × Breaks (K.tells sink.old) (K.tells sink.new) waiting.old.items) }
 {
     match write_all(sink, waiting.as_slice()) {
         Ok(()) => {
@@ -73,9 +75,11 @@ pub fn put<K: Sink>(sink: &mut K, waiting: &mut Waiting, octets: &[u8]) -> Resul
 fn put_first<K: Sink>(sink: &mut K, waiting: &mut Waiting, octets: &[u8]) -> Result<(), RunFault>
     requires empty { waiting.old.items ≡ [] }
     requires writes { (K.tells sink.old).failures < 2 ^ 64 - 1 }
-    ensures ok { OnOk result (Passes (K.tells sink.old).taken (K.tells sink.new).taken waiting.new.items octets.now) }
+    ensures ok { OnOk result (Passes (K.tells sink.old).taken (K.tells sink.new).taken
+        waiting.new.items octets.now) }
     ensures counts { OnOk result ((K.tells sink.new).failures ≡ (K.tells sink.old).failures) }
-    ensures fault { IfErr result (λ e. (e ≡ RunFault.Write) × Breaks (K.tells sink.old) (K.tells sink.new) octets.now) }
+    ensures fault { IfErr result (λ e. (e ≡ RunFault.Write)
+        × Breaks (K.tells sink.old) (K.tells sink.new) octets.now) }
 {
     if octets.len() > WAITING_LEN {
         return write_all(sink, octets);
