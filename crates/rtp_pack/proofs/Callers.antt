@@ -47,7 +47,8 @@ words_from-fit : (k i count n : ℕ) → All (λ w. w < 2 ^ k) (words_from k i c
 words_from-fit k i zero n = All-nil (λ w. w < 2 ^ k)
 words_from-fit k i (suc count) n =
     let fits = mod_below (n / 2 ^ (k * i)) (2 ^ k) (pow_pos k) in
-    All-cons (λ w. w < 2 ^ k) (n / 2 ^ (k * i) % 2 ^ k) (words_from k (suc i) count n) fits (words_from-fit k (suc i) count n)
+    All-cons (λ w. w < 2 ^ k) (n / 2 ^ (k * i) % 2 ^ k) (words_from k (suc i) count n) fits
+    (words_from-fit k (suc i) count n)
 
 -- each word of octets has k bits
 pub words_fit : WordsFit
