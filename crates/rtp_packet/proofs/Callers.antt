@@ -4,12 +4,14 @@ use Rattle.std.specs.Prelude.{Result, Ok, Err, IfOk, IsOkAnd, MatchResult}
 use Rattle.std.proofs.lemmas.List.{append-nil}
 use Rattle.rtp_packet.specs.declared.RtpFault.{RtpFault}
 use Rattle.rtp_packet.specs.Rtp.{Parts, IsDatagram, fixed_header, plain_datagram, plain_parts}
-use Rattle.rtp_packet.specs.Fault.{fault}
+use Rattle.rtp_packet.specs.Fault.{fault, has_fault, is_short, is_other_version, is_short_of_sources}
+use Rattle.rtp_packet.specs.Fault.{is_short_of_extension, is_badly_padded}
 use Rattle.rtp_packet.specs.Read.{parts_of, unless_fault, read_of}
 use Rattle.rtp_packet.specs.Laws.{IsDatagramOf, FaultlessIsDatagram, DatagramIsFaultless, PartsAreUnique}
-use Rattle.rtp_packet.specs.Laws.{ReadsParts, ReadsFault, PlainIsRead}
+use Rattle.rtp_packet.specs.Laws.{LeastFaultIsTold, ReadsParts, ReadsFault, PlainIsRead}
 use Rattle.rtp_packet.proofs.Between.{AreOctets, all-octets}
 use Rattle.rtp_packet.proofs.Joins.{told, joins}
+use Rattle.rtp_packet.proofs.Least.{least}
 
 -- octets without fault are the join of some parts
 pub faultless_is_datagram : FaultlessIsDatagram
@@ -23,6 +25,12 @@ datagram_is_faultless octets (parts, count, padding, d) = (told octets parts cou
 pub parts_are_unique : PartsAreUnique
 parts_are_unique octets parts others (count, padding, d) (number, filling, e) =
     (told octets parts count padding d).parts ∙ sym (told octets others number filling e).parts
+
+-- the fault that is told holds, and has the least number of those that hold
+pub least_fault_is_told : LeastFaultIsTold
+least_fault_is_told o =
+    least (has_fault o) (is_short o) (is_other_version o) (is_short_of_sources o) (is_short_of_extension o)
+    (is_badly_padded o) refl refl refl refl refl
 
 -- the join of some parts is read as these parts
 pub read_of-datagram : (octets : List ℕ) (parts : Parts) → IsDatagramOf parts octets → read_of octets ≡ Ok parts
