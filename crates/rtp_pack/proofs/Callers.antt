@@ -1,16 +1,17 @@
 -- What a layer above may cite of words and octets: the laws, as lemmas.
-use Rattle.std.proofs.Common.{◌≡◌, ◌+◌, ◌*◌, ◌/◌, ◌%◌, ◌^◌, ◌<◌, ℕ, zero, suc, List, [], ◌∷◌, length, slice_index, refl, sym, ap, subst, ◌∙◌, arith}
+use Rattle.std.proofs.Common.{◌≡◌, ◌+◌, ◌*◌, ◌/◌, ◌%◌, ◌^◌, ◌<◌, ℕ, zero, suc, List, [], ◌∷◌, length, slice_index}
+use Rattle.std.proofs.Common.{refl, sym, ap, subst, ◌∙◌, arith}
 use Rattle.std.proofs.Math.Nat.{mul-div_cancel_left}
 use Rattle.std.proofs.lemmas.Nat.{mod_below, pow_pos}
 use Rattle.std.proofs.lemmas.List.Elements.{All-nil, All-cons, All-head, All-tail}
 use Rattle.std.specs.List.{All}
 use Rattle.std.specs.Int.{bytes_low_first}
-use Rattle.byteorder.specs.Endian.{little_number, little_from}
-use Rattle.byteorder.specs.Numbers.{little_from-cons, little_number-reads_back, length-bytes_low_first}
+use Rattle.byteorder.specs.Endian.{little_number}
+use Rattle.byteorder.specs.Numbers.{little_number-reads_back, length-bytes_low_first}
 use Rattle.std.proofs.lemmas.List.{append-nil}
 use Rattle.rtp_pack.specs.Payload.{IsPayload, number_of, octets_of, words_of, words_from, whole_words_of}
 use Rattle.rtp_pack.specs.Laws.{ReadsBack, WordsAreCounted, WordsFit, OctetsAreWords, WordsAreOctets}
-use Rattle.rtp_pack.proofs.Numbers.{number-front, octets-little, pow-octets, number-lt}
+use Rattle.rtp_pack.proofs.Numbers.{number-front, little-front, octets-little, pow-octets, number-lt}
 use Rattle.rtp_pack.proofs.WordsLeft.{words_from-first, number-back}
 
 -- the words of a payload are those that were packed into it
@@ -24,11 +25,13 @@ reads_back k ws size payload =
     let len : length (bytes_low_first 0 n (number_of k ws)) ≡ n = length-bytes_low_first 0 n (number_of k ws) in
     let room : 256 ^ n ≡ 2 ^ (k * length ws) = pow-octets n ∙ ap (λ (m : ℕ). 2 ^ m) eight in
     let fits : number_of k ws < 256 ^ n = rw room (number-lt k ws payload.each) in
-    let back : little_number n (bytes_low_first 0 n (number_of k ws)) ≡ number_of k ws =
-    ap (little_number n) (sym (append-nil (bytes_low_first 0 n (number_of k ws)))) ∙ little_number-reads_back n (number_of k ws) [] fits in
+    let octets = bytes_low_first 0 n (number_of k ws) in
+    let back : little_number n octets ≡ number_of k ws =
+    ap (little_number n) (sym (append-nil octets)) ∙ little_number-reads_back n (number_of k ws) [] fits in
     let count : 8 * n / k ≡ length ws = ap (λ (m : ℕ). m / k) eight ∙ mul-div_cancel_left (length ws) some in
     rw (len, back, count) (number-back k ws payload.each)
 
+-- so many words are so many
 length-words_from : (k i count n : ℕ) → length (words_from k i count n) ≡ count
 length-words_from k i zero n = refl
 length-words_from k i (suc count) n = ap (λ (m : ℕ). suc m) (length-words_from k (suc i) count n)
@@ -36,12 +39,15 @@ length-words_from k i (suc count) n = ap (λ (m : ℕ). suc m) (length-words_fro
 -- octets give as many words as fit whole into their bits
 pub words_are_counted : WordsAreCounted
 unfolding words_of
-words_are_counted k octets = length-words_from k 0 (whole_words_of k (length octets)) (little_number (length octets) octets)
+words_are_counted k octets =
+    length-words_from k 0 (whole_words_of k (length octets)) (little_number (length octets) octets)
 
+-- each word of a number has k bits
 words_from-fit : (k i count n : ℕ) → All (λ w. w < 2 ^ k) (words_from k i count n)
 words_from-fit k i zero n = All-nil (λ w. w < 2 ^ k)
 words_from-fit k i (suc count) n =
-    All-cons (λ w. w < 2 ^ k) (n / 2 ^ (k * i) % 2 ^ k) (words_from k (suc i) count n) (mod_below (n / 2 ^ (k * i)) (2 ^ k) (pow_pos k))
+    let fits = mod_below (n / 2 ^ (k * i)) (2 ^ k) (pow_pos k) in
+    All-cons (λ w. w < 2 ^ k) (n / 2 ^ (k * i) % 2 ^ k) (words_from k (suc i) count n) fits
     (words_from-fit k (suc i) count n)
 
 -- each word of octets has k bits
@@ -49,13 +55,9 @@ pub words_fit : WordsFit
 unfolding words_of
 words_fit k octets = words_from-fit k 0 (whole_words_of k (length octets)) (little_number (length octets) octets)
 
--- the number of octets, and that of all but the first
-little-front : (x : ℕ) (xs : List ℕ) → little_number (suc (length xs)) (x ∷ xs) ≡ x + 256 * little_number (length xs) xs
-little-front x xs =
-    let moved : little_from 1 (length xs) (x ∷ xs) ≡ little_from 0 (length xs) xs = little_from-cons 0 (length xs) x xs in
-    ap (λ (r : ℕ). x + 256 * r) moved
-
-eight_bit_words : (octets : List ℕ) → All (λ octet. octet < 256) octets → words_from 8 0 (length octets) (little_number (length octets) octets) ≡ octets
+-- the number of octets gives them back as words of 8 bits
+eight_bit_words : (octets : List ℕ) → All (λ octet. octet < 256) octets
+    → words_from 8 0 (length octets) (little_number (length octets) octets) ≡ octets
 eight_bit_words [] each = refl
 eight_bit_words (x ∷ xs) each =
     let octet : x < 256 = All-head (λ octet. octet < 256) x xs each in
@@ -72,6 +74,7 @@ octets_are_words octets each =
     let count : 8 * length octets / 8 ≡ length octets = omega arith in
     rw count (eight_bit_words octets each)
 
+-- words of 8 bits make the number of these octets
 eight_bit_number : (words : List ℕ) → number_of 8 words ≡ little_number (length words) words
 eight_bit_number [] = refl
 eight_bit_number (w ∷ words) =
@@ -96,5 +99,6 @@ words_are_octets words each =
 -- a payload of words of 8 bits is the words themselves
 pub octets_of-eight : (k : ℕ) (words : List ℕ) → k ≡ 8 → IsPayload k words → octets_of k words ≡ words
 octets_of-eight k words e payload =
-    let each : All (λ w. w < 2 ^ 8) words = let P : ℕ → Type 0 = λ n. All (λ w. w < 2 ^ n) words in subst P e payload.each in
+    let Fits : ℕ → Type 0 = λ n. All (λ w. w < 2 ^ n) words in
+    let each : All (λ w. w < 256) words = subst Fits e payload.each in
     ap (λ (n : ℕ). octets_of n words) e ∙ words_are_octets words each

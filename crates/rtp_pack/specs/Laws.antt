@@ -5,7 +5,8 @@ use Rattle.rtp_pack.specs.Payload.{IsWordSize, IsPayload, octets_of, words_of, w
 
 -- the words of a payload are those that were packed into it
 abbrev pub ReadsBack : Type 0
-ReadsBack = (k : ℕ) (words : List ℕ) → IsWordSize k → IsPayload k words → words_of k (octets_of k words) ≡ words
+ReadsBack =
+    (k : ℕ) (words : List ℕ) → IsWordSize k → IsPayload k words → words_of k (octets_of k words) ≡ words
 
 -- octets give as many words as fit whole into their bits
 abbrev pub WordsAreCounted : Type 0

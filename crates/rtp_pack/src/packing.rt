@@ -3,10 +3,9 @@
 ghost use Rattle.std.specs.Prelude.{◌≡◌, []};
 ghost use Rattle.rtp_pack.specs.Payload.{IsWordSize, IsPayload, octets_of};
 
+use crate::OCTET_BITS;
+use crate::waiting::Waiting;
 use arrayvec::ArrayVec;
-
-// The bits of an octet.
-const OCTET_BITS: u8 = 8;
 
 /// Makes `out` the payload of these words of `bits` bits (RFC 3551, 4.5.4). What `out` held before is gone.
 ///
@@ -32,16 +31,11 @@ fn pack_across(bits: u8, words: &[u8], out: &mut ArrayVec<u8, 240>)
     requires empty { out.old.items ≡ [] }
     ensures { out.new.items ≡ octets_of bits words.now }
 {
-    // the bits that have no octet yet, and how many they are
-    let mut pending: u16 = 0;
-    let mut count: u8 = 0;
+    let mut waiting = Waiting::none();
     for word in words {
-        pending += u16::from(*word) << count;
-        count += bits;
-        if count >= OCTET_BITS {
-            out.push((pending % 256) as u8);
-            pending /= 256;
-            count -= OCTET_BITS;
+        waiting.push(*word, bits);
+        if waiting.count >= OCTET_BITS {
+            out.push(waiting.pop(OCTET_BITS));
         }
     }
 }

@@ -1,25 +1,21 @@
 -- What a layer above may cite of datagrams: the laws, as lemmas.
-use Rattle.std.proofs.Common.{◌≡◌, ◌<◌, ℕ, zero, suc, false, List, [], ◌∷◌, ◌++◌, slice_index, Option, Some, None, refl, sym, ap, ◌∙◌, arith}
+use Rattle.std.proofs.Common.{◌≡◌, ℕ, false, List, [], ◌++◌, Option, Some, None, refl, sym, ap, ◌∙◌, arith}
 use Rattle.std.specs.Prelude.{Result, Ok, Err, IfOk, IsOkAnd, MatchResult}
-use Rattle.std.specs.List.{All}
 use Rattle.std.proofs.lemmas.List.{append-nil}
-use Rattle.std.proofs.lemmas.List.Elements.{All-head, All-tail}
 use Rattle.rtp_packet.specs.declared.RtpFault.{RtpFault}
 use Rattle.rtp_packet.specs.Rtp.{Parts, IsDatagram, fixed_header, plain_datagram, plain_parts}
-use Rattle.rtp_packet.specs.Fault.{fault}
+use Rattle.rtp_packet.specs.Fault.{fault, has_fault, is_short, is_other_version, is_short_of_sources}
+use Rattle.rtp_packet.specs.Fault.{is_short_of_extension, is_badly_padded}
 use Rattle.rtp_packet.specs.Read.{parts_of, unless_fault, read_of}
-use Rattle.rtp_packet.specs.Laws.{IsDatagramOf, FaultlessIsDatagram, DatagramIsFaultless, PartsAreUnique, ReadsParts, ReadsFault, PlainIsRead}
+use Rattle.rtp_packet.specs.Laws.{IsDatagramOf, FaultlessIsDatagram, DatagramIsFaultless, PartsAreUnique}
+use Rattle.rtp_packet.specs.Laws.{LeastFaultIsTold, ReadsParts, ReadsFault, PlainIsRead}
+use Rattle.rtp_packet.proofs.Between.{AreOctets, all-octets}
 use Rattle.rtp_packet.proofs.Joins.{told, joins}
-
--- an item of a list of octets, also past its end, is below 256
-octet-at : (xs : List ℕ) → All (λ octet. octet < 256) xs → (i : ℕ) → slice_index xs i < 256
-octet-at [] each i = omega arith
-octet-at (x ∷ xs) each zero = All-head (λ octet. octet < 256) x xs each
-octet-at (x ∷ xs) each (suc i) = octet-at xs (All-tail (λ octet. octet < 256) x xs each) i
+use Rattle.rtp_packet.proofs.Least.{least}
 
 -- octets without fault are the join of some parts
 pub faultless_is_datagram : FaultlessIsDatagram
-faultless_is_datagram octets each none = joins octets (octet-at octets each) none
+faultless_is_datagram octets each none = joins octets (all-octets octets each) none
 
 -- the join of some parts has no fault
 pub datagram_is_faultless : DatagramIsFaultless
@@ -29,6 +25,12 @@ datagram_is_faultless octets (parts, count, padding, d) = (told octets parts cou
 pub parts_are_unique : PartsAreUnique
 parts_are_unique octets parts others (count, padding, d) (number, filling, e) =
     (told octets parts count padding d).parts ∙ sym (told octets others number filling e).parts
+
+-- the fault that is told holds, and has the least number of those that hold
+pub least_fault_is_told : LeastFaultIsTold
+least_fault_is_told o =
+    least (has_fault o) (is_short o) (is_other_version o) (is_short_of_sources o) (is_short_of_extension o)
+    (is_badly_padded o) refl refl refl refl refl
 
 -- the join of some parts is read as these parts
 pub read_of-datagram : (octets : List ℕ) (parts : Parts) → IsDatagramOf parts octets → read_of octets ≡ Ok parts
@@ -48,7 +50,8 @@ unless_fault-err None at g e = absurd (cc)
 unless_fault-err (Some f) at g e = cc
 
 -- octets that are read are the join of what they are read as
-pub read_of-ok : (octets : List ℕ) (parts : Parts) → ((i : ℕ) → slice_index octets i < 256) → read_of octets ≡ Ok parts → IsDatagramOf parts octets
+pub read_of-ok : (octets : List ℕ) (parts : Parts) → AreOctets octets → read_of octets ≡ Ok parts
+    → IsDatagramOf parts octets
 unfolding read_of
 read_of-ok octets parts each e =
     let t = unless_fault-ok (fault octets) (parts_of octets) parts e in
@@ -67,7 +70,7 @@ read_of-fault octets f e = rw e refl
 
 -- octets are read as the parts of which they are the join, and as no others
 pub reads_parts : ReadsParts
-reads_parts octets parts each = (read_of-ok octets parts (octet-at octets each), read_of-datagram octets parts)
+reads_parts octets parts each = (read_of-ok octets parts (all-octets octets each), read_of-datagram octets parts)
 
 -- octets are refused with their first fault, and only with that
 pub reads_fault : ReadsFault
@@ -91,14 +94,15 @@ plain_is_read header payload fits =
     )
 
 -- what was read is the join of its parts
-pub read-ok : (octets : List ℕ) (r : Result Parts RtpFault) → ((i : ℕ) → slice_index octets i < 256) → r ≡ read_of octets
+pub read-ok : (octets : List ℕ) (r : Result Parts RtpFault) → AreOctets octets → r ≡ read_of octets
     → IfOk r (λ parts. IsDatagramOf parts octets)
 read-ok octets (Ok parts) each e = read_of-ok octets parts each (sym e)
 read-ok octets (Err f) each e = tt
 
 -- a join of parts was read as these
 pub read-exact : (octets : List ℕ) (r : Result Parts RtpFault) → r ≡ read_of octets
-    → (parts : Parts) (count : ℕ) (padding : List ℕ) → IsDatagram octets parts count padding → IsOkAnd r (λ view. view ≡ parts)
+    → (parts : Parts) (count : ℕ) (padding : List ℕ) → IsDatagram octets parts count padding
+    → IsOkAnd r (λ view. view ≡ parts)
 read-exact octets r e parts count padding d = rw (e ∙ read_of-datagram octets parts (count, padding, d)) refl
 
 -- what was read has no fault, and what was refused has the fault that was told

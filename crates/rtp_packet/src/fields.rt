@@ -7,18 +7,22 @@ ghost use Rattle.rtp_packet.specs.Read.{header_of, marker_of};
 use crate::{HEADER_LEN, Header};
 use byteorder::{BigEndian, ByteOrder};
 
-// In the first octet: two bits of version, then these.
+// In the first octet: below the version, V, which has the top two bits.
 const VERSION_SHIFT: u32 = 6;
 
+// In the first octet: whether padding follows the payload, P.
 const PADDING_BIT: u8 = 0x20;
 
+// In the first octet: whether an extension follows the sources, X.
 const EXTENSION_BIT: u8 = 0x10;
 
+// In the first octet: how many sources there are, CC.
 const SOURCE_COUNT: u8 = 0x0F;
 
-// In the second octet: the marker and the payload type.
+// In the second octet: the marker, M.
 const MARKER_BIT: u8 = 0x80;
 
+// In the second octet: the payload type, PT.
 const PAYLOAD_TYPE: u8 = 0x7F;
 
 // The version.

@@ -2,7 +2,8 @@
 
 ghost use Rattle.std.specs.Prelude.{◌≡◌, ◌+◌, ◌≤◌, ℕ, List, true, false, length, IfOk, IsOkAnd, MatchResult};
 ghost use Rattle.rtp_packet.specs.Rtp.{Parts, IsDatagram, as_extension};
-ghost use Rattle.rtp_packet.specs.Fault.{fault, sources_end, extension_end, is_short_of_extension, is_badly_padded};
+ghost use Rattle.rtp_packet.specs.Fault.{fault, sources_end, extension_end};
+ghost use Rattle.rtp_packet.specs.Fault.{is_short_of_extension, is_badly_padded};
 ghost use Rattle.rtp_packet.specs.Read.{extension_of, padding_len, read_of};
 
 use crate::fields::{has_extension, has_padding, header_in, marker_in, sources_end_in, version};
@@ -66,7 +67,8 @@ fn extension_in(octets: &[u8], start: usize) -> Result<(Option<(u16, &[u8])>, us
     requires start { start ≡ sources_end octets.now }
     requires sources { start ≤ length octets.now }
     ensures ok { IfOk result (λ r. as_extension r.0 ≡ extension_of octets.now) }
-    ensures end { IfOk result (λ r. (r.1 ≡ extension_end octets.now) × (start ≤ r.1) × (r.1 ≤ length octets.now)) }
+    ensures end { IfOk result (λ r.
+        (r.1 ≡ extension_end octets.now) × (start ≤ r.1) × (r.1 ≤ length octets.now)) }
     ensures fault { MatchResult result (λ _. is_short_of_extension octets.now ≡ false)
         (λ f. (f ≡ RtpFault.ShortExtension) × (is_short_of_extension octets.now ≡ true)) }
 {

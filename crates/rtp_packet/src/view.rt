@@ -4,7 +4,7 @@ use crate::Header;
 use std::marker::Model;
 
 /// A datagram of RTP, read in place (RFC 3550, 5.1). A contract sees it as the record of its parts.
-#[derive(Drop)]
+#[derive(Debug, Drop)]
 pub struct RtpView<'a> {
     pub(crate) header: Header,
     pub(crate) marker: bool,

@@ -18,8 +18,13 @@ const PLAIN_VERSION_2: u8 = 0x80;
 pub fn write(header: &Header, payload: &[u8], out: &mut ArrayVec<u8, 252>) -> Result<(), TooLong>
     requires { header.now.payload_type < 128 }
     ensures ok { OnOk result (out.new.items ≡ plain_datagram header.now payload.now) }
-    ensures datagram { OnOk result (IsDatagram out.new.items
-        (record { header = header.now; marker = false; sources = []; extension = None; payload = payload.now }) 0 []) }
+    ensures datagram { OnOk result (IsDatagram out.new.items (record {
+      header = header.now;
+      marker = false;
+      sources = [];
+      extension = None;
+      payload = payload.now;
+    }) 0 []) }
     ensures too_long { IsErr result ↔ (240 < length payload.now) }
     ensures err { OnErr result (out.new ≡ out.old) }
 {

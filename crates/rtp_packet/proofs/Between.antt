@@ -1,0 +1,42 @@
+-- Octets between two places.
+use Rattle.std.proofs.Common.{◌≡◌, ◌+◌, ◌-◌, ◌<◌, ◌≤◌, ℕ, zero, suc, List, [], ◌∷◌, ◌++◌, length}
+use Rattle.std.proofs.Common.{take, drop, slice_index}
+use Rattle.std.proofs.Common.{refl, sym, ap, ◌∙◌, arith, length-drop}
+use Rattle.std.specs.List.{All}
+use Rattle.std.proofs.lemmas.List.{take-append-drop, drop-drop, length-take-le, take_at, drop_at}
+use Rattle.std.proofs.lemmas.List.Elements.{All-head, All-tail}
+use Rattle.rtp_packet.specs.Read.{between}
+
+-- the items of a list, and what is told past its end, are octets
+abbrev pub AreOctets : List ℕ → Type 0
+AreOctets o = (i : ℕ) → slice_index o i < 256
+
+-- a list of octets is one, also past its end
+pub all-octets : (o : List ℕ) → All (λ octet. octet < 256) o → AreOctets o
+all-octets [] each i = omega arith
+all-octets (x ∷ xs) each zero = All-head (λ octet. octet < 256) x xs each
+all-octets (x ∷ xs) each (suc i) = all-octets xs (All-tail (λ octet. octet < 256) x xs each) i
+
+-- the octets from a place, in two parts
+pub between-join : (a b : ℕ) (o : List ℕ) → a ≤ b → between a b o ++ drop b o ≡ drop a o
+between-join a b o h =
+    let e : a + (b - a) ≡ b = omega arith in
+    let d : drop (b - a) (drop a o) ≡ drop b o = drop-drop (b - a) a o ∙ ap (λ (n : ℕ). drop n o) e in
+    ap (λ (r : List ℕ). take (b - a) (drop a o) ++ r) (sym d) ∙ take-append-drop (b - a) (drop a o)
+
+-- how many they are
+pub length-between : (a b : ℕ) (o : List ℕ) → b ≤ length o → length (between a b o) ≡ b - a
+length-between a b o h =
+    let l : length (drop a o) ≡ length o - a = length-drop a o in
+    length-take-le (b - a) (drop a o) (omega arith)
+
+-- the first of two lists that stand from a place on
+pub between-first : (a b : ℕ) (o xs ys : List ℕ) → drop a o ≡ xs ++ ys → b - a ≡ length xs → between a b o ≡ xs
+between-first a b o xs ys there span =
+    ap (λ (k : ℕ). take k (drop a o)) span ∙ ap (take (length xs)) there ∙ take_at xs ys (length xs) refl
+
+-- the second of two lists that stand from a place on
+pub drop-second : (a b : ℕ) (o xs ys : List ℕ) → drop a o ≡ xs ++ ys → b ≡ a + length xs → drop b o ≡ ys
+drop-second a b o xs ys there end =
+    ap (λ (k : ℕ). drop k o) end ∙ sym (drop-drop (length xs) a o) ∙ ap (drop (length xs)) there
+    ∙ drop_at xs ys (length xs) refl

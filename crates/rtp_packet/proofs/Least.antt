@@ -1,0 +1,60 @@
+-- The first test that is met is the one of the fault with the least number.
+use Rattle.std.proofs.Common.{◌≡◌, ◌≤◌, Bool, true, false, cond, Some, None, arith}
+use Rattle.std.specs.Prelude.{MatchOption}
+use Rattle.rtp_packet.specs.declared.RtpFault.{RtpFault}
+use Rattle.rtp_packet.specs.declared.RtpFault.TheVariants.{Short, Version, ShortSources, ShortExtension}
+use Rattle.rtp_packet.specs.declared.RtpFault.TheVariants.{BadPadding}
+use Rattle.rtp_packet.specs.Fault.{number_of}
+
+-- the numbers begin with 1
+from-1 : (f : RtpFault) → 1 ≤ number_of f
+from-1 Short = omega arith
+from-1 _ = omega arith
+
+-- where the first fault does not hold, one that does has a number from 2 on
+from-2 : (holds : RtpFault → Bool) → holds Short ≡ false → (f : RtpFault) → holds f ≡ true → 2 ≤ number_of f
+from-2 holds a Short h = absurd (cc)
+from-2 holds a _ h = omega arith
+
+-- where the first two do not hold, from 3 on
+from-3 : (holds : RtpFault → Bool) → holds Short ≡ false → holds Version ≡ false → (f : RtpFault) → holds f ≡ true
+    → 3 ≤ number_of f
+from-3 holds a b Short h = absurd (cc)
+from-3 holds a b Version h = absurd (cc)
+from-3 holds a b _ h = omega arith
+
+-- where the first three do not hold, from 4 on
+from-4 : (holds : RtpFault → Bool) → holds Short ≡ false → holds Version ≡ false → holds ShortSources ≡ false
+    → (f : RtpFault) → holds f ≡ true → 4 ≤ number_of f
+from-4 holds a b c ShortExtension h = omega arith
+from-4 holds a b c BadPadding h = omega arith
+from-4 holds a b c _ h = absurd (cc)
+
+-- where the first four do not hold, 5
+from-5 : (holds : RtpFault → Bool) → holds Short ≡ false → holds Version ≡ false → holds ShortSources ≡ false
+    → holds ShortExtension ≡ false → (f : RtpFault) → holds f ≡ true → 5 ≤ number_of f
+from-5 holds a b c d BadPadding h = omega arith
+from-5 holds a b c d _ h = absurd (cc)
+
+-- where each of the five does not hold, none does
+none-holds : (holds : RtpFault → Bool) → holds Short ≡ false → holds Version ≡ false → holds ShortSources ≡ false
+    → holds ShortExtension ≡ false → holds BadPadding ≡ false → (f : RtpFault) → holds f ≡ false
+none-holds holds a b c d e Short = a
+none-holds holds a b c d e Version = b
+none-holds holds a b c d e ShortSources = c
+none-holds holds a b c d e ShortExtension = d
+none-holds holds a b c d e BadPadding = e
+
+-- the first test that is met tells the least fault, and none is met where none holds
+pub least : (holds : RtpFault → Bool) (a b c d e : Bool) → holds Short ≡ a → holds Version ≡ b → holds ShortSources ≡ c
+    → holds ShortExtension ≡ d → holds BadPadding ≡ e
+    → MatchOption (cond a (Some Short) (cond b (Some Version) (cond c (Some ShortSources)
+    (cond d (Some ShortExtension) (cond e (Some BadPadding) None)))))
+    ((f : RtpFault) → holds f ≡ false)
+    (λ f. (holds f ≡ true) × ((other : RtpFault) → holds other ≡ true → number_of f ≤ number_of other))
+least holds true b c d e pa pb pc pd pe = (pa, λ other h. from-1 other)
+least holds false true c d e pa pb pc pd pe = (pb, from-2 holds pa)
+least holds false false true d e pa pb pc pd pe = (pc, from-3 holds pa pb)
+least holds false false false true e pa pb pc pd pe = (pd, from-4 holds pa pb pc)
+least holds false false false false true pa pb pc pd pe = (pe, from-5 holds pa pb pc pd)
+least holds false false false false false pa pb pc pd pe = none-holds holds pa pb pc pd pe
