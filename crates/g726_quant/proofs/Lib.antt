@@ -1,0 +1,6 @@
+pub mod Bits
+pub mod Places
+pub mod Logarithms
+pub mod Words
+pub mod Wrapping
+pub mod Rows
