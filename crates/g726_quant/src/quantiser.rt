@@ -1,7 +1,7 @@
 //! The adaptive quantiser: blocks LOG, SUBTB and QUAN of ITU-T G.726.
 
-ghost use Rattle.std.specs.Prelude.{◌≡◌, ◌≢◌, ◌≤◌, ◌<◌, negsuc, length};
-ghost use Rattle.g726_quant.specs.Tables.{magnitudes};
+ghost use Rattle.std.specs.Prelude.{◌≡◌, ◌≢◌, ◌≤◌, ◌<◌, negsuc, length, IsTrue};
+ghost use Rattle.g726_quant.specs.Tables.{magnitudes, is_rising};
 ghost use Rattle.g726_quant.specs.Blocks.{quan_magnitude, quantised};
 
 use crate::logarithm::logarithm;
@@ -29,13 +29,11 @@ fn magnitude_among<R: Rate>(normalised: i16) -> u8
     count_not_above(R::thresholds(), normalised) as u8
 }
 
-// The number of thresholds that are not above a logarithm.
+// The number of rising thresholds that are not above a logarithm.
 fn count_not_above(thresholds: &[i16], normalised: i16) -> usize
+    requires { IsTrue (is_rising thresholds.now) }
     ensures value { result ≡ quan_magnitude thresholds.now normalised }
     ensures bound { result ≤ length thresholds.now }
 {
-    thresholds
-        .iter()
-        .filter(|threshold| **threshold <= normalised)
-        .count()
+    thresholds.partition_point(|threshold| *threshold <= normalised)
 }
