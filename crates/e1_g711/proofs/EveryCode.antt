@@ -1,4 +1,4 @@
--- Facts about every code, each by a test that is computed over all of them.
+-- Facts about every code. Each comes from a test, as `is_numbered`, that is computed over all of them.
 use Rattle.std.proofs.Common.{◌≡◌, ℕ, ◌+◌, ◌-◌, ◌<◌, min, Bool, true, false, not, ◌&&◌, ◌||◌, ◌==◌, nat_le, nat_lt}
 use Rattle.std.proofs.Common.{arith, refl}
 use Rattle.std.proofs.lemmas.Bool.{eqb-true, ltb-true, leb-true, le-ltb, ne_eqb, and_parts}

@@ -23,8 +23,8 @@ pub enum Law {
     Mu,
 }
 
-/// The octet that stands for silence: 0xD5 in A-law, the least positive value, and 0xFF in mu-law, positive
-/// zero.
+/// The octet that stands for silence (our choice): 0xD5 in A-law, the least positive value, and 0xFF in
+/// mu-law, positive zero.
 pub fn idle(law: Law) -> u8
     ensures { result ≡ idle_code law }
 {

@@ -41,8 +41,7 @@ fn outward(law: Law, code: u8) -> u8
     code_with(law, is_negative(code), next)
 }
 
-// The next code toward zero, and from there across it. Of mu-law's two zeros only that of the own sign is
-// met.
+// The next code toward zero, and from there across it.
 fn inward(law: Law, code: u8) -> u8
     ensures { result ≡ inward_code law code }
 {
@@ -51,7 +50,7 @@ fn inward(law: Law, code: u8) -> u8
     if number > 0 {
         code_with(law, negative, number - 1)
     } else {
-        // mu-law's two zeros are one value
+        // mu-law's two zeros are one value, of which the one of the own sign is met (our choice)
         let nearest = match law {
             Law::A => 0,
             Law::Mu => 1,

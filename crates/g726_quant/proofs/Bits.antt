@@ -6,6 +6,7 @@ use Rattle.std.proofs.lemmas.Bool.{cases_lt}
 use Rattle.g726_quant.specs.Arithmetic.{halvings, number_of_bits}
 use Rattle.g726_quant.specs.Blocks.{exponent}
 
+-- a number has no more bits than it has halvings
 halvings_hold : (most m : ℕ) → m ≤ most → m < 2 ^ halvings most m
 halvings_hold zero zero h = omega arith
 halvings_hold zero (suc m) h = absurd (omega arith)
@@ -13,6 +14,7 @@ halvings_hold (suc most) zero h = omega arith
 halvings_hold (suc most) (suc m) h =
     omega (arith, halvings_hold most (suc m / 2) (omega arith), pow-suc 2 (halvings most (suc m / 2)))
 
+-- and no fewer
 halvings_least : (most m k : ℕ) → m < 2 ^ k → halvings most m ≤ k
 halvings_least zero m k h = omega arith
 halvings_least (suc most) zero k h = omega arith
@@ -20,12 +22,12 @@ halvings_least (suc most) (suc m) zero h = absurd (omega arith)
 halvings_least (suc most) (suc m) (suc k) h =
     omega (arith, halvings_least most (suc m / 2) k (omega (arith, pow-suc 2 k)))
 
--- a number has no more bits than that
+-- the number of bits is large enough
 pub number_of_bits_holds : (m : ℕ) → m < 2 ^ number_of_bits m
 unfolding number_of_bits
 number_of_bits_holds m = halvings_hold m m (omega arith)
 
--- and no fewer
+-- and none less is
 pub number_of_bits_least : (m k : ℕ) → m < 2 ^ k → number_of_bits m ≤ k
 unfolding number_of_bits
 number_of_bits_least m k h = halvings_least m m k h

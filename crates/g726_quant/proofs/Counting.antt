@@ -9,6 +9,7 @@ use Rattle.std.proofs.lemmas.Int.{ints}
 use Rattle.std.proofs.lemmas.List.Sums.{sum_by-cons}
 use Rattle.g726_quant.specs.Tables.{is_rising_after, is_rising}
 
+-- what the test says
 below : (x y : ℤ) → int_lt x y ≡ true → x ≤ℤ y
 below x y h = grind (arith, ints)
 
@@ -21,10 +22,12 @@ rises_after x (y ∷ ys) d (suc j) h few =
     let parts = and_parts (int_lt x y) (is_rising_after y ys) h in
     omega (arith, ints, below x y parts.0, rises_after y ys d j parts.1 (omega arith))
 
+-- what is left of rising numbers without the first rises
 rest_rises : (x : ℤ) (xs : List ℤ) → is_rising_after x xs ≡ true → is_rising xs ≡ true
 rest_rises x [] h = refl
 rest_rises x (y ∷ ys) h = (and_parts _ _ h).1
 
+-- of rising numbers none is above a later one
 rises :
     (xs : List ℤ) (d : ℤ) (i j : ℕ) → is_rising xs ≡ true → i ≤ j → j < length xs → get_or xs i d ≤ℤ get_or xs j d
 rises [] d i j h le few = absurd (omega arith)
@@ -33,6 +36,7 @@ rises (x ∷ xs) d zero (suc j) h le few = rises_after x xs d j h (omega arith)
 rises (x ∷ xs) d (suc i) zero h le few = absurd (omega arith)
 rises (x ∷ xs) d (suc i) (suc j) h le few = rises xs d i j (rest_rises x xs h) (omega arith) (omega arith)
 
+-- a number that is not above one passes the test where that one does
 not_above : (x y z : ℤ) → x ≤ℤ y → int_le y z ≡ true → int_le x z ≡ true
 not_above x y z h k = grind (arith, ints)
 

@@ -10,6 +10,7 @@ pub record HasFewBits (r : RateTables) : Type 0 where
   pub low : 2 ≤ r.bits
   pub high : r.bits ≤ 5
 
+-- as the law of a rate says
 pub few_bits : (r : RateTables) → IsTrue (has_its_places r) → HasFewBits r
 few_bits r h =
     let first = and_parts _ _ (and_parts _ _ (and_parts _ _ (and_parts _ _ (and_parts _ _ h).0).0).0).0 in

@@ -4,6 +4,7 @@ use Rattle.g726_quant.specs.Arithmetic.{number_of_bits}
 use Rattle.g726_quant.specs.Tables.{RateTables, tables16, tables24, tables32, tables40}
 use Rattle.g726_quant.specs.Blocks.{exponent, log, antilog, quantised, reconstructed, word_is_negative}
 
+-- the words of 2, 0 and -2
 abbrev near_zero : RateTables → ℕ × ℕ × ℕ
 near_zero r = (quantised r (pos 2) 544, quantised r (pos 0) 544, quantised r (negsuc 1) 544)
 
@@ -17,6 +18,7 @@ quantised_extremes : (quantised tables40 (pos 32767) 544 ≡ 15) × (quantised t
 unfolding quantised log exponent number_of_bits
 quantised_extremes = (refl, refl)
 
+-- the sign and the magnitude that a word stands for
 abbrev value : RateTables → ℕ → Bool × ℕ
 value r word = (word_is_negative r.bits word, reconstructed r word 544)
 

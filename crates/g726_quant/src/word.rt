@@ -65,8 +65,9 @@ impl<R: Rate> Word<R> {
     }
 }
 
-/// The magnitude of a word, below `2^(bits-1)`: that of its complement where its top bit is set. A word of
-/// all zeros has magnitude 0 at every rate (ITU-T G.726, block RECONST).
+/// The magnitude of a word, below `2^(bits-1)`: that of its complement where its top bit is set (ITU-T G.726,
+/// block RECONST). A word of all zeros, which no encoder sends at 24, 32 and 40 kbit/s, has magnitude 0 at
+/// every rate (our choice).
 pub fn magnitude<R: Rate>(word: Word<R>) -> u8
     ensures value { result ≡ word_magnitude R.tables.bits word }
     ensures bound { result < magnitudes R.tables.bits }
