@@ -4,6 +4,16 @@
 ghost use Rattle.std.specs.Prelude.{◌≡◌};
 ghost use Rattle.e1_g711.specs.Law.{idle_code};
 
+mod codes;
+mod compressor;
+mod expander;
+pub mod laws;
+mod neighbours;
+
+pub use compressor::compress;
+pub use expander::expand;
+pub use neighbours::{next_down, next_up};
+
 /// The encoding law of a trunk's speech (ITU-T G.711, Tables 1 and 2).
 #[derive(Clone, Copy, Debug, PartialEq, Eq)]
 pub enum Law {
@@ -13,7 +23,8 @@ pub enum Law {
     Mu,
 }
 
-/// The octet that stands for silence: 0xD5 in A-law, the least positive value, and 0xFF in mu-law, positive zero.
+/// The octet that stands for silence (our choice): 0xD5 in A-law, the least positive value, and 0xFF in
+/// mu-law, positive zero.
 pub fn idle(law: Law) -> u8
     ensures { result ≡ idle_code law }
 {
@@ -22,3 +33,6 @@ pub fn idle(law: Law) -> u8
         Law::Mu => 0xFF,
     }
 }
+
+#[cfg(test)]
+mod tests;

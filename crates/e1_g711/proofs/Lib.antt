@@ -1,0 +1,9 @@
+pub mod Below
+pub mod EveryCode
+pub mod Middles
+pub mod Decisions
+pub mod Segments
+pub mod OneCode
+pub mod Order
+pub mod RoundTrip
+pub mod Rows

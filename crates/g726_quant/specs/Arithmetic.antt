@@ -1,0 +1,17 @@
+-- The arithmetic of ITU-T G.726 on whole numbers. An arithmetic shift is `int_shr` of std, which rounds down.
+use Rattle.std.specs.Prelude.{ℕ, zero, suc, ◌/◌, ℤ}
+use Rattle.std.specs.Int.{int_wrap, w16}
+
+-- the number from -32768 to 32767 that is congruent to one modulo 65536
+abbrev pub wrap16 : ℤ → ℤ
+wrap16 z = int_wrap w16 z
+
+-- how often a number is halved until it is 0, at most so many times
+abbrev pub halvings : ℕ → ℕ → ℕ
+halvings zero m = 0
+halvings (suc most) zero = 0
+halvings (suc most) (suc m) = suc (halvings most (suc m / 2))
+
+-- the number of bits of m, the least k with m < 2 ^ k
+unfoldable pub number_of_bits : ℕ → ℕ
+number_of_bits m = halvings m m

@@ -1,0 +1,4 @@
+pub mod Arithmetic
+pub mod Tables
+pub mod Blocks
+pub mod Laws

@@ -1,0 +1,28 @@
+//! ITU-T G.726: code words, the adaptive quantiser and the inverse adaptive quantiser at all four rates.
+#![tactic(auto)]
+
+ghost use Rattle.std.specs.Prelude.{◌≡◌};
+ghost use Rattle.g726_quant.specs.Arithmetic.{wrap16};
+
+mod inverse;
+pub mod laws;
+mod logarithm;
+mod quantiser;
+mod rate;
+mod word;
+
+pub use inverse::{Dq, reconstruct};
+pub use quantiser::quantise;
+pub use rate::{R16, R24, R32, R40, Rate, leak, multiplier, speed_value};
+pub use word::{Word, magnitude, order};
+
+/// The number from -32768 to 32767 that is congruent to `z` modulo 65536 (ITU-T G.726, two's complement of 16
+/// bits).
+pub fn wrap16(z: i32) -> i16
+    ensures { result ≡ wrap16 z }
+{
+    (z.rem_euclid(65_536) as u16).cast_signed()
+}
+
+#[cfg(test)]
+mod tests;
