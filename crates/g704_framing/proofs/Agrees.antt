@@ -1,0 +1,79 @@
+-- Streams that are aligned alike have the same alignments.
+use Rattle.std.proofs.Common.{◌≡◌, ℕ, suc, ◌+◌, ◌-◌, ◌<◌, List, [], ◌∷◌, length, drop}
+use Rattle.std.proofs.Common.{Option, Some, None, refl, sym, ap, ◌∙◌, arith, length-drop}
+use Rattle.std.specs.Prelude.{option_map}
+use Rattle.std.specs.List.{AllByRecursion}
+use Rattle.std.proofs.lemmas.List.Elements.{recursion_from_All}
+use Rattle.std.proofs.lemmas.Option.{same_Some}
+use Rattle.g704_framing.specs.Least.{least}
+use Rattle.g704_framing.specs.Alignment.{Framing, Alignment, loss, alignments_from, search_ends_of}
+use Rattle.g704_framing.specs.Laws.{IsFraming, AlignmentsAreAlike}
+use Rattle.g704_framing.proofs.Leasts.{IsLeast, least-is, least_equals, reach, least_alike}
+use Rattle.g704_framing.proofs.Moves.{same_alignment}
+use Rattle.g704_framing.proofs.Turns.{alignments-turns, after_search, after_loss}
+
+-- a loss is the same where two streams are lost alike up to it
+pub loss-alike : (f : Framing) (s t : List ℕ) (p : ℕ) → length s ≡ length t
+    → ((k : ℕ) → k < reach (least (f.is_lost (drop p s)) (length (drop p s))) (length (drop p s))
+    → f.is_lost (drop p s) k ≡ f.is_lost (drop p t) k)
+    → loss f s p ≡ loss f t p
+unfolding loss
+loss-alike f s t p len alike =
+    let n : length (drop p t) ≡ length (drop p s) = length-drop p t ∙ ap (λ m. m - p) (sym len) ∙ sym (length-drop p s) in
+    let o = least (f.is_lost (drop p s)) (length (drop p s)) in
+    let other : IsLeast (f.is_lost (drop p t)) (length (drop p s)) o
+    = least_alike (f.is_lost (drop p s)) (f.is_lost (drop p t)) (length (drop p s)) o alike
+    (least-is (f.is_lost (drop p s)) (length (drop p s))) in
+    rw n (ap (option_map (λ k. p + k)) (sym (least_equals (f.is_lost (drop p t)) (length (drop p s)) o other)))
+
+abbrev LosesAlike : Framing → List ℕ → List ℕ → Alignment → Type 0
+LosesAlike f s t d = loss f s d.start ≡ loss f t d.start
+
+module _ (f : Framing) (h : IsFraming f) (s t : List ℕ) where
+  empty_ends : (ds : List Alignment) → [] ≡ search_ends_of f ds → [] ≡ ds
+  empty_ends [] e = refl
+  empty_ends (d ∷ ds) e = cc
+
+  -- what two searches found, and the alignments after it
+  found_alike : (d : Alignment) (ds : List Alignment) → LosesAlike f s t d
+      → ((from : ℕ) → ds ≡ alignments_from f None s from → search_ends_of f ds ≡ search_ends_of f (alignments_from f None t from)
+      → ds ≡ alignments_from f None t from)
+      → (o p : Option ℕ) → d ∷ ds ≡ after_search f None s o → search_ends_of f (d ∷ ds) ≡ search_ends_of f (after_search f None t p)
+      → d ∷ ds ≡ after_search f None t p
+  unfolding after_search after_loss
+  found_alike d ds alike again None p e ends = cc
+  found_alike d ds alike again (Some m) None e ends = cc
+  found_alike d ds alike again (Some m) (Some n) e ends =
+      let begins : d.start ≡ m = cc in
+      let is_lost : d.lost ≡ loss f s m = cc in
+      let rest_is : ds ≡ after_loss f None s (loss f s m) = cc in
+      let end : d.start + f.found_at ≡ n + f.found_at = cc in
+      let other_ends : search_ends_of f ds ≡ search_ends_of f (after_loss f None t (loss f t n)) = cc in
+      let same : m ≡ n = omega arith in
+      let lost : loss f s m ≡ loss f t n = ap (loss f s) (sym begins) ∙ alike ∙ ap (loss f t) (begins ∙ same) in
+      let others : ds ≡ after_loss f None t (loss f t n) = rest (loss f s m) (loss f t n) lost rest_is other_ends in
+      let first : d ≡ record { start = n; lost = loss f t n }
+      = same_alignment d.start n d.lost (loss f t n) (begins ∙ same) (is_lost ∙ lost) in
+      cc
+    where
+      rest : (q r : Option ℕ) → q ≡ r → ds ≡ after_loss f None s q → search_ends_of f ds ≡ search_ends_of f (after_loss f None t r)
+          → ds ≡ after_loss f None t r
+      rest None None e' i i' = i
+      rest None (Some r) e' i i' = cc
+      rest (Some q) None e' i i' = cc
+      rest (Some q) (Some r) e' i i' =
+          again (suc r) (i ∙ ap (λ k. alignments_from f None s (suc k)) (same_Some q r e')) i'
+
+  alike_from : (ds : List Alignment) (from : ℕ) → ds ≡ alignments_from f None s from
+      → search_ends_of f ds ≡ search_ends_of f (alignments_from f None t from) → AllByRecursion (LosesAlike f s t) ds
+      → ds ≡ alignments_from f None t from
+  alike_from [] from e ends all = empty_ends (alignments_from f None t from) ends
+  alike_from (d ∷ ds) from e ends all =
+      found_alike d ds all.0 (λ g e' ends'. alike_from ds g e' ends' all.1) (f.search None s from) (f.search None t from)
+      (e ∙ alignments-turns f h None s from) (ends ∙ ap (search_ends_of f) (alignments-turns f h None t from))
+      ∙ sym (alignments-turns f h None t from)
+
+pub alignments_are_alike : AlignmentsAreAlike
+alignments_are_alike f h s t ends alike =
+    alike_from f h s t (alignments_from f None s 0) 0 refl ends
+    (recursion_from_All (LosesAlike f s t) (alignments_from f None s 0) alike)
