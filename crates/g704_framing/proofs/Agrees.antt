@@ -1,41 +1,53 @@
 -- Streams that are aligned alike have the same alignments.
-use Rattle.std.proofs.Common.{◌≡◌, ℕ, suc, ◌+◌, ◌-◌, ◌<◌, List, [], ◌∷◌, length, drop}
-use Rattle.std.proofs.Common.{Option, Some, None, refl, sym, ap, ◌∙◌, arith, length-drop}
+use Rattle.std.proofs.Common.{◌≡◌, ℕ, suc, ◌+◌, ◌-◌, ◌<◌, ◌≤◌, List, [], ◌∷◌, length, drop, Bool}
+use Rattle.std.proofs.Common.{Option, Some, None, refl, sym, ap, ◌∙◌, subst, arith, length-drop}
 use Rattle.std.specs.Prelude.{option_map}
 use Rattle.std.specs.List.{AllByRecursion}
 use Rattle.std.proofs.lemmas.List.Elements.{recursion_from_All}
 use Rattle.std.proofs.lemmas.Option.{same_Some}
 use Rattle.g704_framing.specs.Least.{least}
 use Rattle.g704_framing.specs.Alignment.{Framing, Alignment, loss, alignments_from, search_ends_of}
-use Rattle.g704_framing.specs.Laws.{IsFraming, AlignmentsAreAlike}
+use Rattle.g704_framing.specs.Laws.{IsFraming, IsUpToLoss, IsLostAlike, AlignmentsAreAlike}
 use Rattle.g704_framing.proofs.Leasts.{IsLeast, least-is, least_equals, reach, least_alike}
 use Rattle.g704_framing.proofs.Moves.{same_alignment}
 use Rattle.g704_framing.proofs.Turns.{alignments-turns, after_search, after_loss}
 
+-- up to the loss is also what comes before
+pub up_to_loss-earlier : (m n : ℕ) (o : Option ℕ) → m ≤ n → IsUpToLoss n o → IsUpToLoss m o
+up_to_loss-earlier m n None le up = tt
+up_to_loss-earlier m n (Some q) le up = omega arith
+
+-- what is as far as the least that passes is in range, and up to the loss that it makes
+within_reach : (passes : ℕ → Bool) (k n : ℕ) (o : Option ℕ) → IsLeast passes n o → k < reach o n → k < n
+within_reach passes k n None l lt = lt
+within_reach passes k n (Some m) l lt = let in_range = l.0 in omega arith
+
+up_to_loss : (p k n : ℕ) (o : Option ℕ) → k < reach o n → IsUpToLoss (p + k) (option_map (λ j. p + j) o)
+up_to_loss p k n None lt = tt
+up_to_loss p k n (Some j) lt = omega arith
+
 -- a loss is the same where two streams are lost alike up to it
 pub loss-alike : (f : Framing) (s t : List ℕ) (p : ℕ) → length s ≡ length t
-    → ((k : ℕ) → k < reach (least (f.is_lost (drop p s)) (length (drop p s))) (length (drop p s))
-    → f.is_lost (drop p s) k ≡ f.is_lost (drop p t) k)
-    → loss f s p ≡ loss f t p
+    → IsLostAlike f s t (record { start = p; lost = loss f s p }) → loss f s p ≡ loss f t p
 unfolding loss
 loss-alike f s t p len alike =
-    let n : length (drop p t) ≡ length (drop p s) = length-drop p t ∙ ap (λ m. m - p) (sym len) ∙ sym (length-drop p s) in
-    let o = least (f.is_lost (drop p s)) (length (drop p s)) in
-    let other : IsLeast (f.is_lost (drop p t)) (length (drop p s)) o
-    = least_alike (f.is_lost (drop p s)) (f.is_lost (drop p t)) (length (drop p s)) o alike
-    (least-is (f.is_lost (drop p s)) (length (drop p s))) in
-    rw n (ap (option_map (λ k. p + k)) (sym (least_equals (f.is_lost (drop p t)) (length (drop p s)) o other)))
+    let c = drop p s in
+    let n : length (drop p t) ≡ length c = length-drop p t ∙ ap (λ m. m - p) (sym len) ∙ sym (length-drop p s) in
+    let o = least (f.is_lost c) (length c) in
+    let is : IsLeast (f.is_lost c) (length c) o = least-is (f.is_lost c) (length c) in
+    let other : IsLeast (f.is_lost (drop p t)) (length c) o
+      = least_alike (f.is_lost c) (f.is_lost (drop p t)) (length c) o (λ k lt.
+          let below : k < length c = within_reach (f.is_lost c) k (length c) o is lt in
+          alike k (omega (arith, length-drop p s)) (up_to_loss p k (length c) o lt)) is in
+    rw n (ap (option_map (λ k. p + k)) (sym (least_equals (f.is_lost (drop p t)) (length c) o other)))
 
-abbrev LosesAlike : Framing → List ℕ → List ℕ → Alignment → Type 0
-LosesAlike f s t d = loss f s d.start ≡ loss f t d.start
-
-module _ (f : Framing) (h : IsFraming f) (s t : List ℕ) where
+module _ (f : Framing) (h : IsFraming f) (s t : List ℕ) (len : length s ≡ length t) where
   empty_ends : (ds : List Alignment) → [] ≡ search_ends_of f ds → [] ≡ ds
   empty_ends [] e = refl
   empty_ends (d ∷ ds) e = cc
 
   -- what two searches found, and the alignments after it
-  found_alike : (d : Alignment) (ds : List Alignment) → LosesAlike f s t d
+  found_alike : (d : Alignment) (ds : List Alignment) → IsLostAlike f s t d
       → ((from : ℕ) → ds ≡ alignments_from f None s from → search_ends_of f ds ≡ search_ends_of f (alignments_from f None t from)
       → ds ≡ alignments_from f None t from)
       → (o p : Option ℕ) → d ∷ ds ≡ after_search f None s o → search_ends_of f (d ∷ ds) ≡ search_ends_of f (after_search f None t p)
@@ -50,7 +62,9 @@ module _ (f : Framing) (h : IsFraming f) (s t : List ℕ) where
       let end : d.start + f.found_at ≡ n + f.found_at = cc in
       let other_ends : search_ends_of f ds ≡ search_ends_of f (after_loss f None t (loss f t n)) = cc in
       let same : m ≡ n = omega arith in
-      let lost : loss f s m ≡ loss f t n = ap (loss f s) (sym begins) ∙ alike ∙ ap (loss f t) (begins ∙ same) in
+      let first_is : d ≡ record { start = m; lost = loss f s m } = cc in
+      let lost : loss f s m ≡ loss f t n
+        = loss-alike f s t m len (subst (IsLostAlike f s t) first_is alike) ∙ ap (loss f t) same in
       let others : ds ≡ after_loss f None t (loss f t n) = rest (loss f s m) (loss f t n) lost rest_is other_ends in
       let first : d ≡ record { start = n; lost = loss f t n }
       = same_alignment d.start n d.lost (loss f t n) (begins ∙ same) (is_lost ∙ lost) in
@@ -65,7 +79,7 @@ module _ (f : Framing) (h : IsFraming f) (s t : List ℕ) where
           again (suc r) (i ∙ ap (λ k. alignments_from f None s (suc k)) (same_Some q r e')) i'
 
   alike_from : (ds : List Alignment) (from : ℕ) → ds ≡ alignments_from f None s from
-      → search_ends_of f ds ≡ search_ends_of f (alignments_from f None t from) → AllByRecursion (LosesAlike f s t) ds
+      → search_ends_of f ds ≡ search_ends_of f (alignments_from f None t from) → AllByRecursion (IsLostAlike f s t) ds
       → ds ≡ alignments_from f None t from
   alike_from [] from e ends all = empty_ends (alignments_from f None t from) ends
   alike_from (d ∷ ds) from e ends all =
@@ -74,6 +88,6 @@ module _ (f : Framing) (h : IsFraming f) (s t : List ℕ) where
       ∙ sym (alignments-turns f h None t from)
 
 pub alignments_are_alike : AlignmentsAreAlike
-alignments_are_alike f h s t ends alike =
-    alike_from f h s t (alignments_from f None s 0) 0 refl ends
-    (recursion_from_All (LosesAlike f s t) (alignments_from f None s 0) alike)
+alignments_are_alike f h s t len ends alike =
+    alike_from f h s t len (alignments_from f None s 0) 0 refl ends
+    (recursion_from_All (IsLostAlike f s t) (alignments_from f None s 0) alike)

@@ -7,16 +7,14 @@ use Rattle.std.proofs.lemmas.List.Elements.{All-from_recursion}
 use Rattle.std.proofs.lemmas.Option.{same_Some}
 use Rattle.std.proofs.lemmas.List.{ext_get_or, get_or-drop, take-append-drop, length-take-le, get_or_append_left}
 use Rattle.std.proofs.lemmas.Bool.{cases_lt, lt-leb, le-ltb, and_left, and_right}
-use Rattle.g704_framing.specs.Least.{least}
 use Rattle.g704_framing.specs.Alignment.{Framing, Alignment, loss, alignments_from}
 use Rattle.g704_framing.specs.Age.{is_standing, age_in}
 use Rattle.g704_framing.specs.Restart.{last_of}
 use Rattle.g704_framing.specs.Laws.{IsFraming, IsFoundAfter, IsRead, IsUpToLoss, AgreeAlong, OthersAreNotRead}
-use Rattle.g704_framing.proofs.Leasts.{IsLeast, least-is, reach}
 use Rattle.g704_framing.proofs.Moves.{option_map-zero, option_map-suc, same_alignment}
 use Rattle.g704_framing.proofs.Turns.{alignments-turns, after_search, after_loss, onto, none_found}
 use Rattle.g704_framing.proofs.Settles.{IsNotBefore, loss-not_before, search-from, age-after_loss, age_in-before, alignments-begin}
-use Rattle.g704_framing.proofs.Agrees.{loss-alike}
+use Rattle.g704_framing.proofs.Agrees.{loss-alike, up_to_loss-earlier}
 
 pub last_of-at : (b : Option ℕ) (a : List ℕ) (m : ℕ) → length a ≡ suc m → last_of b a ≡ Some (get_or a m 0)
 last_of-at b [] m n = absurd (omega arith)
@@ -181,31 +179,13 @@ module _ (f : Framing) (h : IsFraming f) where
         → AgreeAlong f s t (record { start = p; lost = o })
     agree_along p o same k e lt up = same (p + k) (omega arith) lt (loss_reads p k o e up)
 
-    up_to_loss : (p k : ℕ) (o : Option ℕ) → k < reach o (length (drop p s)) → IsUpToLoss (p + k) (option_map (λ j. p + j) o)
-    up_to_loss p k None lt = tt
-    up_to_loss p k (Some j) lt = omega arith
-
-    earlier_reach : (j k n : ℕ) (o : Option ℕ) → j ≤ k → k < reach o n → j < reach o n
-    earlier_reach j k n o le' lt = omega arith
-
-    within_reach : (p k : ℕ) → k < reach (least (f.is_lost (drop p s)) (length (drop p s))) (length (drop p s)) → k < length (drop p s)
-    within_reach p k lt = bounded (least (f.is_lost (drop p s)) (length (drop p s))) (least-is (f.is_lost (drop p s)) (length (drop p s))) lt
-      where
-        bounded : (o : Option ℕ) → IsLeast (f.is_lost (drop p s)) (length (drop p s)) o → k < reach o (length (drop p s)) → k < length (drop p s)
-        bounded None l below = below
-        bounded (Some n) l below = let in_range = l.0 in omega arith
-
-    -- and it is the same loss
+    -- and the loss is the same
     loss-kept : (p : ℕ) → AgreeAlong f s t (record { start = p; lost = loss f s p }) → loss f s p ≡ loss f t p
-    unfolding loss
-    loss-kept p agree = loss-alike f s t p len (λ k lt.
-        let o = least (f.is_lost (drop p s)) (length (drop p s)) in
-        let below = within_reach p k lt in
-        h.reads (drop p s) (drop p t) k (λ j up e.
-        get_or-drop p s j 0
-        ∙ agree j e (omega (arith, length-drop p s))
-        (up_to_loss p j o (earlier_reach j k (length (drop p s)) o up lt))
-        ∙ sym (get_or-drop p t j 0)))
+    loss-kept p agree = loss-alike f s t p len (λ k lt up.
+        h.reads (drop p s) (drop p t) k (λ j le' e.
+          get_or-drop p s j 0
+          ∙ agree j e (omega arith) (up_to_loss-earlier (p + j) (p + k) (loss f s p) (omega arith) up)
+          ∙ sym (get_or-drop p t j 0)))
 
     -- after a loss the alignment before it gives no age
     after_lost : (p q n : ℕ) → q ≤ n

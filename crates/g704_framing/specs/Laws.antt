@@ -1,7 +1,7 @@
 -- What holds of the alignments of every stream, for each kind of alignment.
-use Rattle.std.specs.Prelude.{◌≡◌, ℕ, suc, ◌+◌, ◌%◌, ◌<◌, ◌≤◌, List, [], ◌∷◌, ◌++◌, length, All, slice_index}
+use Rattle.std.specs.Prelude.{◌≡◌, ℕ, suc, ◌+◌, ◌%◌, ◌<◌, ◌≤◌, List, [], ◌∷◌, ◌++◌, length, drop, All, slice_index}
 use Rattle.std.specs.Prelude.{Option, Some, None, option_map}
-use Rattle.g704_framing.specs.Alignment.{Framing, Alignment, loss, alignments_of, search_ends_of}
+use Rattle.g704_framing.specs.Alignment.{Framing, Alignment, alignments_of, search_ends_of}
 use Rattle.g704_framing.specs.Age.{age_in}
 
 -- what is found, if anything, is found by an octet after the first so many
@@ -33,23 +33,28 @@ AgesAreSettled = (framing : Framing) → IsFraming framing → (stream rest : Li
     → framing.found_at ≤ after → position < length stream
     → age_in after (alignments_of framing (stream ++ rest)) position ≡ age_in after (alignments_of framing stream) position
 
+-- a position comes before the loss or is that of the loss, if there is one
+abbrev pub IsUpToLoss : ℕ → Option ℕ → Type 0
+IsUpToLoss position None = Unit {0}
+IsUpToLoss position (Some lost) = position ≤ lost
+
+-- up to the loss of an alignment of the first stream, that included, the two streams are lost alike
+abbrev pub IsLostAlike : Framing → List ℕ → List ℕ → Alignment → Type 0
+IsLostAlike framing stream other alignment = (place : ℕ) → alignment.start + place < length stream
+    → IsUpToLoss (alignment.start + place) alignment.lost
+    → framing.is_lost (drop alignment.start stream) place ≡ framing.is_lost (drop alignment.start other) place
+
 -- streams whose searches end alike, and which lose each alignment of the first one alike, have the same alignments
 abbrev pub AlignmentsAreAlike : Type 0
-AlignmentsAreAlike = (framing : Framing) → IsFraming framing → (stream other : List ℕ)
+AlignmentsAreAlike = (framing : Framing) → IsFraming framing → (stream other : List ℕ) → length stream ≡ length other
     → search_ends_of framing (alignments_of framing stream) ≡ search_ends_of framing (alignments_of framing other)
-    → All (λ alignment. loss framing stream alignment.start ≡ loss framing other alignment.start)
-    (alignments_of framing stream)
+    → All (IsLostAlike framing stream other) (alignments_of framing stream)
     → alignments_of framing stream ≡ alignments_of framing other
 
 -- no alignment stands, or the octet lies whole periods from the first one of the alignment
 abbrev pub IsRead : Framing → Option ℕ → Type 0
 IsRead framing None = Unit {0}
 IsRead framing (Some age) = age % framing.period ≡ 0
-
--- a position comes before the loss or is that of the loss, if there is one
-abbrev pub IsUpToLoss : ℕ → Option ℕ → Type 0
-IsUpToLoss position None = Unit {0}
-IsUpToLoss position (Some lost) = position ≤ lost
 
 -- whole periods from the first octet of an alignment, up to its loss, two streams have the same octets
 abbrev pub AgreeAlong : Framing → List ℕ → List ℕ → Alignment → Type 0

@@ -1,0 +1,5 @@
+pub mod Searches
+pub mod Wrongs
+pub mod Steps
+pub mod Standing
+pub mod Callers

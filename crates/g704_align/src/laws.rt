@@ -1,0 +1,19 @@
+//! Laws of frame alignment, over its definitions alone.
+
+ghost use Rattle.g704_align.specs.Laws.{PlacesAreSettled, PlacesAreAlike, OtherSlotsAreNotRead};
+
+/// No later octet moves a place, or changes the alarm that stood.
+pub fn places_are_settled()
+    ensures { PlacesAreSettled }
+{}
+
+/// Places depend on slot 0 alone: streams whose searches end alike, and which are right or wrong alike in slot 0 of the
+/// first one's alignments, losses included, have the same alignments, places and alarms.
+pub fn places_are_alike()
+    ensures { PlacesAreAlike }
+{}
+
+/// No search and no loss reads an octet of another slot than slot 0.
+pub fn other_slots_are_not_read()
+    ensures { OtherSlotsAreNotRead }
+{}
