@@ -12,7 +12,7 @@ use Rattle.g704_framing.proofs.Keeps.{others_are_not_read}
 use Rattle.g704_align.specs.Loss.{is_expected, frame_alignment, alignments}
 use Rattle.g704_align.specs.Placing.{place_of, place, alarm, number_of}
 use Rattle.g704_align.specs.Laws.{IsAlikeInSlotZero}
-use Rattle.g704_align.specs.Laws.{PlacesAreSettled, PlacesAreAlike, OtherSlotsAreNotRead}
+use Rattle.g704_align.specs.Laws.{PlacesAreSettled, PlacesAreAlike, OtherPlacesAreNotRead}
 use Rattle.g704_align.proofs.Wrongs.{is_third_wrong-alike}
 use Rattle.g704_align.proofs.Searches.{frame_is_framing}
 
@@ -47,7 +47,7 @@ slot_zero None read = refl
 slot_zero (Some age) read = read
 
 -- streams that differ in other slots than slot 0 alone are aligned alike
-pub alike-kept : OtherSlotsAreNotRead
+pub alike-kept : OtherPlacesAreNotRead
 unfolding place
 alike-kept s t keeps =
     let kept = others_are_not_read frame_alignment frame_is_framing s t 65 (omega arith) keeps.len

@@ -4,12 +4,13 @@ use Rattle.std.proofs.Common.{Option, Some, None, refl, sym, ap, ◌∙◌, subs
 use Rattle.std.specs.Prelude.{◌≢◌, ◌&&◌, slice_get}
 use Rattle.std.proofs.lemmas.Option.{same_Some}
 use Rattle.std.proofs.lemmas.List.{get_or_append_left, length_push, get_or_push}
-use Rattle.std.proofs.lemmas.Bool.{lt-ltb, le-ltb, and_left, cases_eq, cases_lt}
+use Rattle.std.proofs.lemmas.Bool.{lt-ltb, le-ltb, eqb-true, ne_eqb, not-true, not-false, and_left, and_right, and_parts, or_cases, or_parts}
+use Rattle.std.proofs.lemmas.Bool.{cases_eq, cases_lt}
 use Rattle.g704_framing.specs.Restart.{IsOver}
 use Rattle.g704_framing.proofs.Ends.{IsOver-passed, IsOver-lost}
 use Rattle.g704_align.specs.Search.{is_fas, is_nfas, search}
 use Rattle.g704_align.specs.Loss.{is_wrong, is_third_wrong, frame_alignment}
-use Rattle.g704_align.specs.Aligner.{IsCandidate, IsAlignment, CountsWrong, wrong_before, count_after}
+use Rattle.g704_align.specs.Aligner.{IsCandidate, IsAlignment, CountsWrong, wrong_before, count_after, is_refuted}
 use Rattle.g704_align.proofs.Wrongs.{is_wrong-append, is_third_wrong-append, is_wrong-fas, is_wrong-nfas, is_wrong-early, is_wrong-other}
 use Rattle.g704_align.proofs.Searches.{frame_is_framing, slice_get-within, slice_get-at, confirmed-refuted, search-found}
 
@@ -31,22 +32,30 @@ pub IsOver-no_fas : (b : Option ℕ) (x : ℕ) → is_fas x ≡ false → IsOver
 unfolding search
 IsOver-no_fas b x h = IsOver-passed frame_alignment frame_is_framing b (x ∷ []) (λ t. rw h refl)
 
-nfas_at : (c : List ℕ) (x age : ℕ) → IsCandidate age c → (age ≡ 32 → is_nfas x ≡ true) → 32 < age + 1
+-- what an octet says that does not refute a candidate
+right_at_32 : (x age : ℕ) → is_refuted age x ≡ false → age ≡ 32 → is_nfas x ≡ true
+right_at_32 x age kept e =
+    not-false (is_nfas x) (or_parts (not (is_nfas x)) false (subst (λ a. is_refuted a x ≡ false) e kept)).0
+
+right_at_64 : (x age : ℕ) → is_refuted age x ≡ false → age ≡ 64 → is_fas x ≡ true
+right_at_64 x age kept e = not-false (is_fas x) (subst (λ a. is_refuted a x ≡ false) e kept)
+
+nfas_at : (c : List ℕ) (x age : ℕ) → IsCandidate age c → is_refuted age x ≡ false → 32 < age + 1
     → is_nfas (get_or (c ++ x ∷ []) 32 0) ≡ true
-nfas_at c x age h right lt = elim (cases_eq age 32) [
-  | inl e ↦ rw (get_or_push c x 0 32 (h.counted ∙ e)) (right e)
+nfas_at c x age h kept lt = elim (cases_eq age 32) [
+  | inl e ↦ rw (get_or_push c x 0 32 (h.counted ∙ e)) (right_at_32 x age kept e)
   | inr ne ↦ let n = h.counted in rw (push_at c x 32 (omega arith)) (h.nfas (omega arith))
 ]
 
 -- a candidate that is not refuted
-pub candidate-more : (c : List ℕ) (x age : ℕ) → IsCandidate age c → age < 64 → (age ≡ 32 → is_nfas x ≡ true)
+pub candidate-more : (c : List ℕ) (x age : ℕ) → IsCandidate age c → is_refuted age x ≡ false → age < 64
     → IsCandidate (age + 1) (c ++ x ∷ [])
-candidate-more c x age h lt right = let n = h.counted in let b = h.begun in record {
+candidate-more c x age h kept lt = let n = h.counted in let b = h.begun in record {
   counted = length_push c x ∙ ap (λ k. k + 1) h.counted;
   begun = omega arith;
   young = omega arith;
   fas = rw (push_at c x 0 (omega arith)) h.fas;
-  nfas = nfas_at c x age h right;
+  nfas = nfas_at c x age h kept;
 }
 
 over_no_nfas : (b : Option ℕ) (c : List ℕ) (x : ℕ) → length c ≡ 32 → is_fas (get_or c 0 0) ≡ true → is_nfas x ≡ false
@@ -71,16 +80,19 @@ over_no_second_fas b (y ∷ c) x n h s g = IsOver-passed frame_alignment frame_i
     let e : slice_get (c ++ x ∷ [] ++ t) 63 ≡ Some x = rw (append_assoc c (x ∷ []) t) (rw l at (slice_get-at c x t)) in
     rw (h, d, e, m, s, g) refl)
 
--- a candidate whose NFAS octet is wrong
-pub candidate-refuted : (b : Option ℕ) (c : List ℕ) (x age : ℕ) → IsCandidate age c → age ≡ 32 → is_nfas x ≡ false
+-- a candidate that is refuted, by its NFAS octet or by its second FAS octet
+pub candidate-refuted : (b : Option ℕ) (c : List ℕ) (x age : ℕ) → IsCandidate age c → is_refuted age x ≡ true
     → IsOver frame_alignment b (c ++ x ∷ [])
-candidate-refuted b c x age h e wrong = over_no_nfas b c x (h.counted ∙ e) h.fas wrong
-
--- whose second FAS octet is wrong
-pub candidate-unconfirmed : (b : Option ℕ) (c : List ℕ) (x age : ℕ) → IsCandidate age c → 64 ≤ age → is_fas x ≡ false
-    → IsOver frame_alignment b (c ++ x ∷ [])
-candidate-unconfirmed b c x age h le wrong =
-    let n = h.counted in let y = h.young in over_no_second_fas b c x (omega arith) h.fas (h.nfas (omega arith)) wrong
+candidate-refuted b c x age h refuted = elim (or_cases _ _ refuted) [
+  | inl nfas ↦
+      let parts = and_parts _ _ nfas in
+      let at : age ≡ 32 = eqb-true age 32 parts.0 in
+      over_no_nfas b c x (h.counted ∙ at) h.fas (not-true (is_nfas x) parts.1)
+  | inr fas ↦
+      let parts = and_parts _ _ fas in
+      let at : age ≡ 64 = eqb-true age 64 parts.0 in
+      over_no_second_fas b c x (h.counted ∙ at) h.fas (h.nfas (omega arith)) (not-true (is_fas x) parts.1)
+]
 
 wrong_before-append : (c t : List ℕ) (k : ℕ) → 0 < length c → k < length c + 64 → wrong_before (c ++ t) k ≡ wrong_before c k
 wrong_before-append c t k p h =
@@ -93,16 +105,18 @@ third-early : (c : List ℕ) (k : ℕ) → k ≤ 64 → is_third_wrong c k ≡ f
 third-early c k h = and_left _ _ (is_wrong-early c k h)
 
 -- and one that is confirmed
-pub candidate-found : (c : List ℕ) (x age : ℕ) → IsCandidate age c → 64 ≤ age → is_fas x ≡ true → IsAlignment 1 0 0 (c ++ x ∷ [])
-candidate-found c x age h le right =
+pub candidate-found : (c : List ℕ) (x age : ℕ) → IsCandidate age c → is_refuted age x ≡ false → 64 ≤ age
+    → IsAlignment 1 0 0 (c ++ x ∷ [])
+candidate-found c x age h kept le =
     let n : length c ≡ 64 = (let a = h.counted in let y = h.young in omega arith) in
     let l : length (c ++ x ∷ []) ≡ 65 = omega (arith, length_push c x) in
+    let y = h.young in
     record {
       counted = rw l refl;
       found = omega arith;
       fas = rw (push_at c x 0 (omega arith)) h.fas;
       nfas = rw (push_at c x 32 (omega arith)) (h.nfas (omega arith));
-      confirmed = rw (get_or_push c x 0 64 n) right;
+      confirmed = rw (get_or_push c x 0 64 n) (right_at_64 x age kept (omega arith));
       kept = λ k lt. third-early (c ++ x ∷ []) k (omega arith);
       fas_count = λ k ge lt e. wrong_before-early (c ++ x ∷ []) k (omega arith);
       nfas_count = λ k ge lt e. wrong_before-early (c ++ x ∷ []) k (omega arith);

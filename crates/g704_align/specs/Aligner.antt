@@ -1,5 +1,5 @@
 -- What the fields of an aligner say of the octets that it was given.
-use Rattle.std.specs.Prelude.{◌≡◌, ℕ, ◌+◌, ◌-◌, ◌%◌, ◌<◌, ◌≤◌, Bool, true, false, nat_lt, if◌then◌else◌}
+use Rattle.std.specs.Prelude.{◌≡◌, ℕ, ◌+◌, ◌-◌, ◌%◌, ◌<◌, ◌≤◌, Bool, true, false, not, ◌&&◌, ◌||◌, ◌==◌, nat_lt, if◌then◌else◌}
 use Rattle.std.specs.Prelude.{List, [], ◌++◌, length, slice_index, Option, Some, None}
 use Rattle.g704_framing.specs.Alignment.{alignments_from}
 use Rattle.g704_framing.specs.Age.{age_in}
@@ -19,6 +19,10 @@ pub record IsCandidate (age : ℕ) (octets : List ℕ) : Type 0 where
   pub young : age ≤ 64
   pub fas : is_fas (slice_index octets 0) ≡ true
   pub nfas : 32 < age → is_nfas (slice_index octets 32) ≡ true
+
+-- the octet at this age should confirm a candidate, and is wrong
+abbrev pub is_refuted : ℕ → ℕ → Bool
+is_refuted age octet = ((age == 32) && not (is_nfas octet)) || ((age == 64) && not (is_fas octet))
 
 -- how many of the two octets 64 and 128 places before a place are wrong, counted from the place back
 abbrev pub wrong_before : List ℕ → ℕ → ℕ

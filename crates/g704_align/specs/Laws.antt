@@ -44,7 +44,7 @@ PlacesAreAlike = (stream other : List ℕ) → IsAlignedAlike stream other
 
 -- no search and no loss reads an octet of another slot: streams that differ there alone are aligned alike, and have the
 -- same alignments and places
-abbrev pub OtherSlotsAreNotRead : Type 0
-OtherSlotsAreNotRead = (stream other : List ℕ) → KeepsSlotZero stream other
+abbrev pub OtherPlacesAreNotRead : Type 0
+OtherPlacesAreNotRead = (stream other : List ℕ) → KeepsSlotZero stream other
     → IsAlignedAlike stream other × (alignments stream ≡ alignments other)
     × ((position : ℕ) → place stream position ≡ place other position)

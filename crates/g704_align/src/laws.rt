@@ -1,6 +1,6 @@
 //! Laws of frame alignment, over its definitions alone.
 
-ghost use Rattle.g704_align.specs.Laws.{PlacesAreSettled, PlacesAreAlike, OtherSlotsAreNotRead};
+ghost use Rattle.g704_align.specs.Laws.{PlacesAreSettled, PlacesAreAlike, OtherPlacesAreNotRead};
 
 /// No later octet moves a place, or changes the alarm that stood.
 pub fn places_are_settled()
@@ -14,6 +14,6 @@ pub fn places_are_alike()
 {}
 
 /// No search and no loss reads an octet of another slot than slot 0.
-pub fn other_slots_are_not_read()
-    ensures { OtherSlotsAreNotRead }
+pub fn other_places_are_not_read()
+    ensures { OtherPlacesAreNotRead }
 {}

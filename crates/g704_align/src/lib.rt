@@ -4,7 +4,7 @@
 ghost use Rattle.std.specs.Prelude.{◌≡◌, ◌+◌, ◌%◌, ◌<◌, ℕ, List, Option, [], ◌∷◌, ◌++◌, length};
 ghost use Rattle.g704_align.specs.Search.{is_fas, is_nfas};
 ghost use Rattle.g704_align.specs.Placing.{place, alarm_after, number_of};
-ghost use Rattle.g704_align.specs.Aligner.{IsCandidate, IsAlignment, count_after, Describes, Follows, place_since, Stands};
+ghost use Rattle.g704_align.specs.Aligner.{IsCandidate, is_refuted, IsAlignment, count_after, Describes, Follows, place_since, Stands};
 
 pub mod laws;
 
@@ -132,21 +132,24 @@ fn searched(octet: u8) -> Phase
 fn after_candidate(age: u8, octet: u8) -> Phase
     ensures { (before : Option ℕ) (octets : List ℕ) → IsCandidate age octets → Follows result before (octets ++ octet ∷ []) }
 {
-    if age < TWO_FRAMES {
-        if age == FRAME && !is_nfas(octet) {
-            Phase::Searching
-        } else {
-            Phase::Candidate { age: age + 1 }
-        }
-    } else if is_fas(octet) {
+    if refutes(age, octet) {
+        Phase::Searching
+    } else if age < TWO_FRAMES {
+        Phase::Candidate { age: age + 1 }
+    } else {
         Phase::Aligned {
             age: 1,
             wrong_fas: 0,
             wrong_nfas: 0,
         }
-    } else {
-        Phase::Searching
     }
+}
+
+// Whether an octet that comes `age` octets after a FAS octet is one that should confirm it, and is wrong.
+fn refutes(age: u8, octet: u8) -> bool
+    ensures { result ≡ is_refuted age octet }
+{
+    (age == FRAME && !is_nfas(octet)) || (age == TWO_FRAMES && !is_fas(octet))
 }
 
 // The phase after an octet in an alignment.

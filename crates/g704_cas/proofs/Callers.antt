@@ -11,9 +11,9 @@ use Rattle.g704_framing.proofs.Agrees.{alignments_are_alike, up_to_loss-earlier}
 use Rattle.g704_framing.proofs.Keeps.{others_are_not_read}
 use Rattle.g704_cas.specs.Search.{is_mfas}
 use Rattle.g704_cas.specs.Loss.{multiframe_alignment, alignments}
-use Rattle.g704_cas.specs.Placing.{place_of, place, alarm, number_of}
+use Rattle.g704_cas.specs.Placing.{place_of, place, alarm, frame_of}
 use Rattle.g704_cas.specs.Laws.{IsAlikeInFrameZero}
-use Rattle.g704_cas.specs.Laws.{PlacesAreSettled, PlacesAreAlike, OtherFramesAreNotRead}
+use Rattle.g704_cas.specs.Laws.{PlacesAreSettled, PlacesAreAlike, OtherPlacesAreNotRead}
 use Rattle.g704_cas.proofs.Wrongs.{is_second_wrong-alike}
 use Rattle.g704_cas.proofs.Searches.{multiframe_is_framing}
 
@@ -42,12 +42,12 @@ place-alike s t alike =
       λ n. (ap (λ ds. place_of (age_in 0 ds n)) same, ap (λ ds. is_none (age_in 0 ds n)) same),
     )
 
-frame_zero : (o : Option ℕ) → IsRead multiframe_alignment o → number_of (place_of o) ≡ 0
+frame_zero : (o : Option ℕ) → IsRead multiframe_alignment o → frame_of (place_of o) ≡ 0
 frame_zero None read = refl
 frame_zero (Some age) read = read
 
 -- lists that differ in other frames than frame 0 alone are aligned alike
-pub alike-kept : OtherFramesAreNotRead
+pub alike-kept : OtherPlacesAreNotRead
 unfolding place
 alike-kept s t keeps =
     let kept = others_are_not_read multiframe_alignment multiframe_is_framing s t 0 (omega arith) keeps.len

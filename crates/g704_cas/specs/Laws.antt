@@ -4,7 +4,7 @@ use Rattle.g704_framing.specs.Alignment.{Alignment, search_ends_of}
 use Rattle.g704_framing.specs.Laws.{IsUpToLoss}
 use Rattle.g704_cas.specs.Search.{is_mfas}
 use Rattle.g704_cas.specs.Loss.{multiframe_alignment, alignments}
-use Rattle.g704_cas.specs.Placing.{place, alarm, number_of}
+use Rattle.g704_cas.specs.Placing.{place, alarm, frame_of}
 
 -- the octets at which the searches end, one after another
 abbrev pub search_ends : List ℕ → List ℕ
@@ -28,7 +28,7 @@ pub record IsAlignedAlike (octets others : List ℕ) : Type 0 where
 -- alignment is looked for are in no frame.)
 pub record KeepsFrameZero (octets others : List ℕ) : Type 0 where
   pub len : length octets ≡ length others
-  pub kept : (position : ℕ) → position < length octets → number_of (place octets position) ≡ 0
+  pub kept : (position : ℕ) → position < length octets → frame_of (place octets position) ≡ 0
       → slice_index octets position ≡ slice_index others position
 
 -- no later octet moves a place, or changes the alarm that stood
@@ -44,7 +44,7 @@ PlacesAreAlike = (octets others : List ℕ) → IsAlignedAlike octets others
 
 -- no search and no loss reads an octet of another frame: lists that differ there alone are aligned alike, and have the
 -- same alignments and places
-abbrev pub OtherFramesAreNotRead : Type 0
-OtherFramesAreNotRead = (octets others : List ℕ) → KeepsFrameZero octets others
+abbrev pub OtherPlacesAreNotRead : Type 0
+OtherPlacesAreNotRead = (octets others : List ℕ) → KeepsFrameZero octets others
     → IsAlignedAlike octets others × (alignments octets ≡ alignments others)
     × ((position : ℕ) → place octets position ≡ place others position)

@@ -24,6 +24,6 @@ abbrev pub alarm_after : List ℕ → Bool
 alarm_after octets = alarm octets (length octets - 1)
 
 -- the frame of a place, 0 where alignment is looked for
-abbrev pub number_of : MfPlace → ℕ
-number_of Hunting = 0
-number_of (Frame number) = number
+abbrev pub frame_of : MfPlace → ℕ
+frame_of Hunting = 0
+frame_of (Frame number) = number

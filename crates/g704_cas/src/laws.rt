@@ -1,7 +1,7 @@
 //! Laws of multiframe alignment, over its definitions alone.
 
 ghost use Rattle.g704_cas.specs.Search.{SearchIsLeast};
-ghost use Rattle.g704_cas.specs.Laws.{PlacesAreSettled, PlacesAreAlike, OtherFramesAreNotRead};
+ghost use Rattle.g704_cas.specs.Laws.{PlacesAreSettled, PlacesAreAlike, OtherPlacesAreNotRead};
 
 /// A search finds the least position, from where it begins, of an octet that is right after one that is not 0.
 pub fn search_is_least()
@@ -20,6 +20,6 @@ pub fn places_are_alike()
 {}
 
 /// No search and no loss reads an octet of another frame than frame 0.
-pub fn other_frames_are_not_read()
-    ensures { OtherFramesAreNotRead }
+pub fn other_places_are_not_read()
+    ensures { OtherPlacesAreNotRead }
 {}

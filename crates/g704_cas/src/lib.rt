@@ -4,7 +4,7 @@
 
 ghost use Rattle.std.specs.Prelude.{◌≡◌, ◌+◌, ◌%◌, ◌<◌, ℕ, List, Option, [], ◌∷◌, ◌++◌, length};
 ghost use Rattle.g704_cas.specs.Search.{is_mfas, is_not_zero};
-ghost use Rattle.g704_cas.specs.Placing.{place, alarm_after, number_of};
+ghost use Rattle.g704_cas.specs.Placing.{place, alarm_after, frame_of};
 ghost use Rattle.g704_cas.specs.Aligner.{IsAlignment, Describes, Follows, place_since, Stands};
 
 pub mod laws;
@@ -34,6 +34,11 @@ enum Phase {
     Aligned { frame: u8, wrong: bool },
 }
 
+// The search before any octet.
+const AT_FIRST: Phase = Phase::Searching {
+    after_nonzero: false,
+};
+
 /// Finds multiframe alignment in the octets of time slot 16, follows it, and tells the frame of each octet.
 #[derive(Clone, Copy, Debug, PartialEq, Eq)]
 pub struct MfAligner {
@@ -45,11 +50,7 @@ impl MfAligner {
     pub fn new() -> Self
         ensures { Stands result [] }
     {
-        MfAligner {
-            phase: Phase::Searching {
-                after_nonzero: false,
-            },
-        }
+        MfAligner { phase: AT_FIRST }
     }
 
     /// Takes the next octet of time slot 16 and tells its place.
@@ -57,7 +58,7 @@ impl MfAligner {
         ensures placed { (history : List ℕ) → Stands self.old history
             → result ≡ place (history ++ octet ∷ []) (length history) }
         ensures stands { (history : List ℕ) → Stands self.old history → Stands self.new (history ++ octet ∷ []) }
-        ensures in_multiframe { number_of result < 16 }
+        ensures in_multiframe { frame_of result < 16 }
     {
         let before = self.phase;
         self.phase = phase_after(before, octet);
@@ -68,9 +69,7 @@ impl MfAligner {
     pub fn lost(&mut self)
         ensures { Stands self.new [] }
     {
-        self.phase = Phase::Searching {
-            after_nonzero: false,
-        };
+        self.phase = AT_FIRST;
     }
 
     /// Whether the alarm stands: alignment is being looked for. It does before the first octet.
@@ -152,7 +151,7 @@ fn next_frame(frame: u8) -> u8
 fn place_between(before: Phase, after: Phase) -> MfPlace
     ensures placed { (earlier : Option ℕ) (octets : List ℕ) (octet : ℕ) → Describes before earlier octets
         → Follows after earlier (octets ++ octet ∷ []) → result ≡ place_since earlier (octets ++ octet ∷ []) (length octets) }
-    ensures in_multiframe { number_of result < 16 }
+    ensures in_multiframe { frame_of result < 16 }
 {
     match (before, after) {
         (_, Phase::Searching { .. }) => MfPlace::Hunting,
