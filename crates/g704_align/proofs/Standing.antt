@@ -132,18 +132,11 @@ alarm-since (Aligned age ws wd) earlier since over f =
     ap is_none (sym (age-since earlier since over (omega arith)
     ∙ age-aligned (last_of None earlier) since 64 (length since - 1) age ws wd f (omega arith)))
 
-alarm-stands : (phase : Phase) (history : List ℕ) → Stands (record { phase = phase }) history → alarm_of phase ≡ alarm_after history
+-- the alarm, in each phase
+alarm-stands : (phase : Phase) (history : List ℕ) → Stands (record { phase = phase }) history
+    → alarm_of phase ≡ alarm_after history
 alarm-stands phase history h = rw h.whole (alarm-since phase h.earlier h.since h.over h.fields)
 
-pub alarm-is_aligned : (phase : Phase) (history : List ℕ) (a s d : ℕ) → phase ≡ Aligned a s d
-    → Stands (record { phase = phase }) history → false ≡ alarm_after history
-alarm-is_aligned phase history a s d e h = sym (ap alarm_of e) ∙ alarm-stands phase history h
-
-pub alarm-is_not : (phase : Phase) (history : List ℕ) → ((a s d : ℕ) → phase ≡ Aligned a s d → ⊥)
-    → Stands (record { phase = phase }) history → true ≡ alarm_after history
-alarm-is_not phase history unless h = go phase unless ∙ alarm-stands phase history h
-  where
-    go : (p : Phase) → ((a s d : ℕ) → p ≡ Aligned a s d → ⊥) → true ≡ alarm_of p
-    go Searching n = refl
-    go (Candidate age) n = refl
-    go (Aligned a s d) n = absurd (n a s d refl)
+pub alarm-in : (phase is : Phase) (history : List ℕ) → phase ≡ is → Stands (record { phase = phase }) history
+    → alarm_of is ≡ alarm_after history
+alarm-in phase is history e h = sym (ap alarm_of e) ∙ alarm-stands phase history h

@@ -82,7 +82,10 @@ impl Aligner {
     pub fn alarm(&self) -> bool
         ensures { (history : List ℕ) → Stands self.now history → result ≡ alarm_after history }
     {
-        !matches!(self.phase, Phase::Aligned { .. })
+        match self.phase {
+            Phase::Searching | Phase::Candidate { .. } => true,
+            Phase::Aligned { .. } => false,
+        }
     }
 }
 

@@ -76,7 +76,10 @@ impl MfAligner {
     pub fn alarm(&self) -> bool
         ensures { (history : List ℕ) → Stands self.now history → result ≡ alarm_after history }
     {
-        matches!(self.phase, Phase::Searching { .. })
+        match self.phase {
+            Phase::Searching { .. } => true,
+            Phase::Aligned { .. } => false,
+        }
     }
 }
 

@@ -1,10 +1,12 @@
-use Rattle.std.proofs.Common.{◌∙◌, ap, not}
-use Rattle.g704_align.proofs.Standing.{alarm-is_aligned, alarm-is_not}
+use Rattle.std.proofs.Common.{inl, inr}
+use Rattle.g704_align.proofs.Standing.{alarm-in}
 use Rattle.g704_align.proofs.Aligner.alarm.Goals as goal
-use Rattle.g704_align.proofs.Aligner.alarm.Goals.{in-Aligned, in_default}
 
-pub returns : goal.returns
-returns c history h = elim c.match-matches.branch [
-  | in-Aligned w ↦ ap not w.matches-is ∙ alarm-is_aligned c.args.self.now.phase history _ _ _ w.in-Aligned.is h
-  | in_default w ↦ ap not w.matches-is ∙ alarm-is_not c.args.self.now.phase history w.in_default.not-Aligned h
+pub returns-in-Searching : goal.returns-in-Searching
+returns-in-Searching c history h = elim c.in-Searching.is [
+  | inl e ↦ alarm-in c.args.self.now.phase _ history e h
+  | inr e ↦ alarm-in c.args.self.now.phase _ history e.1 h
 ]
+
+pub returns-in-Aligned : goal.returns-in-Aligned
+returns-in-Aligned c history h = alarm-in c.args.self.now.phase _ history c.in-Aligned.is h

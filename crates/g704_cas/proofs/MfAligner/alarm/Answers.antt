@@ -4,5 +4,5 @@ use Rattle.g704_cas.proofs.MfAligner.alarm.Goals as goal
 pub returns-in-Searching : goal.returns-in-Searching
 returns-in-Searching c history h = alarm-searching c.args.self.now.phase history _ c.in-Searching.is h
 
-pub returns-in_default : goal.returns-in_default
-returns-in_default c history h = alarm-aligned c.args.self.now.phase history _ _ c.in_default.is h
+pub returns-in-Aligned : goal.returns-in-Aligned
+returns-in-Aligned c history h = alarm-aligned c.args.self.now.phase history _ _ c.in-Aligned.is h
