@@ -37,7 +37,8 @@ unfolding place alarm
 place-alike s t alike =
     let same : alignments s ≡ alignments t
     = alignments_are_alike frame_alignment frame_is_framing s t alike.len alike.searches
-    (All-weaker (IsAlikeInSlotZero s t) (IsLostAlike frame_alignment s t) (lost_alike s t) (alignments s) alike.slot_zero) in (
+    (All-weaker (IsAlikeInSlotZero s t) (IsLostAlike frame_alignment s t) (lost_alike s t)
+    (alignments s) alike.slot_zero) in (
       same,
       λ n. (ap (λ ds. place_of (age_in 65 ds n)) same, ap (λ ds. is_none (age_in 64 ds n)) same),
     )

@@ -38,7 +38,8 @@ later-found : (o r : Option ℕ) → StaysFound o r → StaysFound (later o) (la
 later-found None r h p e = cc
 later-found (Some q) r h p e = ap later (h q refl) ∙ e
 
-confirmed-found : (o u o' u' a b a' b' : Option ℕ) → StaysFound o o' → StaysFound u u' → StaysFound a a' → StaysFound b b'
+confirmed-found : (o u o' u' a b a' b' : Option ℕ) → StaysFound o o' → StaysFound u u' → StaysFound a a'
+    → StaysFound b b'
     → StaysFound (confirmed o u a b) (confirmed o' u' a' b')
 confirmed-found None u o' u' a b a' b' ho hu ha hb p e = cc
 confirmed-found (Some x) u o' u' a b a' b' ho hu ha hb p e =
@@ -47,7 +48,8 @@ confirmed-found (Some x) u o' u' a b a' b' ho hu ha hb p e =
       | inl right ↦ second u hu e right
     ])
   where
-    second : (v : Option ℕ) → StaysFound v u' → confirmed (Some x) v a b ≡ Some p → is_nfas x ≡ true → confirmed (Some x) u' a' b' ≡ Some p
+    second : (v : Option ℕ) → StaysFound v u' → confirmed (Some x) v a b ≡ Some p → is_nfas x ≡ true
+        → confirmed (Some x) u' a' b' ≡ Some p
     second None hv i right = let n = rw right at i in cc
     second (Some y) hv i right = rw (hv y refl, right) (elim (cases_Bool (is_fas y)) [
       | inl fas ↦ rw fas (rw (right, fas) at i)
@@ -95,7 +97,8 @@ confirmed-after count x y a b a' b' ha hb e = elim (cases_Bool (is_nfas x)) [
 pub search-after : (s t : List ℕ) (from : ℕ) → FoundAfter (length s) (search s from) (search (s ++ t) from)
 unfolding search
 search-after [] t from e = few-after 0 (search t from) (omega arith)
-search-after (x ∷ s) t (suc from) e = later-after (length s) (search s from) (search (s ++ t) from) (search-after s t from) e
+search-after (x ∷ s) t (suc from) e =
+    later-after (length s) (search s from) (search (s ++ t) from) (search-after s t from) e
 search-after (x ∷ s) t zero e = elim (cases_Bool (is_fas x)) [
   | inr other ↦ rw other (later-after (length s) (search s 0) (search (s ++ t) 0) (search-after s t 0) (rw other at e))
   | inl fas ↦ elim (cases_lt 63 (length s)) [

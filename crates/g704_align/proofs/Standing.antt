@@ -22,7 +22,8 @@ age-aligned : (b : Option ℕ) (c : List ℕ) (after n age ws wd : ℕ) → IsAl
     → age_in after (alignments_from frame_alignment b c 0) n ≡ Some n
 age-aligned b c after n age ws wd h le =
     age-standing after n (alignments_from frame_alignment b c 0)
-    (alignments-standing frame_alignment frame_is_framing b c (λ t. search-found c t h.found h.fas h.nfas h.confirmed) h.kept) le
+    (alignments-standing frame_alignment frame_is_framing b c
+    (λ t. search-found c t h.found h.fas h.nfas h.confirmed) h.kept) le
 
 even_frame : (n : ℕ) → ltb (n % 64) 32 ≡ eqb ((n / 32) % 2) 0
 even_frame n = elim (cases_lt (n % 64) 32) [
@@ -46,7 +47,8 @@ unfolding place_since
 place-early b c n le = ap place_of (sym (age-early frame_alignment b c 65 n (omega arith)))
 
 -- the octet after which all begins anew
-place-over : (b : Option ℕ) (c : List ℕ) (x : ℕ) → IsOver frame_alignment b (c ++ x ∷ []) → Hunting ≡ place_since b (c ++ x ∷ []) (length c)
+place-over : (b : Option ℕ) (c : List ℕ) (x : ℕ) → IsOver frame_alignment b (c ++ x ∷ [])
+    → Hunting ≡ place_since b (c ++ x ∷ []) (length c)
 unfolding place_since
 place-over b c x over =
     let l = length_push c x in
@@ -57,7 +59,8 @@ pub place-unless_after : (after : Phase) (b : Option ℕ) (c : List ℕ) (x : �
     → ((a s d : ℕ) → after ≡ Aligned a s d → ⊥) → Hunting ≡ place_since b (c ++ x ∷ []) (length c)
 place-unless_after Searching b c x f unless = place-over b c x f
 place-unless_after (Candidate age) b c x f unless =
-    let a = f.counted in let y = f.young in let l = length_push c x in place-early b (c ++ x ∷ []) (length c) (omega arith)
+    let a = f.counted in let y = f.young in let l = length_push c x in
+    place-early b (c ++ x ∷ []) (length c) (omega arith)
 place-unless_after (Aligned a s d) b c x f unless = absurd (unless a s d refl)
 
 -- nor where it did not stand before
@@ -69,7 +72,8 @@ place-unless_before (Candidate age) b c x f unless =
 place-unless_before (Aligned a s d) b c x f unless = absurd (unless a s d refl)
 
 -- the place in the whole history
-pub place-history : (history earlier since : List ℕ) (x : ℕ) → history ≡ earlier ++ since → IsOver frame_alignment None earlier
+pub place-history : (history earlier since : List ℕ) (x : ℕ) → history ≡ earlier ++ since
+    → IsOver frame_alignment None earlier
     → place_since (last_of None earlier) (since ++ x ∷ []) (length since) ≡ place (history ++ x ∷ []) (length history)
 unfolding place place_since
 place-history history earlier since x e over =
@@ -122,7 +126,8 @@ alarm-since : (phase : Phase) (earlier since : List ℕ) → IsOver frame_alignm
     → alarm_of phase ≡ alarm_after (earlier ++ since)
 unfolding alarm
 alarm-since Searching earlier since over f =
-    rw (f, append-nil earlier) (ap is_none (sym (age-at_over frame_alignment None earlier 64 (length earlier - 1) over (omega arith))))
+    rw (f, append-nil earlier)
+    (ap is_none (sym (age-at_over frame_alignment None earlier 64 (length earlier - 1) over (omega arith))))
 alarm-since (Candidate age) earlier since over f =
     let a = f.counted in let b = f.begun in let y = f.young in
     ap is_none (sym (age-since earlier since over (omega arith)

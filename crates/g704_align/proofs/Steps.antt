@@ -4,15 +4,18 @@ use Rattle.std.proofs.Common.{Option, Some, None, refl, sym, ap, ◌∙◌, subs
 use Rattle.std.specs.Prelude.{◌≢◌, ◌&&◌, slice_get}
 use Rattle.std.proofs.lemmas.Option.{same_Some}
 use Rattle.std.proofs.lemmas.List.{get_or_append_left, length_push, get_or_push}
-use Rattle.std.proofs.lemmas.Bool.{lt-ltb, le-ltb, eqb-true, ne_eqb, not-true, not-false, and_left, and_right, and_parts, or_cases, or_parts}
+use Rattle.std.proofs.lemmas.Bool.{lt-ltb, le-ltb, eqb-true, ne_eqb, not-true, not-false, and_left, and_right}
+use Rattle.std.proofs.lemmas.Bool.{and_parts, or_cases, or_parts}
 use Rattle.std.proofs.lemmas.Bool.{cases_eq, cases_lt}
 use Rattle.g704_framing.specs.Restart.{IsOver}
 use Rattle.g704_framing.proofs.Ends.{IsOver-passed, IsOver-lost}
 use Rattle.g704_align.specs.Search.{is_fas, is_nfas, search}
 use Rattle.g704_align.specs.Loss.{is_wrong, is_third_wrong, frame_alignment}
 use Rattle.g704_align.specs.Aligner.{IsCandidate, IsAlignment, CountsWrong, wrong_before, count_after, is_refuted}
-use Rattle.g704_align.proofs.Wrongs.{is_wrong-append, is_third_wrong-append, is_wrong-fas, is_wrong-nfas, is_wrong-early, is_wrong-other}
-use Rattle.g704_align.proofs.Searches.{frame_is_framing, slice_get-within, slice_get-at, confirmed-refuted, search-found}
+use Rattle.g704_align.proofs.Wrongs.{is_wrong-append, is_third_wrong-append, is_wrong-fas, is_wrong-nfas}
+use Rattle.g704_align.proofs.Wrongs.{is_wrong-early, is_wrong-other}
+use Rattle.g704_align.proofs.Searches.{frame_is_framing, slice_get-within, slice_get-at, confirmed-refuted}
+use Rattle.g704_align.proofs.Searches.{search-found}
 
 push_at : (c : List ℕ) (x k : ℕ) → k < length c → get_or (c ++ x ∷ []) k 0 ≡ get_or c k 0
 push_at c x k h = get_or_append_left c (x ∷ []) 0 k h
@@ -94,7 +97,8 @@ candidate-refuted b c x age h refuted = elim (or_cases _ _ refuted) [
       over_no_second_fas b c x (h.counted ∙ at) h.fas (h.nfas (omega arith)) (not-true (is_fas x) parts.1)
 ]
 
-wrong_before-append : (c t : List ℕ) (k : ℕ) → 0 < length c → k < length c + 64 → wrong_before (c ++ t) k ≡ wrong_before c k
+wrong_before-append : (c t : List ℕ) (k : ℕ) → 0 < length c → k < length c + 64
+    → wrong_before (c ++ t) k ≡ wrong_before c k
 wrong_before-append c t k p h =
     rw (is_wrong-append c t (k - 64) (omega arith), is_wrong-append c t (k - 128) (omega arith)) refl
 
@@ -131,7 +135,8 @@ counts-other c x rest count p h ne k ge lt e =
     h k (omega arith) (omega arith) e ∙ sym (wrong_before-append c (x ∷ []) k p (omega arith))
 
 -- a count below 2, with the octets that it counts
-one_more : (a b : Bool) (count : ℕ) → count ≡ cond a (cond b 2 1) 0 → count < 2 → (count + 1 ≡ cond a 2 1) × ((a && b) ≡ false)
+one_more : (a b : Bool) (count : ℕ) → count ≡ cond a (cond b 2 1) 0 → count < 2
+    → (count + 1 ≡ cond a 2 1) × ((a && b) ≡ false)
 one_more true true count e h = absurd (omega arith)
 one_more true false count e h = (omega arith, refl)
 one_more false b count e h = (omega arith, refl)
@@ -142,20 +147,27 @@ two_wrong true false count e h = absurd (omega arith)
 two_wrong false b count e h = absurd (omega arith)
 
 -- the octet is of the kind that is counted
-module _ (c : List ℕ) (x rest count : ℕ) (found : 64 < length c) (h : CountsWrong rest count c) (r : length c % 64 ≡ rest) where
+module _ (c : List ℕ) (x rest count : ℕ) (found : 64 < length c) (h : CountsWrong rest count c)
+    (r : length c % 64 ≡ rest) where
   abbrev d : List ℕ
   d = c ++ x ∷ []
 
   now : count ≡ wrong_before c (length c)
   now = h (length c) (omega arith) (omega arith) r
 
-  next_place : (k : ℕ) → length d ≤ k → k < length d + 64 → k % 64 ≡ rest → (k - 64 ≡ length c) × (k - 128 ≡ length c - 64)
+  next_place : (k : ℕ) → length d ≤ k → k < length d + 64 → k % 64 ≡ rest
+      → (k - 64 ≡ length c) × (k - 128 ≡ length c - 64)
   next_place k ge lt e = let l = length_push c x in (omega arith, omega arith)
 
   third-is : (wrong : Bool) → is_wrong d (length c) ≡ wrong
       → is_third_wrong d (length c) ≡ (wrong && (is_wrong c (length c - 64) && is_wrong c (length c - 128)))
   third-is wrong e =
-      rw (e, is_wrong-append c (x ∷ []) (length c - 64) (omega arith), is_wrong-append c (x ∷ []) (length c - 128) (omega arith)) refl
+      rw (
+        e,
+        is_wrong-append c (x ∷ []) (length c - 64) (omega arith),
+        is_wrong-append c (x ∷ []) (length c - 128)
+            (omega arith),
+      ) refl
 
   -- the count goes on
   abbrev Counts : ℕ → Type 0
@@ -182,7 +194,8 @@ module _ (c : List ℕ) (x rest count : ℕ) (found : 64 < length c) (h : Counts
   ]
 
   -- or the alignment is lost
-  count-lost : (right : Bool) → is_wrong d (length c) ≡ not right → None ≡ count_after count right → is_third_wrong d (length c) ≡ true
+  count-lost : (right : Bool) → is_wrong d (length c) ≡ not right → None ≡ count_after count right
+      → is_third_wrong d (length c) ≡ true
   count-lost true wrong e = cc
   count-lost false wrong e = elim (cases_lt count 2) [
     | inl lt ↦ let i = rw (lt-ltb count 2 lt) at e in cc
@@ -191,7 +204,8 @@ module _ (c : List ℕ) (x rest count : ℕ) (found : 64 < length c) (h : Counts
 
 -- an alignment after one octet more
 module _ (c : List ℕ) (x age ws wd : ℕ) (h : IsAlignment age ws wd c) where
-  kept-more : is_third_wrong (c ++ x ∷ []) (length c) ≡ false → (k : ℕ) → k < length (c ++ x ∷ []) → is_third_wrong (c ++ x ∷ []) k ≡ false
+  kept-more : is_third_wrong (c ++ x ∷ []) (length c) ≡ false → (k : ℕ) → k < length (c ++ x ∷ [])
+      → is_third_wrong (c ++ x ∷ []) k ≡ false
   kept-more third k lt = elim (cases_eq k (length c)) [
     | inl e ↦ rw e third
     | inr ne ↦
@@ -213,7 +227,9 @@ module _ (c : List ℕ) (x age ws wd : ℕ) (h : IsAlignment age ws wd c) where
   }
 
   lost_by : (b : Option ℕ) → is_third_wrong (c ++ x ∷ []) (length c) ≡ true → IsOver frame_alignment b (c ++ x ∷ [])
-  lost_by b third = IsOver-lost frame_alignment frame_is_framing b c x (λ t. search-found c t h.found h.fas h.nfas h.confirmed) h.kept third
+  lost_by b third =
+      IsOver-lost frame_alignment frame_is_framing b c x
+      (λ t. search-found c t h.found h.fas h.nfas h.confirmed) h.kept third
 
   wrong-fas : age ≡ 0 → is_wrong (c ++ x ∷ []) (length c) ≡ not (is_fas x)
   wrong-fas e = let a = h.counted in
@@ -233,22 +249,26 @@ module _ (c : List ℕ) (x age ws wd : ℕ) (h : IsAlignment age ws wd c) where
   begun = let f = h.found in omega arith
 
   -- by the octet of slot 0 of an even frame
-  pub fas-more : (n : ℕ) → age ≡ 0 → Some n ≡ count_after ws (is_fas x) → IsAlignment ((age + 1) % 64) n wd (c ++ x ∷ [])
+  pub fas-more : (n : ℕ) → age ≡ 0 → Some n ≡ count_after ws (is_fas x)
+      → IsAlignment ((age + 1) % 64) n wd (c ++ x ∷ [])
   fas-more n e counted =
       let r = count-more c x 0 ws h.found h.fas_count (at_rest 0 e) (is_fas x) n (wrong-fas e) counted in
       alignment-more n wd r.1 r.0 (counts-other c x 32 wd begun h.nfas_count (not_at_rest 32 (omega arith)))
 
   pub fas-lost : (b : Option ℕ) → age ≡ 0 → None ≡ count_after ws (is_fas x) → IsOver frame_alignment b (c ++ x ∷ [])
-  fas-lost b e counted = lost_by b (count-lost c x 0 ws h.found h.fas_count (at_rest 0 e) (is_fas x) (wrong-fas e) counted)
+  fas-lost b e counted =
+      lost_by b (count-lost c x 0 ws h.found h.fas_count (at_rest 0 e) (is_fas x) (wrong-fas e) counted)
 
   -- of an odd frame
-  pub nfas-more : (n : ℕ) → age ≡ 32 → Some n ≡ count_after wd (is_nfas x) → IsAlignment ((age + 1) % 64) ws n (c ++ x ∷ [])
+  pub nfas-more : (n : ℕ) → age ≡ 32 → Some n ≡ count_after wd (is_nfas x)
+      → IsAlignment ((age + 1) % 64) ws n (c ++ x ∷ [])
   nfas-more n e counted =
       let r = count-more c x 32 wd h.found h.nfas_count (at_rest 32 e) (is_nfas x) n (wrong-nfas e) counted in
       alignment-more ws n r.1 (counts-other c x 0 ws begun h.fas_count (not_at_rest 0 (omega arith))) r.0
 
   pub nfas-lost : (b : Option ℕ) → age ≡ 32 → None ≡ count_after wd (is_nfas x) → IsOver frame_alignment b (c ++ x ∷ [])
-  nfas-lost b e counted = lost_by b (count-lost c x 32 wd h.found h.nfas_count (at_rest 32 e) (is_nfas x) (wrong-nfas e) counted)
+  nfas-lost b e counted =
+      lost_by b (count-lost c x 32 wd h.found h.nfas_count (at_rest 32 e) (is_nfas x) (wrong-nfas e) counted)
 
   -- of another slot
   pub other-more : age ≢ 0 → age ≢ 32 → IsAlignment ((age + 1) % 64) ws wd (c ++ x ∷ [])

@@ -8,7 +8,8 @@ use Rattle.g704_align.specs.Search.{is_fas, is_nfas}
 use Rattle.g704_align.specs.Loss.{is_expected, is_wrong, is_third_wrong}
 
 -- what the octet at a place of slot 0 decides
-pub is_wrong-fas : (octets : List ℕ) (k : ℕ) → 64 < k → k % 64 ≡ 0 → is_wrong octets k ≡ not (is_fas (slice_index octets k))
+pub is_wrong-fas : (octets : List ℕ) (k : ℕ) → 64 < k → k % 64 ≡ 0
+    → is_wrong octets k ≡ not (is_fas (slice_index octets k))
 unfolding is_wrong
 is_wrong-fas octets k h e =
     let a : k % 32 ≡ 0 = omega arith in
@@ -16,7 +17,8 @@ is_wrong-fas octets k h e =
     let l : nat_lt 64 k ≡ true = lt-ltb 64 k h in
     rw (l, a, b) refl
 
-pub is_wrong-nfas : (octets : List ℕ) (k : ℕ) → 64 < k → k % 64 ≡ 32 → is_wrong octets k ≡ not (is_nfas (slice_index octets k))
+pub is_wrong-nfas : (octets : List ℕ) (k : ℕ) → 64 < k → k % 64 ≡ 32
+    → is_wrong octets k ≡ not (is_nfas (slice_index octets k))
 unfolding is_wrong
 is_wrong-nfas octets k h e =
     let a : k % 32 ≡ 0 = omega arith in
@@ -51,7 +53,8 @@ is_wrong-alike octets others k alike = elim (cases_eq (k % 32) 0) [
 
 -- up to a place
 pub is_third_wrong-alike : (octets others : List ℕ) (k : ℕ)
-    → ((j : ℕ) → j ≤ k → 64 < j → j % 32 ≡ 0 → is_expected j (slice_index octets j) ≡ is_expected j (slice_index others j))
+    → ((j : ℕ) → j ≤ k → 64 < j → j % 32 ≡ 0
+    → is_expected j (slice_index octets j) ≡ is_expected j (slice_index others j))
     → is_third_wrong octets k ≡ is_third_wrong others k
 is_third_wrong-alike octets others k alike =
     rw (

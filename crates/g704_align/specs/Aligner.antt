@@ -1,5 +1,6 @@
 -- What the fields of an aligner say of the octets that it was given.
-use Rattle.std.specs.Prelude.{◌≡◌, ℕ, ◌+◌, ◌-◌, ◌%◌, ◌<◌, ◌≤◌, Bool, true, false, not, ◌&&◌, ◌||◌, ◌==◌, nat_lt, if◌then◌else◌}
+use Rattle.std.specs.Prelude.{◌≡◌, ℕ, ◌+◌, ◌-◌, ◌%◌, ◌<◌, ◌≤◌, Bool, true, false, not, ◌&&◌, ◌||◌, ◌==◌}
+use Rattle.std.specs.Prelude.{nat_lt, if◌then◌else◌}
 use Rattle.std.specs.Prelude.{List, [], ◌++◌, length, slice_index, Option, Some, None}
 use Rattle.g704_framing.specs.Alignment.{alignments_from}
 use Rattle.g704_framing.specs.Age.{age_in}
@@ -26,11 +27,13 @@ is_refuted age octet = ((age == 32) && not (is_nfas octet)) || ((age == 64) && n
 
 -- how many of the two octets 64 and 128 places before a place are wrong, counted from the place back
 abbrev pub wrong_before : List ℕ → ℕ → ℕ
-wrong_before octets place = if is_wrong octets (place - 64) then (if is_wrong octets (place - 128) then 2 else 1) else 0
+wrong_before octets place =
+    if is_wrong octets (place - 64) then (if is_wrong octets (place - 128) then 2 else 1) else 0
 
 -- it is that count at the next place that leaves this rest by 64
 abbrev pub CountsWrong : ℕ → ℕ → List ℕ → Type 0
-CountsWrong rest count octets = (place : ℕ) → length octets ≤ place → place < length octets + 64 → place % 64 ≡ rest
+CountsWrong rest count octets =
+    (place : ℕ) → length octets ≤ place → place < length octets + 64 → place % 64 ≡ rest
     → count ≡ wrong_before octets place
 
 -- the count after one more octet of its kind, right or wrong; none where that is the third wrong one in a row
@@ -62,7 +65,8 @@ Follows (Aligned age wrong_fas wrong_nfas) before octets = IsAlignment age wrong
 
 -- the place of the octet at a position, in octets that come after this one, if any
 unfoldable pub place_since : Option ℕ → List ℕ → ℕ → Place
-place_since before octets position = place_of (age_in 65 (alignments_from frame_alignment before octets 0) position)
+place_since before octets position =
+    place_of (age_in 65 (alignments_from frame_alignment before octets 0) position)
 
 -- The aligner stands after this history: its fields describe the octets since all began anew.
 pub record Stands (aligner : Aligner) (history : List ℕ) : Type 0 where

@@ -10,8 +10,8 @@ abbrev pub place_of : Option ℕ → Place
 place_of None = Hunting
 place_of (Some age) = Slot (age % 32) ((age / 32) % 2 == 0)
 
--- The place of the octet at a position of the stream: in an alignment from the octet after its search on, before its
--- loss. (Past the end of the stream this says what would follow without a loss.)
+-- The place of the octet at a position of the stream: in an alignment from the octet after its search on,
+-- before its loss. (Past the end of the stream this says what would follow without a loss.)
 unfoldable pub place : List ℕ → ℕ → Place
 place stream position = place_of (age_in 65 (alignments stream) position)
 

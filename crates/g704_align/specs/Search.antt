@@ -1,4 +1,5 @@
--- Finding frame alignment in a stream of octets: FAS, NFAS and FAS again, 32 octets apart (ITU-T G.706, 4.1.2).
+-- Finding frame alignment in a stream of octets: FAS, NFAS and FAS again, 32 octets apart (ITU-T G.706,
+-- 4.1.2).
 use Rattle.std.specs.Prelude.{ℕ, zero, suc, Bool, not, bit_and, ◌==◌, if◌then◌else◌, List, [], ◌∷◌}
 use Rattle.std.specs.Prelude.{Option, Some, None, option_map, slice_get}
 
@@ -14,21 +15,22 @@ is_nfas octet = not (bit_and octet 0x40 == 0)
 abbrev pub later : Option ℕ → Option ℕ
 later position = option_map suc position
 
--- At position 0 there is a FAS octet. By the octets at 32 and 64, if the stream has them: it is what is found where
--- the first is an NFAS octet and the second a FAS octet; else the search goes on past the first of the two that is
--- wrong, and finds what is given for that case.
+-- At position 0 there is a FAS octet. By the octets at 32 and 64, if the stream has them: it is what is found
+-- where the first is an NFAS octet and the second a FAS octet; else the search goes on past the first of the
+-- two that is wrong, and finds what is given for that case.
 abbrev pub confirmed : Option ℕ → Option ℕ → Option ℕ → Option ℕ → Option ℕ
 confirmed None second past_first past_second = None
 confirmed (Some first) None past_first past_second = if is_nfas first then None else past_first
 confirmed (Some first) (Some second) past_first past_second =
     if is_nfas first then (if is_fas second then Some 0 else past_second) else past_first
 
--- The search from a position on: the first FAS octet there that an NFAS octet 32 octets on and a FAS octet 64 octets on
--- confirm, where it goes on past each octet that is wrong. Nothing where the stream ends first.
+-- The search from a position on: the first FAS octet there that an NFAS octet 32 octets on and a FAS octet 64
+-- octets on confirm, where it goes on past each octet that is wrong. Nothing where the stream ends first.
 unfoldable pub search : List ℕ → ℕ → Option ℕ
 search [] from = None
 search (octet ∷ stream) (suc from) = later (search stream from)
 search (octet ∷ stream) zero =
     if is_fas octet
-    then confirmed (slice_get stream 31) (slice_get stream 63) (later (search stream 32)) (later (search stream 64))
+    then confirmed (slice_get stream 31) (slice_get stream 63)
+    (later (search stream 32)) (later (search stream 64))
     else later (search stream 0)

@@ -7,8 +7,8 @@ pub fn places_are_settled()
     ensures { PlacesAreSettled }
 {}
 
-/// Places depend on slot 0 alone: streams whose searches end alike, and which are right or wrong alike in slot 0 of the
-/// first one's alignments, losses included, have the same alignments, places and alarms.
+/// Places depend on slot 0 alone: streams whose searches end alike, and which are right or wrong alike in
+/// slot 0 of the first one's alignments, losses included, have the same alignments, places and alarms.
 pub fn places_are_alike()
     ensures { PlacesAreAlike }
 {}

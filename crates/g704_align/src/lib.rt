@@ -4,7 +4,8 @@
 ghost use Rattle.std.specs.Prelude.{◌≡◌, ◌+◌, ◌%◌, ◌<◌, ℕ, List, Option, [], ◌∷◌, ◌++◌, length};
 ghost use Rattle.g704_align.specs.Search.{is_fas, is_nfas};
 ghost use Rattle.g704_align.specs.Placing.{place, alarm_after, number_of};
-ghost use Rattle.g704_align.specs.Aligner.{IsCandidate, is_refuted, IsAlignment, count_after, Describes, Follows, place_since, Stands};
+ghost use Rattle.g704_align.specs.Aligner.{IsCandidate, is_refuted, IsAlignment, count_after, Describes};
+ghost use Rattle.g704_align.specs.Aligner.{Follows, place_since, Stands};
 
 pub mod laws;
 
@@ -28,8 +29,8 @@ const BIT_2: u8 = 0x40;
 pub enum Place {
     /// Alignment is being looked for.
     Hunting,
-    /// The octet is in the time slot of this number, 0 to 31. `fas` tells whether its frame is one that begins with
-    /// the frame alignment signal.
+    /// The octet is in the time slot of this number, 0 to 31. `fas` tells whether its frame is one that
+    /// begins with the frame alignment signal.
     Slot { number: u8, fas: bool },
 }
 
@@ -70,7 +71,8 @@ impl Aligner {
     pub fn octet(&mut self, octet: u8) -> Place
         ensures placed { (history : List ℕ) → Stands self.old history
             → result ≡ place (history ++ octet ∷ []) (length history) }
-        ensures stands { (history : List ℕ) → Stands self.old history → Stands self.new (history ++ octet ∷ []) }
+        ensures stands { (history : List ℕ) → Stands self.old history
+            → Stands self.new (history ++ octet ∷ []) }
         ensures in_frame { number_of result < 32 }
     {
         let before = self.phase;
@@ -107,7 +109,8 @@ fn is_nfas(octet: u8) -> bool
 
 // The phase after one more octet.
 fn phase_after(phase: Phase, octet: u8) -> Phase
-    ensures { (before : Option ℕ) (octets : List ℕ) → Describes phase octets → Follows result before (octets ++ octet ∷ []) }
+    ensures { (before : Option ℕ) (octets : List ℕ) → Describes phase octets
+        → Follows result before (octets ++ octet ∷ []) }
 {
     match phase {
         Phase::Searching => searched(octet),
@@ -133,7 +136,8 @@ fn searched(octet: u8) -> Phase
 
 // The phase after an octet that comes `age` octets after a FAS octet.
 fn after_candidate(age: u8, octet: u8) -> Phase
-    ensures { (before : Option ℕ) (octets : List ℕ) → IsCandidate age octets → Follows result before (octets ++ octet ∷ []) }
+    ensures { (before : Option ℕ) (octets : List ℕ) → IsCandidate age octets
+        → Follows result before (octets ++ octet ∷ []) }
 {
     if refutes(age, octet) {
         Phase::Searching
@@ -211,7 +215,8 @@ fn count_after(count: u8, right: bool) -> Option<u8>
 // The place of the octet between two phases.
 fn place_between(before: Phase, after: Phase) -> Place
     ensures placed { (earlier : Option ℕ) (octets : List ℕ) (octet : ℕ) → Describes before octets
-        → Follows after earlier (octets ++ octet ∷ []) → result ≡ place_since earlier (octets ++ octet ∷ []) (length octets) }
+        → Follows after earlier (octets ++ octet ∷ [])
+        → result ≡ place_since earlier (octets ++ octet ∷ []) (length octets) }
     ensures in_frame { number_of result < 32 }
 {
     match (before, after) {

@@ -51,8 +51,8 @@ fn alignment_misled_first(rt: HostRuntime) {
     );
 }
 
-// Whether the alarm stands after octet 255 and after octet 256 of a stream that is aligned by its first three frames
-// and then has wrong FAS octets at 128 and 192, and this octet at 256.
+// Whether the alarm stands after octet 255 and after octet 256 of a stream that is aligned by its first three
+// frames and then has wrong FAS octets at 128 and 192, and this octet at 256.
 fn alarms_at_third(octet: u8) -> (bool, bool) {
     let mut aligner = Aligner::new();
     for octet in three_frames() {

@@ -37,7 +37,8 @@ unfolding place alarm
 place-alike s t alike =
     let same : alignments s ≡ alignments t
     = alignments_are_alike multiframe_alignment multiframe_is_framing s t alike.len alike.searches
-    (All-weaker (IsAlikeInFrameZero s t) (IsLostAlike multiframe_alignment s t) (lost_alike s t) (alignments s) alike.frame_zero) in (
+    (All-weaker (IsAlikeInFrameZero s t) (IsLostAlike multiframe_alignment s t) (lost_alike s t)
+    (alignments s) alike.frame_zero) in (
       same,
       λ n. (ap (λ ds. place_of (age_in 0 ds n)) same, ap (λ ds. is_none (age_in 0 ds n)) same),
     )

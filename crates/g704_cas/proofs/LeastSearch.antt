@@ -17,7 +17,8 @@ octet_before b (x ∷ s) (suc k) = octet_before (Some x) s k
 abbrev finds : Option ℕ → List ℕ → ℕ → ℕ → Bool
 finds b s from k = nat_le from k && (is_mfas (slice_index s k) && is_not_zero (octet_before b s k))
 
-least-later : (passes others : ℕ → Bool) (n : ℕ) (o : Option ℕ) → others 0 ≡ false → ((k : ℕ) → others (suc k) ≡ passes k)
+least-later : (passes others : ℕ → Bool) (n : ℕ) (o : Option ℕ) → others 0 ≡ false
+    → ((k : ℕ) → others (suc k) ≡ passes k)
     → IsLeast passes n o → IsLeast others (suc n) (later o)
 least-later passes others n None first rest l = λ k lt. below k lt
   where

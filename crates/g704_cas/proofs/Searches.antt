@@ -25,7 +25,8 @@ search-append b (x ∷ s) t (suc from) p e =
 search-append b (x ∷ s) t zero p e = elim (cases_Bool (is_mfas x && is_not_zero b)) [
   | inl found ↦ rw found (rw found at e)
   | inr passed ↦
-      rw passed (later-found (search (Some x) s 0) (search (Some x) (s ++ t) 0) (search-append (Some x) s t 0) p (rw passed at e))
+      rw passed (later-found (search (Some x) s 0) (search (Some x) (s ++ t) 0) (search-append (Some x) s t 0) p
+      (rw passed at e))
 ]
 
 -- nothing found in a list, and what is found when it goes on is found by a later octet
@@ -42,7 +43,8 @@ none-after None = tt
 none-after (Some p) = omega arith
 
 -- later octets bring what they find themselves
-search-after : (b : Option ℕ) (s t : List ℕ) (from : ℕ) → FoundAfter (length s) (search b s from) (search b (s ++ t) from)
+search-after : (b : Option ℕ) (s t : List ℕ) (from : ℕ)
+    → FoundAfter (length s) (search b s from) (search b (s ++ t) from)
 unfolding search
 search-after b [] t from e = none-after (search b t from)
 search-after b (x ∷ s) t (suc from) e =
@@ -50,7 +52,8 @@ search-after b (x ∷ s) t (suc from) e =
 search-after b (x ∷ s) t zero e = elim (cases_Bool (is_mfas x && is_not_zero b)) [
   | inl found ↦ let n = rw found at e in cc
   | inr passed ↦
-      rw passed (later-after (length s) (search (Some x) s 0) (search (Some x) (s ++ t) 0) (search-after (Some x) s t 0) (rw passed at e))
+      rw passed (later-after (length s) (search (Some x) s 0) (search (Some x) (s ++ t) 0) (search-after (Some x) s t 0)
+      (rw passed at e))
 ]
 
 -- multiframe alignment is an alignment of the kind that the laws speak of

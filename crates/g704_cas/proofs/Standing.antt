@@ -22,7 +22,8 @@ age-aligned : (b : Option ℕ) (c : List ℕ) (n frame : ℕ) (wrong : Bool) →
     → age_in 0 (alignments_from multiframe_alignment b c 0) n ≡ Some n
 age-aligned b c n frame wrong h =
     age-standing 0 n (alignments_from multiframe_alignment b c 0)
-    (alignments-standing multiframe_alignment multiframe_is_framing b c (λ t. search-found b c t h.begun h.after_nonzero h.first) h.kept)
+    (alignments-standing multiframe_alignment multiframe_is_framing b c
+    (λ t. search-found b c t h.begun h.after_nonzero h.first) h.kept)
     (omega arith)
 
 -- the octet after which all begins anew
@@ -49,7 +50,8 @@ place-next b c x frame frame' wrong wrong' h g =
     rw (age-aligned b (c ++ x ∷ []) (length c) frame' wrong' g) (ap Frame e)
 
 -- the place in the whole history
-pub place-history : (history earlier since : List ℕ) (x : ℕ) → history ≡ earlier ++ since → IsOver multiframe_alignment None earlier
+pub place-history : (history earlier since : List ℕ) (x : ℕ) → history ≡ earlier ++ since
+    → IsOver multiframe_alignment None earlier
     → place_since (last_of None earlier) (since ++ x ∷ []) (length since) ≡ place (history ++ x ∷ []) (length history)
 unfolding place place_since
 place-history history earlier since x e over =
@@ -91,7 +93,8 @@ alarm-searching phase history after e h =
     let d : Describes (Searching after) (last_of None h.earlier) h.since
     = subst (λ p. Describes p (last_of None h.earlier) h.since) e h.fields in
     let whole : history ≡ h.earlier = h.whole ∙ ap (λ s. h.earlier ++ s) d.0 ∙ append-nil h.earlier in
-    let over : IsOver multiframe_alignment None history = subst (λ s. IsOver multiframe_alignment None s) (sym whole) h.over in
+    let over : IsOver multiframe_alignment None history
+    = subst (λ s. IsOver multiframe_alignment None s) (sym whole) h.over in
     ap is_none (sym (age-at_over multiframe_alignment None history 0 (length history - 1) over (omega arith)))
 
 pub alarm-aligned : (phase : Phase) (history : List ℕ) (frame : ℕ) (wrong : Bool) → phase ≡ Aligned frame wrong

@@ -9,7 +9,8 @@ use Rattle.g704_framing.proofs.Ends.{IsOver-passed, IsOver-lost, last_of-push}
 use Rattle.g704_cas.specs.Search.{is_mfas, is_not_zero, search}
 use Rattle.g704_cas.specs.Loss.{is_wrong, is_second_wrong, multiframe_alignment}
 use Rattle.g704_cas.specs.Aligner.{IsAlignment}
-use Rattle.g704_cas.proofs.Wrongs.{is_wrong-append, is_second_wrong-append, is_wrong-other, is_wrong-first, is_wrong-last}
+use Rattle.g704_cas.proofs.Wrongs.{is_wrong-append, is_second_wrong-append, is_wrong-other, is_wrong-first}
+use Rattle.g704_cas.proofs.Wrongs.{is_wrong-last}
 use Rattle.g704_cas.proofs.Searches.{multiframe_is_framing, search-found}
 
 -- an octet by which alignment is found
@@ -24,12 +25,14 @@ first_octet b x h r = record {
 }
 
 -- and one by which it is not
-pub IsOver-other : (b : Option ℕ) (x : ℕ) → (is_mfas x && is_not_zero b) ≡ false → IsOver multiframe_alignment b (x ∷ [])
+pub IsOver-other : (b : Option ℕ) (x : ℕ) → (is_mfas x && is_not_zero b) ≡ false
+    → IsOver multiframe_alignment b (x ∷ [])
 unfolding search
 IsOver-other b x h = IsOver-passed multiframe_alignment multiframe_is_framing b (x ∷ []) (λ t. rw h refl)
 
 -- a wrong octet is not 0
-pub not_zero-wrong : (b : Option ℕ) (c : List ℕ) (x : ℕ) → is_mfas x ≡ false → true ≡ is_not_zero (last_of b (c ++ x ∷ []))
+pub not_zero-wrong : (b : Option ℕ) (c : List ℕ) (x : ℕ) → is_mfas x ≡ false
+    → true ≡ is_not_zero (last_of b (c ++ x ∷ []))
 unfolding is_mfas
 not_zero-wrong b c x r = rw (last_of-push b c x) (elim (cases_eq x 0) [
   | inl e ↦ absurd (true≢false (rw e at r))
@@ -47,8 +50,10 @@ module _ (b : Option ℕ) (c : List ℕ) (x frame : ℕ) (wrong : Bool) (h : IsA
         is_second_wrong-append c (x ∷ []) k below ∙ h.kept k below
   ]
 
-  more : (frame' : ℕ) (wrong' : Bool) → frame' ≡ length (c ++ x ∷ []) % 16 → is_second_wrong (c ++ x ∷ []) (length c) ≡ false
-      → ((k : ℕ) → length (c ++ x ∷ []) ≤ k → k < length (c ++ x ∷ []) + 16 → k % 16 ≡ 0 → wrong' ≡ is_wrong (c ++ x ∷ []) (k - 16))
+  more : (frame' : ℕ) (wrong' : Bool) → frame' ≡ length (c ++ x ∷ []) % 16
+      → is_second_wrong (c ++ x ∷ []) (length c) ≡ false
+      → ((k : ℕ) → length (c ++ x ∷ []) ≤ k → k < length (c ++ x ∷ []) + 16 → k % 16 ≡ 0
+      → wrong' ≡ is_wrong (c ++ x ∷ []) (k - 16))
       → IsAlignment b frame' wrong' (c ++ x ∷ [])
   more frame' wrong' n now l = let s = h.begun in let p = length_push c x in record {
     after_nonzero = h.after_nonzero;
@@ -81,10 +86,17 @@ module _ (b : Option ℕ) (c : List ℕ) (x frame : ℕ) (wrong : Bool) (h : IsA
   second_now : frame ≡ 0 → is_second_wrong (c ++ x ∷ []) (length c) ≡ (not (is_mfas x) && wrong)
   second_now e =
       let s = h.begun in
-      rw (lt-ltb 0 (length c) s, is_wrong-last c x (at_zero e), is_wrong-append c (x ∷ []) (length c - 16) (omega arith), ← last_wrong e) refl
+      rw (
+        lt-ltb 0 (length c) s,
+        is_wrong-last c x (at_zero e),
+        is_wrong-append c (x ∷ []) (length c - 16)
+            (omega arith),
+        ← last_wrong e,
+      ) refl
 
   -- by one of frame 0 that is right, or the first in a row that is wrong
-  pub zero-more : (right : Bool) → frame ≡ 0 → is_mfas x ≡ right → (not right && wrong) ≡ false → IsAlignment b 1 (not right) (c ++ x ∷ [])
+  pub zero-more : (right : Bool) → frame ≡ 0 → is_mfas x ≡ right → (not right && wrong) ≡ false
+      → IsAlignment b 1 (not right) (c ++ x ∷ [])
   zero-more right e r passed =
       let a = h.counted in
       let p = length_push c x in
@@ -94,7 +106,8 @@ module _ (b : Option ℕ) (c : List ℕ) (x frame : ℕ) (wrong : Bool) (h : IsA
   -- by the second
   pub zero-lost : frame ≡ 0 → is_mfas x ≡ false → wrong ≡ true → IsOver multiframe_alignment b (c ++ x ∷ [])
   zero-lost e r w =
-      IsOver-lost multiframe_alignment multiframe_is_framing b c x (λ t. search-found b c t h.begun h.after_nonzero h.first) h.kept
+      IsOver-lost multiframe_alignment multiframe_is_framing b c x
+      (λ t. search-found b c t h.begun h.after_nonzero h.first) h.kept
       (second_now e ∙ rw (r, w) refl)
 
   pub frame-below : frame < 16

@@ -24,7 +24,8 @@ is_wrong-last c x r = rw (r, get_or_push c x 0 (length c) refl) refl
 
 -- two alignments are wrong alike at a place where their octets are right alike
 pub is_wrong-alike : (octets others : List ℕ) (k : ℕ)
-    → (k % 16 ≡ 0 → is_mfas (slice_index octets k) ≡ is_mfas (slice_index others k)) → is_wrong octets k ≡ is_wrong others k
+    → (k % 16 ≡ 0 → is_mfas (slice_index octets k) ≡ is_mfas (slice_index others k))
+    → is_wrong octets k ≡ is_wrong others k
 unfolding is_wrong
 is_wrong-alike octets others k alike = elim (cases_eq (k % 16) 0) [
   | inr other ↦ is_wrong-other octets k other ∙ sym (is_wrong-other others k other)

@@ -1,5 +1,6 @@
 -- What the fields of a multiframe aligner say of the octets that it was given.
-use Rattle.std.specs.Prelude.{◌≡◌, ℕ, ◌+◌, ◌-◌, ◌%◌, ◌<◌, ◌≤◌, Bool, true, false, List, [], ◌++◌, length, slice_index}
+use Rattle.std.specs.Prelude.{◌≡◌, ℕ, ◌+◌, ◌-◌, ◌%◌, ◌<◌, ◌≤◌, Bool, true, false, List, [], ◌++◌, length}
+use Rattle.std.specs.Prelude.{slice_index}
 use Rattle.std.specs.Prelude.{Option, None}
 use Rattle.g704_framing.specs.Alignment.{alignments_from}
 use Rattle.g704_framing.specs.Age.{age_in}
@@ -36,10 +37,11 @@ Follows (Aligned frame wrong) before octets = IsAlignment before frame wrong oct
 
 -- the place of the octet at a position, in octets that come after this one, if any
 unfoldable pub place_since : Option ℕ → List ℕ → ℕ → MfPlace
-place_since before octets position = place_of (age_in 0 (alignments_from multiframe_alignment before octets 0) position)
+place_since before octets position =
+    place_of (age_in 0 (alignments_from multiframe_alignment before octets 0) position)
 
--- The aligner stands after these octets, which are those since it was made or was told of a loss of frame alignment:
--- its fields describe the octets since all began anew.
+-- The aligner stands after these octets, which are those since it was made or was told of a loss of frame
+-- alignment: its fields describe the octets since all began anew.
 pub record Stands (aligner : MfAligner) (history : List ℕ) : Type 0 where
   pub earlier : List ℕ
   pub since : List ℕ

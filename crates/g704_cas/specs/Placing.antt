@@ -10,8 +10,8 @@ abbrev pub place_of : Option ℕ → MfPlace
 place_of None = Hunting
 place_of (Some age) = Frame (age % 16)
 
--- The place of the octet at a position: in an alignment from its first octet on, before its loss. (Past the last octet
--- this says what would follow without a loss.)
+-- The place of the octet at a position: in an alignment from its first octet on, before its loss. (Past the
+-- last octet this says what would follow without a loss.)
 unfoldable pub place : List ℕ → ℕ → MfPlace
 place octets position = place_of (age_in 0 (alignments octets) position)
 

@@ -3,7 +3,8 @@
 ghost use Rattle.g704_cas.specs.Search.{SearchIsLeast};
 ghost use Rattle.g704_cas.specs.Laws.{PlacesAreSettled, PlacesAreAlike, OtherPlacesAreNotRead};
 
-/// A search finds the least position, from where it begins, of an octet that is right after one that is not 0.
+/// A search finds the least position, from where it begins, of an octet that is right after one that is not
+/// 0.
 pub fn search_is_least()
     ensures { SearchIsLeast }
 {}
@@ -13,8 +14,9 @@ pub fn places_are_settled()
     ensures { PlacesAreSettled }
 {}
 
-/// Places depend on frame 0 alone: lists whose searches end alike, and which are right or wrong alike in frame 0 of the
-/// first one's alignments, finds and losses included, have the same alignments, places and alarms.
+/// Places depend on frame 0 alone: lists whose searches end alike, and which are right or wrong alike in
+/// frame 0 of the first one's alignments, finds and losses included, have the same alignments, places and
+/// alarms.
 pub fn places_are_alike()
     ensures { PlacesAreAlike }
 {}

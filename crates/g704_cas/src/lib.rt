@@ -1,5 +1,5 @@
-//! Channel associated signalling in time slot 16 (ITU-T G.704, 5.1.3.2): the alignment of its multiframe (ITU-T G.732,
-//! 5.2), the circuits of a trunk, and their ABCD bits.
+//! Channel associated signalling in time slot 16 (ITU-T G.704, 5.1.3.2): the alignment of its multiframe
+//! (ITU-T G.732, 5.2), the circuits of a trunk, and their ABCD bits.
 #![tactic(auto)]
 
 ghost use Rattle.std.specs.Prelude.{◌≡◌, ◌+◌, ◌%◌, ◌<◌, ℕ, List, Option, [], ◌∷◌, ◌++◌, length};
@@ -57,7 +57,8 @@ impl MfAligner {
     pub fn slot16(&mut self, octet: u8) -> MfPlace
         ensures placed { (history : List ℕ) → Stands self.old history
             → result ≡ place (history ++ octet ∷ []) (length history) }
-        ensures stands { (history : List ℕ) → Stands self.old history → Stands self.new (history ++ octet ∷ []) }
+        ensures stands { (history : List ℕ) → Stands self.old history
+            → Stands self.new (history ++ octet ∷ []) }
         ensures in_multiframe { frame_of result < 16 }
     {
         let before = self.phase;
@@ -153,7 +154,8 @@ fn next_frame(frame: u8) -> u8
 // The place of the octet between two phases.
 fn place_between(before: Phase, after: Phase) -> MfPlace
     ensures placed { (earlier : Option ℕ) (octets : List ℕ) (octet : ℕ) → Describes before earlier octets
-        → Follows after earlier (octets ++ octet ∷ []) → result ≡ place_since earlier (octets ++ octet ∷ []) (length octets) }
+        → Follows after earlier (octets ++ octet ∷ [])
+        → result ≡ place_since earlier (octets ++ octet ∷ []) (length octets) }
     ensures in_multiframe { frame_of result < 16 }
 {
     match (before, after) {

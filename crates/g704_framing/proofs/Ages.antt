@@ -37,7 +37,8 @@ lost_before m n None h g = absurd g
 lost_before m n (Some q) h g = le-ltb n q (omega arith)
 
 -- alignments that are lost by then give no octet an age
-pub age_in-over : (a m n : ℕ) (ds es : List Alignment) → m ≤ suc n → AllLostBefore m ds → age_in a (ds ++ es) n ≡ age_in a es n
+pub age_in-over : (a m n : ℕ) (ds es : List Alignment) → m ≤ suc n → AllLostBefore m ds
+    → age_in a (ds ++ es) n ≡ age_in a es n
 age_in-over a m n [] es h g = refl
 age_in-over a m n (d ∷ ds) es h g =
     let e : is_standing a d n ≡ false = and_right _ _ (lost_before m n d.lost h g.0) in
@@ -63,17 +64,20 @@ pub age-at_over : (f : Framing) (b : Option ℕ) (c : List ℕ) (a n : ℕ) → 
     → age_in a (alignments_from f b c 0) n ≡ None
 unfolding alignments_from
 age-at_over f b c a n over h =
-    let e : alignments_from f b c 0 ≡ alignments_from f b (c ++ []) 0 = ap (λ s. alignments_from f b s 0) (sym (append-nil c)) in
+    let e : alignments_from f b c 0 ≡ alignments_from f b (c ++ []) 0
+    = ap (λ s. alignments_from f b s 0) (sym (append-nil c)) in
     rw (e, over.anew []) (age_in-over a (length c) n over.earlier [] h over.all_lost)
 
 -- before the octet by which the first alignment can be found
-pub age-early : (f : Framing) (b : Option ℕ) (c : List ℕ) (a n : ℕ) → n < a → age_in a (alignments_from f b c 0) n ≡ None
+pub age-early : (f : Framing) (b : Option ℕ) (c : List ℕ) (a n : ℕ) → n < a
+    → age_in a (alignments_from f b c 0) n ≡ None
 age-early f b c a n h =
     ap (λ ds. age_in a ds n) (sym (map-moved_zero (alignments_from f b c 0)))
     ∙ age_in-early a 0 n (alignments_from f b c 0) (omega arith)
 
 -- in an alignment at the head of the stream that is not lost
-pub age-standing : (a n : ℕ) (ds : List Alignment) → ds ≡ record { start = 0; lost = None } ∷ [] → a ≤ n → age_in a ds n ≡ Some n
+pub age-standing : (a n : ℕ) (ds : List Alignment) → ds ≡ record { start = 0; lost = None } ∷ [] → a ≤ n
+    → age_in a ds n ≡ Some n
 age-standing a n ds e h =
     let zero_more : 0 + a ≡ a = omega arith in
     let standing : leb a n ≡ true = le-leb a n h in

@@ -36,9 +36,9 @@ loss-alike f s t p len alike =
     let o = least (f.is_lost c) (length c) in
     let is : IsLeast (f.is_lost c) (length c) o = least-is (f.is_lost c) (length c) in
     let other : IsLeast (f.is_lost (drop p t)) (length c) o
-      = least_alike (f.is_lost c) (f.is_lost (drop p t)) (length c) o (λ k lt.
-          let below : k < length c = within_reach (f.is_lost c) k (length c) o is lt in
-          alike k (omega (arith, length-drop p s)) (up_to_loss p k (length c) o lt)) is in
+    = least_alike (f.is_lost c) (f.is_lost (drop p t)) (length c) o (λ k lt.
+    let below : k < length c = within_reach (f.is_lost c) k (length c) o is lt in
+    alike k (omega (arith, length-drop p s)) (up_to_loss p k (length c) o lt)) is in
     rw n (ap (option_map (λ k. p + k)) (sym (least_equals (f.is_lost (drop p t)) (length c) o other)))
 
 module _ (f : Framing) (h : IsFraming f) (s t : List ℕ) (len : length s ≡ length t) where
@@ -48,9 +48,11 @@ module _ (f : Framing) (h : IsFraming f) (s t : List ℕ) (len : length s ≡ le
 
   -- what two searches found, and the alignments after it
   found_alike : (d : Alignment) (ds : List Alignment) → IsLostAlike f s t d
-      → ((from : ℕ) → ds ≡ alignments_from f None s from → search_ends_of f ds ≡ search_ends_of f (alignments_from f None t from)
+      → ((from : ℕ) → ds ≡ alignments_from f None s from
+      → search_ends_of f ds ≡ search_ends_of f (alignments_from f None t from)
       → ds ≡ alignments_from f None t from)
-      → (o p : Option ℕ) → d ∷ ds ≡ after_search f None s o → search_ends_of f (d ∷ ds) ≡ search_ends_of f (after_search f None t p)
+      → (o p : Option ℕ) → d ∷ ds ≡ after_search f None s o
+      → search_ends_of f (d ∷ ds) ≡ search_ends_of f (after_search f None t p)
       → d ∷ ds ≡ after_search f None t p
   unfolding after_search after_loss
   found_alike d ds alike again None p e ends = cc
@@ -64,13 +66,14 @@ module _ (f : Framing) (h : IsFraming f) (s t : List ℕ) (len : length s ≡ le
       let same : m ≡ n = omega arith in
       let first_is : d ≡ record { start = m; lost = loss f s m } = cc in
       let lost : loss f s m ≡ loss f t n
-        = loss-alike f s t m len (subst (IsLostAlike f s t) first_is alike) ∙ ap (loss f t) same in
+      = loss-alike f s t m len (subst (IsLostAlike f s t) first_is alike) ∙ ap (loss f t) same in
       let others : ds ≡ after_loss f None t (loss f t n) = rest (loss f s m) (loss f t n) lost rest_is other_ends in
       let first : d ≡ record { start = n; lost = loss f t n }
       = same_alignment d.start n d.lost (loss f t n) (begins ∙ same) (is_lost ∙ lost) in
       cc
     where
-      rest : (q r : Option ℕ) → q ≡ r → ds ≡ after_loss f None s q → search_ends_of f ds ≡ search_ends_of f (after_loss f None t r)
+      rest : (q r : Option ℕ) → q ≡ r → ds ≡ after_loss f None s q
+          → search_ends_of f ds ≡ search_ends_of f (after_loss f None t r)
           → ds ≡ after_loss f None t r
       rest None None e' i i' = i
       rest None (Some r) e' i i' = cc
@@ -83,7 +86,8 @@ module _ (f : Framing) (h : IsFraming f) (s t : List ℕ) (len : length s ≡ le
       → ds ≡ alignments_from f None t from
   alike_from [] from e ends all = empty_ends (alignments_from f None t from) ends
   alike_from (d ∷ ds) from e ends all =
-      found_alike d ds all.0 (λ g e' ends'. alike_from ds g e' ends' all.1) (f.search None s from) (f.search None t from)
+      found_alike d ds all.0 (λ g e' ends'. alike_from ds g e' ends' all.1) (f.search None s from)
+      (f.search None t from)
       (e ∙ alignments-turns f h None s from) (ends ∙ ap (search_ends_of f) (alignments-turns f h None t from))
       ∙ sym (alignments-turns f h None t from)
 

@@ -42,7 +42,8 @@ pub last_of-push : (b : Option ℕ) (c : List ℕ) (x : ℕ) → last_of b (c ++
 last_of-push b c x = last_of-append b c (x ∷ [])
 
 -- all begins anew after two histories of which each is over
-pub IsOver-append : (f : Framing) (o : Option ℕ) (a b : List ℕ) → IsOver f o a → IsOver f (last_of o a) b → IsOver f o (a ++ b)
+pub IsOver-append : (f : Framing) (o : Option ℕ) (a b : List ℕ) → IsOver f o a → IsOver f (last_of o a) b
+    → IsOver f o (a ++ b)
 IsOver-append f o a b p q = record {
   earlier = p.earlier ++ map (moved (length a)) q.earlier;
   all_lost = rw (length-append a b) (all_append (length a + length b) p.earlier (map (moved (length a)) q.earlier)
@@ -72,7 +73,8 @@ IsOver-passed f h b c passed = record {
 }
 
 -- whether it is lost at an octet does not depend on later ones
-pub is_lost-append : (f : Framing) → IsFraming f → (c t : List ℕ) (k : ℕ) → k < length c → f.is_lost (c ++ t) k ≡ f.is_lost c k
+pub is_lost-append : (f : Framing) → IsFraming f → (c t : List ℕ) (k : ℕ) → k < length c
+    → f.is_lost (c ++ t) k ≡ f.is_lost c k
 is_lost-append f h c t k lt = h.reads (c ++ t) c k (λ j le e. get_or_append_left c t 0 j (omega arith))
 
 -- the loss of an alignment at the head of the stream
@@ -96,7 +98,8 @@ IsOver-lost f h b c x found kept lost =
           = loss-head f ((c ++ x ∷ []) ++ t) (Some (length c)) (
             omega (arith, length-append (c ++ x ∷ []) t, len),
             is_lost-append f h (c ++ x ∷ []) t (length c) (omega (arith, len)) ∙ lost,
-            λ k lt. is_lost-append f h (c ++ x ∷ []) t k (omega (arith, len)) ∙ is_lost-append f h c (x ∷ []) k lt ∙ kept k lt,
+            λ k lt. is_lost-append f h (c ++ x ∷ []) t k (omega (arith, len)) ∙ is_lost-append f h c (x ∷ []) k lt
+                ∙ kept k lt,
           ) in
           alignments-turns f h b ((c ++ x ∷ []) ++ t) 0
           ∙ rw (is_found, is_lost) (ap (onto (record { start = 0; lost = Some (length c) }))

@@ -1,6 +1,8 @@
 -- Octets that no search and no loss reads change no alignment.
-use Rattle.std.proofs.Common.{◌≡◌, ℕ, zero, suc, ◌+◌, ◌-◌, ◌%◌, ◌<◌, ◌≤◌, List, [], ◌∷◌, ◌++◌, length, drop, take, get_or}
-use Rattle.std.proofs.Common.{Bool, true, false, cond, Option, Some, None, refl, sym, ap, ◌∙◌, subst, arith, length-drop, inl, inr}
+use Rattle.std.proofs.Common.{◌≡◌, ℕ, zero, suc, ◌+◌, ◌-◌, ◌%◌, ◌<◌, ◌≤◌, List, [], ◌∷◌, ◌++◌, length, drop, take}
+use Rattle.std.proofs.Common.{get_or}
+use Rattle.std.proofs.Common.{Bool, true, false, cond, Option, Some, None, refl, sym, ap, ◌∙◌, subst, arith}
+use Rattle.std.proofs.Common.{length-drop, inl, inr}
 use Rattle.std.specs.Prelude.{option_map, slice_index}
 use Rattle.std.specs.List.{AllByRecursion}
 use Rattle.std.proofs.lemmas.List.Elements.{All-from_recursion}
@@ -13,7 +15,8 @@ use Rattle.g704_framing.specs.Restart.{last_of}
 use Rattle.g704_framing.specs.Laws.{IsFraming, IsFoundAfter, IsRead, IsUpToLoss, AgreeAlong, OthersAreNotRead}
 use Rattle.g704_framing.proofs.Moves.{option_map-zero, option_map-suc, same_alignment}
 use Rattle.g704_framing.proofs.Turns.{alignments-turns, after_search, after_loss, onto, none_found}
-use Rattle.g704_framing.proofs.Settles.{IsNotBefore, loss-not_before, search-from, age-after_loss, age_in-before, alignments-begin}
+use Rattle.g704_framing.proofs.Settles.{IsNotBefore, loss-not_before, search-from, age-after_loss, age_in-before}
+use Rattle.g704_framing.proofs.Settles.{alignments-begin}
 use Rattle.g704_framing.proofs.Agrees.{loss-alike, up_to_loss-earlier}
 
 pub last_of-at : (b : Option ℕ) (a : List ℕ) (m : ℕ) → length a ≡ suc m → last_of b a ≡ Some (get_or a m 0)
@@ -67,35 +70,42 @@ module _ (f : Framing) (h : IsFraming f) where
   search-past : (b : Option ℕ) (s : List ℕ) (from : ℕ) → length s ≤ from → f.search b s from ≡ None
   search-past b [] from le = h.nothing b from
   search-past b (x ∷ s) zero le = absurd (omega arith)
-  search-past b (x ∷ s) (suc from) le = h.later b x s from ∙ ap (option_map suc) (search-past (Some x) s from (omega arith))
+  search-past b (x ∷ s) (suc from) le =
+      h.later b x s from ∙ ap (option_map suc) (search-past (Some x) s from (omega arith))
 
   -- a search finds the same in streams that agree from the octet before it on
-  search-same : (s t : List ℕ) (from : ℕ) → length s ≡ length t → AgreeOn s t from (length s) → f.search None s from ≡ f.search None t from
+  search-same : (s t : List ℕ) (from : ℕ) → length s ≡ length t → AgreeOn s t from (length s)
+      → f.search None s from ≡ f.search None t from
   search-same s t from len agree = elim (cases_lt (length s) from) [
     | inl lt ↦ search-past None s from (omega arith) ∙ sym (search-past None t from (omega arith))
     | inr le ↦
         let rest : drop from s ≡ drop from t
-        = ext_get_or 0 (drop from s) (drop from t) (length-drop from s ∙ ap (λ n. n - from) len ∙ sym (length-drop from t))
+        = ext_get_or 0 (drop from s) (drop from t)
+        (length-drop from s ∙ ap (λ n. n - from) len ∙ sym (length-drop from t))
         (λ i lt. get_or-drop from s i 0
         ∙ agree (from + i) (omega arith) (omega (arith, length-drop from s)) (omega (arith, length-drop from s))
         ∙ sym (get_or-drop from t i 0)) in
         search-drop s from le
-        ∙ ap (λ b. option_map (λ k. from + k) (f.search b (drop from s) 0)) (before-same s t from (length s) len le le agree)
+        ∙ ap (λ b. option_map (λ k. from + k) (f.search b (drop from s) 0))
+        (before-same s t from (length s) len le le agree)
         ∙ ap (λ r. option_map (λ k. from + k) (f.search (before_position t from) r 0)) rest
         ∙ sym (search-drop t from (omega arith))
   ]
 
-  prefix_finds : (b : Option ℕ) (c u v : List ℕ) (p : ℕ) (o : Option ℕ) → f.search b c 0 ≡ o → f.search b (c ++ u) 0 ≡ Some p
+  prefix_finds : (b : Option ℕ) (c u v : List ℕ) (p : ℕ) (o : Option ℕ) → f.search b c 0 ≡ o
+      → f.search b (c ++ u) 0 ≡ Some p
       → p + f.found_at < length c → f.search b (c ++ v) 0 ≡ Some p
   prefix_finds b c u v p None i found lt =
-      let late : IsFoundAfter (length c) f.found_at (Some p) = subst (IsFoundAfter (length c) f.found_at) found (h.not_found b c u 0 i) in
+      let late : IsFoundAfter (length c) f.found_at (Some p)
+      = subst (IsFoundAfter (length c) f.found_at) found (h.not_found b c u 0 i) in
       absurd (omega arith)
   prefix_finds b c u v p (Some q) i found lt =
       let same : q ≡ p = same_Some q p (sym (h.found b c u 0 q i) ∙ found) in
       h.found b c v 0 q i ∙ ap Some same
 
   -- what is found is found by the octets up to the last one that the search needs
-  search-prefix : (b : Option ℕ) (r v : List ℕ) (p end : ℕ) → f.search b r 0 ≡ Some p → p + f.found_at < end → end ≤ length r
+  search-prefix : (b : Option ℕ) (r v : List ℕ) (p end : ℕ) → f.search b r 0 ≡ Some p → p + f.found_at < end
+      → end ≤ length r
       → take end r ≡ take end v → f.search b v 0 ≡ Some p
   search-prefix b r v p end found lt le same =
       let n : length (take end r) ≡ end = length-take-le end r le in
@@ -116,7 +126,8 @@ module _ (f : Framing) (h : IsFraming f) where
         let le : from ≤ p = search-from f h None s from p found in
         let end = suc ((p - from) + f.found_at) in
         let is_found : f.search (before_position s from) (drop from s) 0 ≡ Some (p - from)
-        = found_from from p (f.search (before_position s from) (drop from s) 0) (sym (search-drop s from (omega arith)) ∙ found) in
+        = found_from from p (f.search (before_position s from) (drop from s) 0)
+        (sym (search-drop s from (omega arith)) ∙ found) in
         let n = length-drop from s in
         let m = length-drop from t in
         let e : length (take end (drop from s)) ≡ end = length-take-le end (drop from s) (omega arith) in
@@ -141,7 +152,8 @@ module _ (f : Framing) (h : IsFraming f) where
   read_if false age o e i = subst (IsRead f) (sym i) tt
 
   abbrev Same : List ℕ → List ℕ → ℕ → ℕ → List Alignment → Type 0
-  Same s t a from ds = (n : ℕ) → from ≤ suc n → n < length s → IsRead f (age_in a ds n) → slice_index s n ≡ slice_index t n
+  Same s t a from ds =
+      (n : ℕ) → from ≤ suc n → n < length s → IsRead f (age_in a ds n) → slice_index s n ≡ slice_index t n
 
   module _ (s t : List ℕ) (a : ℕ) (le : f.found_at ≤ a) (len : length s ≡ length t) where
     -- the octets that a search reads have no age, but for the last of them
@@ -151,7 +163,8 @@ module _ (f : Framing) (h : IsFraming f) where
         let none : age_in a (after_loss f None s o) n ≡ None = age-after_loss f h None s a p n o g (omega arith) in
         elim (cases_lt n (p + a)) [
           | inl early ↦
-              let no_age : is_standing a (record { start = p; lost = o }) n ≡ false = and_left _ _ (lt-leb (p + a) n early) in
+              let no_age : is_standing a (record { start = p; lost = o }) n ≡ false
+              = and_left _ _ (lt-leb (p + a) n early) in
               rw no_age (subst (IsRead f) (sym none) tt)
           | inr late ↦
               let age : n - p ≡ f.found_at = omega arith in
@@ -165,7 +178,8 @@ module _ (f : Framing) (h : IsFraming f) where
     unfolding after_loss
     loss_reads p k None e up =
         let age : (p + k) - p ≡ k = omega arith in
-        read_if (is_standing a (record { start = p; lost = None }) (p + k)) ((p + k) - p) None (ap (λ n. n % f.period) age ∙ e) refl
+        read_if (is_standing a (record { start = p; lost = None }) (p + k)) ((p + k) - p) None
+        (ap (λ n. n % f.period) age ∙ e) refl
     loss_reads p k (Some q) e up =
         let age : (p + k) - p ≡ k = omega arith in
         let others = alignments_from f None s (suc q) in
@@ -183,15 +197,17 @@ module _ (f : Framing) (h : IsFraming f) where
     loss-kept : (p : ℕ) → AgreeAlong f s t (record { start = p; lost = loss f s p }) → loss f s p ≡ loss f t p
     loss-kept p agree = loss-alike f s t p len (λ k lt up.
         h.reads (drop p s) (drop p t) k (λ j le' e.
-          get_or-drop p s j 0
-          ∙ agree j e (omega arith) (up_to_loss-earlier (p + j) (p + k) (loss f s p) (omega arith) up)
-          ∙ sym (get_or-drop p t j 0)))
+        get_or-drop p s j 0
+        ∙ agree j e (omega arith) (up_to_loss-earlier (p + j) (p + k) (loss f s p) (omega arith) up)
+        ∙ sym (get_or-drop p t j 0)))
 
     -- after a loss the alignment before it gives no age
     after_lost : (p q n : ℕ) → q ≤ n
-        → age_in a (record { start = p; lost = Some q } ∷ alignments_from f None s (suc q)) n ≡ age_in a (alignments_from f None s (suc q)) n
+        → age_in a (record { start = p; lost = Some q } ∷ alignments_from f None s (suc q)) n
+        ≡ age_in a (alignments_from f None s (suc q)) n
     after_lost p q n le' =
-        let lost : is_standing a (record { start = p; lost = Some q }) n ≡ false = and_right _ _ (le-ltb n q le') in rw lost refl
+        let lost : is_standing a (record { start = p; lost = Some q }) n ≡ false
+        = and_right _ _ (le-ltb n q le') in rw lost refl
 
     same_after : (from p q : ℕ) → from ≤ suc q
         → Same s t a from (record { start = p; lost = Some q } ∷ alignments_from f None s (suc q))
@@ -216,7 +232,8 @@ module _ (f : Framing) (h : IsFraming f) where
           let rest = again q i (subst (Same s t a (suc q)) (sym i) (same_after from p q (omega arith) same)) in
           (rest.0 ∙ ap (λ k. alignments_from f None t (suc k)) (same_Some q r e), rest.1)
 
-      keep_found : (d : Alignment) (from : ℕ) (o : Option ℕ) → f.search None s from ≡ o → d ∷ ds ≡ after_search f None s o
+      keep_found : (d : Alignment) (from : ℕ) (o : Option ℕ) → f.search None s from ≡ o
+          → d ∷ ds ≡ after_search f None s o
           → Same s t a from (d ∷ ds) → Kept (d ∷ ds) from
       unfolding after_search
       keep_found d from None i e same = cc
@@ -234,7 +251,8 @@ module _ (f : Framing) (h : IsFraming f) where
           let first_kept : d ≡ record { start = p; lost = loss f t p }
           = first ∙ same_alignment p p (loss f s p) (loss f t p) refl lost in
           let rest_kept = others.0 in
-          let kept : d ∷ ds ≡ onto (record { start = p; lost = loss f t p }) (after_loss f None t (loss f t p)) = cc in (
+          let kept : d ∷ ds ≡ onto (record { start = p; lost = loss f t p }) (after_loss f None t (loss f t p))
+          = cc in (
             kept ∙ ap (λ r. after_search f None t r) (sym found) ∙ sym (alignments-turns f h None t from),
             (subst (AgreeAlong f s t) (sym first) along, others.1),
           )

@@ -27,7 +27,8 @@ least-is passes zero = λ k h. absurd (omega arith)
 least-is passes (suc n) = step passes n (least passes n) (least-is passes n) (passes n) refl
 
 -- only one answer is least
-pub only_one : (passes : ℕ → Bool) (limit : ℕ) (o p : Option ℕ) → IsLeast passes limit o → IsLeast passes limit p → o ≡ p
+pub only_one : (passes : ℕ → Bool) (limit : ℕ) (o p : Option ℕ) → IsLeast passes limit o → IsLeast passes limit p
+    → o ≡ p
 only_one passes limit None None h g = refl
 only_one passes limit None (Some n) h g = absurd (false≢true (sym (h n g.0) ∙ g.1))
 only_one passes limit (Some n) None h g = absurd (false≢true (sym (g n h.0) ∙ h.1))

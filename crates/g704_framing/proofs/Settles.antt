@@ -27,7 +27,8 @@ begin-zero [] = tt
 begin-zero (d ∷ ds) = (omega arith, begin-zero ds)
 
 -- the alignments from a position on begin there or later
-pub alignments-begin : (f : Framing) (b : Option ℕ) (s : List ℕ) (from : ℕ) → BeginFrom from (alignments_from f b s from)
+pub alignments-begin : (f : Framing) (b : Option ℕ) (s : List ℕ) (from : ℕ)
+    → BeginFrom from (alignments_from f b s from)
 unfolding alignments_from
 alignments-begin f b [] from = tt
 alignments-begin f b (x ∷ s) zero = begin-zero (alignments_from f b (x ∷ s) 0)
@@ -47,7 +48,8 @@ from_later from p None e h = cc
 from_later from p (Some q) e h = let le = h q refl in let n = same_Some (suc q) p e in omega arith
 
 -- what a search finds is not before where it began
-pub search-from : (f : Framing) → IsFraming f → (b : Option ℕ) (s : List ℕ) (from p : ℕ) → f.search b s from ≡ Some p → from ≤ p
+pub search-from : (f : Framing) → IsFraming f → (b : Option ℕ) (s : List ℕ) (from p : ℕ) → f.search b s from ≡ Some p
+    → from ≤ p
 search-from f h b [] from p e = let none = h.nothing b from in cc
 search-from f h b (x ∷ s) zero p e = omega arith
 search-from f h b (x ∷ s) (suc from) p e =
@@ -92,10 +94,12 @@ module _ (f : Framing) (h : IsFraming f) where
   loss-continues s t p le =
       let d : drop p (s ++ t) ≡ drop p s ++ t = drop-append-le p s t le in
       let n : p + length (drop p s) ≡ length s = omega (arith, length-drop p s) in
-      let g : Continues (p + length (drop p s)) (option_map (λ k. p + k) (least (f.is_lost (drop p s)) (length (drop p s))))
+      let g : Continues (p + length (drop p s))
+      (option_map (λ k. p + k) (least (f.is_lost (drop p s)) (length (drop p s))))
       (option_map (λ k. p + k) (least (f.is_lost (drop p s ++ t)) (length (drop p s ++ t))))
       = moved-continues p (length (drop p s)) _ _
-      (least-continues (drop p s) t _ _ (least-is (f.is_lost (drop p s)) (length (drop p s))) (least-is (f.is_lost (drop p s ++ t)) (length (drop p s ++ t)))) in
+      (least-continues (drop p s) t _ _ (least-is (f.is_lost (drop p s)) (length (drop p s)))
+      (least-is (f.is_lost (drop p s ++ t)) (length (drop p s ++ t)))) in
       rw d (rw n at g)
 
   not_before : (p : ℕ) (o : Option ℕ) → IsNotBefore p (option_map (λ k. p + k) o)
@@ -118,7 +122,8 @@ module _ (f : Framing) (h : IsFraming f) where
   loss-settled : (s t : List ℕ) (p : ℕ) → Continues (length s) (loss f s p) (loss f (s ++ t) p)
   loss-settled s t p = elim (cases_lt (length s) p) [
     | inr le ↦ loss-continues s t p le
-    | inl lt ↦ rw (loss-past s p (omega arith)) (later_loss (length s) p (loss f (s ++ t) p) (omega arith) (loss-not_before (s ++ t) p))
+    | inl lt ↦ rw (loss-past s p (omega arith))
+        (later_loss (length s) p (loss f (s ++ t) p) (omega arith) (loss-not_before (s ++ t) p))
   ]
 
   begin_earlier : (m n : ℕ) (ds : List Alignment) → m ≤ n → BeginFrom n ds → BeginFrom m ds
@@ -126,15 +131,18 @@ module _ (f : Framing) (h : IsFraming f) where
   begin_earlier m n (d ∷ ds) le g = let first = g.0 in (omega arith, begin_earlier m n ds le g.1)
 
   -- the alignments after a loss begin after it
-  after_loss-begin : (b : Option ℕ) (s : List ℕ) (p : ℕ) (o : Option ℕ) → IsNotBefore p o → BeginFrom (suc p) (after_loss f b s o)
+  after_loss-begin : (b : Option ℕ) (s : List ℕ) (p : ℕ) (o : Option ℕ) → IsNotBefore p o
+      → BeginFrom (suc p) (after_loss f b s o)
   unfolding after_loss
   after_loss-begin b s p None g = tt
-  after_loss-begin b s p (Some q) g = begin_earlier (suc p) (suc q) (alignments_from f b s (suc q)) (omega arith) (alignments-begin f b s (suc q))
+  after_loss-begin b s p (Some q) g =
+      begin_earlier (suc p) (suc q) (alignments_from f b s (suc q)) (omega arith) (alignments-begin f b s (suc q))
 
   -- so they give no age to an octet that the alignment before them could have
   pub age-after_loss : (b : Option ℕ) (s : List ℕ) (a p n : ℕ) (o : Option ℕ) → IsNotBefore p o → n ≤ p + a
       → age_in a (after_loss f b s o) n ≡ None
-  age-after_loss b s a p n o g le = age_in-before a (suc p) n (after_loss f b s o) (after_loss-begin b s p o g) (omega arith)
+  age-after_loss b s a p n o g le =
+      age_in-before a (suc p) n (after_loss f b s o) (after_loss-begin b s p o g) (omega arith)
 
   -- what is found by a later octet gives no age
   age-found_later : (b : Option ℕ) (s : List ℕ) (a count n : ℕ) (o : Option ℕ) → f.found_at ≤ a → n < count
@@ -142,25 +150,33 @@ module _ (f : Framing) (h : IsFraming f) where
   unfolding after_search
   age-found_later b s a count n None le lt g = refl
   age-found_later b s a count n (Some p) le lt g =
-      let early : is_standing a (record { start = p; lost = loss f s p }) n ≡ false = and_left _ _ (lt-leb (p + a) n (omega arith)) in
+      let early : is_standing a (record { start = p; lost = loss f s p }) n ≡ false
+      = and_left _ _ (lt-leb (p + a) n (omega arith)) in
       rw early (age-after_loss b s a p n (loss f s p) (loss-not_before s p) (omega arith))
 
   -- an alignment and what comes after its loss, in the stream and in the stream that goes on
   module _ (b : Option ℕ) (s t : List ℕ) (a n : ℕ) (lt : n < length s) where
     age-continues : (p : ℕ) (o r : Option ℕ) → Continues (length s) o r
-        → ((q : ℕ) → o ≡ Some q → age_in a (alignments_from f b (s ++ t) (suc q)) n ≡ age_in a (alignments_from f b s (suc q)) n)
+        → ((q : ℕ) → o ≡ Some q
+        → age_in a (alignments_from f b (s ++ t) (suc q)) n ≡ age_in a (alignments_from f b s (suc q)) n)
         → age_in a (record { start = p; lost = r } ∷ after_loss f b (s ++ t) r) n
         ≡ age_in a (record { start = p; lost = o } ∷ after_loss f b s o) n
     unfolding after_loss
     age-continues p None None g again = refl
     age-continues p None (Some q) g again =
         let before : ltb n q ≡ true = lt-ltb n q (omega arith) in
-        rw (before, age_in-before a (suc q) n (alignments_from f b (s ++ t) (suc q)) (alignments-begin f b (s ++ t) (suc q)) (omega arith)) refl
+        rw (
+          before,
+          age_in-before a (suc q) n (alignments_from f b (s ++ t) (suc q))
+              (alignments-begin f b (s ++ t) (suc q)) (omega arith),
+        ) refl
     age-continues p (Some q) r g again = rw (g, again q refl) refl
 
-    settle_found : (le : f.found_at ≤ a) (d : Alignment) (ds : List Alignment) (from : ℕ) (o : Option ℕ) → f.search b s from ≡ o
+    settle_found : (le : f.found_at ≤ a) (d : Alignment) (ds : List Alignment) (from : ℕ) (o : Option ℕ)
+        → f.search b s from ≡ o
         → d ∷ ds ≡ after_search f b s o
-        → ((q : ℕ) → ds ≡ alignments_from f b s (suc q) → age_in a (alignments_from f b (s ++ t) (suc q)) n ≡ age_in a ds n)
+        → ((q : ℕ) → ds ≡ alignments_from f b s (suc q)
+        → age_in a (alignments_from f b (s ++ t) (suc q)) n ≡ age_in a ds n)
         → age_in a (after_search f b (s ++ t) (f.search b (s ++ t) from)) n ≡ age_in a (d ∷ ds) n
     unfolding after_search after_loss
     settle_found le d ds from None i e again = cc
@@ -180,7 +196,8 @@ module _ (f : Framing) (h : IsFraming f) where
         (age-found_later b (s ++ t) a (length s) n (f.search b (s ++ t) from) le lt (h.not_found b s t from nothing))
     settle le (d ∷ ds) from e =
         rw (alignments-turns f h b (s ++ t) from)
-        (settle_found le d ds from (f.search b s from) refl (e ∙ alignments-turns f h b s from) (λ q i. settle le ds (suc q) i))
+        (settle_found le d ds from (f.search b s from) refl (e ∙ alignments-turns f h b s from)
+        (λ q i. settle le ds (suc q) i))
 
 pub ages_are_settled : AgesAreSettled
 ages_are_settled f h s t a n le lt = settle f h None s t a n lt le _ 0 refl

@@ -1,12 +1,13 @@
--- The alignments of a stream of octets: each is found by a search, kept, and lost (ITU-T G.706, 4.1; ITU-T G.732, 5.2).
+-- The alignments of a stream of octets: each is found by a search, kept, and lost (ITU-T G.706, 4.1; ITU-T
+-- G.732, 5.2).
 use Rattle.std.specs.Prelude.{ℕ, zero, suc, ◌+◌, Bool, List, [], ◌∷◌, map, length, drop}
 use Rattle.std.specs.Prelude.{Option, Some, None, option_map}
 use Rattle.g704_framing.specs.Least.{least}
 
 -- What sets frame alignment and multiframe alignment apart.
 pub record Framing : Type 0 where
-  -- where the alignment begins that is found in a stream from a position on; the octet before the stream, if any, may
-  -- be looked at
+  -- where the alignment begins that is found in a stream from a position on; the octet before the stream, if
+  -- any, may be looked at
   pub search : Option ℕ → List ℕ → ℕ → Option ℕ
   -- of the octets of an alignment, its first one first: the place of the octet by which it is found
   pub found_at : ℕ
@@ -23,14 +24,15 @@ pub record Alignment : Type 0 where
 -- the position at which an alignment that begins at this one is lost
 unfoldable pub loss : Framing → List ℕ → ℕ → Option ℕ
 loss framing stream start =
-    option_map (λ place. start + place) (least (framing.is_lost (drop start stream)) (length (drop start stream)))
+    option_map (λ place. start + place)
+    (least (framing.is_lost (drop start stream)) (length (drop start stream)))
 
 -- an alignment, its positions counted from one octet further back
 abbrev pub later_alignment : Alignment → Alignment
 later_alignment alignment = record { start = suc alignment.start; lost = option_map suc alignment.lost }
 
--- the alignments of a stream after this octet, if any: the first search is from this position on, each further one from
--- the octet after a loss
+-- the alignments of a stream after this octet, if any: the first search is from this position on, each
+-- further one from the octet after a loss
 unfoldable pub alignments_from : Framing → Option ℕ → List ℕ → ℕ → List Alignment
 alignments_from framing before [] from = []
 alignments_from framing before (octet ∷ stream) (suc from) =

@@ -1,5 +1,6 @@
 -- What holds of the alignments of every stream, for each kind of alignment.
-use Rattle.std.specs.Prelude.{◌≡◌, ℕ, suc, ◌+◌, ◌%◌, ◌<◌, ◌≤◌, List, [], ◌∷◌, ◌++◌, length, drop, All, slice_index}
+use Rattle.std.specs.Prelude.{◌≡◌, ℕ, suc, ◌+◌, ◌%◌, ◌<◌, ◌≤◌, List, [], ◌∷◌, ◌++◌, length, drop, All}
+use Rattle.std.specs.Prelude.{slice_index}
 use Rattle.std.specs.Prelude.{Option, Some, None, option_map}
 use Rattle.g704_framing.specs.Alignment.{Framing, Alignment, alignments_of, search_ends_of}
 use Rattle.g704_framing.specs.Age.{age_in}
@@ -14,11 +15,14 @@ pub record IsFraming (framing : Framing) : Type 0 where
   -- nothing is found in no octets, and a search from a later octet on does not look at this one
   pub nothing : (before : Option ℕ) (from : ℕ) → framing.search before [] from ≡ None
   pub later : (before : Option ℕ) (octet : ℕ) (stream : List ℕ) (from : ℕ)
-      → framing.search before (octet ∷ stream) (suc from) ≡ option_map suc (framing.search (Some octet) stream from)
+      → framing.search before (octet ∷ stream) (suc from)
+      ≡ option_map suc (framing.search (Some octet) stream from)
   -- later octets change nothing that is found, and what they bring is found by one of them
   pub found : (before : Option ℕ) (stream rest : List ℕ) (from start : ℕ)
-      → framing.search before stream from ≡ Some start → framing.search before (stream ++ rest) from ≡ Some start
-  pub not_found : (before : Option ℕ) (stream rest : List ℕ) (from : ℕ) → framing.search before stream from ≡ None
+      → framing.search before stream from ≡ Some start
+      → framing.search before (stream ++ rest) from ≡ Some start
+  pub not_found : (before : Option ℕ) (stream rest : List ℕ) (from : ℕ)
+      → framing.search before stream from ≡ None
       → IsFoundAfter (length stream) framing.found_at (framing.search before (stream ++ rest) from)
   -- the loss depends on the octets alone that lie whole periods from the first, up to its own
   pub reads : (octets others : List ℕ) (place : ℕ)
@@ -31,7 +35,8 @@ pub record IsFraming (framing : Framing) : Type 0 where
 abbrev pub AgesAreSettled : Type 0
 AgesAreSettled = (framing : Framing) → IsFraming framing → (stream rest : List ℕ) (after position : ℕ)
     → framing.found_at ≤ after → position < length stream
-    → age_in after (alignments_of framing (stream ++ rest)) position ≡ age_in after (alignments_of framing stream) position
+    → age_in after (alignments_of framing (stream ++ rest)) position
+    ≡ age_in after (alignments_of framing stream) position
 
 -- a position comes before the loss or is that of the loss, if there is one
 abbrev pub IsUpToLoss : ℕ → Option ℕ → Type 0
@@ -44,10 +49,13 @@ IsLostAlike framing stream other alignment = (place : ℕ) → alignment.start +
     → IsUpToLoss (alignment.start + place) alignment.lost
     → framing.is_lost (drop alignment.start stream) place ≡ framing.is_lost (drop alignment.start other) place
 
--- streams whose searches end alike, and which lose each alignment of the first one alike, have the same alignments
+-- streams whose searches end alike, and which lose each alignment of the first one alike, have the same
+-- alignments
 abbrev pub AlignmentsAreAlike : Type 0
-AlignmentsAreAlike = (framing : Framing) → IsFraming framing → (stream other : List ℕ) → length stream ≡ length other
-    → search_ends_of framing (alignments_of framing stream) ≡ search_ends_of framing (alignments_of framing other)
+AlignmentsAreAlike =
+    (framing : Framing) → IsFraming framing → (stream other : List ℕ) → length stream ≡ length other
+    → search_ends_of framing (alignments_of framing stream)
+    ≡ search_ends_of framing (alignments_of framing other)
     → All (IsLostAlike framing stream other) (alignments_of framing stream)
     → alignments_of framing stream ≡ alignments_of framing other
 
@@ -66,7 +74,8 @@ AgreeAlong framing stream other alignment = (place : ℕ) → place % framing.pe
 abbrev pub OthersAreNotRead : Type 0
 OthersAreNotRead = (framing : Framing) → IsFraming framing → (stream other : List ℕ) (after : ℕ)
     → framing.found_at ≤ after → length stream ≡ length other
-    → ((position : ℕ) → position < length stream → IsRead framing (age_in after (alignments_of framing stream) position)
+    → ((position : ℕ) → position < length stream
+    → IsRead framing (age_in after (alignments_of framing stream) position)
     → slice_index stream position ≡ slice_index other position)
     → (alignments_of framing stream ≡ alignments_of framing other)
     × All (AgreeAlong framing stream other) (alignments_of framing stream)

@@ -1,12 +1,15 @@
--- After some histories all begins anew: what comes next is aligned as a stream of its own, but that its first search may
--- look at the last octet before.
-use Rattle.std.specs.Prelude.{◌≡◌, ℕ, ◌+◌, ◌<◌, List, [], ◌∷◌, ◌++◌, map, length, Option, Some, None, option_map}
+-- After some histories all begins anew: what comes next is aligned as a stream of its own, but that its first
+-- search may look at the last octet before.
+use Rattle.std.specs.Prelude.{◌≡◌, ℕ, ◌+◌, ◌<◌, List, [], ◌∷◌, ◌++◌, map, length, Option, Some, None}
+use Rattle.std.specs.Prelude.{option_map}
 use Rattle.g704_framing.specs.Alignment.{Framing, Alignment, alignments_from}
 
 -- an alignment in a stream, seen in the stream with this many octets before it
 abbrev pub moved : ℕ → Alignment → Alignment
-moved before alignment =
-    record { start = before + alignment.start; lost = option_map (λ position. before + position) alignment.lost }
+moved before alignment = record {
+  start = before + alignment.start;
+  lost = option_map (λ position. before + position) alignment.lost;
+}
 
 -- lost, and by an octet before this position
 abbrev pub IsLostBefore : ℕ → Option ℕ → Type 0
@@ -15,7 +18,8 @@ IsLostBefore position (Some lost) = lost < position
 
 abbrev pub AllLostBefore : ℕ → List Alignment → Type 0
 AllLostBefore position [] = Unit {0}
-AllLostBefore position (alignment ∷ others) = IsLostBefore position alignment.lost × AllLostBefore position others
+AllLostBefore position (alignment ∷ others) =
+    IsLostBefore position alignment.lost × AllLostBefore position others
 
 -- the last octet of a list, or the one before the list
 abbrev pub last_of : Option ℕ → List ℕ → Option ℕ

@@ -7,7 +7,8 @@ pub fn ages_are_settled()
     ensures { AgesAreSettled }
 {}
 
-/// Streams whose searches end alike, and which lose each alignment of the first one alike, have the same alignments.
+/// Streams whose searches end alike, and which lose each alignment of the first one alike, have the same
+/// alignments.
 pub fn alignments_are_alike()
     ensures { AlignmentsAreAlike }
 {}

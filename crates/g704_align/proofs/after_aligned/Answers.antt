@@ -10,7 +10,8 @@ with_age c x age ws wd ws' wd' next h is more =
     subst (λ a. IsAlignment a ws' wd' (c ++ x ∷ [])) (sym (is (age-below c x age ws wd h))) more
 
 -- the count, as `count_after` gives it of what a test says of the octet
-counted : (o : Option ℕ) (count : ℕ) (test right : Bool) → o ≡ count_after count test → test ≡ right → o ≡ count_after count right
+counted : (o : Option ℕ) (count : ℕ) (test right : Bool) → o ≡ count_after count test → test ≡ right
+    → o ≡ count_after count right
 counted o count test right e f = e ∙ ap (count_after count) f
 
 pub returns-in-Some : goal.returns-in-Some

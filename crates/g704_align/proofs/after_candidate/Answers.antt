@@ -8,8 +8,10 @@ returns-then-refutes c before octets h =
 
 pub returns-then-age-lt-TWO_FRAMES : goal.returns-then-age-lt-TWO_FRAMES
 returns-then-age-lt-TWO_FRAMES c before octets h =
-    candidate-more octets c.args.octet c.args.age h (sym c.refutes.ensures ∙ c.if-refutes.false) c.if-age-lt-TWO_FRAMES.true
+    candidate-more octets c.args.octet c.args.age h
+    (sym c.refutes.ensures ∙ c.if-refutes.false) c.if-age-lt-TWO_FRAMES.true
 
 pub returns-else-age-lt-TWO_FRAMES : goal.returns-else-age-lt-TWO_FRAMES
 returns-else-age-lt-TWO_FRAMES c before octets h =
-    candidate-found octets c.args.octet c.args.age h (sym c.refutes.ensures ∙ c.if-refutes.false) c.if-age-lt-TWO_FRAMES.false
+    candidate-found octets c.args.octet c.args.age h
+    (sym c.refutes.ensures ∙ c.if-refutes.false) c.if-age-lt-TWO_FRAMES.false

@@ -19,7 +19,8 @@ returns-else-wrong c before octets h =
       | else-wrong-via-else-wrong w ↦ and_right _ _ w.if-wrong.false
       | else-wrong-via-then-wrong+else-not-right w ↦ and_left _ _ (ap not w.if-not-right.false)
     ]) in
-    zero-more before octets c.args.octet _ _ h c.is_mfas-right.result c.if-frame-eq0.true (sym c.is_mfas-right.ensures) passed
+    zero-more before octets c.args.octet _ _ h c.is_mfas-right.result c.if-frame-eq0.true
+    (sym c.is_mfas-right.ensures) passed
 
 pub returns-else-frame-eq0 : goal.returns-else-frame-eq0
 returns-else-frame-eq0 c before octets h =

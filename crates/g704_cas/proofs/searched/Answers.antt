@@ -15,6 +15,7 @@ pub returns-else-after_nonzero : goal.returns-else-after_nonzero
 returns-else-after_nonzero c before h =
     let passed : (is_mfas c.args.octet && is_not_zero before) ≡ false = (elim c.else-after_nonzero.branch [
       | else-after_nonzero-via-else-after_nonzero w ↦ and_right _ _ (sym h ∙ w.if-after_nonzero.false)
-      | else-after_nonzero-via-then-after_nonzero+else-is_mfas w ↦ and_left _ _ (sym w.is_mfas.ensures ∙ w.if-is_mfas.false)
+      | else-after_nonzero-via-then-after_nonzero+else-is_mfas w ↦ and_left _ _
+          (sym w.is_mfas.ensures ∙ w.if-is_mfas.false)
     ]) in
     (IsOver-other before c.args.octet passed, refl)

@@ -6,7 +6,8 @@ use Rattle.g704_cas.proofs.MfAligner.slot16.Goals as goal
 pub returns-clause-placed : goal.returns-clause-placed
 returns-clause-placed c history h =
     let before = last_of None h.earlier in
-    c.place_between.ensures.placed before h.since c.args.octet h.fields (c.phase_after-self.ensures before h.since h.fields)
+    c.place_between.ensures.placed before h.since c.args.octet h.fields
+    (c.phase_after-self.ensures before h.since h.fields)
     ∙ place-history history h.earlier h.since c.args.octet h.whole h.over
 
 pub returns-clause-stands : goal.returns-clause-stands
