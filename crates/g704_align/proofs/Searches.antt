@@ -26,9 +26,9 @@ slice_get-at [] y ys = refl
 slice_get-at (x ∷ p) y ys = slice_get-at p y ys
 
 -- where the first of the two octets that confirm is wrong, the search goes on past it
-pub confirmed-refuted : (x : ℕ) (o a b : Option ℕ) → is_nfas x ≡ false → confirmed (Some x) o a b ≡ a
-confirmed-refuted x None a b h = rw h refl
-confirmed-refuted x (Some y) a b h = rw h refl
+pub confirmed-refuted : (x : ℕ) (f o a b : Option ℕ) → is_nfas x ≡ false → confirmed f (Some x) o a b ≡ a
+confirmed-refuted x f None a b h = rw h refl
+confirmed-refuted x f (Some y) a b h = rw h refl
 
 -- found in a stream, also when it goes on
 abbrev StaysFound : Option ℕ → Option ℕ → Type 0
@@ -38,18 +38,17 @@ later-found : (o r : Option ℕ) → StaysFound o r → StaysFound (later o) (la
 later-found None r h p e = cc
 later-found (Some q) r h p e = ap later (h q refl) ∙ e
 
-confirmed-found : (o u o' u' a b a' b' : Option ℕ) → StaysFound o o' → StaysFound u u' → StaysFound a a'
-    → StaysFound b b'
-    → StaysFound (confirmed o u a b) (confirmed o' u' a' b')
-confirmed-found None u o' u' a b a' b' ho hu ha hb p e = cc
-confirmed-found (Some x) u o' u' a b a' b' ho hu ha hb p e =
+confirmed-found : (f o u o' u' a b a' b' : Option ℕ) → StaysFound o o' → StaysFound u u' → StaysFound a a'
+    → StaysFound b b' → StaysFound (confirmed f o u a b) (confirmed f o' u' a' b')
+confirmed-found f None u o' u' a b a' b' ho hu ha hb p e = cc
+confirmed-found f (Some x) u o' u' a b a' b' ho hu ha hb p e =
     rw (ho x refl) (elim (cases_Bool (is_nfas x)) [
-      | inr wrong ↦ confirmed-refuted x u' a' b' wrong ∙ ha p (sym (confirmed-refuted x u a b wrong) ∙ e)
+      | inr wrong ↦ confirmed-refuted x f u' a' b' wrong ∙ ha p (sym (confirmed-refuted x f u a b wrong) ∙ e)
       | inl right ↦ second u hu e right
     ])
   where
-    second : (v : Option ℕ) → StaysFound v u' → confirmed (Some x) v a b ≡ Some p → is_nfas x ≡ true
-        → confirmed (Some x) u' a' b' ≡ Some p
+    second : (v : Option ℕ) → StaysFound v u' → confirmed f (Some x) v a b ≡ Some p → is_nfas x ≡ true
+        → confirmed f (Some x) u' a' b' ≡ Some p
     second None hv i right = let n = rw right at i in cc
     second (Some y) hv i right = rw (hv y refl, right) (elim (cases_Bool (is_fas y)) [
       | inl fas ↦ rw fas (rw (right, fas) at i)
@@ -63,7 +62,8 @@ search-append [] t from p e = cc
 search-append (x ∷ s) t (suc from) p e = later-found (search s from) (search (s ++ t) from) (search-append s t from) p e
 search-append (x ∷ s) t zero p e = elim (cases_Bool (is_fas x)) [
   | inr other ↦ rw other (later-found (search s 0) (search (s ++ t) 0) (search-append s t 0) p (rw other at e))
-  | inl fas ↦ rw fas (confirmed-found (slice_get s 31) (slice_get s 63) (slice_get (s ++ t) 31) (slice_get (s ++ t) 63)
+  | inl fas ↦ rw fas (confirmed-found (Some 0) (slice_get s 31) (slice_get s 63) (slice_get (s ++ t) 31)
+      (slice_get (s ++ t) 63)
       (later (search s 32)) (later (search s 64)) (later (search (s ++ t) 32)) (later (search (s ++ t) 64))
       (slice_get-append s t 31) (slice_get-append s t 63)
       (later-found (search s 32) (search (s ++ t) 32) (search-append s t 32))
@@ -83,9 +83,9 @@ few-after : (count : ℕ) (r : Option ℕ) → count ≤ 64 → IsFoundAfter cou
 few-after count None le = tt
 few-after count (Some p) le = omega arith
 
-confirmed-after : (count x y : ℕ) (a b a' b' : Option ℕ) → FoundAfter count a a' → FoundAfter count b b'
-    → FoundAfter count (confirmed (Some x) (Some y) a b) (confirmed (Some x) (Some y) a' b')
-confirmed-after count x y a b a' b' ha hb e = elim (cases_Bool (is_nfas x)) [
+confirmed-after : (count p x y : ℕ) (a b a' b' : Option ℕ) → FoundAfter count a a' → FoundAfter count b b'
+    → FoundAfter count (confirmed (Some p) (Some x) (Some y) a b) (confirmed (Some p) (Some x) (Some y) a' b')
+confirmed-after count p x y a b a' b' ha hb e = elim (cases_Bool (is_nfas x)) [
   | inr wrong ↦ rw wrong (ha (rw wrong at e))
   | inl right ↦ elim (cases_Bool (is_fas y)) [
     | inl fas ↦ let n = rw (right, fas) at e in cc
@@ -107,7 +107,7 @@ search-after (x ∷ s) t zero e = elim (cases_Bool (is_fas x)) [
         let first = slice_get-within s [] 31 (omega arith) in
         let second = slice_get-within s [] 63 (omega arith) in
         rw (fas, slice_get-within s t 31 (omega arith), slice_get-within s t 63 many)
-        (confirmed-after (suc (length s)) (get_or s 31 0) (get_or s 63 0) (later (search s 32)) (later (search s 64))
+        (confirmed-after (suc (length s)) 0 (get_or s 31 0) (get_or s 63 0) (later (search s 32)) (later (search s 64))
         (later (search (s ++ t) 32)) (later (search (s ++ t) 64))
         (later-after (length s) (search s 32) (search (s ++ t) 32) (search-after s t 32))
         (later-after (length s) (search s 64) (search (s ++ t) 64) (search-after s t 64))

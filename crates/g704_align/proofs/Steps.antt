@@ -4,7 +4,7 @@ use Rattle.std.proofs.Common.{Option, Some, None, refl, sym, ap, ◌∙◌, subs
 use Rattle.std.specs.Prelude.{◌≢◌, ◌&&◌, slice_get}
 use Rattle.std.proofs.lemmas.Option.{same_Some}
 use Rattle.std.proofs.lemmas.List.{get_or_append_left, length_push, get_or_push}
-use Rattle.std.proofs.lemmas.Bool.{lt-ltb, le-ltb, eqb-true, ne_eqb, not-true, not-false, and_left, and_right}
+use Rattle.std.proofs.lemmas.Bool.{lt-ltb, le-ltb, eqb-true, not-true, not-false, and_left}
 use Rattle.std.proofs.lemmas.Bool.{and_parts, or_cases, or_parts}
 use Rattle.std.proofs.lemmas.Bool.{cases_eq, cases_lt}
 use Rattle.g704_framing.specs.Restart.{IsOver}
@@ -69,7 +69,7 @@ over_no_nfas b (y ∷ c) x n h g = IsOver-passed frame_alignment frame_is_framin
     let l : length c ≡ 31 = omega arith in
     let m : length (c ++ x ∷ []) ≡ 32 = omega (arith, length_push c x) in
     let e : slice_get (c ++ x ∷ [] ++ t) 31 ≡ Some x = rw (append_assoc c (x ∷ []) t) (rw l at (slice_get-at c x t)) in
-    rw (h, e, m) (confirmed-refuted x _ _ _ g))
+    rw (h, e, m) (confirmed-refuted x _ _ _ _ g))
 
 over_no_second_fas : (b : Option ℕ) (c : List ℕ) (x : ℕ) → length c ≡ 64 → is_fas (get_or c 0 0) ≡ true
     → is_nfas (get_or c 32 0) ≡ true → is_fas x ≡ false → IsOver frame_alignment b (c ++ x ∷ [])

@@ -1,6 +1,14 @@
 //! Laws of frame alignment, over its definitions alone.
 
+ghost use Rattle.g704_align.specs.Search.{SearchMeetsLeast};
 ghost use Rattle.g704_align.specs.Laws.{PlacesAreSettled, PlacesAreAlike, OtherPlacesAreNotRead};
+
+/// In the positions of the whole stream: a search meets the least position, from where it begins, that has a
+/// FAS octet. It finds it where the octets 32 and 64 octets on confirm it, and else what a search past the
+/// first of the two that is wrong finds.
+pub fn search_meets_least()
+    ensures { SearchMeetsLeast }
+{}
 
 /// No later octet moves a place, or changes the alarm that stood.
 pub fn places_are_settled()

@@ -4,8 +4,8 @@ use Rattle.std.proofs.Common.{Option, Some, None, refl, sym, ap, ◌∙◌, arit
 use Rattle.std.specs.Prelude.{nat_le, nat_lt, ◌&&◌, slice_index}
 use Rattle.std.proofs.lemmas.Bool.{cases_Bool, le-leb, lt-leb, lt-ltb, le-ltb, and_left, and_right}
 use Rattle.std.proofs.lemmas.Bool.Decides.{nat_tests}
-use Rattle.g704_framing.proofs.Leasts.{IsLeast, least_equals, least_alike, reach}
-use Rattle.g704_cas.specs.Search.{is_mfas, is_not_zero, later, search, is_found_at, SearchIsLeast}
+use Rattle.g704_framing.proofs.Leasts.{IsLeast, least_equals, least_alike, least-later, reach}
+use Rattle.g704_cas.specs.Search.{is_mfas, is_not_zero, search, is_found_at, SearchIsLeast}
 
 -- the octet before a position, in octets that come after this one, if any
 abbrev octet_before : Option ℕ → List ℕ → ℕ → Option ℕ
@@ -16,20 +16,6 @@ octet_before b (x ∷ s) (suc k) = octet_before (Some x) s k
 -- alignment is found at the position, if the search begins there or before
 abbrev finds : Option ℕ → List ℕ → ℕ → ℕ → Bool
 finds b s from k = nat_le from k && (is_mfas (slice_index s k) && is_not_zero (octet_before b s k))
-
-least-later : (passes others : ℕ → Bool) (n : ℕ) (o : Option ℕ) → others 0 ≡ false
-    → ((k : ℕ) → others (suc k) ≡ passes k)
-    → IsLeast passes n o → IsLeast others (suc n) (later o)
-least-later passes others n None first rest l = λ k lt. below k lt
-  where
-    below : (k : ℕ) → k < suc n → others k ≡ false
-    below zero lt = first
-    below (suc k) lt = rest k ∙ l k (omega arith)
-least-later passes others n (Some m) first rest l = (omega (arith, l.0), rest m ∙ l.1, λ k lt. below k lt)
-  where
-    below : (k : ℕ) → k < suc m → others k ≡ false
-    below zero lt = first
-    below (suc k) lt = rest k ∙ l.2 k (omega arith)
 
 le-suc : (m n : ℕ) → nat_le (suc m) (suc n) ≡ nat_le m n
 le-suc m n = grind (arith, nat_tests)

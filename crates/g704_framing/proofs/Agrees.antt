@@ -10,7 +10,8 @@ use Rattle.g704_framing.specs.Alignment.{Framing, Alignment, loss, alignments_fr
 use Rattle.g704_framing.specs.Laws.{IsFraming, IsUpToLoss, IsLostAlike, AlignmentsAreAlike}
 use Rattle.g704_framing.proofs.Leasts.{IsLeast, least-is, least_equals, reach, least_alike}
 use Rattle.g704_framing.proofs.Moves.{same_alignment}
-use Rattle.g704_framing.proofs.Turns.{alignments-turns, after_search, after_loss}
+use Rattle.g704_framing.specs.Alignment.{after_search, after_loss}
+use Rattle.g704_framing.proofs.Turns.{alignments-turns}
 
 -- up to the loss is also what comes before
 pub up_to_loss-earlier : (m n : ℕ) (o : Option ℕ) → m ≤ n → IsUpToLoss n o → IsUpToLoss m o

@@ -9,7 +9,8 @@ use Rattle.g704_framing.specs.Restart.{moved, IsLostBefore, AllLostBefore, IsOve
 use Rattle.g704_framing.specs.Laws.{IsFraming}
 use Rattle.g704_framing.proofs.Leasts.{IsLeast, least_equals}
 use Rattle.g704_framing.proofs.Moves.{option_map-zero, map-moved_zero, map-moved_add}
-use Rattle.g704_framing.proofs.Turns.{alignments-turns, alignments-append, after_search, after_loss, onto}
+use Rattle.g704_framing.specs.Alignment.{after_search, after_loss}
+use Rattle.g704_framing.proofs.Turns.{alignments-turns, alignments-append, onto}
 
 pub IsOver-nil : (f : Framing) (b : Option ℕ) → IsOver f b []
 IsOver-nil f b = record { earlier = []; all_lost = tt; anew = λ t. sym (map-moved_zero (alignments_from f b t 0)) }

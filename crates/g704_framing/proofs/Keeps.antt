@@ -14,7 +14,8 @@ use Rattle.g704_framing.specs.Age.{is_standing, age_in}
 use Rattle.g704_framing.specs.Restart.{last_of}
 use Rattle.g704_framing.specs.Laws.{IsFraming, IsFoundAfter, IsRead, IsUpToLoss, AgreeAlong, OthersAreNotRead}
 use Rattle.g704_framing.proofs.Moves.{option_map-zero, option_map-suc, same_alignment}
-use Rattle.g704_framing.proofs.Turns.{alignments-turns, after_search, after_loss, onto, none_found}
+use Rattle.g704_framing.specs.Alignment.{after_search, after_loss}
+use Rattle.g704_framing.proofs.Turns.{alignments-turns, onto, none_found}
 use Rattle.g704_framing.proofs.Settles.{IsNotBefore, loss-not_before, search-from, age-after_loss, age_in-before}
 use Rattle.g704_framing.proofs.Settles.{alignments-begin}
 use Rattle.g704_framing.proofs.Agrees.{loss-alike, up_to_loss-earlier}

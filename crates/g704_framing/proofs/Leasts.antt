@@ -1,6 +1,7 @@
 -- The least number that passes.
 use Rattle.std.proofs.Common.{◌≡◌, ℕ, zero, suc, ◌<◌, Bool, true, false, cond, Option, Some, None}
 use Rattle.std.proofs.Common.{refl, sym, ap, ◌∙◌, arith, inl, inr}
+use Rattle.std.specs.Prelude.{option_map}
 use Rattle.std.proofs.lemmas.Bool.{cases_lt, false≢true}
 use Rattle.g704_framing.specs.Least.{least}
 
@@ -55,3 +56,18 @@ pub least_alike : (passes others : ℕ → Bool) (limit : ℕ) (o : Option ℕ)
 least_alike passes others limit None h l = λ k lt. sym (h k lt) ∙ l k lt
 least_alike passes others limit (Some n) h l =
     (l.0, sym (h n (omega arith)) ∙ l.1, λ k lt. sym (h k (omega arith)) ∙ l.2 k lt)
+
+-- the least that passes, counted from one further back, where the first number does not pass
+pub least-later : (passes others : ℕ → Bool) (n : ℕ) (o : Option ℕ) → others 0 ≡ false
+    → ((k : ℕ) → others (suc k) ≡ passes k)
+    → IsLeast passes n o → IsLeast others (suc n) (option_map suc o)
+least-later passes others n None first rest l = λ k lt. below k lt
+  where
+    below : (k : ℕ) → k < suc n → others k ≡ false
+    below zero lt = first
+    below (suc k) lt = rest k ∙ l k (omega arith)
+least-later passes others n (Some m) first rest l = (omega (arith, l.0), rest m ∙ l.1, λ k lt. below k lt)
+  where
+    below : (k : ℕ) → k < suc m → others k ≡ false
+    below zero lt = first
+    below (suc k) lt = rest k ∙ l.2 k (omega arith)

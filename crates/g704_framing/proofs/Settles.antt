@@ -10,7 +10,8 @@ use Rattle.g704_framing.specs.Alignment.{Framing, Alignment, later_alignment, lo
 use Rattle.g704_framing.specs.Age.{is_standing, age_in}
 use Rattle.g704_framing.specs.Laws.{IsFraming, IsFoundAfter, AgesAreSettled}
 use Rattle.g704_framing.proofs.Leasts.{IsLeast, least-is, only_one}
-use Rattle.g704_framing.proofs.Turns.{alignments-turns, after_search, after_loss, none_found}
+use Rattle.g704_framing.specs.Alignment.{after_search, after_loss}
+use Rattle.g704_framing.proofs.Turns.{alignments-turns, none_found}
 use Rattle.g704_framing.proofs.Ends.{is_lost-append}
 
 -- each alignment begins at this position or later

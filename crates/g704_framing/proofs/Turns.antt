@@ -4,23 +4,14 @@ use Rattle.std.proofs.Common.{refl, sym, ap, ◌∙◌}
 use Rattle.std.specs.Prelude.{option_map}
 use Rattle.g704_framing.specs.Least.{least}
 use Rattle.g704_framing.specs.Alignment.{Framing, Alignment, later_alignment, loss, alignments_from}
+use Rattle.g704_framing.specs.Alignment.{after_loss, after_search}
 use Rattle.g704_framing.specs.Restart.{moved, last_of}
-use Rattle.g704_framing.specs.Laws.{IsFraming}
+use Rattle.g704_framing.specs.Laws.{AlignmentsTakeTurns}
 use Rattle.g704_framing.proofs.Moves.{option_map-suc, map-moved_zero, map-moved_suc}
 
 loss-later : (f : Framing) (x : ℕ) (s : List ℕ) (p : ℕ) → loss f (x ∷ s) (suc p) ≡ option_map suc (loss f s p)
 unfolding loss
 loss-later f x s p = option_map-suc p (least (f.is_lost (drop p s)) (length (drop p s)))
-
--- the alignments after a loss
-unfoldable pub after_loss : Framing → Option ℕ → List ℕ → Option ℕ → List Alignment
-after_loss f b s None = []
-after_loss f b s (Some q) = alignments_from f b s (suc q)
-
--- the alignments from what a search found
-unfoldable pub after_search : Framing → Option ℕ → List ℕ → Option ℕ → List Alignment
-after_search f b s None = []
-after_search f b s (Some p) = record { start = p; lost = loss f s p } ∷ after_loss f b s (loss f s p)
 
 -- where there is no alignment, nothing was found
 pub none_found : (f : Framing) (b : Option ℕ) (s : List ℕ) (o : Option ℕ) → [] ≡ after_search f b s o → o ≡ None
@@ -64,8 +55,7 @@ suc_case f b x s (Some p) =
     go (Some q) = refl
 
 -- the alignments, as searches and losses in turn
-pub alignments-turns : (f : Framing) → IsFraming f → (b : Option ℕ) (s : List ℕ) (from : ℕ)
-    → alignments_from f b s from ≡ after_search f b s (f.search b s from)
+pub alignments-turns : AlignmentsTakeTurns
 unfolding alignments_from after_search
 alignments-turns f h b [] from = rw (h.nothing b from) refl
 alignments-turns f h b (x ∷ s) zero = zero_case f b x s (f.search b (x ∷ s) zero)

@@ -53,3 +53,16 @@ alignments_of framing stream = alignments_from framing None stream 0
 -- the positions of the octets by which alignments are found, one after another
 abbrev pub search_ends_of : Framing → List Alignment → List ℕ
 search_ends_of framing alignments = map (λ alignment. alignment.start + framing.found_at) alignments
+
+-- the alignments that come after a loss, by a search from the octet after it on
+unfoldable pub after_loss : Framing → Option ℕ → List ℕ → Option ℕ → List Alignment
+after_loss framing before stream None = []
+after_loss framing before stream (Some lost) = alignments_from framing before stream (suc lost)
+
+-- the alignments from what a search has found: the first begins there, and its loss is followed by further
+-- ones
+unfoldable pub after_search : Framing → Option ℕ → List ℕ → Option ℕ → List Alignment
+after_search framing before stream None = []
+after_search framing before stream (Some start) =
+    record { start = start; lost = loss framing stream start } ∷ after_loss framing before stream
+    (loss framing stream start)

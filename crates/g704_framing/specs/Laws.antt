@@ -2,7 +2,8 @@
 use Rattle.std.specs.Prelude.{◌≡◌, ℕ, suc, ◌+◌, ◌%◌, ◌<◌, ◌≤◌, List, [], ◌∷◌, ◌++◌, length, drop, All}
 use Rattle.std.specs.Prelude.{slice_index}
 use Rattle.std.specs.Prelude.{Option, Some, None, option_map}
-use Rattle.g704_framing.specs.Alignment.{Framing, Alignment, alignments_of, search_ends_of}
+use Rattle.g704_framing.specs.Alignment.{Framing, Alignment, alignments_from, alignments_of}
+use Rattle.g704_framing.specs.Alignment.{after_search, search_ends_of}
 use Rattle.g704_framing.specs.Age.{age_in}
 
 -- what is found, if anything, is found by an octet after the first so many
@@ -30,6 +31,13 @@ pub record IsFraming (framing : Framing) : Type 0 where
       → slice_index octets earlier ≡ slice_index others earlier)
       → framing.is_lost octets place ≡ framing.is_lost others place
   pub whole : framing.found_at % framing.period ≡ 0
+
+-- the alignments of a stream are what searches and losses in turn give, each over the whole stream
+abbrev pub AlignmentsTakeTurns : Type 0
+AlignmentsTakeTurns =
+    (framing : Framing) → IsFraming framing → (before : Option ℕ) (stream : List ℕ) (from : ℕ)
+    → alignments_from framing before stream from
+    ≡ after_search framing before stream (framing.search before stream from)
 
 -- the age that an octet has does not depend on later octets
 abbrev pub AgesAreSettled : Type 0
