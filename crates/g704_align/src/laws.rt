@@ -1,6 +1,8 @@
 //! Laws of frame alignment, over its definitions alone.
 
+ghost use Rattle.g704_framing.specs.Laws.{IsFraming};
 ghost use Rattle.g704_align.specs.Search.{SearchMeetsLeast};
+ghost use Rattle.g704_align.specs.Loss.{frame_alignment};
 ghost use Rattle.g704_align.specs.Laws.{PlacesAreSettled, PlacesAreAlike, OtherPlacesAreNotRead};
 
 /// In the positions of the whole stream: a search meets the least position, from where it begins, that has a
@@ -8,6 +10,12 @@ ghost use Rattle.g704_align.specs.Laws.{PlacesAreSettled, PlacesAreAlike, OtherP
 /// first of the two that is wrong finds.
 pub fn search_meets_least()
     ensures { SearchMeetsLeast }
+{}
+
+/// Frame alignment is an alignment of the kind that the laws of g704_framing speak of: among others, the
+/// alignments of a stream are what searches and losses in turn give.
+pub fn frame_alignment_is_framing()
+    ensures { IsFraming frame_alignment }
 {}
 
 /// No later octet moves a place, or changes the alarm that stood.

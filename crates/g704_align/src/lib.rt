@@ -29,9 +29,13 @@ const BIT_2: u8 = 0x40;
 pub enum Place {
     /// Alignment is being looked for.
     Hunting,
-    /// The octet is in the time slot of this number, 0 to 31. `fas` tells whether its frame is one that
-    /// begins with the frame alignment signal.
-    Slot { number: u8, fas: bool },
+    /// The octet is in a time slot of a frame.
+    Slot {
+        /// The number of the time slot, 0 to 31.
+        number: u8,
+        /// Whether the frame is one that begins with the frame alignment signal.
+        fas: bool,
+    },
 }
 
 // How far alignment has come. An age counts the octets from the first FAS octet on, itself included.
