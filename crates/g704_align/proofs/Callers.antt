@@ -43,6 +43,7 @@ place-alike s t alike =
       λ n. (ap (λ ds. place_of (age_in 65 ds n)) same, ap (λ ds. is_none (age_in 64 ds n)) same),
     )
 
+-- an octet whole frames from the first one of its alignment is in slot 0
 slot_zero : (o : Option ℕ) → IsRead frame_alignment o → number_of (place_of o) ≡ 0
 slot_zero None read = refl
 slot_zero (Some age) read = read

@@ -13,9 +13,11 @@ first_fas [] from = None
 first_fas (x ∷ s) (suc from) = later (first_fas s from)
 first_fas (x ∷ s) zero = if is_fas x then Some 0 else later (first_fas s 0)
 
+-- the search from a position on meets a FAS octet here
 abbrev meets : List ℕ → ℕ → ℕ → Bool
 meets s from k = nat_le from k && is_fas (slice_index s k)
 
+-- comparing positions does not depend on where they are counted from
 le-suc : (m n : ℕ) → nat_le (suc m) (suc n) ≡ nat_le m n
 le-suc m n = grind (arith, nat_tests)
 
@@ -51,6 +53,7 @@ later-confirmed f (Some x) (Some y) a b = elim (cases_Bool (is_nfas x)) [
   ]
 ]
 
+-- nor what a search finds that has met its first FAS octet
 after_fas-later : (x : ℕ) (s : List ℕ) (o : Option ℕ) → later (after_fas s o) ≡ after_fas (x ∷ s) (later o)
 unfolding search
 after_fas-later x s None = refl
@@ -62,6 +65,7 @@ after_fas-later x s (Some k) =
     rw (a, b, c, d) (later-confirmed (Some k) (slice_get s (k + 32)) (slice_get s (k + 64)) (search s (k + 33))
     (search s (k + 65)))
 
+-- the search goes on from the first FAS octet
 search-meets : (s : List ℕ) (from : ℕ) → search s from ≡ after_fas s (first_fas s from)
 unfolding search
 search-meets [] from = refl
@@ -71,6 +75,7 @@ search-meets (x ∷ s) zero = elim (cases_Bool (is_fas x)) [
   | inr other ↦ rw other (ap later (search-meets s 0) ∙ after_fas-later x s (first_fas s 0))
 ]
 
+-- the law
 pub search_meets_least : SearchMeetsLeast
 search_meets_least s from =
     search-meets s from

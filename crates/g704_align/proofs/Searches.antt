@@ -15,6 +15,7 @@ slice_get-append [] q i x e = cc
 slice_get-append (y ∷ p) q zero x e = e
 slice_get-append (y ∷ p) q (suc i) x e = slice_get-append p q i x e
 
+-- nor does it where it is known to be there
 pub slice_get-within : (p q : List ℕ) (i : ℕ) → i < length p → slice_get (p ++ q) i ≡ Some (get_or p i 0)
 slice_get-within [] q i h = absurd (omega arith)
 slice_get-within (x ∷ p) q zero h = refl
@@ -34,10 +35,12 @@ confirmed-refuted x f (Some y) a b h = rw h refl
 abbrev StaysFound : Option ℕ → Option ℕ → Type 0
 StaysFound o r = (p : ℕ) → o ≡ Some p → r ≡ Some p
 
+-- also where positions are counted from one further back
 later-found : (o r : Option ℕ) → StaysFound o r → StaysFound (later o) (later r)
 later-found None r h p e = cc
 later-found (Some q) r h p e = ap later (h q refl) ∙ e
 
+-- also what is confirmed, or found past an octet that is wrong
 confirmed-found : (f o u o' u' a b a' b' : Option ℕ) → StaysFound o o' → StaysFound u u' → StaysFound a a'
     → StaysFound b b' → StaysFound (confirmed f o u a b) (confirmed f o' u' a' b')
 confirmed-found f None u o' u' a b a' b' ho hu ha hb p e = cc
@@ -74,15 +77,18 @@ search-append (x ∷ s) t zero p e = elim (cases_Bool (is_fas x)) [
 abbrev FoundAfter : ℕ → Option ℕ → Option ℕ → Type 0
 FoundAfter count o r = o ≡ None → IsFoundAfter count 64 r
 
+-- also where positions are counted from one further back
 later-after : (count : ℕ) (o r : Option ℕ) → FoundAfter count o r → FoundAfter (suc count) (later o) (later r)
 later-after count (Some p) r h e = cc
 later-after count None None h e = tt
 later-after count None (Some q) h e = let le = h refl in omega arith
 
+-- in so few octets nothing can be found
 few-after : (count : ℕ) (r : Option ℕ) → count ≤ 64 → IsFoundAfter count 64 r
 few-after count None le = tt
 few-after count (Some p) le = omega arith
 
+-- also what is confirmed, or found past an octet that is wrong
 confirmed-after : (count p x y : ℕ) (a b a' b' : Option ℕ) → FoundAfter count a a' → FoundAfter count b b'
     → FoundAfter count (confirmed (Some p) (Some x) (Some y) a b) (confirmed (Some p) (Some x) (Some y) a' b')
 confirmed-after count p x y a b a' b' ha hb e = elim (cases_Bool (is_nfas x)) [

@@ -25,6 +25,7 @@ age-aligned b c after n age ws wd h le =
     (alignments-standing frame_alignment frame_is_framing b c
     (λ t. search-found c t h.found h.fas h.nfas h.confirmed) h.kept) le
 
+-- the first half of two frames is the even one
 even_frame : (n : ℕ) → ltb (n % 64) 32 ≡ eqb ((n / 32) % 2) 0
 even_frame n = elim (cases_lt (n % 64) 32) [
   | inl lt ↦ lt-ltb (n % 64) 32 lt ∙ sym (eq-eqb ((n / 32) % 2) 0 (omega arith))
@@ -80,6 +81,7 @@ place-history history earlier since x e over =
     rw (e, length-append earlier since, append_assoc earlier since (x ∷ []))
     (ap place_of (sym (age-over frame_alignment None earlier (since ++ x ∷ []) 65 (length since) over)))
 
+-- the aligner stands after one octet more
 pub stands-follows : (phase : Phase) (history earlier since : List ℕ) (x : ℕ) → history ≡ earlier ++ since
     → IsOver frame_alignment None earlier → Follows phase (last_of None earlier) (since ++ x ∷ [])
     → Stands (record { phase = phase }) (history ++ x ∷ [])
@@ -115,6 +117,7 @@ alarm_of Searching = true
 alarm_of (Candidate age) = true
 alarm_of (Aligned age ws wd) = false
 
+-- the age of the last octet is that in the octets since all began anew
 age-since : (earlier since : List ℕ) → IsOver frame_alignment None earlier → 0 < length since
     → age_in 64 (alignments_from frame_alignment None (earlier ++ since) 0) (length (earlier ++ since) - 1)
     ≡ age_in 64 (alignments_from frame_alignment (last_of None earlier) since 0) (length since - 1)
@@ -122,6 +125,7 @@ age-since earlier since over lt =
     let e : (length earlier + length since) - 1 ≡ length earlier + (length since - 1) = omega arith in
     rw (length-append earlier since, e) (age-over frame_alignment None earlier since 64 (length since - 1) over)
 
+-- the alarm, by the octets since all began anew
 alarm-since : (phase : Phase) (earlier since : List ℕ) → IsOver frame_alignment None earlier → Describes phase since
     → alarm_of phase ≡ alarm_after (earlier ++ since)
 unfolding alarm
@@ -142,6 +146,7 @@ alarm-stands : (phase : Phase) (history : List ℕ) → Stands (record { phase =
     → alarm_of phase ≡ alarm_after history
 alarm-stands phase history h = rw h.whole (alarm-since phase h.earlier h.since h.over h.fields)
 
+-- the same, where the phase is known
 pub alarm-in : (phase is : Phase) (history : List ℕ) → phase ≡ is → Stands (record { phase = phase }) history
     → alarm_of is ≡ alarm_after history
 alarm-in phase is history e h = sym (ap alarm_of e) ∙ alarm-stands phase history h

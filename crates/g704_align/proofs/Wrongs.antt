@@ -17,6 +17,7 @@ is_wrong-fas octets k h e =
     let l : nat_lt 64 k ≡ true = lt-ltb 64 k h in
     rw (l, a, b) refl
 
+-- in an odd frame
 pub is_wrong-nfas : (octets : List ℕ) (k : ℕ) → 64 < k → k % 64 ≡ 32
     → is_wrong octets k ≡ not (is_nfas (slice_index octets k))
 unfolding is_wrong
@@ -63,6 +64,7 @@ is_third_wrong-alike octets others k alike =
       is_wrong-alike octets others (k - 128) (alike (k - 128) (omega arith)),
     ) refl
 
+-- whether an octet is wrong does not depend on later ones
 pub is_wrong-append : (c t : List ℕ) (k : ℕ) → k < length c → is_wrong (c ++ t) k ≡ is_wrong c k
 unfolding is_wrong
 is_wrong-append c t k h = rw (get_or_append_left c t 0 k h) refl
@@ -74,5 +76,6 @@ pub is_third_wrong-reads : (octets others : List ℕ) (k : ℕ)
 is_third_wrong-reads octets others k same =
     is_third_wrong-alike octets others k (λ j le late e. ap (is_expected j) (same j le e))
 
+-- nor whether it is the third in a row
 pub is_third_wrong-append : (c t : List ℕ) (k : ℕ) → k < length c → is_third_wrong (c ++ t) k ≡ is_third_wrong c k
 is_third_wrong-append c t k h = is_third_wrong-reads (c ++ t) c k (λ j le e. get_or_append_left c t 0 j (omega arith))

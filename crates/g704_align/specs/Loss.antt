@@ -20,7 +20,8 @@ is_third_wrong octets place =
     is_wrong octets place && (is_wrong octets (place - 64) && is_wrong octets (place - 128))
 
 -- Frame alignment: found by the third octet of a search, 64 octets after the first, kept by the octets of
--- slot 0, and lost by the third wrong FAS octet in a row, or the third wrong NFAS octet.
+-- slot 0, and lost by the third wrong FAS octet in a row, or the third wrong NFAS octet. (That NFAS
+-- octets count too is an option of the Recommendation.)
 abbrev pub frame_alignment : Framing
 frame_alignment = record {
   search = λ before stream from. search stream from;

@@ -43,6 +43,7 @@ place-alike s t alike =
       λ n. (ap (λ ds. place_of (age_in 0 ds n)) same, ap (λ ds. is_none (age_in 0 ds n)) same),
     )
 
+-- an octet whole multiframes from the first one of its alignment is in frame 0
 frame_zero : (o : Option ℕ) → IsRead multiframe_alignment o → frame_of (place_of o) ≡ 0
 frame_zero None read = refl
 frame_zero (Some age) read = read

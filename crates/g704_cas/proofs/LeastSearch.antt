@@ -17,6 +17,7 @@ octet_before b (x ∷ s) (suc k) = octet_before (Some x) s k
 abbrev finds : Option ℕ → List ℕ → ℕ → ℕ → Bool
 finds b s from k = nat_le from k && (is_mfas (slice_index s k) && is_not_zero (octet_before b s k))
 
+-- comparing positions does not depend on where they are counted from
 le-suc : (m n : ℕ) → nat_le (suc m) (suc n) ≡ nat_le m n
 le-suc m n = grind (arith, nat_tests)
 
@@ -38,6 +39,7 @@ search-least b (x ∷ s) zero = elim (cases_Bool (is_mfas x && is_not_zero b)) [
       (search-least (Some x) s 0))
 ]
 
+-- the octet before a position is the one that stands there
 octet_before-at : (b : Option ℕ) (s : List ℕ) (k : ℕ) → k < length s → octet_before b s (suc k) ≡ Some (get_or s k 0)
 octet_before-at b [] k lt = absurd (omega arith)
 octet_before-at b (x ∷ s) zero lt = refl
@@ -53,10 +55,12 @@ finds-is s from (suc k) lt =
     let one : suc k - 1 ≡ k = omega arith in
     rw (after, one, octet_before-at None s k (omega arith)) refl
 
+-- what is as far as the least that passes is in range
 in_range : (passes : ℕ → Bool) (k n : ℕ) (o : Option ℕ) → IsLeast passes n o → k < reach o n → k < n
 in_range passes k n None l lt = lt
 in_range passes k n (Some m) l lt = let below = l.0 in omega arith
 
+-- the law
 pub search_is_least : SearchIsLeast
 search_is_least s from =
     let is = search-least None s from in

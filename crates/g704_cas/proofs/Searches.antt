@@ -12,6 +12,7 @@ use Rattle.g704_cas.proofs.Wrongs.{is_second_wrong-reads}
 abbrev StaysFound : Option ℕ → Option ℕ → Type 0
 StaysFound o r = (p : ℕ) → o ≡ Some p → r ≡ Some p
 
+-- also where positions are counted from one further back
 later-found : (o r : Option ℕ) → StaysFound o r → StaysFound (later o) (later r)
 later-found None r h p e = cc
 later-found (Some q) r h p e = ap later (h q refl) ∙ e
@@ -33,11 +34,13 @@ search-append b (x ∷ s) t zero p e = elim (cases_Bool (is_mfas x && is_not_zer
 abbrev FoundAfter : ℕ → Option ℕ → Option ℕ → Type 0
 FoundAfter count o r = o ≡ None → IsFoundAfter count 0 r
 
+-- also where positions are counted from one further back
 later-after : (count : ℕ) (o r : Option ℕ) → FoundAfter count o r → FoundAfter (suc count) (later o) (later r)
 later-after count (Some p) r h e = cc
 later-after count None None h e = tt
 later-after count None (Some q) h e = let le = h refl in omega arith
 
+-- in no octets nothing is found
 none-after : (r : Option ℕ) → IsFoundAfter 0 0 r
 none-after None = tt
 none-after (Some p) = omega arith

@@ -58,6 +58,7 @@ place-history history earlier since x e over =
     rw (e, length-append earlier since, append_assoc earlier since (x ∷ []))
     (ap place_of (sym (age-over multiframe_alignment None earlier (since ++ x ∷ []) 0 (length since) over)))
 
+-- the aligner stands after one octet more
 pub stands-follows : (phase : Phase) (history earlier since : List ℕ) (x : ℕ) → history ≡ earlier ++ since
     → IsOver multiframe_alignment None earlier → Follows phase (last_of None earlier) (since ++ x ∷ [])
     → Stands (record { phase = phase }) (history ++ x ∷ [])
@@ -86,6 +87,7 @@ stands-new = record {
   fields = (refl, refl);
 }
 
+-- the alarm while it hunts
 pub alarm-searching : (phase : Phase) (history : List ℕ) (after : Bool) → phase ≡ Searching after
     → Stands (record { phase = phase }) history → true ≡ alarm_after history
 unfolding alarm
@@ -97,6 +99,7 @@ alarm-searching phase history after e h =
     = subst (λ s. IsOver multiframe_alignment None s) (sym whole) h.over in
     ap is_none (sym (age-at_over multiframe_alignment None history 0 (length history - 1) over (omega arith)))
 
+-- and while it is aligned
 pub alarm-aligned : (phase : Phase) (history : List ℕ) (frame : ℕ) (wrong : Bool) → phase ≡ Aligned frame wrong
     → Stands (record { phase = phase }) history → false ≡ alarm_after history
 unfolding alarm

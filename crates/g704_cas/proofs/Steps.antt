@@ -41,6 +41,7 @@ not_zero-wrong b c x r = rw (last_of-push b c x) (elim (cases_eq x 0) [
 
 -- an alignment after one octet more
 module _ (b : Option ℕ) (c : List ℕ) (x frame : ℕ) (wrong : Bool) (h : IsAlignment b frame wrong c) where
+  -- it was not lost so far
   kept-more : is_second_wrong (c ++ x ∷ []) (length c) ≡ false → (k : ℕ) → k < length (c ++ x ∷ [])
       → is_second_wrong (c ++ x ∷ []) k ≡ false
   kept-more now k lt = elim (cases_eq k (length c)) [
@@ -50,6 +51,7 @@ module _ (b : Option ℕ) (c : List ℕ) (x frame : ℕ) (wrong : Bool) (h : IsA
         is_second_wrong-append c (x ∷ []) k below ∙ h.kept k below
   ]
 
+  -- its fields, where it is not lost by the octet
   more : (frame' : ℕ) (wrong' : Bool) → frame' ≡ length (c ++ x ∷ []) % 16
       → is_second_wrong (c ++ x ∷ []) (length c) ≡ false
       → ((k : ℕ) → length (c ++ x ∷ []) ≤ k → k < length (c ++ x ∷ []) + 16 → k % 16 ≡ 0
@@ -77,12 +79,15 @@ module _ (b : Option ℕ) (c : List ℕ) (x frame : ℕ) (wrong : Bool) (h : IsA
       let far : k ≢ length c + 16 = λ q. other (omega (arith, q)) in
       h.last k (omega arith) (omega arith) e ∙ sym (is_wrong-append c (x ∷ []) (k - 16) (omega arith)))
 
+  -- whether the last octet of a frame 0 was wrong
   last_wrong : frame ≡ 0 → wrong ≡ is_wrong c (length c - 16)
   last_wrong e = let a = h.counted in h.last (length c) (omega arith) (omega arith) (omega arith)
 
+  -- the octet is in frame 0
   at_zero : frame ≡ 0 → length c % 16 ≡ 0
   at_zero e = let a = h.counted in omega arith
 
+  -- whether it is the second wrong one in a row
   second_now : frame ≡ 0 → is_second_wrong (c ++ x ∷ []) (length c) ≡ (not (is_mfas x) && wrong)
   second_now e =
       let s = h.begun in
@@ -110,5 +115,6 @@ module _ (b : Option ℕ) (c : List ℕ) (x frame : ℕ) (wrong : Bool) (h : IsA
       (λ t. search-found b c t h.begun h.after_nonzero h.first) h.kept
       (second_now e ∙ rw (r, w) refl)
 
+  -- the frame of the next octet is below 16
   pub frame-below : frame < 16
   frame-below = let a = h.counted in omega arith

@@ -19,7 +19,7 @@ abbrev pub later : Option ℕ → Option ℕ
 later position = option_map suc position
 
 -- The search from a position on, in octets that come after this one, if any: the first octet that is right,
--- where the one before it is not 0.
+-- where the one before it is not 0. The octet before may be that by which an alignment was lost.
 unfoldable pub search : Option ℕ → List ℕ → ℕ → Option ℕ
 search before [] from = None
 search before (octet ∷ octets) (suc from) = later (search (Some octet) octets from)

@@ -10,16 +10,20 @@ use Rattle.g704_framing.specs.Age.{is_before_loss, is_standing, age_in}
 use Rattle.g704_framing.specs.Restart.{moved, IsLostBefore, AllLostBefore, IsOver, last_of}
 use Rattle.g704_framing.proofs.Moves.{map-moved_zero}
 
+-- comparing positions does not depend on where they are counted from
 ltb-move : (m a b : ℕ) → ltb (m + a) (m + b) ≡ ltb a b
 ltb-move m a b = grind (arith, nat_tests)
 
+-- nor does the comparison that allows equality
 leb-move : (m a b : ℕ) → leb (m + a) (m + b) ≡ leb a b
 leb-move m a b = grind (arith, nat_tests)
 
+-- nor whether a position comes before a loss
 before_loss-moved : (m n : ℕ) (o : Option ℕ) → is_before_loss (m + n) (option_map (λ k. m + k) o) ≡ is_before_loss n o
 before_loss-moved m n None = refl
 before_loss-moved m n (Some q) = ltb-move m n q
 
+-- nor whether an alignment stands there
 standing-moved : (a m n : ℕ) (d : Alignment) → is_standing a (moved m d) (m + n) ≡ is_standing a d n
 standing-moved a m n d =
     let e : m + d.start + a ≡ m + (d.start + a) = omega arith in
@@ -32,6 +36,7 @@ age_in-moved a m n (d ∷ ds) =
     let e : (m + n) - (m + d.start) ≡ n - d.start = omega arith in
     rw (standing-moved a m n d, e, age_in-moved a m n ds) refl
 
+-- an alignment that is lost before a position is not before its loss there
 lost_before : (m n : ℕ) (o : Option ℕ) → m ≤ suc n → IsLostBefore m o → is_before_loss n o ≡ false
 lost_before m n None h g = absurd g
 lost_before m n (Some q) h g = le-ltb n q (omega arith)

@@ -23,6 +23,7 @@ within_reach : (passes : ℕ → Bool) (k n : ℕ) (o : Option ℕ) → IsLeast 
 within_reach passes k n None l lt = lt
 within_reach passes k n (Some m) l lt = let in_range = l.0 in omega arith
 
+-- what is as far as the least that passes is up to the loss that it makes
 up_to_loss : (p k n : ℕ) (o : Option ℕ) → k < reach o n → IsUpToLoss (p + k) (option_map (λ j. p + j) o)
 up_to_loss p k n None lt = tt
 up_to_loss p k n (Some j) lt = omega arith
@@ -43,6 +44,7 @@ loss-alike f s t p len alike =
     rw n (ap (option_map (λ k. p + k)) (sym (least_equals (f.is_lost (drop p t)) (length c) o other)))
 
 module _ (f : Framing) (h : IsFraming f) (s t : List ℕ) (len : length s ≡ length t) where
+  -- where no search ends there is no alignment
   empty_ends : (ds : List Alignment) → [] ≡ search_ends_of f ds → [] ≡ ds
   empty_ends [] e = refl
   empty_ends (d ∷ ds) e = cc
@@ -82,6 +84,7 @@ module _ (f : Framing) (h : IsFraming f) (s t : List ℕ) (len : length s ≡ le
       rest (Some q) (Some r) e' i i' =
           again (suc r) (i ∙ ap (λ k. alignments_from f None s (suc k)) (same_Some q r e')) i'
 
+  -- from any position on, by the alignments of the first stream
   alike_from : (ds : List Alignment) (from : ℕ) → ds ≡ alignments_from f None s from
       → search_ends_of f ds ≡ search_ends_of f (alignments_from f None t from) → AllByRecursion (IsLostAlike f s t) ds
       → ds ≡ alignments_from f None t from
@@ -92,6 +95,7 @@ module _ (f : Framing) (h : IsFraming f) (s t : List ℕ) (len : length s ≡ le
       (e ∙ alignments-turns f h None s from) (ends ∙ ap (search_ends_of f) (alignments-turns f h None t from))
       ∙ sym (alignments-turns f h None t from)
 
+-- the law
 pub alignments_are_alike : AlignmentsAreAlike
 alignments_are_alike f h s t len ends alike =
     alike_from f h s t len (alignments_from f None s 0) 0 refl ends

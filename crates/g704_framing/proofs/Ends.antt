@@ -12,33 +12,41 @@ use Rattle.g704_framing.proofs.Moves.{option_map-zero, map-moved_zero, map-moved
 use Rattle.g704_framing.specs.Alignment.{after_search, after_loss}
 use Rattle.g704_framing.proofs.Turns.{alignments-turns, alignments-append, onto}
 
+-- the empty history is over
 pub IsOver-nil : (f : Framing) (b : Option ℕ) → IsOver f b []
 IsOver-nil f b = record { earlier = []; all_lost = tt; anew = λ t. sym (map-moved_zero (alignments_from f b t 0)) }
 
+-- what is lost before a position is lost before a later one
 lost_later : (m n : ℕ) (o : Option ℕ) → m ≤ n → IsLostBefore m o → IsLostBefore n o
 lost_later m n None h g = g
 lost_later m n (Some k) h g = omega arith
 
+-- also where both are counted from further back
 lost_moved : (m n : ℕ) (o : Option ℕ) → IsLostBefore n o → IsLostBefore (m + n) (option_map (λ k. m + k) o)
 lost_moved m n None g = g
 lost_moved m n (Some k) g = omega arith
 
+-- the same of all alignments of a list
 all_later : (m n : ℕ) (ds : List Alignment) → m ≤ n → AllLostBefore m ds → AllLostBefore n ds
 all_later m n [] h g = tt
 all_later m n (d ∷ ds) h g = (lost_later m n d.lost h g.0, all_later m n ds h g.1)
 
+-- and with positions counted from further back
 all_moved : (m n : ℕ) (ds : List Alignment) → AllLostBefore n ds → AllLostBefore (m + n) (map (moved m) ds)
 all_moved m n [] g = tt
 all_moved m n (d ∷ ds) g = (lost_moved m n d.lost g.0, all_moved m n ds g.1)
 
+-- and of two lists, one after the other
 all_append : (n : ℕ) (ds es : List Alignment) → AllLostBefore n ds → AllLostBefore n es → AllLostBefore n (ds ++ es)
 all_append n [] es g h = h
 all_append n (d ∷ ds) es g h = (g.0, all_append n ds es g.1 h)
 
+-- the last octet of two lists, one after the other
 pub last_of-append : (b : Option ℕ) (a c : List ℕ) → last_of b (a ++ c) ≡ last_of (last_of b a) c
 last_of-append b [] c = refl
 last_of-append b (x ∷ a) c = last_of-append (Some x) a c
 
+-- the last octet is the one that was added last
 pub last_of-push : (b : Option ℕ) (c : List ℕ) (x : ℕ) → last_of b (c ++ x ∷ []) ≡ Some x
 last_of-push b c x = last_of-append b c (x ∷ [])
 

@@ -20,6 +20,7 @@ use Rattle.g704_framing.proofs.Settles.{IsNotBefore, loss-not_before, search-fro
 use Rattle.g704_framing.proofs.Settles.{alignments-begin}
 use Rattle.g704_framing.proofs.Agrees.{loss-alike, up_to_loss-earlier}
 
+-- the last octet of a list that has one
 pub last_of-at : (b : Option ℕ) (a : List ℕ) (m : ℕ) → length a ≡ suc m → last_of b a ≡ Some (get_or a m 0)
 last_of-at b [] m n = absurd (omega arith)
 last_of-at b (x ∷ []) zero n = refl
@@ -27,6 +28,7 @@ last_of-at b (x ∷ []) (suc m) n = absurd (omega arith)
 last_of-at b (x ∷ y ∷ a) zero n = absurd (omega arith)
 last_of-at b (x ∷ y ∷ a) (suc m) n = last_of-at (Some x) (y ∷ a) m (omega arith)
 
+-- the octets of a prefix
 get_or-take : (l : List ℕ) (k i : ℕ) → i < k → k ≤ length l → get_or (take k l) i 0 ≡ get_or l i 0
 get_or-take l k i lt le =
     let n : length (take k l) ≡ k = length-take-le k l le in
@@ -41,6 +43,7 @@ before_position s from = last_of None (take from s)
 abbrev AgreeOn : List ℕ → List ℕ → ℕ → ℕ → Type 0
 AgreeOn s t from end = (n : ℕ) → from ≤ suc n → n < end → n < length s → slice_index s n ≡ slice_index t n
 
+-- then they have the same octet before that position
 before-same : (s t : List ℕ) (from end : ℕ) → length s ≡ length t → from ≤ length s → from ≤ end → AgreeOn s t from end
     → before_position s from ≡ before_position t from
 before-same s t zero end len le lt agree = refl
@@ -60,6 +63,7 @@ module _ (f : Framing) (h : IsFraming f) where
       ∙ ap (option_map suc) (search-append (Some x) a r)
       ∙ sym (option_map-suc (length a) (f.search (last_of (Some x) a) r 0))
 
+  -- the same, of a position in a stream
   search-drop : (s : List ℕ) (from : ℕ) → from ≤ length s
       → f.search None s from ≡ option_map (λ k. from + k) (f.search (before_position s from) (drop from s) 0)
   search-drop s from le =
@@ -68,6 +72,7 @@ module _ (f : Framing) (h : IsFraming f) where
       ap (λ z. f.search None z from) (sym whole)
       ∙ rw n at (search-append None (take from s) (drop from s))
 
+  -- a search from past the end finds nothing
   search-past : (b : Option ℕ) (s : List ℕ) (from : ℕ) → length s ≤ from → f.search b s from ≡ None
   search-past b [] from le = h.nothing b from
   search-past b (x ∷ s) zero le = absurd (omega arith)
@@ -93,6 +98,7 @@ module _ (f : Framing) (h : IsFraming f) where
         ∙ sym (search-drop t from (omega arith))
   ]
 
+  -- what is found by an octet of a first part is found whatever follows that part
   prefix_finds : (b : Option ℕ) (c u v : List ℕ) (p : ℕ) (o : Option ℕ) → f.search b c 0 ≡ o
       → f.search b (c ++ u) 0 ≡ Some p
       → p + f.found_at < length c → f.search b (c ++ v) 0 ≡ Some p
@@ -114,6 +120,7 @@ module _ (f : Framing) (h : IsFraming f) where
       ∙ prefix_finds b (take end r) (drop end r) (drop end v) p (f.search b (take end r) 0) refl
       (ap (λ z. f.search b z 0) (take-append-drop end r) ∙ found) (omega arith)
 
+  -- a position that was counted from further back, counted from its search
   found_from : (from p : ℕ) (o : Option ℕ) → option_map (λ k. from + k) o ≡ Some p → o ≡ Some (p - from)
   found_from from p None e = cc
   found_from from p (Some k) e = let n = same_Some (from + k) p e in ap Some (omega arith)
@@ -152,6 +159,7 @@ module _ (f : Framing) (h : IsFraming f) where
   read_if true age o e i = e
   read_if false age o e i = subst (IsRead f) (sym i) tt
 
+  -- the streams agree at each octet from one before a position on that has no age, or lies whole periods on
   abbrev Same : List ℕ → List ℕ → ℕ → ℕ → List Alignment → Type 0
   Same s t a from ds =
       (n : ℕ) → from ≤ suc n → n < length s → IsRead f (age_in a ds n) → slice_index s n ≡ slice_index t n
@@ -210,6 +218,7 @@ module _ (f : Framing) (h : IsFraming f) where
         let lost : is_standing a (record { start = p; lost = Some q }) n ≡ false
         = and_right _ _ (le-ltb n q le') in rw lost refl
 
+    -- what agrees after a loss, by what agrees before it
     same_after : (from p q : ℕ) → from ≤ suc q
         → Same s t a from (record { start = p; lost = Some q } ∷ alignments_from f None s (suc q))
         → Same s t a (suc q) (alignments_from f None s (suc q))
@@ -222,6 +231,7 @@ module _ (f : Framing) (h : IsFraming f) where
 
     module _ (ds : List Alignment)
         (again : (q : ℕ) → ds ≡ alignments_from f None s (suc q) → Same s t a (suc q) ds → Kept ds (suc q)) where
+      -- after the loss of an alignment
       keep_after : (from p : ℕ) (o r : Option ℕ) → from ≤ p → IsNotBefore p o → o ≡ r → ds ≡ after_loss f None s o
           → Same s t a from (record { start = p; lost = o } ∷ after_loss f None s o)
           → (ds ≡ after_loss f None t r) × AllByRecursion (AgreeAlong f s t) ds
@@ -233,6 +243,7 @@ module _ (f : Framing) (h : IsFraming f) where
           let rest = again q i (subst (Same s t a (suc q)) (sym i) (same_after from p q (omega arith) same)) in
           (rest.0 ∙ ap (λ k. alignments_from f None t (suc k)) (same_Some q r e), rest.1)
 
+      -- after a search that found one
       keep_found : (d : Alignment) (from : ℕ) (o : Option ℕ) → f.search None s from ≡ o
           → d ∷ ds ≡ after_search f None s o
           → Same s t a from (d ∷ ds) → Kept (d ∷ ds) from
@@ -258,10 +269,12 @@ module _ (f : Framing) (h : IsFraming f) where
             (subst (AgreeAlong f s t) (sym first) along, others.1),
           )
 
+    -- where nothing is found there is no alignment
     nothing_after : [] ≡ after_search f None t None
     unfolding after_search
     nothing_after = refl
 
+    -- from any position on, by the alignments of the first stream
     keep : (ds : List Alignment) (from : ℕ) → ds ≡ alignments_from f None s from → Same s t a from ds → Kept ds from
     keep [] from e same =
         let nothing : f.search None s from ≡ None
@@ -273,6 +286,7 @@ module _ (f : Framing) (h : IsFraming f) where
         keep_found ds (λ q i same'. keep ds (suc q) i same') d from (f.search None s from) refl
         (e ∙ alignments-turns f h None s from) same
 
+-- the law
 pub others_are_not_read : OthersAreNotRead
 others_are_not_read f h s t a le len same =
     let kept = keep f h s t a le len (alignments_from f None s 0) 0 refl (λ n ge lt read. same n lt read) in

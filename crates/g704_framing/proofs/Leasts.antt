@@ -10,11 +10,13 @@ abbrev pub IsLeast : (ℕ → Bool) → ℕ → Option ℕ → Type 0
 IsLeast passes limit None = (k : ℕ) → k < limit → passes k ≡ false
 IsLeast passes limit (Some n) = (n < limit) × (passes n ≡ true) × ((k : ℕ) → k < n → passes k ≡ false)
 
+-- none below the next number passes, where none below this one does and it does not
 below_suc : (passes : ℕ → Bool) (n : ℕ) → ((k : ℕ) → k < n → passes k ≡ false) → passes n ≡ false
     → (k : ℕ) → k < suc n → passes k ≡ false
 below_suc passes n below here k h =
     elim (cases_lt k n) [ inl lt ↦ below k lt | inr ge ↦ let e : n ≡ k = omega arith in rw e at here ]
 
+-- one number more
 step : (passes : ℕ → Bool) (n : ℕ) (o : Option ℕ) → IsLeast passes n o → (b : Bool) → passes n ≡ b
     → IsLeast passes (suc n) (elim o [ Some found ↦ Some found | None ↦ cond b (Some n) None ])
 step passes n (Some k) h b e = (omega (arith, h.0), h.1, h.2)

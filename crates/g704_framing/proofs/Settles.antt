@@ -19,10 +19,12 @@ abbrev pub BeginFrom : ℕ → List Alignment → Type 0
 BeginFrom from [] = Unit {0}
 BeginFrom from (d ∷ ds) = (from ≤ d.start) × BeginFrom from ds
 
+-- counted from one further back they begin one later
 begin-later : (from : ℕ) (ds : List Alignment) → BeginFrom from ds → BeginFrom (suc from) (map later_alignment ds)
 begin-later from [] h = tt
 begin-later from (d ∷ ds) h = let le = h.0 in (omega arith, begin-later from ds h.1)
 
+-- each begins somewhere
 begin-zero : (ds : List Alignment) → BeginFrom 0 ds
 begin-zero [] = tt
 begin-zero (d ∷ ds) = (omega arith, begin-zero ds)
@@ -44,6 +46,7 @@ age_in-before a from n (d ∷ ds) h lt =
     let e : is_standing a d n ≡ false = and_left _ _ (lt-leb (d.start + a) n (omega arith)) in
     rw e (age_in-before a from n ds h.1 lt)
 
+-- counted from one further back, what is found is one later too
 from_later : (from p : ℕ) (o : Option ℕ) → option_map suc o ≡ Some p → ((q : ℕ) → o ≡ Some q → from ≤ q) → suc from ≤ p
 from_later from p None e h = cc
 from_later from p (Some q) e h = let le = h q refl in let n = same_Some (suc q) p e in omega arith
@@ -67,6 +70,7 @@ Continues end None p = IsNotBefore end p
 Continues end (Some lost) p = p ≡ Some lost
 
 module _ (f : Framing) (h : IsFraming f) where
+  -- the least place at which an alignment is lost, in octets that go on
   least-continues : (c t : List ℕ) (o p : Option ℕ) → IsLeast (f.is_lost c) (length c) o
       → IsLeast (f.is_lost (c ++ t)) (length (c ++ t)) p → Continues (length c) o p
   least-continues c t None None l m = tt
@@ -84,12 +88,14 @@ module _ (f : Framing) (h : IsFraming f) where
       ) in
       only_one (f.is_lost (c ++ t)) (length (c ++ t)) p (Some j) m first
 
+  -- the same, counted from further back
   moved-continues : (start end : ℕ) (o p : Option ℕ) → Continues end o p
       → Continues (start + end) (option_map (λ k. start + k) o) (option_map (λ k. start + k) p)
   moved-continues start end None None g = tt
   moved-continues start end None (Some k) g = omega arith
   moved-continues start end (Some j) p g = ap (option_map (λ k. start + k)) g
 
+  -- so the loss of an alignment in a stream that goes on
   loss-continues : (s t : List ℕ) (p : ℕ) → p ≤ length s → Continues (length s) (loss f s p) (loss f (s ++ t) p)
   unfolding loss
   loss-continues s t p le =
@@ -103,6 +109,7 @@ module _ (f : Framing) (h : IsFraming f) where
       (least-is (f.is_lost (drop p s ++ t)) (length (drop p s ++ t)))) in
       rw d (rw n at g)
 
+  -- a position that is counted from another is not before it
   not_before : (p : ℕ) (o : Option ℕ) → IsNotBefore p (option_map (λ k. p + k) o)
   not_before p None = tt
   not_before p (Some k) = omega arith
@@ -112,14 +119,17 @@ module _ (f : Framing) (h : IsFraming f) where
   unfolding loss
   loss-not_before s p = not_before p (least (f.is_lost (drop p s)) (length (drop p s)))
 
+  -- an alignment that begins past the end is not lost
   loss-past : (s : List ℕ) (p : ℕ) → length s ≤ p → loss f s p ≡ None
   unfolding loss least
   loss-past s p le = let n : length (drop p s) ≡ 0 = omega (arith, length-drop p s) in rw n refl
 
+  -- what is not before a position is not before an earlier one
   later_loss : (m n : ℕ) (o : Option ℕ) → m ≤ n → IsNotBefore n o → IsNotBefore m o
   later_loss m n None le g = tt
   later_loss m n (Some k) le g = omega arith
 
+  -- the loss in a stream that goes on, wherever the alignment begins
   loss-settled : (s t : List ℕ) (p : ℕ) → Continues (length s) (loss f s p) (loss f (s ++ t) p)
   loss-settled s t p = elim (cases_lt (length s) p) [
     | inr le ↦ loss-continues s t p le
@@ -127,6 +137,7 @@ module _ (f : Framing) (h : IsFraming f) where
         (later_loss (length s) p (loss f (s ++ t) p) (omega arith) (loss-not_before (s ++ t) p))
   ]
 
+  -- what begins from a position on begins from an earlier one on
   begin_earlier : (m n : ℕ) (ds : List Alignment) → m ≤ n → BeginFrom n ds → BeginFrom m ds
   begin_earlier m n [] le g = tt
   begin_earlier m n (d ∷ ds) le g = let first = g.0 in (omega arith, begin_earlier m n ds le g.1)
@@ -157,6 +168,7 @@ module _ (f : Framing) (h : IsFraming f) where
 
   -- an alignment and what comes after its loss, in the stream and in the stream that goes on
   module _ (b : Option ℕ) (s t : List ℕ) (a n : ℕ) (lt : n < length s) where
+    -- the age of the octet is the same
     age-continues : (p : ℕ) (o r : Option ℕ) → Continues (length s) o r
         → ((q : ℕ) → o ≡ Some q
         → age_in a (alignments_from f b (s ++ t) (suc q)) n ≡ age_in a (alignments_from f b s (suc q)) n)
@@ -173,6 +185,7 @@ module _ (f : Framing) (h : IsFraming f) where
         ) refl
     age-continues p (Some q) r g again = rw (g, again q refl) refl
 
+    -- after a search that found an alignment
     settle_found : (le : f.found_at ≤ a) (d : Alignment) (ds : List Alignment) (from : ℕ) (o : Option ℕ)
         → f.search b s from ≡ o
         → d ∷ ds ≡ after_search f b s o
@@ -189,6 +202,7 @@ module _ (f : Framing) (h : IsFraming f) where
         again q same ∙ ap (λ es. age_in a es n) same)
         ∙ sym (ap (λ es. age_in a es n) e)
 
+    -- from any position on, by the alignments of the stream
     settle : (le : f.found_at ≤ a) (ds : List Alignment) (from : ℕ) → ds ≡ alignments_from f b s from
         → age_in a (alignments_from f b (s ++ t) from) n ≡ age_in a ds n
     settle le [] from e =
@@ -200,5 +214,6 @@ module _ (f : Framing) (h : IsFraming f) where
         (settle_found le d ds from (f.search b s from) refl (e ∙ alignments-turns f h b s from)
         (λ q i. settle le ds (suc q) i))
 
+-- the law
 pub ages_are_settled : AgesAreSettled
 ages_are_settled f h s t a n le lt = settle f h None s t a n lt le _ 0 refl

@@ -9,6 +9,7 @@ use Rattle.g704_framing.specs.Restart.{moved, last_of}
 use Rattle.g704_framing.specs.Laws.{AlignmentsTakeTurns}
 use Rattle.g704_framing.proofs.Moves.{option_map-suc, map-moved_zero, map-moved_suc}
 
+-- a loss, counted from one octet further back
 loss-later : (f : Framing) (x : ℕ) (s : List ℕ) (p : ℕ) → loss f (x ∷ s) (suc p) ≡ option_map suc (loss f s p)
 unfolding loss
 loss-later f x s p = option_map-suc p (least (f.is_lost (drop p s)) (length (drop p s)))
@@ -19,9 +20,11 @@ unfolding after_search
 none_found f b s None e = refl
 none_found f b s (Some p) e = cc
 
+-- an alignment before others
 abbrev pub onto : Alignment → List Alignment → List Alignment
 onto d ds = d ∷ ds
 
+-- a search from the first octet on
 zero_case : (f : Framing) (b : Option ℕ) (x : ℕ) (s : List ℕ) (r : Option ℕ) →
     ◌≡◌ {A = List Alignment} (elim r [
       | None ↦ []
@@ -42,6 +45,7 @@ zero_case f b x s (Some p) = ap (onto (record { start = p; lost = loss f (x ∷ 
     go None = refl
     go (Some q) = refl
 
+-- a search from a later octet on
 suc_case : (f : Framing) (b : Option ℕ) (x : ℕ) (s : List ℕ) (r : Option ℕ)
     → map later_alignment (after_search f (Some x) s r) ≡ after_search f b (x ∷ s) (option_map suc r)
 unfolding after_search after_loss alignments_from
