@@ -1,0 +1,82 @@
+-- A search meets the least position of a FAS octet, from where it begins.
+use Rattle.std.proofs.Common.{◌≡◌, ℕ, zero, suc, ◌+◌, List, [], ◌∷◌, length, Bool}
+use Rattle.std.proofs.Common.{Option, Some, None, refl, sym, ap, ◌∙◌, arith, inl, inr}
+use Rattle.std.specs.Prelude.{nat_le, ◌&&◌, slice_index, slice_get, if◌then◌else◌}
+use Rattle.std.proofs.lemmas.Bool.{cases_Bool, le-leb, lt-leb, and_left, and_right}
+use Rattle.std.proofs.lemmas.Bool.Decides.{nat_tests}
+use Rattle.g704_framing.proofs.Leasts.{IsLeast, least_equals, least-later}
+use Rattle.g704_align.specs.Search.{is_fas, is_nfas, later, confirmed, search, after_fas, SearchMeetsLeast}
+
+-- the first FAS octet from a position on
+abbrev first_fas : List ℕ → ℕ → Option ℕ
+first_fas [] from = None
+first_fas (x ∷ s) (suc from) = later (first_fas s from)
+first_fas (x ∷ s) zero = if is_fas x then Some 0 else later (first_fas s 0)
+
+-- the search from a position on meets a FAS octet here
+abbrev meets : List ℕ → ℕ → ℕ → Bool
+meets s from k = nat_le from k && is_fas (slice_index s k)
+
+-- comparing positions does not depend on where they are counted from
+le-suc : (m n : ℕ) → nat_le (suc m) (suc n) ≡ nat_le m n
+le-suc m n = grind (arith, nat_tests)
+
+-- it is the least
+first_fas-least : (s : List ℕ) (from : ℕ) → IsLeast (meets s from) (length s) (first_fas s from)
+first_fas-least [] from = λ k lt. absurd (omega arith)
+first_fas-least (x ∷ s) (suc from) =
+    least-later (meets s from) (meets (x ∷ s) (suc from)) (length s) (first_fas s from)
+    (and_left _ _ (lt-leb (suc from) 0 (omega arith)))
+    (λ k. ap (λ late. late && is_fas (slice_index s k)) (le-suc from k))
+    (first_fas-least s from)
+first_fas-least (x ∷ s) zero = elim (cases_Bool (is_fas x)) [
+  | inl fas ↦ rw fas (omega arith, rw (le-leb 0 0 (omega arith)) fas, λ k lt. absurd (omega arith))
+  | inr other ↦ rw other (least-later (meets s 0) (meets (x ∷ s) 0) (length s) (first_fas s 0)
+      (and_right (nat_le 0 0) (is_fas x) other)
+      (λ k. ap (λ late. late && is_fas (slice_index s k))
+      (le-leb 0 (suc k) (omega arith) ∙ sym (le-leb 0 k (omega arith))))
+      (first_fas-least s 0))
+]
+
+-- what is confirmed does not depend on where positions are counted from
+later-confirmed : (f o u a b : Option ℕ) → later (confirmed f o u a b) ≡ confirmed (later f) o u (later a) (later b)
+later-confirmed f None u a b = refl
+later-confirmed f (Some x) None a b = elim (cases_Bool (is_nfas x)) [
+  | inl right ↦ rw right refl
+  | inr wrong ↦ rw wrong refl
+]
+later-confirmed f (Some x) (Some y) a b = elim (cases_Bool (is_nfas x)) [
+  | inr wrong ↦ rw wrong refl
+  | inl right ↦ elim (cases_Bool (is_fas y)) [
+    | inl fas ↦ rw (right, fas) refl
+    | inr other ↦ rw (right, other) refl
+  ]
+]
+
+-- nor what a search finds that has met its first FAS octet
+after_fas-later : (x : ℕ) (s : List ℕ) (o : Option ℕ) → later (after_fas s o) ≡ after_fas (x ∷ s) (later o)
+unfolding search
+after_fas-later x s None = refl
+after_fas-later x s (Some k) =
+    let a : suc k + 32 ≡ suc (k + 32) = omega arith in
+    let b : suc k + 64 ≡ suc (k + 64) = omega arith in
+    let c : suc k + 33 ≡ suc (k + 33) = omega arith in
+    let d : suc k + 65 ≡ suc (k + 65) = omega arith in
+    rw (a, b, c, d) (later-confirmed (Some k) (slice_get s (k + 32)) (slice_get s (k + 64)) (search s (k + 33))
+    (search s (k + 65)))
+
+-- the search goes on from the first FAS octet
+search-meets : (s : List ℕ) (from : ℕ) → search s from ≡ after_fas s (first_fas s from)
+unfolding search
+search-meets [] from = refl
+search-meets (x ∷ s) (suc from) = ap later (search-meets s from) ∙ after_fas-later x s (first_fas s from)
+search-meets (x ∷ s) zero = elim (cases_Bool (is_fas x)) [
+  | inl fas ↦ rw fas refl
+  | inr other ↦ rw other (ap later (search-meets s 0) ∙ after_fas-later x s (first_fas s 0))
+]
+
+-- the law
+pub search_meets_least : SearchMeetsLeast
+search_meets_least s from =
+    search-meets s from
+    ∙ ap (after_fas s) (sym (least_equals (meets s from) (length s) (first_fas s from) (first_fas-least s from)))

@@ -1,0 +1,6 @@
+pub mod Searches
+pub mod Wrongs
+pub mod Steps
+pub mod Standing
+pub mod FirstFas
+pub mod Callers

@@ -1,0 +1,77 @@
+-- What the fields of an aligner say of the octets that it was given.
+use Rattle.std.specs.Prelude.{◌≡◌, ℕ, ◌+◌, ◌-◌, ◌%◌, ◌<◌, ◌≤◌, Bool, true, false, not, ◌&&◌, ◌||◌, ◌==◌}
+use Rattle.std.specs.Prelude.{nat_lt, if◌then◌else◌}
+use Rattle.std.specs.Prelude.{List, [], ◌++◌, length, slice_index, Option, Some, None}
+use Rattle.g704_framing.specs.Alignment.{alignments_from}
+use Rattle.g704_framing.specs.Age.{age_in}
+use Rattle.g704_framing.specs.Restart.{IsOver}
+use Rattle.g704_align.specs.declared.Place.{Place}
+use Rattle.g704_align.specs.declared.Aligner.{Aligner}
+use Rattle.g704_align.specs.declared.Phase.{Phase}
+use Rattle.g704_align.specs.declared.Phase.TheVariants.{Searching, Candidate, Aligned}
+use Rattle.g704_align.specs.Search.{is_fas, is_nfas}
+use Rattle.g704_align.specs.Loss.{is_wrong, is_third_wrong, frame_alignment}
+use Rattle.g704_align.specs.Placing.{place_of}
+
+-- A FAS octet came this many octets ago, itself counted, and is not refuted yet.
+pub record IsCandidate (age : ℕ) (octets : List ℕ) : Type 0 where
+  pub counted : length octets ≡ age
+  pub begun : 0 < age
+  pub young : age ≤ 64
+  pub fas : is_fas (slice_index octets 0) ≡ true
+  pub nfas : 32 < age → is_nfas (slice_index octets 32) ≡ true
+
+-- the octet at this age should confirm a candidate, and is wrong
+abbrev pub is_refuted : ℕ → ℕ → Bool
+is_refuted age octet = ((age == 32) && not (is_nfas octet)) || ((age == 64) && not (is_fas octet))
+
+-- how many of the two octets 64 and 128 places before a place are wrong, counted from the place back
+abbrev pub wrong_before : List ℕ → ℕ → ℕ
+wrong_before octets place =
+    if is_wrong octets (place - 64) then (if is_wrong octets (place - 128) then 2 else 1) else 0
+
+-- it is that count at the next place that leaves this rest by 64
+abbrev pub CountsWrong : ℕ → ℕ → List ℕ → Type 0
+CountsWrong rest count octets =
+    (place : ℕ) → length octets ≤ place → place < length octets + 64 → place % 64 ≡ rest
+    → count ≡ wrong_before octets place
+
+-- the count after one more octet of its kind, right or wrong; none where that is the third wrong one in a row
+abbrev pub count_after : ℕ → Bool → Option ℕ
+count_after count right = if right then Some 0 else (if nat_lt count 2 then Some (count + 1) else None)
+
+-- The octets are an alignment that stands, its first FAS octet first.
+pub record IsAlignment (age wrong_fas wrong_nfas : ℕ) (octets : List ℕ) : Type 0 where
+  pub counted : age ≡ length octets % 64
+  pub found : 64 < length octets
+  pub fas : is_fas (slice_index octets 0) ≡ true
+  pub nfas : is_nfas (slice_index octets 32) ≡ true
+  pub confirmed : is_fas (slice_index octets 64) ≡ true
+  pub kept : (place : ℕ) → place < length octets → is_third_wrong octets place ≡ false
+  pub fas_count : CountsWrong 0 wrong_fas octets
+  pub nfas_count : CountsWrong 32 wrong_nfas octets
+
+-- what the phase says of the octets since all began anew
+abbrev pub Describes : Phase → List ℕ → Type 0
+Describes Searching octets = octets ≡ []
+Describes (Candidate age) octets = IsCandidate age octets
+Describes (Aligned age wrong_fas wrong_nfas) octets = IsAlignment age wrong_fas wrong_nfas octets
+
+-- the phase fits these octets, or is the search that follows them
+abbrev pub Follows : Phase → Option ℕ → List ℕ → Type 0
+Follows Searching before octets = IsOver frame_alignment before octets
+Follows (Candidate age) before octets = IsCandidate age octets
+Follows (Aligned age wrong_fas wrong_nfas) before octets = IsAlignment age wrong_fas wrong_nfas octets
+
+-- the place of the octet at a position, in octets that come after this one, if any
+unfoldable pub place_since : Option ℕ → List ℕ → ℕ → Place
+place_since before octets position =
+    place_of (age_in 65 (alignments_from frame_alignment before octets 0) position)
+
+-- The aligner stands after this history: its fields describe the octets since all began anew.
+pub record Stands (aligner : Aligner) (history : List ℕ) : Type 0 where
+  pub earlier : List ℕ
+  pub since : List ℕ
+  pub whole : history ≡ earlier ++ since
+  pub over : IsOver frame_alignment None earlier
+  pub fields : Describes aligner.phase since

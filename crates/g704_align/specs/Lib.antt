@@ -1,0 +1,5 @@
+pub mod Search
+pub mod Loss
+pub mod Placing
+pub mod Aligner
+pub mod Laws

@@ -1,0 +1,36 @@
+-- Losing frame alignment (ITU-T G.706, 4.1.1), and the alignments of a stream.
+use Rattle.std.specs.Prelude.{ℕ, ◌-◌, ◌/◌, ◌%◌, Bool, not, ◌&&◌, ◌==◌, nat_lt, if◌then◌else◌, List}
+use Rattle.std.specs.Prelude.{slice_index}
+use Rattle.g704_framing.specs.Alignment.{Framing, Alignment, alignments_of}
+use Rattle.g704_align.specs.Search.{is_fas, is_nfas, search}
+
+-- right for slot 0 at this place, counted from the first FAS octet of the alignment: even frames begin with a
+-- FAS octet, odd ones with an NFAS octet
+abbrev pub is_expected : ℕ → ℕ → Bool
+is_expected place octet = if (place / 32) % 2 == 0 then is_fas octet else is_nfas octet
+
+-- of the octets of an alignment: the one at this place is in slot 0, after the search, and is wrong
+unfoldable pub is_wrong : List ℕ → ℕ → Bool
+is_wrong octets place =
+    (nat_lt 64 place && (place % 32 == 0)) && not (is_expected place (slice_index octets place))
+
+-- it is wrong, and so are the octets 64 and 128 places before it: the third of its kind in a row
+abbrev pub is_third_wrong : List ℕ → ℕ → Bool
+is_third_wrong octets place =
+    is_wrong octets place && (is_wrong octets (place - 64) && is_wrong octets (place - 128))
+
+-- Frame alignment: found by the third octet of a search, 64 octets after the first, kept by the octets of
+-- slot 0, and lost by the third wrong FAS octet in a row, or the third wrong NFAS octet. (That NFAS
+-- octets count too is an option of the Recommendation.)
+abbrev pub frame_alignment : Framing
+frame_alignment = record {
+  search = λ before stream from. search stream from;
+  found_at = 64;
+  period = 32;
+  is_lost = is_third_wrong;
+}
+
+-- the frame alignments of a stream, the first search from its first octet on, each further one from the octet
+-- after a loss
+abbrev pub alignments : List ℕ → List Alignment
+alignments stream = alignments_of frame_alignment stream

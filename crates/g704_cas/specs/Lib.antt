@@ -1,0 +1,6 @@
+pub mod Numbers
+pub mod Search
+pub mod Loss
+pub mod Placing
+pub mod Aligner
+pub mod Laws

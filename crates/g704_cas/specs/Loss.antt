@@ -1,0 +1,23 @@
+-- Losing multiframe alignment (ITU-T G.732, 5.2), and the multiframe alignments of the octets of time slot
+-- 16.
+use Rattle.std.specs.Prelude.{ℕ, ◌-◌, ◌%◌, Bool, not, ◌&&◌, ◌==◌, nat_lt, List, slice_index}
+use Rattle.g704_framing.specs.Alignment.{Framing, Alignment, alignments_of}
+use Rattle.g704_cas.specs.Search.{is_mfas, search}
+
+-- of the octets of an alignment: the one at this place is that of a frame 0, and is wrong
+unfoldable pub is_wrong : List ℕ → ℕ → Bool
+is_wrong octets place = (place % 16 == 0) && not (is_mfas (slice_index octets place))
+
+-- it is wrong, and so is the one 16 places before it: the second in a row
+abbrev pub is_second_wrong : List ℕ → ℕ → Bool
+is_second_wrong octets place = nat_lt 0 place && (is_wrong octets place && is_wrong octets (place - 16))
+
+-- Multiframe alignment: found by its own first octet, kept by the octets of frame 0, and lost by the second
+-- wrong one in a row.
+abbrev pub multiframe_alignment : Framing
+multiframe_alignment = record { search = search; found_at = 0; period = 16; is_lost = is_second_wrong }
+
+-- the multiframe alignments of octets of time slot 16, the first search from the first octet on, each further
+-- one from the octet after a loss
+abbrev pub alignments : List ℕ → List Alignment
+alignments octets = alignments_of multiframe_alignment octets

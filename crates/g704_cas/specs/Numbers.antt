@@ -1,0 +1,11 @@
+-- Where a circuit's speech and its ABCD bits stand on the trunk.
+use Rattle.std.specs.Prelude.{ℕ, ◌+◌, ◌-◌, nat_le, if◌then◌else◌}
+
+-- the time slot of a circuit's speech: slot 16 is not for speech (ITU-T G.704, 5.1.3.2)
+abbrev pub slot_of : ℕ → ℕ
+slot_of circuit = if nat_le circuit 15 then circuit else circuit + 1
+
+-- the frame of the multiframe whose slot 16 has the circuit's ABCD bits (ITU-T G.704, 5.1.3.2):
+-- in the high nibble for the circuits 1 to 15, in the low one for 16 to 30
+abbrev pub frame_with : ℕ → ℕ
+frame_with circuit = if nat_le circuit 15 then circuit else circuit - 15

@@ -1,0 +1,126 @@
+-- Histories after which all begins anew.
+use Rattle.std.proofs.Common.{◌≡◌, ℕ, suc, ◌+◌, ◌<◌, ◌≤◌, List, [], ◌∷◌, ◌++◌, length, map, true, false}
+use Rattle.std.proofs.Common.{Option, Some, None, refl, sym, ap, ◌∙◌, arith, add-one, append_assoc}
+use Rattle.std.specs.Prelude.{option_map}
+use Rattle.std.proofs.lemmas.List.{append-nil, length-append, map-append, get_or_append_left}
+use Rattle.g704_framing.specs.Least.{least}
+use Rattle.g704_framing.specs.Alignment.{Framing, Alignment, loss, alignments_from}
+use Rattle.g704_framing.specs.Restart.{moved, IsLostBefore, AllLostBefore, IsOver, last_of}
+use Rattle.g704_framing.specs.Laws.{IsFraming}
+use Rattle.g704_framing.proofs.Leasts.{IsLeast, least_equals}
+use Rattle.g704_framing.proofs.Moves.{option_map-zero, map-moved_zero, map-moved_add}
+use Rattle.g704_framing.specs.Alignment.{after_search, after_loss}
+use Rattle.g704_framing.proofs.Turns.{alignments-turns, alignments-append, onto}
+
+-- the empty history is over
+pub IsOver-nil : (f : Framing) (b : Option ℕ) → IsOver f b []
+IsOver-nil f b = record { earlier = []; all_lost = tt; anew = λ t. sym (map-moved_zero (alignments_from f b t 0)) }
+
+-- what is lost before a position is lost before a later one
+lost_later : (m n : ℕ) (o : Option ℕ) → m ≤ n → IsLostBefore m o → IsLostBefore n o
+lost_later m n None h g = g
+lost_later m n (Some k) h g = omega arith
+
+-- also where both are counted from further back
+lost_moved : (m n : ℕ) (o : Option ℕ) → IsLostBefore n o → IsLostBefore (m + n) (option_map (λ k. m + k) o)
+lost_moved m n None g = g
+lost_moved m n (Some k) g = omega arith
+
+-- the same of all alignments of a list
+all_later : (m n : ℕ) (ds : List Alignment) → m ≤ n → AllLostBefore m ds → AllLostBefore n ds
+all_later m n [] h g = tt
+all_later m n (d ∷ ds) h g = (lost_later m n d.lost h g.0, all_later m n ds h g.1)
+
+-- and with positions counted from further back
+all_moved : (m n : ℕ) (ds : List Alignment) → AllLostBefore n ds → AllLostBefore (m + n) (map (moved m) ds)
+all_moved m n [] g = tt
+all_moved m n (d ∷ ds) g = (lost_moved m n d.lost g.0, all_moved m n ds g.1)
+
+-- and of two lists, one after the other
+all_append : (n : ℕ) (ds es : List Alignment) → AllLostBefore n ds → AllLostBefore n es → AllLostBefore n (ds ++ es)
+all_append n [] es g h = h
+all_append n (d ∷ ds) es g h = (g.0, all_append n ds es g.1 h)
+
+-- the last octet of two lists, one after the other
+pub last_of-append : (b : Option ℕ) (a c : List ℕ) → last_of b (a ++ c) ≡ last_of (last_of b a) c
+last_of-append b [] c = refl
+last_of-append b (x ∷ a) c = last_of-append (Some x) a c
+
+-- the last octet is the one that was added last
+pub last_of-push : (b : Option ℕ) (c : List ℕ) (x : ℕ) → last_of b (c ++ x ∷ []) ≡ Some x
+last_of-push b c x = last_of-append b c (x ∷ [])
+
+-- all begins anew after two histories of which each is over
+pub IsOver-append : (f : Framing) (o : Option ℕ) (a b : List ℕ) → IsOver f o a → IsOver f (last_of o a) b
+    → IsOver f o (a ++ b)
+IsOver-append f o a b p q = record {
+  earlier = p.earlier ++ map (moved (length a)) q.earlier;
+  all_lost = rw (length-append a b) (all_append (length a + length b) p.earlier (map (moved (length a)) q.earlier)
+      (all_later (length a) (length a + length b) p.earlier (omega arith) p.all_lost)
+      (all_moved (length a) (length b) q.earlier q.all_lost));
+  anew = λ t.
+      let others = alignments_from f (last_of (last_of o a) b) t 0 in
+      rw (append_assoc a b t, length-append a b, last_of-append o a b)
+      (p.anew (b ++ t)
+      ∙ ap (λ ds. p.earlier ++ map (moved (length a)) ds) (q.anew t)
+      ∙ ap (λ ds. p.earlier ++ ds) (map-append (moved (length a)) q.earlier (map (moved (length b)) others))
+      ∙ ap (λ ds. p.earlier ++ (map (moved (length a)) q.earlier ++ ds)) (map-moved_add (length a) (length b) others)
+      ∙ sym (append_assoc p.earlier (map (moved (length a)) q.earlier) (map (moved (length a + length b)) others)));
+}
+
+-- where the search passes over the whole history, it is over
+pub IsOver-passed : (f : Framing) → IsFraming f → (b : Option ℕ) (c : List ℕ)
+    → ((t : List ℕ) → f.search b (c ++ t) 0 ≡ f.search b (c ++ t) (length c)) → IsOver f b c
+IsOver-passed f h b c passed = record {
+  earlier = [];
+  all_lost = tt;
+  anew = λ t.
+      alignments-turns f h b (c ++ t) 0
+      ∙ ap (after_search f b (c ++ t)) (passed t)
+      ∙ sym (alignments-turns f h b (c ++ t) (length c))
+      ∙ alignments-append f b c t;
+}
+
+-- whether it is lost at an octet does not depend on later ones
+pub is_lost-append : (f : Framing) → IsFraming f → (c t : List ℕ) (k : ℕ) → k < length c
+    → f.is_lost (c ++ t) k ≡ f.is_lost c k
+is_lost-append f h c t k lt = h.reads (c ++ t) c k (λ j le e. get_or_append_left c t 0 j (omega arith))
+
+-- the loss of an alignment at the head of the stream
+pub loss-head : (f : Framing) (s : List ℕ) (o : Option ℕ) → IsLeast (f.is_lost s) (length s) o → loss f s 0 ≡ o
+unfolding loss
+loss-head f s o h = option_map-zero (least (f.is_lost s) (length s)) ∙ least_equals (f.is_lost s) (length s) o h
+
+-- an alignment at the head of the stream that is lost by the last octet
+pub IsOver-lost : (f : Framing) → IsFraming f → (b : Option ℕ) (c : List ℕ) (x : ℕ)
+    → ((t : List ℕ) → f.search b (c ++ t) 0 ≡ Some 0) → ((k : ℕ) → k < length c → f.is_lost c k ≡ false)
+    → f.is_lost (c ++ x ∷ []) (length c) ≡ true → IsOver f b (c ++ x ∷ [])
+unfolding after_search after_loss
+IsOver-lost f h b c x found kept lost =
+    let len : length (c ++ x ∷ []) ≡ suc (length c) = length-append c (x ∷ []) ∙ add-one (length c) in
+    record {
+      earlier = record { start = 0; lost = Some (length c) } ∷ [];
+      all_lost = (omega (arith, len), tt);
+      anew = λ t.
+          let is_found : f.search b ((c ++ x ∷ []) ++ t) 0 ≡ Some 0 = rw (append_assoc c (x ∷ []) t) (found (x ∷ t)) in
+          let is_lost : loss f ((c ++ x ∷ []) ++ t) 0 ≡ Some (length c)
+          = loss-head f ((c ++ x ∷ []) ++ t) (Some (length c)) (
+            omega (arith, length-append (c ++ x ∷ []) t, len),
+            is_lost-append f h (c ++ x ∷ []) t (length c) (omega (arith, len)) ∙ lost,
+            λ k lt. is_lost-append f h (c ++ x ∷ []) t k (omega (arith, len)) ∙ is_lost-append f h c (x ∷ []) k lt
+                ∙ kept k lt,
+          ) in
+          alignments-turns f h b ((c ++ x ∷ []) ++ t) 0
+          ∙ rw (is_found, is_lost) (ap (onto (record { start = 0; lost = Some (length c) }))
+          (rw (← len) (alignments-append f b (c ++ x ∷ []) t)));
+    }
+
+-- an alignment at the head of the stream that is not lost is the only one
+pub alignments-standing : (f : Framing) → IsFraming f → (b : Option ℕ) (c : List ℕ)
+    → ((t : List ℕ) → f.search b (c ++ t) 0 ≡ Some 0) → ((k : ℕ) → k < length c → f.is_lost c k ≡ false)
+    → alignments_from f b c 0 ≡ record { start = 0; lost = None } ∷ []
+unfolding after_search after_loss
+alignments-standing f h b c found kept =
+    let is_found : f.search b c 0 ≡ Some 0 = ap (λ s. f.search b s 0) (sym (append-nil c)) ∙ found [] in
+    let is_kept : loss f c 0 ≡ None = loss-head f c None kept in
+    alignments-turns f h b c 0 ∙ rw (is_found, is_kept) refl

@@ -1,0 +1,75 @@
+-- The least number that passes.
+use Rattle.std.proofs.Common.{◌≡◌, ℕ, zero, suc, ◌<◌, Bool, true, false, cond, Option, Some, None}
+use Rattle.std.proofs.Common.{refl, sym, ap, ◌∙◌, arith, inl, inr}
+use Rattle.std.specs.Prelude.{option_map}
+use Rattle.std.proofs.lemmas.Bool.{cases_lt, false≢true}
+use Rattle.g704_framing.specs.Least.{least}
+
+-- what `least` says: the number, or that none passes
+abbrev pub IsLeast : (ℕ → Bool) → ℕ → Option ℕ → Type 0
+IsLeast passes limit None = (k : ℕ) → k < limit → passes k ≡ false
+IsLeast passes limit (Some n) = (n < limit) × (passes n ≡ true) × ((k : ℕ) → k < n → passes k ≡ false)
+
+-- none below the next number passes, where none below this one does and it does not
+below_suc : (passes : ℕ → Bool) (n : ℕ) → ((k : ℕ) → k < n → passes k ≡ false) → passes n ≡ false
+    → (k : ℕ) → k < suc n → passes k ≡ false
+below_suc passes n below here k h =
+    elim (cases_lt k n) [ inl lt ↦ below k lt | inr ge ↦ let e : n ≡ k = omega arith in rw e at here ]
+
+-- one number more
+step : (passes : ℕ → Bool) (n : ℕ) (o : Option ℕ) → IsLeast passes n o → (b : Bool) → passes n ≡ b
+    → IsLeast passes (suc n) (elim o [ Some found ↦ Some found | None ↦ cond b (Some n) None ])
+step passes n (Some k) h b e = (omega (arith, h.0), h.1, h.2)
+step passes n None h true e = (omega arith, e, h)
+step passes n None h false e = below_suc passes n h e
+
+-- what `least` finds is least
+pub least-is : (passes : ℕ → Bool) (limit : ℕ) → IsLeast passes limit (least passes limit)
+unfolding least
+least-is passes zero = λ k h. absurd (omega arith)
+least-is passes (suc n) = step passes n (least passes n) (least-is passes n) (passes n) refl
+
+-- only one answer is least
+pub only_one : (passes : ℕ → Bool) (limit : ℕ) (o p : Option ℕ) → IsLeast passes limit o → IsLeast passes limit p
+    → o ≡ p
+only_one passes limit None None h g = refl
+only_one passes limit None (Some n) h g = absurd (false≢true (sym (h n g.0) ∙ g.1))
+only_one passes limit (Some n) None h g = absurd (false≢true (sym (g n h.0) ∙ h.1))
+only_one passes limit (Some n) (Some m) h g = elim (cases_lt n m) [
+  | inl lt ↦ absurd (false≢true (sym (g.2 n lt) ∙ h.1))
+  | inr ge ↦ elim (cases_lt m n) [
+    | inl gt ↦ absurd (false≢true (sym (h.2 m gt) ∙ g.1))
+    | inr le ↦ let e : n ≡ m = omega arith in ap Some e
+  ]
+]
+
+-- and nothing else is
+pub least_equals : (passes : ℕ → Bool) (limit : ℕ) (o : Option ℕ) → IsLeast passes limit o → least passes limit ≡ o
+least_equals passes limit o h = only_one passes limit (least passes limit) o (least-is passes limit) h
+
+-- what passes up to the least that does, that included; or everything below the limit
+abbrev pub reach : Option ℕ → ℕ → ℕ
+reach None limit = limit
+reach (Some least) limit = suc least
+
+-- two tests that agree as far as the least that passes have the same least
+pub least_alike : (passes others : ℕ → Bool) (limit : ℕ) (o : Option ℕ)
+    → ((k : ℕ) → k < reach o limit → passes k ≡ others k) → IsLeast passes limit o → IsLeast others limit o
+least_alike passes others limit None h l = λ k lt. sym (h k lt) ∙ l k lt
+least_alike passes others limit (Some n) h l =
+    (l.0, sym (h n (omega arith)) ∙ l.1, λ k lt. sym (h k (omega arith)) ∙ l.2 k lt)
+
+-- the least that passes, counted from one further back, where the first number does not pass
+pub least-later : (passes others : ℕ → Bool) (n : ℕ) (o : Option ℕ) → others 0 ≡ false
+    → ((k : ℕ) → others (suc k) ≡ passes k)
+    → IsLeast passes n o → IsLeast others (suc n) (option_map suc o)
+least-later passes others n None first rest l = λ k lt. below k lt
+  where
+    below : (k : ℕ) → k < suc n → others k ≡ false
+    below zero lt = first
+    below (suc k) lt = rest k ∙ l k (omega arith)
+least-later passes others n (Some m) first rest l = (omega (arith, l.0), rest m ∙ l.1, λ k lt. below k lt)
+  where
+    below : (k : ℕ) → k < suc m → others k ≡ false
+    below zero lt = first
+    below (suc k) lt = rest k ∙ l.2 k (omega arith)

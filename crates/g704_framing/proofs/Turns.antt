@@ -1,0 +1,78 @@
+-- The alignments of a stream as searches and losses in turn, and seen from a later octet on.
+use Rattle.std.proofs.Common.{◌≡◌, ℕ, zero, suc, List, [], ◌∷◌, ◌++◌, length, map, drop, Option, Some, None}
+use Rattle.std.proofs.Common.{refl, sym, ap, ◌∙◌}
+use Rattle.std.specs.Prelude.{option_map}
+use Rattle.g704_framing.specs.Least.{least}
+use Rattle.g704_framing.specs.Alignment.{Framing, Alignment, later_alignment, loss, alignments_from}
+use Rattle.g704_framing.specs.Alignment.{after_loss, after_search}
+use Rattle.g704_framing.specs.Restart.{moved, last_of}
+use Rattle.g704_framing.specs.Laws.{AlignmentsTakeTurns}
+use Rattle.g704_framing.proofs.Moves.{option_map-suc, map-moved_zero, map-moved_suc}
+
+-- a loss, counted from one octet further back
+loss-later : (f : Framing) (x : ℕ) (s : List ℕ) (p : ℕ) → loss f (x ∷ s) (suc p) ≡ option_map suc (loss f s p)
+unfolding loss
+loss-later f x s p = option_map-suc p (least (f.is_lost (drop p s)) (length (drop p s)))
+
+-- where there is no alignment, nothing was found
+pub none_found : (f : Framing) (b : Option ℕ) (s : List ℕ) (o : Option ℕ) → [] ≡ after_search f b s o → o ≡ None
+unfolding after_search
+none_found f b s None e = refl
+none_found f b s (Some p) e = cc
+
+-- an alignment before others
+abbrev pub onto : Alignment → List Alignment → List Alignment
+onto d ds = d ∷ ds
+
+-- a search from the first octet on
+zero_case : (f : Framing) (b : Option ℕ) (x : ℕ) (s : List ℕ) (r : Option ℕ) →
+    ◌≡◌ {A = List Alignment} (elim r [
+      | None ↦ []
+      | Some start ↦ record { start = start; lost = loss f (x ∷ s) start }
+          ∷ (elim (loss f (x ∷ s) start) [
+            | None ↦ []
+            | Some position ↦ map later_alignment (alignments_from f (Some x) s position)
+          ])
+    ]) (after_search f b (x ∷ s) r)
+unfolding after_search after_loss alignments_from
+zero_case f b x s None = refl
+zero_case f b x s (Some p) = ap (onto (record { start = p; lost = loss f (x ∷ s) p })) (go (loss f (x ∷ s) p))
+  where
+    go : (r : Option ℕ)
+        → ◌≡◌ {A = List Alignment}
+        (elim r [ None ↦ [] | Some position ↦ map later_alignment (alignments_from f (Some x) s position) ])
+        (after_loss f b (x ∷ s) r)
+    go None = refl
+    go (Some q) = refl
+
+-- a search from a later octet on
+suc_case : (f : Framing) (b : Option ℕ) (x : ℕ) (s : List ℕ) (r : Option ℕ)
+    → map later_alignment (after_search f (Some x) s r) ≡ after_search f b (x ∷ s) (option_map suc r)
+unfolding after_search after_loss alignments_from
+suc_case f b x s None = refl
+suc_case f b x s (Some p) =
+    rw (loss-later f x s p)
+    (ap (onto (record { start = suc p; lost = option_map suc (loss f s p) })) (go (loss f s p)))
+  where
+    go : (r : Option ℕ) → map later_alignment (after_loss f (Some x) s r) ≡ after_loss f b (x ∷ s) (option_map suc r)
+    go None = refl
+    go (Some q) = refl
+
+-- the alignments, as searches and losses in turn
+pub alignments-turns : AlignmentsTakeTurns
+unfolding alignments_from after_search
+alignments-turns f h b [] from = rw (h.nothing b from) refl
+alignments-turns f h b (x ∷ s) zero = zero_case f b x s (f.search b (x ∷ s) zero)
+alignments-turns f h b (x ∷ s) (suc from) =
+    ap (λ ds. map later_alignment ds) (alignments-turns f h (Some x) s from)
+    ∙ suc_case f b x s (f.search (Some x) s from)
+    ∙ ap (after_search f b (x ∷ s)) (sym (h.later b x s from))
+
+-- the alignments from the first octet of the second part on
+pub alignments-append : (f : Framing) (b : Option ℕ) (a t : List ℕ)
+    → alignments_from f b (a ++ t) (length a) ≡ map (moved (length a)) (alignments_from f (last_of b a) t 0)
+unfolding alignments_from
+alignments-append f b [] t = sym (map-moved_zero (alignments_from f b t 0))
+alignments-append f b (x ∷ a) t =
+    ap (λ ds. map later_alignment ds) (alignments-append f (Some x) a t)
+    ∙ sym (map-moved_suc (length a) (alignments_from f (last_of (Some x) a) t 0))

@@ -1,0 +1,23 @@
+-- Which alignment stands at an octet, and which of its octets that is.
+use Rattle.std.specs.Prelude.{ℕ, ◌+◌, ◌-◌, Bool, true, ◌&&◌, nat_lt, nat_le, if◌then◌else◌}
+use Rattle.std.specs.Prelude.{List, [], ◌∷◌, Option, Some, None}
+use Rattle.g704_framing.specs.Alignment.{Alignment}
+
+-- a position comes before the loss, if there is one
+abbrev pub is_before_loss : ℕ → Option ℕ → Bool
+is_before_loss position None = true
+is_before_loss position (Some lost) = nat_lt position lost
+
+-- an octet is this far from the first of the alignment at least, and before its loss
+abbrev pub is_standing : ℕ → Alignment → ℕ → Bool
+is_standing after alignment position =
+    nat_le (alignment.start + after) position && is_before_loss position alignment.lost
+
+-- The age of an octet, which is how many octets of its alignment come before it; none where no alignment
+-- stands. An alignment counts from this age on.
+abbrev pub age_in : ℕ → List Alignment → ℕ → Option ℕ
+age_in after [] position = None
+age_in after (alignment ∷ others) position =
+    if is_standing after alignment position
+    then Some (position - alignment.start)
+    else age_in after others position

@@ -1,0 +1,68 @@
+-- The alignments of a stream of octets: each is found by a search, kept, and lost (ITU-T G.706, 4.1; ITU-T
+-- G.732, 5.2).
+use Rattle.std.specs.Prelude.{ℕ, zero, suc, ◌+◌, Bool, List, [], ◌∷◌, map, length, drop}
+use Rattle.std.specs.Prelude.{Option, Some, None, option_map}
+use Rattle.g704_framing.specs.Least.{least}
+
+-- What sets frame alignment and multiframe alignment apart.
+pub record Framing : Type 0 where
+  -- where the alignment begins that is found in a stream from a position on; the octet before the stream, if
+  -- any, may be looked at
+  pub search : Option ℕ → List ℕ → ℕ → Option ℕ
+  -- of the octets of an alignment, its first one first: the place of the octet by which it is found
+  pub found_at : ℕ
+  -- so many octets apart lie those that keep it
+  pub period : ℕ
+  -- and it is lost by the octet at this place, if it was not before
+  pub is_lost : List ℕ → ℕ → Bool
+
+-- An alignment: where its first octet is, and the octet by which it is lost, if it is.
+pub record Alignment : Type 0 where
+  pub start : ℕ
+  pub lost : Option ℕ
+
+-- the position at which an alignment that begins at this one is lost
+unfoldable pub loss : Framing → List ℕ → ℕ → Option ℕ
+loss framing stream start =
+    option_map (λ place. start + place)
+    (least (framing.is_lost (drop start stream)) (length (drop start stream)))
+
+-- an alignment, its positions counted from one octet further back
+abbrev pub later_alignment : Alignment → Alignment
+later_alignment alignment = record { start = suc alignment.start; lost = option_map suc alignment.lost }
+
+-- the alignments of a stream after this octet, if any: the first search is from this position on, each
+-- further one from the octet after a loss
+unfoldable pub alignments_from : Framing → Option ℕ → List ℕ → ℕ → List Alignment
+alignments_from framing before [] from = []
+alignments_from framing before (octet ∷ stream) (suc from) =
+    map later_alignment (alignments_from framing (Some octet) stream from)
+alignments_from framing before (octet ∷ stream) zero = elim (framing.search before (octet ∷ stream) zero) [
+  | None ↦ []
+  | Some start ↦ record { start = start; lost = loss framing (octet ∷ stream) start }
+      ∷ (elim (loss framing (octet ∷ stream) start) [
+        | None ↦ []
+        | Some lost ↦ map later_alignment (alignments_from framing (Some octet) stream lost)
+      ])
+]
+
+-- all the alignments of a stream
+abbrev pub alignments_of : Framing → List ℕ → List Alignment
+alignments_of framing stream = alignments_from framing None stream 0
+
+-- the positions of the octets by which alignments are found, one after another
+abbrev pub search_ends_of : Framing → List Alignment → List ℕ
+search_ends_of framing alignments = map (λ alignment. alignment.start + framing.found_at) alignments
+
+-- the alignments that come after a loss, by a search from the octet after it on
+unfoldable pub after_loss : Framing → Option ℕ → List ℕ → Option ℕ → List Alignment
+after_loss framing before stream None = []
+after_loss framing before stream (Some lost) = alignments_from framing before stream (suc lost)
+
+-- the alignments from what a search has found: the first begins there, and its loss is followed by further
+-- ones
+unfoldable pub after_search : Framing → Option ℕ → List ℕ → Option ℕ → List Alignment
+after_search framing before stream None = []
+after_search framing before stream (Some start) =
+    record { start = start; lost = loss framing stream start } ∷ after_loss framing before stream
+    (loss framing stream start)

@@ -1,0 +1,34 @@
+-- After some histories all begins anew: what comes next is aligned as a stream of its own, but that its first
+-- search may look at the last octet before.
+use Rattle.std.specs.Prelude.{◌≡◌, ℕ, ◌+◌, ◌<◌, List, [], ◌∷◌, ◌++◌, map, length, Option, Some, None}
+use Rattle.std.specs.Prelude.{option_map}
+use Rattle.g704_framing.specs.Alignment.{Framing, Alignment, alignments_from}
+
+-- an alignment in a stream, seen in the stream with this many octets before it
+abbrev pub moved : ℕ → Alignment → Alignment
+moved before alignment = record {
+  start = before + alignment.start;
+  lost = option_map (λ position. before + position) alignment.lost;
+}
+
+-- lost, and by an octet before this position
+abbrev pub IsLostBefore : ℕ → Option ℕ → Type 0
+IsLostBefore position None = ⊥
+IsLostBefore position (Some lost) = lost < position
+
+abbrev pub AllLostBefore : ℕ → List Alignment → Type 0
+AllLostBefore position [] = Unit {0}
+AllLostBefore position (alignment ∷ others) =
+    IsLostBefore position alignment.lost × AllLostBefore position others
+
+-- the last octet of a list, or the one before the list
+abbrev pub last_of : Option ℕ → List ℕ → Option ℕ
+last_of before [] = before
+last_of before (octet ∷ octets) = last_of (Some octet) octets
+
+-- the alignments of these octets are lost, and whatever comes after them is searched as a stream of its own
+pub record IsOver (framing : Framing) (before : Option ℕ) (octets : List ℕ) : Type 0 where
+  pub earlier : List Alignment
+  pub all_lost : AllLostBefore (length octets) earlier
+  pub anew : (rest : List ℕ) → alignments_from framing before (octets ++ rest) 0
+      ≡ earlier ++ map (moved (length octets)) (alignments_from framing (last_of before octets) rest 0)
