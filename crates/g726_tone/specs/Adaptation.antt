@@ -7,8 +7,8 @@ use Rattle.std.specs.Int.RustNames.{int_le, int_lt}
 use Rattle.g726_quant.specs.Tables.{RateTables}
 use Rattle.g726_quant.specs.Blocks.{functw, functf}
 
--- the variables that are kept from one sample to the next: YU and YL, the fast and the slow scale factor, DMS and
--- DML, the short and the long mean of FI, AP, the speed, and TD, the tone flag
+-- the variables that are kept from one sample to the next: YU and YL, the fast and the slow scale factor,
+-- DMS and DML, the short and the long mean of FI, AP, the speed, and TD, the tone flag
 pub record Adaptation : Type 0 where
   pub yu : ℤ
   pub yl : ℤ
@@ -82,8 +82,8 @@ dqthr yl = (thr2 yl + thr2 yl / 2 ^ 1) / 2 ^ 1
 abbrev pub trans : Adaptation → ℕ → Bool
 trans s dqmag = s.td && nat_lt (dqthr (unsigned_abs s.yl)) dqmag
 
--- The state after a sample whose word has this magnitude. The new tone flag is the one before TRIGA, which clears it
--- and sets AP to 256 where TR is 1.
+-- The state after a sample whose word has this magnitude. The new tone flag is the one before TRIGA, which
+-- clears it and sets AP to 256 where TR is 1.
 unfoldable pub adapted : RateTables → Adaptation → ℕ → Bool → Bool → Adaptation
 adapted r s magnitude new_tone tr =
     let y = scale_factor s in

@@ -68,7 +68,8 @@ impl Adapt {
         mix(self.yu, self.yl, lima(self.ap)) as u16
     }
 
-    /// TR, whether this difference is a transition, by the state before its sample (ITU-T G.726, block TRANS).
+    /// TR, whether this difference is a transition, by the state before its sample (ITU-T G.726, block
+    /// TRANS).
     pub fn transition(&self, dq: &Dq) -> bool
         ensures { result ≡ trans self.now dq.now.mag }
     {

@@ -1,7 +1,6 @@
-use Rattle.std.proofs.Common.{arith, pos, ◌*ℤ◌, w16, w32, SFits, refl, ap, ◌∙◌}
+use Rattle.std.proofs.Common.{arith, pos, w16, w32, SFits, refl, ap, ◌∙◌}
 use Rattle.std.proofs.lemmas.Int.{ints, to_z-of_z}
-use Rattle.g726_tone.specs.Adaptation.{Adaptation, adapted}
-use Rattle.g726_tone.specs.History.{Update, after, adapted_by}
+use Rattle.g726_tone.specs.Adaptation.{adapted}
 use Rattle.g726_tone.proofs.Histories.{one_more}
 use Rattle.g726_tone.proofs.adapt.Adapt.update.Goals as goal
 
