@@ -7,6 +7,7 @@ use g726_quant::wrap16;
 
 // The range of A2, and of what it leaves for A1.
 const A2_LIMIT: i32 = 12288;
+
 const POLES_LIMIT: i32 = 15360;
 
 // A coefficient with a part of 1 in 2^k lost.

@@ -1,7 +1,8 @@
 //! Products in the floating form: blocks FLOATA, FLOATB and FMULT of ITU-T G.726.
 ghost use Rattle.std.specs.Prelude.{◌≡◌, ◌^◌, ◌<◌, ◌≤◌, pos, negsuc, ◌≤ℤ◌};
 ghost use Rattle.g726_quant.specs.Arithmetic.{number_of_bits};
-ghost use Rattle.g726_predict.specs.Float.{mantissa_of, float_word, coefficient_magnitude, product_magnitude, fmult};
+ghost use Rattle.g726_predict.specs.Float.{mantissa_of, float_word, coefficient_magnitude, product_magnitude};
+ghost use Rattle.g726_predict.specs.Float.{fmult};
 
 // The exponents up to which a product is shifted down.
 const WHOLE_EXPONENT: u32 = 26;
@@ -15,7 +16,11 @@ fn number_of_bits(magnitude: u16) -> u32
     ensures bits15 { magnitude < 32768 → result ≤ 15 }
     ensures bits13 { magnitude < 8192 → result ≤ 13 }
 {
-    if magnitude == 0 { 0 } else { magnitude.ilog2() + 1 }
+    if magnitude == 0 {
+        0
+    } else {
+        magnitude.ilog2() + 1
+    }
 }
 
 // FLOATA, FLOATB: MANT.

@@ -11,7 +11,8 @@ use std::marker::Model;
 // TONE: the flag is set below this A2.
 const TONE_LIMIT: i16 = -11776;
 
-/// The variables A1, A2, B1 to B6, DQ1 to DQ6, SR1, SR2, PK1 and PK2 of ITU-T G.726, whatever samples came before.
+/// The variables A1, A2, B1 to B6, DQ1 to DQ6, SR1, SR2, PK1 and PK2 of ITU-T G.726, whatever samples came
+/// before.
 #[derive(Drop)]
 pub struct Predictor {
     a1: i16,
@@ -114,8 +115,8 @@ impl Predictor {
         halved(self.sum_of_zeros())
     }
 
-    /// SEZ and SE, the partial estimate from the zeros and the whole one, each from -16384 to 16383 (ITU-T G.726,
-    /// blocks FMULT and ACCUM).
+    /// SEZ and SE, the partial estimate from the zeros and the whole one, each from -16384 to 16383 (ITU-T
+    /// G.726, blocks FMULT and ACCUM).
     pub fn estimate(&self) -> (i16, i16)
         ensures zeros { result.0 ≡ sez self.now }
         ensures all { result.1 ≡ se self.now }
@@ -128,12 +129,19 @@ impl Predictor {
         (halved(zeros), halved(zeros + self.sum_of_poles()))
     }
 
-    /// Moves on by a sample: DQ, the reconstructed signal SR, and TR. Answers the new tone flag, as it is before a
-    /// transition clears it (ITU-T G.726, blocks ADDC, UPA1, UPA2, LIMC, LIMD, UPB, TONE, TRIGB, FLOATA and FLOATB).
+    /// Moves on by a sample: DQ, the reconstructed signal SR, and TR. Answers the new tone flag, as it is
+    /// before a transition clears it (ITU-T G.726, blocks ADDC, UPA1, UPA2, LIMC, LIMD, UPB, TONE, TRIGB,
+    /// FLOATA and FLOATB).
     pub fn update<R: Rate>(&mut self, dq: &Dq, sr: i16, tr: bool) -> bool
         ensures state { self.new ≡ updated R.tables.leak self.old dq.now.negative dq.now.mag sr tr }
-        ensures history { (updates : List Update) → self.old ≡ after updates → self.new ≡ after (updates
-            ++ record { tables = R.tables; negative = dq.now.negative; magnitude = dq.now.mag; sr = sr; tr = tr } ∷ []) }
+        ensures history { (updates : List Update) → self.old ≡ after updates
+            → self.new ≡ after (updates ++ record {
+              tables = R.tables;
+              negative = dq.now.negative;
+              magnitude = dq.now.mag;
+              sr = sr;
+              tr = tr;
+            } ∷ []) }
         ensures tone { result ≡ tone self.old dq.now.negative dq.now.mag }
     {
         let p = addc(*dq, self.sez());

@@ -75,7 +75,14 @@ pub(crate) fn trigb(tr: bool, z: i16) -> i16
 }
 
 // UPB and TRIGB: a coefficient of the zeros after a sample.
-pub(crate) fn next_b(tr: bool, k: u32, b: i16, magnitude: u16, negative: bool, word_negative: bool) -> i16
+pub(crate) fn next_b(
+    tr: bool,
+    k: u32,
+    b: i16,
+    magnitude: u16,
+    negative: bool,
+    word_negative: bool,
+) -> i16
     requires { k < 16 }
     ensures { result ≡ trigb tr (updated_b k b magnitude negative word_negative) }
 {

@@ -1,4 +1,4 @@
-use Rattle.std.proofs.Common.{arith, ◌≡◌, suc, ◌+◌, ◌<◌, ◌≤◌, ◌*◌, ◌^◌, inl, inr}
+use Rattle.std.proofs.Common.{arith, ◌≡◌, suc, ◌+◌, ◌<◌, ◌^◌, inl, inr}
 use Rattle.std.proofs.Math.Nat.{pow-suc}
 use Rattle.std.proofs.Math.Pow.{pow_mono}
 use Rattle.std.proofs.lemmas.Bool.{cases_lt}
@@ -14,10 +14,11 @@ returns-else-magnitude-eq0 c =
     let next : m < 2 ^ suc r = omega (arith, pow-suc 2 r, c.ilog2.ensures.next_power_gt) in
     let same : r + 1 ≡ suc r = omega arith in
     let enough : r < number_of_bits m =
-        elim (cases_lt r (number_of_bits m)) [
-          | inl more ↦ more
-          | inr few ↦ absurd (omega (arith, holds, c.ilog2.ensures.power_le, pow_mono {i = number_of_bits m} {j = r} few))
-        ] in
+    elim (cases_lt r (number_of_bits m)) [
+      | inl more ↦ more
+      | inr few ↦ absurd
+          (omega (arith, holds, c.ilog2.ensures.power_le, pow_mono {i = number_of_bits m} {j = r} few))
+    ] in
     let is : r + 1 ≡ number_of_bits m = omega (arith, enough, number_of_bits_least m (suc r) next) in
     record {
       value = is;

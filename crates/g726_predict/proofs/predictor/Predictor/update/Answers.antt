@@ -43,7 +43,8 @@ returns-clause-state g c =
     let leak = c.leak-k.ensures.value in
     let sign = simp to_z-of_z at c.parts_of-self-inside.ensures.sign in
     let magnitude = simp to_z-of_z at c.parts_of-self-inside.ensures.magnitude in
-    simp to_z-of_z (rw (is11, is10, is9, is8, is7, is6, is5, is4, is3, is2, is1, is0, leak, sign, magnitude, ← c.self.view_is) refl)
+    simp to_z-of_z
+    (rw (is11, is10, is9, is8, is7, is6, is5, is4, is3, is2, is1, is0, leak, sign, magnitude, ← c.self.view_is) refl)
 
 pub returns-clause-history : goal.returns-clause-history
 returns-clause-history g c = λ updates h. one_more _ _ updates _ h (returns-clause-state g c)
