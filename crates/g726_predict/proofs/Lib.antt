@@ -1,0 +1,4 @@
+pub mod Shifts
+pub mod Histories
+pub mod Rows
+pub mod Long

@@ -1,0 +1,14 @@
+use Rattle.std.proofs.Common.{arith, ◌+ℤ◌, w32, SFits}
+use Rattle.std.proofs.lemmas.Int.{ints, to_z-of_z}
+use Rattle.g726_predict.proofs.sums.sum_of_two.Goals as goal
+
+pub returns-clause-value : goal.returns-clause-value
+returns-clause-value c =
+    let a1_fits = c.ranges.a1 in
+    let a2_fits = c.ranges.a2 in
+    let one_fits : SFits w32 c.fmult.result = omega (arith, ints) in
+    let two_fits : SFits w32 c.fmult-2.result = omega (arith, ints) in
+    let sum_fits : SFits w32 (c.fmult.result +ℤ c.fmult-2.result) = omega (arith, ints) in
+    let one = simp to_z-of_z at c.fmult.ensures.value in
+    let two = simp to_z-of_z at c.fmult-2.ensures.value in
+    simp to_z-of_z (rw (← one, ← two) (omega (arith, ints)))

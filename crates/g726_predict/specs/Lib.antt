@@ -1,0 +1,4 @@
+pub mod Float
+pub mod Coefficients
+pub mod Predictor
+pub mod History
