@@ -1,0 +1,45 @@
+-- The laws, for the crates above.
+use Rattle.std.proofs.Common.{◌≡◌, ◌∙◌, refl, arith}
+use Rattle.std.specs.Prelude.{Result, Ok, Err}
+use Rattle.q421_line.specs.declared.State.{State}
+use Rattle.q421_line.specs.declared.LineFault.{LineFault}
+use Rattle.q421_line.specs.Recognition.{recognised}
+use Rattle.q421_line.specs.Tables.{sent_pair}
+use Rattle.q421_line.specs.Commands.{outcome, answer_of}
+use Rattle.q421_line.specs.Signalling.{Signalling, signalling, command, after_outcome}
+use Rattle.q421_line.specs.Laws.{PairsAreRecognisedByTen, SeizuresAreReleased, RefusalsChangeNothing}
+use Rattle.q421_line.specs.Laws.{SentNibblesFit, IncomingIsNeverSeized}
+use Rattle.q421_line.proofs.Runs.{recognised-replicate, recognised-short}
+use Rattle.q421_line.proofs.Steps.{signalling-push}
+use Rattle.q421_line.proofs.Seizure.{seizure-short}
+use Rattle.q421_line.proofs.Incoming.{incoming-never}
+
+-- a pair is recognised when the last ten known pairs are it, and stays so until another one is
+pub recognised-by_ten : PairsAreRecognisedByTen
+unfolding recognised
+recognised-by_ten = (refl, recognised-replicate, recognised-short)
+
+-- no seizure lasts a hundred signals
+pub seizure-released : SeizuresAreReleased
+seizure-released = seizure-short
+
+-- an outcome that is answered by a fault changes nothing
+outcome-refused : (line : Signalling) (led : Result State LineFault) (fault : LineFault) → answer_of led ≡ Err fault
+    → after_outcome line led ≡ line
+outcome-refused line (Ok state) fault refused = cc
+outcome-refused line (Err other) fault refused = refl
+
+-- a refused command leaves the signalling as it was
+pub signalling-refused : RefusalsChangeNothing
+signalling-refused role items asked fault refused =
+    signalling-push role items (command asked)
+    ∙ outcome-refused (signalling role items) (outcome role asked (signalling role items).state) fault refused
+
+-- a nibble that is sent is four bits
+pub sent_nibble-fits : SentNibblesFit
+unfolding sent_pair
+sent_nibble-fits = grind arith
+
+-- an incoming line is never Seized or Releasing
+pub incoming-never_seized : IncomingIsNeverSeized
+incoming-never_seized = incoming-never

@@ -1,0 +1,5 @@
+pub mod Runs
+pub mod Steps
+pub mod Incoming
+pub mod Seizure
+pub mod Callers

@@ -1,0 +1,62 @@
+-- What an operator can ask of a line, which are the signals that one end of a circuit sends by ITU-T Q.421,
+-- and what is refused.
+use Rattle.std.specs.Prelude.{ℕ, Bool, true, false, if◌then◌else◌, Result, Ok, Err}
+use Rattle.q421_line.specs.declared.Role.{Role}
+use Rattle.q421_line.specs.declared.Role.TheVariants.{Outgoing, Incoming}
+use Rattle.q421_line.specs.declared.State.{State}
+use Rattle.q421_line.specs.declared.State.TheVariants.{Idle, Seized, Acked, Answered}
+use Rattle.q421_line.specs.declared.State.TheVariants.{ClearedBack, Releasing, Blocked}
+use Rattle.q421_line.specs.declared.Cmd.{Cmd}
+use Rattle.q421_line.specs.declared.Cmd.TheVariants.{Seize, Clear, Answer, ClearBack, Block, Unblock}
+use Rattle.q421_line.specs.declared.LineFault.{LineFault}
+use Rattle.q421_line.specs.declared.LineFault.TheVariants.{WrongRole, NotIdle, NotSeized}
+use Rattle.q421_line.specs.declared.LineFault.TheVariants.{NotInCall, NotBlocked}
+
+-- the number of a fault
+unfoldable pub number_of : LineFault → ℕ
+number_of WrongRole = 1
+number_of NotIdle = 2
+number_of NotSeized = 3
+number_of NotInCall = 4
+number_of NotBlocked = 5
+
+-- the command is for lines of this role (ITU-T Q.421): seizing and clear-forward are forward signals,
+-- answer, clear-back and blocking are backward ones
+abbrev pub is_for : Role → Cmd → Bool
+is_for Outgoing Seize = true
+is_for Outgoing Clear = true
+is_for Outgoing asked = false
+is_for Incoming Answer = true
+is_for Incoming ClearBack = true
+is_for Incoming Block = true
+is_for Incoming Unblock = true
+is_for Incoming asked = false
+
+-- the state that a command leads to in a line of its own role, or why it is refused (ITU-T Q.421 for the
+-- states in which each signal is sent; the faults are ours)
+abbrev pub own_outcome : Cmd → State → Result State LineFault
+own_outcome Seize Idle = Ok Seized
+own_outcome Seize state = Err NotIdle
+own_outcome Clear Seized = Ok Releasing
+own_outcome Clear Acked = Ok Releasing
+own_outcome Clear Answered = Ok Releasing
+own_outcome Clear ClearedBack = Ok Releasing
+own_outcome Clear state = Err NotInCall
+own_outcome Answer Acked = Ok Answered
+own_outcome Answer ClearedBack = Ok Answered
+own_outcome Answer state = Err NotSeized
+own_outcome ClearBack Answered = Ok ClearedBack
+own_outcome ClearBack state = Err NotInCall
+own_outcome Block Idle = Ok Blocked
+own_outcome Block state = Err NotIdle
+own_outcome Unblock Blocked = Ok Idle
+own_outcome Unblock state = Err NotBlocked
+
+-- the state that a command leads to, or why it is refused: a command for the other role in every state
+unfoldable pub outcome : Role → Cmd → State → Result State LineFault
+outcome role asked state = if is_for role asked then own_outcome asked state else Err WrongRole
+
+-- what is answered to a command: whether it is refused, and why
+abbrev pub answer_of : Result State LineFault → Result (Unit {0}) LineFault
+answer_of (Ok state) = Ok tt
+answer_of (Err fault) = Err fault

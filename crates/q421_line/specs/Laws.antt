@@ -1,0 +1,46 @@
+-- Laws of line signals (ITU-T Q.421), of every role, state and list of signals and commands.
+use Rattle.std.specs.Prelude.{◌≡◌, ◌≢◌, ℕ, ◌<◌, ◌≤◌, List, [], ◌∷◌, ◌++◌, length, map, take, replicate}
+use Rattle.std.specs.Prelude.{Option, Some, None, Err}
+use Rattle.q421_line.specs.declared.Role.{Role}
+use Rattle.q421_line.specs.declared.Role.TheVariants.{Incoming}
+use Rattle.q421_line.specs.declared.State.{State}
+use Rattle.q421_line.specs.declared.State.TheVariants.{Seized, Releasing}
+use Rattle.q421_line.specs.declared.Cmd.{Cmd}
+use Rattle.q421_line.specs.declared.LineFault.{LineFault}
+use Rattle.q421_line.specs.Recognition.{run_of, recognised}
+use Rattle.q421_line.specs.Tables.{sent_pair, sent_nibble}
+use Rattle.q421_line.specs.Commands.{outcome, answer_of}
+use Rattle.q421_line.specs.Signalling.{Item, signal, command, signalling}
+
+-- A pair is recognised when the last ten known pairs are it, and stays so until another one is. At first none
+-- is.
+abbrev pub PairsAreRecognisedByTen : Type 0
+PairsAreRecognisedByTen = (recognised [] ≡ None)
+    × ((pairs : List ℕ) (pair : ℕ) → recognised (pairs ++ replicate 10 pair) ≡ Some pair)
+    × ((pairs : List ℕ) (pair : ℕ) → run_of pair (pairs ++ pair ∷ []) < 10
+    → recognised (pairs ++ pair ∷ []) ≡ recognised pairs)
+
+-- a command that is refused leaves a line's signalling as it was
+abbrev pub RefusalsChangeNothing : Type 0
+RefusalsChangeNothing = (role : Role) (items : List Item) (asked : Cmd) (fault : LineFault)
+    → answer_of (outcome role asked (signalling role items).state) ≡ Err fault
+    → signalling role (items ++ command asked ∷ []) ≡ signalling role items
+
+-- the line is Seized after these items, and stays so with each of these signals
+abbrev pub IsSeizedThrough : Role → List Item → List (Option ℕ) → Type 0
+IsSeizedThrough role items signals = (count : ℕ) → count ≤ length signals
+    → (signalling role (items ++ map signal (take count signals))).state ≡ Seized
+
+-- no seizure lasts a hundred signals, whatever is heard in them
+abbrev pub SeizuresAreReleased : Type 0
+SeizuresAreReleased = (role : Role) (items : List Item) (signals : List (Option ℕ))
+    → IsSeizedThrough role items signals → length signals < 100
+
+-- what is sent in a state is four bits
+abbrev pub SentNibblesFit : Type 0
+SentNibblesFit = (role : Role) (state : State) → sent_nibble (sent_pair role state) < 16
+
+-- only an outgoing line seizes and releases
+abbrev pub IncomingIsNeverSeized : Type 0
+IncomingIsNeverSeized = (items : List Item)
+    → ((signalling Incoming items).state ≢ Seized) × ((signalling Incoming items).state ≢ Releasing)

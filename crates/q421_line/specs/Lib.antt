@@ -1,0 +1,6 @@
+pub mod Recognition
+pub mod Tables
+pub mod Commands
+pub mod Signalling
+pub mod Line
+pub mod Laws

@@ -1,0 +1,103 @@
+//! Line signals of one telephone circuit: the digital line signalling of ITU-T Q.421 (system R2), in bits a
+//! and b of the circuit's nibble of time slot 16.
+#![tactic(auto)]
+
+ghost use Rattle.std.specs.Prelude.{◌≡◌};
+ghost use Rattle.q421_line.specs.Commands.{number_of};
+
+use thiserror::Error;
+
+pub mod laws;
+mod pairs;
+mod recognition;
+mod signalling;
+mod tables;
+
+pub use pairs::Pair;
+pub use signalling::Line;
+
+/// At which end of a circuit a line is. Circuits are one-way.
+#[derive(Clone, Copy, Debug, PartialEq, Eq)]
+pub enum Role {
+    /// The end that seizes the circuit: it sends forward signals and hears backward ones.
+    Outgoing,
+    /// The end that is seized: it sends backward signals and hears forward ones.
+    Incoming,
+}
+
+/// The state of a line (ITU-T Q.421). What each end sends in it is given as bits a and b.
+#[derive(Clone, Copy, Debug, PartialEq, Eq)]
+pub enum State {
+    /// Free to be seized: 10 forward and backward.
+    Idle,
+    /// Outgoing: the seizing signal is sent, 00 forward, and its acknowledgement awaited.
+    Seized,
+    /// In a call, not answered: 00 forward, seizing acknowledgement 11 backward.
+    Acked,
+    /// In a call, answered: 00 forward, answer 01 backward.
+    Answered,
+    /// In a call, the called party has hung up: 00 forward, clear-back 11 backward.
+    ClearedBack,
+    /// Outgoing: clear-forward is sent, 10 forward, until the other end is idle.
+    Releasing,
+    /// Not to be seized: 10 forward, blocking 11 backward.
+    Blocked,
+    /// The other end's signals make no sense here, or none is known yet: 10 forward, 11 backward.
+    Fault,
+}
+
+/// What an operator can ask of a line.
+#[derive(Clone, Copy, Debug, PartialEq, Eq)]
+pub enum Cmd {
+    /// Outgoing: seizes an idle circuit.
+    Seize,
+    /// Outgoing: ends a call or a seizure (clear-forward).
+    Clear,
+    /// Incoming: answers a call, or answers it again after clear-back.
+    Answer,
+    /// Incoming: the called party hangs up (clear-back).
+    ClearBack,
+    /// Incoming: takes an idle circuit out of service (blocking).
+    Block,
+    /// Incoming: puts a blocked circuit back into service.
+    Unblock,
+}
+
+/// Why a command is refused. `WrongRole` comes before all others.
+#[derive(Clone, Copy, Debug, PartialEq, Eq, Error)]
+pub enum LineFault {
+    /// The command is for lines of the other role.
+    #[error("the command is for the other role")]
+    WrongRole,
+    /// The line is not idle, which seizing and blocking need.
+    #[error("the line is not idle")]
+    NotIdle,
+    /// No call waits to be answered.
+    #[error("the line is not seized")]
+    NotSeized,
+    /// There is no call to be cleared.
+    #[error("the line is not in a call")]
+    NotInCall,
+    /// The line is not blocked.
+    #[error("the line is not blocked")]
+    NotBlocked,
+}
+
+impl LineFault {
+    /// The fault's number, 1 to 5 in the order of the variants.
+    #[tactic(auto, unfolding(crate::specs::Commands::number_of))]
+    pub fn number(self) -> u8
+        ensures { result ≡ number_of self }
+    {
+        match self {
+            LineFault::WrongRole => 1,
+            LineFault::NotIdle => 2,
+            LineFault::NotSeized => 3,
+            LineFault::NotInCall => 4,
+            LineFault::NotBlocked => 5,
+        }
+    }
+}
+
+#[cfg(test)]
+mod tests;
