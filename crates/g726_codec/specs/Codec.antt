@@ -35,9 +35,10 @@ unfoldable pub stepped : RateTables → CodecState → ℕ → CodecState
 stepped r s word =
     let negative = word_is_negative r.bits word in
     let magnitude = reconstructed r word (scale s.adaptation) in
+    let new_tone = tone s.prediction negative magnitude in
     let tr = trans s.adaptation magnitude in
     record {
-      adaptation = adapted r s.adaptation (word_magnitude r.bits word) (tone s.prediction negative magnitude) tr;
+      adaptation = adapted r s.adaptation (word_magnitude r.bits word) new_tone tr;
       prediction = updated r.leak s.prediction negative magnitude (addb r s word) tr;
     }
 
@@ -45,14 +46,17 @@ stepped r s word =
 abbrev pub sp : RateTables → Law → CodecState → ℕ → ℕ
 sp r law s word = compressed law (addb r s word)
 
--- SYNC: SD, the octet of a word. SP, expanded and quantised again, gives a word; where its order is that of the
--- received word, SP stays; where it is below, the next more positive code is given, else the next more negative one
+-- SYNC: a code stays where ID, the order of the word that it gives, is IM, that of the received word. Where ID is
+-- below IM the next more positive code is given, else the next more negative one
+abbrev pub adjusted : Law → ℕ → ℕ → ℕ → ℕ
+adjusted law code id im =
+    if id == im then code else (if nat_lt id im then code_above law code else code_below law code)
+
+-- SYNC: SD, the octet of a word: SP, expanded and quantised again, gives the word that is compared
 unfoldable pub sync : RateTables → Law → CodecState → ℕ → ℕ
 sync r law s word =
     let code = sp r law s word in
-    let id = word_order r.bits (word_for r s (expanded law code)) in
-    let im = word_order r.bits word in
-    if id == im then code else (if nat_lt id im then code_above law code else code_below law code)
+    adjusted law code (word_order r.bits (word_for r s (expanded law code))) (word_order r.bits word)
 
 -- the words of octets, from a state on
 abbrev pub words_from : RateTables → Law → CodecState → List ℕ → List ℕ

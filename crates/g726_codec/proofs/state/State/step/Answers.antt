@@ -16,4 +16,6 @@ returns-clause-state g c =
     let tone = c.update-tone.ensures.tone in
     let word_magnitude = c.magnitude.ensures.value in
     let adapted = c.update.ensures.state in
-    rw (adapted, predicted, tone, word_magnitude, sr, tr, sign, magnitude, c.requires.estimate, c.requires.scale, ← c.self.view_is) refl
+    let estimate = c.requires.estimate in
+    let scale = c.requires.scale in
+    rw (adapted, predicted, tone, word_magnitude, sr, tr, sign, magnitude, estimate, scale, ← c.self.view_is) refl
