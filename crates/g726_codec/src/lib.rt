@@ -8,6 +8,7 @@ mod any;
 mod decoder;
 mod duplex;
 mod encoder;
+pub mod laws;
 mod state;
 
 pub use any::AnyCodec;
