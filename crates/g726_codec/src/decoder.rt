@@ -61,6 +61,7 @@ impl<R: Rate> Decoder<R> {
         let sr = self.state.step(word, forecast);
         let sp = compress(law, sr);
         let id = order(word_of::<R>(law, sp, forecast));
-        adjusted(law, sp, id, order(word))
+        let im = order(word);
+        adjusted(law, sp, id, im)
     }
 }

@@ -44,3 +44,6 @@ impl CodecKind {
         }
     }
 }
+
+#[cfg(test)]
+mod tests;
