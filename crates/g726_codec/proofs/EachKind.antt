@@ -72,8 +72,10 @@ pub stands_after_octet : (law : Law) (kind : CodecKind) (octets words : List ℕ
     → new ≡ after_encoding old word → new ≡ coder_after law kind (octets ++ octet ∷ []) words
 stands_after_octet law kind octets words old new octet word e f g =
     let same = f ∙ ap (λ (c : Coder). word_in c.kind c.law c.encoder octet) e in
-    let state = ap (moved kind (encoder_after law kind octets)) same ∙ sym (encoder_after_one_more law kind octets octet) in
-    let with : CodecState → Coder = λ s. record { law = law; kind = kind; encoder = s; decoder = decoder_after kind words } in
+    let moved_on = sym (encoder_after_one_more law kind octets octet) in
+    let state = ap (moved kind (encoder_after law kind octets)) same ∙ moved_on in
+    let decoder = decoder_after kind words in
+    let with : CodecState → Coder = λ s. record { law = law; kind = kind; encoder = s; decoder = decoder } in
     g ∙ ap (λ (c : Coder). after_encoding c word) e ∙ ap with state
 
 -- a codec that stands gives the next octet, and stands after its word
@@ -89,5 +91,6 @@ pub stands_after_word : (law : Law) (kind : CodecKind) (octets words : List ℕ)
     → new ≡ coder_after law kind octets (words ++ word ∷ [])
 stands_after_word law kind octets words old new word e g =
     let state = sym (decoder_after_one_more kind words word) in
-    let with : CodecState → Coder = λ s. record { law = law; kind = kind; encoder = encoder_after law kind octets; decoder = s } in
+    let encoder = encoder_after law kind octets in
+    let with : CodecState → Coder = λ s. record { law = law; kind = kind; encoder = encoder; decoder = s } in
     g ∙ ap (λ (c : Coder). after_decoding c word) e ∙ ap with state

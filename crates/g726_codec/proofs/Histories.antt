@@ -23,7 +23,8 @@ state_after_one_more r s (first ∷ words) word = state_after_one_more r (steppe
 
 -- the octets of one word more are one octet more
 octets_of_one_more : (r : RateTables) (law : Law) (s : CodecState) (words : List ℕ) (word : ℕ)
-    → octets_from r law s (words ++ word ∷ []) ≡ octets_from r law s words ++ sync r law (state_after r s words) word ∷ []
+    → octets_from r law s (words ++ word ∷ [])
+    ≡ octets_from r law s words ++ sync r law (state_after r s words) word ∷ []
 octets_of_one_more r law s [] word = refl
 octets_of_one_more r law s (first ∷ words) word =
     ap (λ rest. sync r law s first ∷ rest) (octets_of_one_more r law (stepped r s first) words word)

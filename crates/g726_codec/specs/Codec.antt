@@ -28,7 +28,8 @@ word_for r s sample = quantised r (wrap16 (sample -ℤ se s.prediction)) (scale 
 -- ADDB: SR, the reconstructed signal
 abbrev pub addb : RateTables → CodecState → ℕ → ℤ
 addb r s word =
-    wrap16 (signed (word_is_negative r.bits word) (reconstructed r word (scale s.adaptation)) +ℤ se s.prediction)
+    let magnitude = reconstructed r word (scale s.adaptation) in
+    wrap16 (signed (word_is_negative r.bits word) magnitude +ℤ se s.prediction)
 
 -- the state after a sample, of an encoder and of a decoder alike: it goes by the word alone
 unfoldable pub stepped : RateTables → CodecState → ℕ → CodecState
@@ -46,8 +47,8 @@ stepped r s word =
 abbrev pub sp : RateTables → Law → CodecState → ℕ → ℕ
 sp r law s word = compressed law (addb r s word)
 
--- SYNC: a code stays where ID, the order of the word that it gives, is IM, that of the received word. Where ID is
--- below IM the next more positive code is given, else the next more negative one
+-- SYNC: a code stays where ID, the order of the word that it gives, is IM, that of the received word. Where ID
+-- is below IM the next more positive code is given, else the next more negative one
 abbrev pub adjusted : Law → ℕ → ℕ → ℕ → ℕ
 adjusted law code id im =
     if id == im then code else (if nat_lt id im then code_above law code else code_below law code)

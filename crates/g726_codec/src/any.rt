@@ -94,7 +94,7 @@ impl Model for AnyCodec {
 }
 
 impl AnyCodec {
-    /// A codec at reset.
+    /// A codec whose encoder and decoder are at reset.
     pub fn new(law: Law, kind: CodecKind) -> AnyCodec
         ensures { result ≡ coder_after law kind [] [] }
     {
@@ -119,7 +119,7 @@ impl AnyCodec {
         self.codec.encode(self.law, octet)
     }
 
-    /// The octet of the next word. A word of G.711 is its own octet.
+    /// The octet of the next word, which is below `2^bits`. A word of G.711 is its own octet.
     pub fn decode(&mut self, word: u8) -> u8
         requires { word < 2 ^ bits_of self.old.kind }
         ensures octet { result ≡ octet_in self.old.kind self.old.law self.old.decoder word }

@@ -47,8 +47,8 @@ impl<R: Rate> Decoder<R> {
         }
     }
 
-    /// The octet of the next word (ITU-T G.726, RECONST to ADDB, COMPRESS, EXPAND, SUBTA to SYNC, and the blocks
-    /// after ADDB for the state).
+    /// The octet of the next word, in a law (ITU-T G.726, RECONST to ADDB, COMPRESS, EXPAND, and SUBTA to SYNC;
+    /// the other blocks for the state).
     pub fn decode(&mut self, law: Law, word: Word<R>) -> u8
         ensures octet { result ≡ sync R.tables law self.old word }
         ensures state { self.new ≡ stepped R.tables self.old word }

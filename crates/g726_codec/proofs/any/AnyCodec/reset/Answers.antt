@@ -5,4 +5,5 @@ use Rattle.g726_codec.proofs.any.AnyCodec.reset.Goals as goal
 pub returns : goal.returns
 returns c =
     let law = c.self.inside.law in
-    rw (c.reset-self-inside.ensures law, c.kind.ensures, ← c.self.view_is) (reset_stands law (kind_of c.self.inside.codec))
+    let stands = reset_stands law (kind_of c.self.inside.codec) in
+    rw (c.reset-self-inside.ensures law, c.kind.ensures, ← c.self.view_is) stands
