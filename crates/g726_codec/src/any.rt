@@ -54,10 +54,10 @@ impl Codec {
     {
         match self {
             Codec::At64 => octet,
-            Codec::At16(rate) => rate.encode(law, octet),
-            Codec::At24(rate) => rate.encode(law, octet),
-            Codec::At32(rate) => rate.encode(law, octet),
-            Codec::At40(rate) => rate.encode(law, octet),
+            Codec::At16(duplex) => duplex.encode(law, octet),
+            Codec::At24(duplex) => duplex.encode(law, octet),
+            Codec::At32(duplex) => duplex.encode(law, octet),
+            Codec::At40(duplex) => duplex.encode(law, octet),
         }
     }
 
@@ -68,10 +68,10 @@ impl Codec {
     {
         match self {
             Codec::At64 => word,
-            Codec::At16(rate) => rate.decode(law, word),
-            Codec::At24(rate) => rate.decode(law, word),
-            Codec::At32(rate) => rate.decode(law, word),
-            Codec::At40(rate) => rate.decode(law, word),
+            Codec::At16(duplex) => duplex.decode(law, word),
+            Codec::At24(duplex) => duplex.decode(law, word),
+            Codec::At32(duplex) => duplex.decode(law, word),
+            Codec::At40(duplex) => duplex.decode(law, word),
         }
     }
 }
