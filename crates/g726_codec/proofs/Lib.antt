@@ -1,0 +1,4 @@
+pub mod Histories
+pub mod EachKind
+pub mod Lists
+pub mod Rows

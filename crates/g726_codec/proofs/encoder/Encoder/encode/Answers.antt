@@ -1,0 +1,19 @@
+use Rattle.std.proofs.Common.{refl}
+use Rattle.g726_codec.proofs.Histories.{next_word, next_encoder}
+use Rattle.g726_codec.proofs.encoder.Encoder.encode.Goals as goal
+
+pub returns-clause-word : goal.returns-clause-word
+returns-clause-word g c =
+    let estimate = c.forecast-forecast.ensures.estimate in
+    let scale = c.forecast-forecast.ensures.scale in
+    rw (c.word_of-word.ensures, estimate, scale, ← c.self.view_is) refl
+
+pub returns-clause-state : goal.returns-clause-state
+returns-clause-state g c = rw (← c.self.view_is) c.step.ensures.state
+
+pub returns-clause-words : goal.returns-clause-words
+returns-clause-words g c = λ octets stands. next_word _ _ octets _ _ _ stands (returns-clause-word g c)
+
+pub returns-clause-stands : goal.returns-clause-stands
+returns-clause-stands g c =
+    λ octets stands. next_encoder _ _ octets _ _ _ _ stands (returns-clause-word g c) (returns-clause-state g c)

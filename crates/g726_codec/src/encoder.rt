@@ -1,0 +1,53 @@
+//! The encoder of ITU-T G.726.
+ghost use Rattle.std.specs.Prelude.{◌≡◌, ℕ, List, [], ◌∷◌, ◌++◌};
+ghost use Rattle.e1_g711.specs.Samples.{expanded};
+ghost use Rattle.g726_codec.specs.Codec.{at_reset, word_for, stepped, encoded, after_octets};
+
+use crate::state::{State, word_of};
+use e1_g711::Law;
+use g726_quant::{Rate, Word};
+use std::marker::{Model, PhantomData};
+
+/// An encoder of ITU-T G.726 at a rate. Contracts see the variables of the Recommendation.
+#[derive(Drop)]
+pub struct Encoder<R: Rate> {
+    state: State,
+    rate: PhantomData<R>,
+}
+
+impl<R: Rate> Model for Encoder<R> {
+    ghost use Rattle.g726_codec.specs.Codec.{CodecState};
+
+    ghost Value = { CodecState };
+
+    ghost view = { λ e. e.state };
+}
+
+impl<R: Rate> Encoder<R> {
+    /// An encoder at reset (ITU-T G.726, initialization).
+    pub fn reset() -> Encoder<R>
+        ensures state { result ≡ at_reset }
+        ensures stands { (law : Law) → result ≡ after_octets R.tables law [] }
+    {
+        Encoder {
+            state: State::reset(),
+            rate: PhantomData,
+        }
+    }
+
+    /// The word of the next octet, which is a code of a law (ITU-T G.726, EXPAND to QUAN; the other blocks for
+    /// the state).
+    pub fn encode(&mut self, law: Law, octet: u8) -> Word<R>
+        ensures word { result ≡ word_for R.tables self.old (expanded law octet) }
+        ensures state { self.new ≡ stepped R.tables self.old result }
+        ensures words { (octets : List ℕ) → self.old ≡ after_octets R.tables law octets
+            → encoded R.tables law (octets ++ octet ∷ []) ≡ encoded R.tables law octets ++ result ∷ [] }
+        ensures stands { (octets : List ℕ) → self.old ≡ after_octets R.tables law octets
+            → self.new ≡ after_octets R.tables law (octets ++ octet ∷ []) }
+    {
+        let forecast = self.state.forecast();
+        let word = word_of::<R>(law, octet, forecast);
+        self.state.step(word, forecast);
+        word
+    }
+}

@@ -1,0 +1,17 @@
+//! Laws of the definitions, each proved by a function that does nothing.
+ghost use Rattle.g726_codec.specs.Laws.{WordsAreCounted, WordsFit, PrefixesComeFirst};
+
+/// There is a word for each octet and an octet for each word.
+pub fn words_are_counted()
+    ensures { WordsAreCounted }
+{}
+
+/// Each word is below `2^bits`, where the octets are below 256.
+pub fn words_fit()
+    ensures { WordsFit }
+{}
+
+/// The words of the first octets are the first words, and the octets of the first words the first octets.
+pub fn prefixes_come_first()
+    ensures { PrefixesComeFirst }
+{}

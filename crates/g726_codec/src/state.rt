@@ -1,0 +1,113 @@
+//! What an encoder and a decoder of ITU-T G.726 have alike.
+ghost use Rattle.std.specs.Prelude.{◌≡◌, ◌≤◌, pos, negsuc, ◌≤ℤ◌, ◌+ℤ◌, ◌-ℤ◌};
+ghost use Rattle.e1_g711.specs.Samples.{expanded};
+ghost use Rattle.g726_quant.specs.Arithmetic.{wrap16};
+ghost use Rattle.g726_quant.specs.Blocks.{quantised};
+ghost use Rattle.g726_tone.specs.Adaptation.{scale};
+ghost use Rattle.g726_predict.specs.Float.{signed};
+ghost use Rattle.g726_predict.specs.Predictor.{se};
+ghost use Rattle.g726_codec.specs.Codec.{at_reset, word_for, addb, stepped};
+
+use e1_g711::{Law, expand};
+use g726_predict::Predictor;
+use g726_quant::{Dq, Rate, Word, magnitude, quantise, reconstruct, wrap16};
+use g726_tone::Adapt;
+use std::marker::Model;
+
+// SE and Y, made of the state before a sample.
+#[derive(Clone, Copy)]
+pub(crate) struct Forecast {
+    pub(crate) se: i16,
+    pub(crate) y: u16,
+    ghost se_low: { negsuc 16383 ≤ℤ se },
+    ghost se_high: { se ≤ℤ pos 16383 },
+    ghost y_low: { 544 ≤ y },
+    ghost y_high: { y ≤ 5120 },
+}
+
+// The variables of an encoder or of a decoder.
+#[derive(Drop)]
+pub(crate) struct State {
+    adapt: Adapt,
+    predictor: Predictor,
+}
+
+impl Model for State {
+    ghost use Rattle.g726_codec.specs.Codec.{CodecState};
+
+    ghost Value = { CodecState };
+
+    ghost view = { λ s. record { adaptation = s.adapt; prediction = s.predictor } };
+}
+
+impl State {
+    pub(crate) fn reset() -> State
+        ensures { result ≡ at_reset }
+    {
+        State {
+            adapt: Adapt::reset(),
+            predictor: Predictor::reset(),
+        }
+    }
+
+    pub(crate) fn forecast(&self) -> Forecast
+        ensures estimate { result.se ≡ se self.now.prediction }
+        ensures scale { result.y ≡ scale self.now.adaptation }
+    {
+        Forecast {
+            se: self.predictor.estimate().1,
+            y: self.adapt.scale(),
+        }
+    }
+
+    // Moves on by a word. Answers SR, the reconstructed signal.
+    pub(crate) fn step<R: Rate>(&mut self, word: Word<R>, forecast: Forecast) -> i16
+        requires estimate { forecast.se ≡ se self.old.prediction }
+        requires scale { forecast.y ≡ scale self.old.adaptation }
+        ensures signal { result ≡ addb R.tables self.old word }
+        ensures state { self.new ≡ stepped R.tables self.old word }
+    {
+        let dq = reconstruct::<R>(word, forecast.y);
+        let sr = addb(dq, forecast.se);
+        let tr = self.adapt.transition(&dq);
+        let tone = self.predictor.update::<R>(&dq, sr, tr);
+        self.adapt.update::<R>(magnitude(word), tone, tr);
+        sr
+    }
+}
+
+// SUBTA: D. Both are far from the ends of 16 bits, and so is D.
+fn subta(sl: i16, se: i16) -> i16
+    requires sl_low { negsuc 8063 ≤ℤ sl }
+    requires sl_high { sl ≤ℤ pos 8064 }
+    requires se_low { negsuc 16383 ≤ℤ se }
+    requires se_high { se ≤ℤ pos 16383 }
+    ensures value { result ≡ wrap16 (sl -ℤ se) }
+    ensures low { negsuc 24446 ≤ℤ result }
+{
+    wrap16(sl as i32 - se as i32)
+}
+
+// SUBTA, LOG, SUBTB and QUAN: the word for an octet.
+pub(crate) fn word_of<R: Rate>(law: Law, octet: u8, forecast: Forecast) -> Word<R>
+    ensures { result ≡ quantised R.tables (wrap16 (expanded law octet -ℤ forecast.se)) forecast.y }
+{
+    quantise::<R>(subta(expand(law, octet), forecast.se), forecast.y)
+}
+
+// ADDB: SR.
+fn addb(dq: Dq, se: i16) -> i16
+    ensures { result ≡ wrap16 (signed dq.negative dq.mag +ℤ se) }
+{
+    wrap16(signed(dq) + se as i32)
+}
+
+// A difference as a number.
+fn signed(dq: Dq) -> i32
+    ensures value { result ≡ signed dq.negative dq.mag }
+    ensures low { negsuc 32766 ≤ℤ result }
+    ensures high { result ≤ℤ pos 32767 }
+{
+    let magnitude = dq.mag as i32;
+    if dq.negative { -magnitude } else { magnitude }
+}
