@@ -1,5 +1,5 @@
-//! Line signals of one telephone circuit: the digital line signalling of ITU-T Q.421 (system R2), in bits a
-//! and b of the circuit's nibble of time slot 16.
+//! Line signals of one telephone circuit: the digital line signalling of ITU-T Q.421, in bits a and b of
+//! the circuit's nibble of time slot 16.
 #![tactic(auto)]
 
 ghost use Rattle.std.specs.Prelude.{◌≡◌};
