@@ -18,6 +18,6 @@ first_of_ten (pair ∷ pairs) =
 
 -- The pair that is recognised after a list of known pairs: that of the last run of ten equal neighbours,
 -- which is the first one from the end; none where there is no such run. (A choice: ten signals, one every 2
--- ms, take the 20 ms for which ITU-T Q.422 has a change stand before it is recognised.)
+-- ms, take 20 ms.)
 unfoldable pub recognised : List ℕ → Option ℕ
 recognised pairs = first_of_ten (reverse pairs)

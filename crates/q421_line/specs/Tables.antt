@@ -53,7 +53,7 @@ next_outgoing ClearedBack = row Fault ClearedBack Answered Fault
 next_outgoing Releasing = row Idle Releasing Releasing Releasing
 
 -- The next state of an incoming line by the forward pair (ITU-T Q.421): 10 is idle or clear-forward; 00
--- seizing; 11 and 01, with bit b set, a failure of the other end. (Choices: clear-forward is answered by idle
+-- seizing; 11 and 01, with bit b set, are unexpected. (Choices: clear-forward is answered by idle
 -- at once, since nothing else is to be released; a failure is a fault, which idle ends; a block is lifted by
 -- the operator alone, so that a blocked line passes over all that it hears.)
 abbrev pub next_incoming : State → ℕ → State

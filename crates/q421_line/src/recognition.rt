@@ -8,7 +8,7 @@ ghost use Rattle.q421_line.specs.Line.{HasHeard};
 use crate::pairs::Pair;
 use g704_cas::Nibble;
 
-// A pair is recognised when the last ten known pairs are it: one every 2 ms, they take 20 ms (ITU-T Q.422).
+// A pair is recognised when the last ten known pairs are it: one every 2 ms, they take 20 ms (our choice).
 const RECOGNISED_AFTER: u8 = 10;
 
 #[derive(Clone, Copy, Debug, PartialEq, Eq)]

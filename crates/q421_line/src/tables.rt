@@ -94,7 +94,7 @@ fn next_outgoing(state: State, backward: Pair) -> State
     }
 }
 
-// By the forward pair. Bit b set is a failure of the other end; clear-forward is answered by idle at once.
+// By the forward pair. Bit b set is unexpected, and a fault; clear-forward is answered by idle at once.
 fn next_incoming(state: State, forward: Pair) -> State
     ensures { result ≡ next_incoming state forward }
 {
