@@ -12,8 +12,8 @@ use Rattle.g726_quant.specs.Blocks.{quan_magnitude, quantised, subtb, log}
 use Rattle.g726_quant.specs.Tables.{RateTables, tables16, tables24, tables32, tables40}
 use Rattle.g726_codec.specs.Codec.{CodecState, at_reset, word_for, stepped, sync, words_from, octets_from}
 use Rattle.g726_codec.specs.Codec.{encoded, decoded}
-use Rattle.g726_codec.specs.Kinds.{enc, dec}
-use Rattle.g726_codec.specs.Laws.{WordsAreCounted, WordsFit, PrefixesComeFirst}
+use Rattle.g726_codec.specs.Kinds.{enc, dec, encoder_after, decoder_after}
+use Rattle.g726_codec.specs.Laws.{WordsAreCounted, WordsFit, PrefixesComeFirst, OctetsAreWords, NothingIsKept}
 use Rattle.g726_codec.specs.declared.CodecKind.{CodecKind}
 use Rattle.g726_codec.specs.declared.CodecKind.TheVariants.{G711, G16, G24, G32, G40}
 
@@ -111,3 +111,12 @@ fit law G16 octets all = words_fit tables16 law (omega arith) at_reset octets
 fit law G24 octets all = words_fit tables24 law (omega arith) at_reset octets
 fit law G32 octets all = words_fit tables32 law (omega arith) at_reset octets
 fit law G40 octets all = words_fit tables40 law (omega arith) at_reset octets
+
+-- in G.711 words are octets, and no state is kept
+pub same_words : OctetsAreWords
+unfolding enc dec
+same_words law octets = (refl, refl)
+
+pub nothing_kept : NothingIsKept
+unfolding encoder_after decoder_after
+nothing_kept law octets words = refl

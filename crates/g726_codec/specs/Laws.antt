@@ -1,8 +1,9 @@
 -- Laws of the codecs.
-use Rattle.std.specs.Prelude.{ℕ, ◌≡◌, ◌<◌, ◌^◌, List, ◌++◌, length, take, All}
+use Rattle.std.specs.Prelude.{ℕ, ◌≡◌, ◌<◌, ◌^◌, List, [], ◌++◌, length, take, All}
 use Rattle.e1_g711.specs.declared.Law.{Law}
-use Rattle.g726_codec.specs.Kinds.{bits_of, enc, dec}
+use Rattle.g726_codec.specs.Kinds.{bits_of, enc, dec, coder_after}
 use Rattle.g726_codec.specs.declared.CodecKind.{CodecKind}
+use Rattle.g726_codec.specs.declared.CodecKind.TheVariants.{G711}
 
 -- a word for each octet, and an octet for each word
 abbrev pub WordsAreCounted : Type 0
@@ -23,3 +24,14 @@ PrefixesComeFirst =
     (law : Law) (kind : CodecKind)
     → ((octets later : List ℕ) → take (length octets) (enc law kind (octets ++ later)) ≡ enc law kind octets)
     × ((words later : List ℕ) → take (length words) (dec law kind (words ++ later)) ≡ dec law kind words)
+
+-- in G.711 octets are their own words, and words their own octets
+abbrev pub OctetsAreWords : Type 0
+OctetsAreWords =
+    (law : Law) (octets : List ℕ) → (enc law G711 octets ≡ octets) × (dec law G711 octets ≡ octets)
+
+-- a codec of G.711 keeps nothing of what it was given
+abbrev pub NothingIsKept : Type 0
+NothingIsKept =
+    (law : Law) (octets words : List ℕ)
+    → coder_after law G711 octets words ≡ coder_after law G711 [] []

@@ -1,5 +1,6 @@
 //! Laws of the definitions, each proved by a function that does nothing.
 ghost use Rattle.g726_codec.specs.Laws.{WordsAreCounted, WordsFit, PrefixesComeFirst};
+ghost use Rattle.g726_codec.specs.Laws.{OctetsAreWords, NothingIsKept};
 
 /// There is a word for each octet and an octet for each word.
 pub fn words_are_counted()
@@ -14,4 +15,10 @@ pub fn words_fit()
 /// The words of the first octets are the first words, and the octets of the first words the first octets.
 pub fn prefixes_come_first()
     ensures { PrefixesComeFirst }
+{}
+
+/// In G.711 the words are the octets themselves, and a codec is after any of them as it is at reset.
+pub fn octets_are_words()
+    ensures words { OctetsAreWords }
+    ensures kept { NothingIsKept }
 {}

@@ -41,3 +41,29 @@ fn first_mu_law_words(rt: HostRuntime) {
         assert!(rt; codec.decode(0) == octet);
     }
 }
+
+// What a decoder gives for the words of an encoder has the same words, encoded again from reset: here for
+// octets that are scattered and near one another in turn.
+#[test]
+fn words_stay_in_tandem(rt: HostRuntime) {
+    for law in [Law::A, Law::Mu] {
+        for kind in [
+            CodecKind::G16,
+            CodecKind::G24,
+            CodecKind::G32,
+            CodecKind::G40,
+        ] {
+            let mut first = AnyCodec::new(law, kind);
+            let mut second = AnyCodec::new(law, kind);
+            for n in 0..4000u32 {
+                let octet = if n / 200 % 2 == 0 {
+                    n * 73 % 251
+                } else {
+                    80 + n % 7
+                };
+                let (word, heard) = through(&mut first, octet as u8);
+                assert!(rt; second.encode(heard) == word, "at {n}");
+            }
+        }
+    }
+}
