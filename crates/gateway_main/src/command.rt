@@ -1,6 +1,16 @@
 //! The command line: what the program is asked to do.
+ghost use Rattle.std.specs.Prelude.{◌≡◌, ◌≢◌, IfSome, IfNone};
+ghost use Rattle.e1_g711.specs.declared.Law.{Law};
+ghost use Rattle.g726_codec.specs.declared.CodecKind.{CodecKind};
+ghost use Rattle.clap.specs.Words.{found_of, rows_of, subcommand_rows_of};
+ghost use Rattle.gw_session.specs.declared.spec.StreamSpec.{StreamSpec};
+ghost use Rattle.gateway_main.specs.Command.{law_name, codec_name, job_name, job_spec, usual_payload};
+ghost use Rattle.gateway_main.specs.Command.{IsStream, IsJob};
+ghost use Rattle.gateway_main.specs.declared.command.Job.{Job};
+
 use clap::{Arg, ArgMatches, Command, Error, value_parser};
 use e1_g711::Law;
+use g726_codec::CodecKind;
 use gw_session::StreamSpec;
 use std::alloc::{AllocError, Global};
 use std::rt::Env;
@@ -10,6 +20,9 @@ use std::{env, io};
 const PCMA: u8 = 8;
 
 const PCMU: u8 = 0;
+
+// The first of the dynamic payload types (RFC 3551, section 3).
+const DYNAMIC: u8 = 96;
 
 /// What the program is asked to do.
 #[derive(Clone, Copy, Debug, PartialEq, Eq)]
@@ -35,13 +48,13 @@ fn with_coding<'a>(alloc: Global, command: Command<'a>) -> Result<Command<'a>, A
         .help("Law of the octets");
     let codec = Arg::new(alloc, "codec")
         .long("codec")
-        .value_parser(["g711"].as_slice())
+        .value_parser(["g711", "g726-16", "g726-24", "g726-32", "g726-40"].as_slice())
         .default_value("g711")
         .help("Coding in RTP");
     let payload = Arg::new(alloc, "payload")
         .long("payload")
         .value_parser(value_parser!(u8).range(0..=127))
-        .help("RTP payload type, 0 to 127 [default: 8 with law a, 0 with law mu]");
+        .help("RTP payload type, 0 to 127 [default: 8 and 0 for g711 with law a and mu, else 96]");
     let ptime = Arg::new(alloc, "ptime")
         .long("ptime")
         .value_parser(["10", "20", "30"].as_slice())
@@ -91,19 +104,68 @@ pub fn matches<'a>(alloc: Global, words: &'a [String]) -> Result<ArgMatches<'a>,
     command.try_get_matches_from(words)
 }
 
+// The law of this name.
+fn law_named(name: &str) -> Option<Law>
+    ensures found { IfSome result (λ law. name.now ≡ law_name law) }
+    ensures none { IfNone result ((law : Law) → name.now ≢ law_name law) }
+{
+    match name {
+        "a" => Some(Law::A),
+        "mu" => Some(Law::Mu),
+        _ => None,
+    }
+}
+
+// The codec of this name.
+fn codec_named(name: &str) -> Option<CodecKind>
+    ensures found { IfSome result (λ codec. name.now ≡ codec_name codec) }
+    ensures none { IfNone result ((codec : CodecKind) → name.now ≢ codec_name codec) }
+{
+    match name {
+        "g711" => Some(CodecKind::G711),
+        "g726-16" => Some(CodecKind::G16),
+        "g726-24" => Some(CodecKind::G24),
+        "g726-32" => Some(CodecKind::G32),
+        "g726-40" => Some(CodecKind::G40),
+        _ => None,
+    }
+}
+
+// The job of this name on a stream.
+fn job_named(name: &str, spec: StreamSpec) -> Option<Job>
+    ensures found { IfSome result (λ job. (name.now ≡ job_name job) × (job_spec job ≡ spec)) }
+    ensures none { IfNone result ((job : Job) → name.now ≢ job_name job) }
+{
+    match name {
+        "encode" => Some(Job::Encode(spec)),
+        "decode" => Some(Job::Decode(spec)),
+        _ => None,
+    }
+}
+
+// The payload type of speech where none is asked for: that of the law in G.711, else the first dynamic one.
+fn usual_payload(law: Law, codec: CodecKind) -> u8
+    ensures { result ≡ usual_payload law codec }
+{
+    match (codec, law) {
+        (CodecKind::G711, Law::A) => PCMA,
+        (CodecKind::G711, Law::Mu) => PCMU,
+        (CodecKind::G16 | CodecKind::G24 | CodecKind::G32 | CodecKind::G40, _) => DYNAMIC,
+    }
+}
+
 // The stream that the options name.
-fn stream_spec(matches: &ArgMatches<'_>) -> Option<StreamSpec> {
-    let law = match matches.get_str("law")? {
-        "mu" => Law::Mu,
-        _ => Law::A,
-    };
-    let usual = match law {
-        Law::A => PCMA,
-        Law::Mu => PCMU,
-    };
+fn stream_spec(matches: &ArgMatches<'_>) -> Option<StreamSpec>
+    ensures found { IfSome result (IsStream (rows_of (found_of matches.now))) }
+    ensures none { IfNone result ((spec : StreamSpec) → ¬ IsStream (rows_of (found_of matches.now)) spec) }
+{
+    let law = law_named(matches.get_str("law")?)?;
+    let codec = codec_named(matches.get_str("codec")?)?;
+    let asked = matches.try_get_one("payload").ok()?;
     StreamSpec::new(
         law,
-        matches.get_one::<u8>("payload").unwrap_or(usual),
+        codec,
+        asked.unwrap_or(usual_payload(law, codec)),
         matches.get_one("ssrc")?,
         matches.get_one("sequence")?,
         matches.get_one("timestamp")?,
@@ -112,11 +174,10 @@ fn stream_spec(matches: &ArgMatches<'_>) -> Option<StreamSpec> {
 }
 
 /// What the matches ask for. The parsers of the options let no other value through than a stream can have.
-pub fn job_of(matches: &ArgMatches<'_>) -> Option<Job> {
+pub fn job_of(matches: &ArgMatches<'_>) -> Option<Job>
+    ensures found { IfSome result (IsJob (subcommand_rows_of matches.now)) }
+    ensures none { IfNone result ((job : Job) → ¬ IsJob (subcommand_rows_of matches.now) job) }
+{
     let (name, options) = matches.subcommand()?;
-    let spec = stream_spec(options)?;
-    match name {
-        "encode" => Some(Job::Encode(spec)),
-        _ => Some(Job::Decode(spec)),
-    }
+    job_named(name, stream_spec(options)?)
 }

@@ -1,5 +1,7 @@
 -- Octets in a buffer.
-use Rattle.std.proofs.Common.{◌≡◌, cond, None, ◌+◌, ◌-◌, ◌<◌, ◌≤◌, ℕ, Bool, true, false, List, [], ◌∷◌, ◌++◌, length, take, drop, refl, sym, ap, ◌∙◌, ◌⊎◌, inl, inr, append-nil, append_assoc, length-take-le, length-drop, arith}
+use Rattle.std.proofs.Common.{◌≡◌, cond, None, ◌+◌, ◌-◌, ◌<◌, ◌≤◌, ℕ, Bool, true, false, List, [], ◌∷◌, ◌++◌, length}
+use Rattle.std.proofs.Common.{take, drop, refl, sym, ap, ◌∙◌, ◌⊎◌, inl, inr, append-nil, append_assoc, length-take-le}
+use Rattle.std.proofs.Common.{length-drop, arith}
 use Rattle.std.specs.List.{copy_within}
 use Rattle.std.specs.Prelude.{Some, slice_index, ◌==◌, nat_lt}
 use Rattle.gw_session.specs.declared.reader.Reader.{Reader}
@@ -13,7 +15,8 @@ use Rattle.std.proofs.lemmas.Grind.{common_steps}
 use Rattle.gw_session.specs.declared.records.Kinds.{Kinds}
 use Rattle.gw_session.specs.declared.records.Ending.{Ending}
 use Rattle.gw_session.specs.declared.records.Ending.TheVariants as endings
-use Rattle.gw_session.specs.Records.{end_of, is_open, is_cut, has_bad_kind, has_bad_circuit, has_bad_length, has_bad_command}
+use Rattle.gw_session.specs.Records.{end_of, is_open, is_cut, has_bad_kind, has_bad_circuit, has_bad_length}
+use Rattle.gw_session.specs.Records.{has_bad_command}
 
 -- moved to the front
 pub moved : (xs : List ℕ) (start filled : ℕ) → start ≤ filled → filled ≤ length xs
@@ -38,15 +41,21 @@ behind xs buf post filled n q r =
 
 -- where more octets may matter the octets are few
 open_go : (none few kind circuit len cut command : Bool) (ending : Ending)
-    → (cond none (Some endings.End) (cond few (Some endings.Truncated) (cond kind (Some endings.BadKind) (cond circuit (Some endings.BadCircuit) (cond len (Some endings.BadCommand) (cond cut (Some endings.Truncated) (cond command (Some endings.BadCommand) None))))))) ≡ Some ending
+    → (cond none (Some endings.End) (cond few (Some endings.Truncated) (cond kind (Some endings.BadKind)
+    (cond circuit (Some endings.BadCircuit) (cond len (Some endings.BadCommand) (cond cut (Some endings.Truncated)
+    (cond command (Some endings.BadCommand) None))))))) ≡ Some ending
     → is_open ending ≡ true → (none ≡ true) ⊎ ((few ≡ true) ⊎ (cut ≡ true))
 open_go true few kind circuit len cut command ending e o = inl refl
 open_go false true kind circuit len cut command ending e o = inr (inl refl)
-open_go false false true circuit len cut command ending e o = let i : ending ≡ endings.BadKind = cc in absurd (false≢true (rw i at o))
-open_go false false false true len cut command ending e o = let i : ending ≡ endings.BadCircuit = cc in absurd (false≢true (rw i at o))
-open_go false false false false true cut command ending e o = let i : ending ≡ endings.BadCommand = cc in absurd (false≢true (rw i at o))
+open_go false false true circuit len cut command ending e o = let i : ending ≡ endings.BadKind = cc in absurd
+    (false≢true (rw i at o))
+open_go false false false true len cut command ending e o = let i : ending ≡ endings.BadCircuit = cc in absurd
+    (false≢true (rw i at o))
+open_go false false false false true cut command ending e o = let i : ending ≡ endings.BadCommand = cc in absurd
+    (false≢true (rw i at o))
 open_go false false false false false true command ending e o = inr (inr refl)
-open_go false false false false false false true ending e o = let i : ending ≡ endings.BadCommand = cc in absurd (false≢true (rw i at o))
+open_go false false false false false false true ending e o = let i : ending ≡ endings.BadCommand = cc in absurd
+    (false≢true (rw i at o))
 open_go false false false false false false false ending e o = cc
 
 pub open_is_short : (kinds : Kinds) (octets : List ℕ) (ending : Ending) → ((i : ℕ) → slice_index octets i < 256)
@@ -55,7 +64,8 @@ unfolding end_of is_cut
 open_is_short kinds octets ending bytes e o =
     let b2 = bytes 2 in
     let b3 = bytes 3 in
-    elim (open_go (length octets == 0) (nat_lt (length octets) 4) (has_bad_kind kinds octets) (has_bad_circuit octets) (has_bad_length octets) (is_cut octets) (has_bad_command octets) ending e o) [
+    elim (open_go (length octets == 0) (nat_lt (length octets) 4) (has_bad_kind kinds octets)
+    (has_bad_circuit octets) (has_bad_length octets) (is_cut octets) (has_bad_command octets) ending e o) [
       | inl h ↦ grind (arith, nat_tests)
       | inr r ↦ elim r [ inl h ↦ grind (arith, nat_tests) | inr h ↦ grind (arith, nat_tests) ]
     ]
@@ -73,18 +83,21 @@ pub kept : (len : ℕ) (xs ys : List ℕ) → length xs ≡ len → take len (xs
 kept len xs ys e = take-append-le len xs ys (omega arith) ∙ take_all len xs (omega arith)
 
 -- where nothing came, what is held is what was held
-pub nothing_came : (held n : ℕ) (old new octets : List ℕ) → n ≡ 0 → length octets ≡ n → take (held + n) new ≡ take held old ++ octets
+pub nothing_came : (held n : ℕ) (old new octets : List ℕ) → n ≡ 0 → length octets ≡ n
+    → take (held + n) new ≡ take held old ++ octets
     → take held new ≡ take held old
 nothing_came held n old new octets e l h =
     let same : held ≡ held + n = omega (arith, e) in
     ap (λ (k : ℕ). take k new) same ∙ h ∙ nothing (take held old) octets (l ∙ e)
 
 -- what came stands behind what was held
-pub came_behind : (sent held octets window : List ℕ) → window ≡ held ++ octets → (sent ++ held) ++ octets ≡ sent ++ window
+pub came_behind : (sent held octets window : List ℕ) → window ≡ held ++ octets
+    → (sent ++ held) ++ octets ≡ sent ++ window
 came_behind sent held octets window e = append_assoc sent held octets ∙ ap (λ (xs : List ℕ). sent ++ xs) (sym e)
 
 -- what is left at the end, moved to the front
-pub moved_left : (buffer : List ℕ) (end left : ℕ) (new : List ℕ) → left ≤ end → end ≤ length buffer → new ≡ copy_within buffer (end - left) end 0
+pub moved_left : (buffer : List ℕ) (end left : ℕ) (new : List ℕ) → left ≤ end → end ≤ length buffer
+    → new ≡ copy_within buffer (end - left) end 0
     → take left new ≡ drop (end - left) (take end buffer)
 moved_left buffer end left new h f e =
     let len : left ≡ end - (end - left) = omega arith in

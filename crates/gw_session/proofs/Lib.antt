@@ -3,5 +3,7 @@ pub mod Buffers
 pub mod Firsts
 pub mod Readings
 pub mod Totality
+pub mod InPlace
 pub mod PacketLemmas
+pub mod Speech
 pub mod Taking

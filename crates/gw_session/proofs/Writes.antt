@@ -1,5 +1,6 @@
 -- Writes one after another, and what they leave where octets are known.
-use Rattle.std.proofs.Common.{◌≡◌, ◌-◌, ◌<◌, ◌≤◌, ◌^◌, ◌==◌, ◌&&◌, cond, ℕ, List, [], ◌∷◌, ◌++◌, length, take, drop, Option, None, Some, refl, sym, ap, ◌∙◌, subst, append_assoc, append-nil, nat_lt, arith}
+use Rattle.std.proofs.Common.{◌≡◌, ◌-◌, ◌<◌, ◌≤◌, ◌^◌, ◌==◌, ◌&&◌, cond, ℕ, List, [], ◌∷◌, ◌++◌, length, take, drop}
+use Rattle.std.proofs.Common.{Option, None, Some, refl, sym, ap, ◌∙◌, subst, append_assoc, append-nil, nat_lt, arith}
 use Rattle.std.proofs.lemmas.Grind.{common_steps}
 use Rattle.std.specs.Io.KnownBytes.{Appends, Keeps, Consumes}
 use Rattle.gw_session.specs.Streams.{SourceState, SinkState, Gives, one_more, AppendsPrefix, Passes, Breaks}
@@ -31,7 +32,8 @@ pub took_some : (n m old new : ℕ) → 0 < n → new ≡ cond ((n == 0) && nat_
 took_some n m old new h e = grind (arith, common_steps)
 
 -- a write that took nothing counts a failure
-pub took_none : (n m old new : ℕ) → n ≤ 0 → 0 < m → old < 2 ^ 64 - 1 → new ≡ cond ((n == 0) && nat_lt 0 m) (one_more old) old → old < new
+pub took_none : (n m old new : ℕ) → n ≤ 0 → 0 < m → old < 2 ^ 64 - 1
+    → new ≡ cond ((n == 0) && nat_lt 0 m) (one_more old) old → old < new
 took_none n m old new h l f e = grind (arith, common_steps)
 
 -- an append, and then nothing
@@ -52,14 +54,16 @@ Consumes-keep (Some a) None c xs p q = absurd p
 Consumes-keep (Some a) (Some b) None xs p q = absurd q
 Consumes-keep (Some a) (Some b) (Some c) xs p q = let e : a ≡ xs ++ c = rw q p in e
 
-pub Consumes-join : (a b c : Option (List ℕ)) (xs ys : List ℕ) → Consumes a b xs → Consumes b c ys → Consumes a c (xs ++ ys)
+pub Consumes-join : (a b c : Option (List ℕ)) (xs ys : List ℕ) → Consumes a b xs → Consumes b c ys
+    → Consumes a c (xs ++ ys)
 Consumes-join None b c xs ys p q = tt
 Consumes-join (Some a) None c xs ys p q = absurd p
 Consumes-join (Some a) (Some b) None xs ys p q = absurd q
 Consumes-join (Some a) (Some b) (Some c) xs ys p q = let e : a ≡ (xs ++ ys) ++ c = rw (p, q, append_assoc) refl in e
 
 -- an append, and then a prefix
-pub AppendsPrefix-join : (a b c : Option (List ℕ)) (xs ys all : List ℕ) → Appends a b xs → AppendsPrefix b c ys → all ≡ xs ++ ys → AppendsPrefix a c all
+pub AppendsPrefix-join : (a b c : Option (List ℕ)) (xs ys all : List ℕ) → Appends a b xs → AppendsPrefix b c ys
+    → all ≡ xs ++ ys → AppendsPrefix a c all
 AppendsPrefix-join a b c xs ys all p q e = record {
   written = xs ++ q.written;
   rest = q.rest;
@@ -75,13 +79,17 @@ read_failed old start new e h n = omega arith
 take_none : (xs ys : List ℕ) (n : ℕ) → n ≡ 0 → xs ++ take n ys ≡ xs
 take_none xs ys n e = ap (λ (k : ℕ). xs ++ take k ys) e ∙ append-nil xs
 
-pub Appends-zero : (a b c : Option (List ℕ)) (xs ys : List ℕ) (n : ℕ) → n ≡ 0 → Appends a b xs → Appends b c (take n ys) → Appends a c xs
+pub Appends-zero : (a b c : Option (List ℕ)) (xs ys : List ℕ) (n : ℕ) → n ≡ 0 → Appends a b xs
+    → Appends b c (take n ys) → Appends a c xs
 Appends-zero a b c xs ys n e p q =
-    let P : List ℕ → Type 0 = λ zs. Appends a c zs in subst P (take_none xs ys n e) (Appends-join a b c xs (take n ys) p q)
+    let P : List ℕ → Type 0 = λ zs. Appends a c zs in subst P (take_none xs ys n e) (Appends-join a b c xs
+    (take n ys) p q)
 
-pub Consumes-zero : (a b c : Option (List ℕ)) (xs ys : List ℕ) (n : ℕ) → n ≡ 0 → Consumes a b xs → Consumes b c (take n ys) → Consumes a c xs
+pub Consumes-zero : (a b c : Option (List ℕ)) (xs ys : List ℕ) (n : ℕ) → n ≡ 0 → Consumes a b xs
+    → Consumes b c (take n ys) → Consumes a c xs
 Consumes-zero a b c xs ys n e p q =
-    let P : List ℕ → Type 0 = λ zs. Consumes a c zs in subst P (take_none xs ys n e) (Consumes-join a b c xs (take n ys) p q)
+    let P : List ℕ → Type 0 = λ zs. Consumes a c zs in subst P (take_none xs ys n e) (Consumes-join a b c xs
+    (take n ys) p q)
 
 -- an append of an equal list
 pub Appends-same : (a b : Option (List ℕ)) (xs ys : List ℕ) → xs ≡ ys → Appends a b xs → Appends a b ys
@@ -137,7 +145,8 @@ Passes-join a b c waiting waiting' before more p q = record {
 
 -- octets that break off behind others
 pub Breaks-join : (a b c : SinkState) (waiting before more : List ℕ)
-    → Passes a.taken b.taken waiting before → b.failures ≡ a.failures → Breaks b c (waiting ++ more) → Breaks a c (before ++ more)
+    → Passes a.taken b.taken waiting before → b.failures ≡ a.failures → Breaks b c (waiting ++ more)
+    → Breaks a c (before ++ more)
 Breaks-join a b c waiting before more p e q = record {
   counted = omega (arith, e, q.counted);
   took = AppendsPrefix-join a.taken b.taken c.taken p.written (waiting ++ more) (before ++ more) p.appended q.took
@@ -148,12 +157,15 @@ Breaks-join a b c waiting before more p e q = record {
 pub Breaks-same : (a b : SinkState) (xs ys : List ℕ) → xs ≡ ys → Breaks a b xs → Breaks a b ys
 Breaks-same a b xs ys e p = let P : List ℕ → Type 0 = λ zs. Breaks a b zs in subst P e p
 
-pub Passes-same : (a b : Option (List ℕ)) (waiting xs ys : List ℕ) → xs ≡ ys → Passes a b waiting xs → Passes a b waiting ys
+pub Passes-same : (a b : Option (List ℕ)) (waiting xs ys : List ℕ) → xs ≡ ys → Passes a b waiting xs
+    → Passes a b waiting ys
 Passes-same a b waiting xs ys e p = let P : List ℕ → Type 0 = λ zs. Passes a b waiting zs in subst P e p
 
 -- what passed and what waits are all
-pub Passes-appended : (a b c : Option (List ℕ)) (waiting octets : List ℕ) → Passes a b waiting octets → Appends b c waiting → Appends a c octets
-Passes-appended a b c waiting octets p q = Appends-same a c (p.written ++ waiting) octets (sym p.whole) (Appends-join a b c p.written waiting p.appended q)
+pub Passes-appended : (a b c : Option (List ℕ)) (waiting octets : List ℕ) → Passes a b waiting octets
+    → Appends b c waiting → Appends a c octets
+Passes-appended a b c waiting octets p q = Appends-same a c (p.written ++ waiting) octets (sym p.whole)
+    (Appends-join a b c p.written waiting p.appended q)
 
 -- what waits breaks off
 pub Breaks-waiting : (a b c : SinkState) (waiting octets : List ℕ)
@@ -186,5 +198,11 @@ pub Passes-start : (a : Option (List ℕ)) (waiting : List ℕ) → waiting ≡ 
 Passes-start a waiting e = record { written = []; whole = sym e; appended = Appends-none a }
 
 -- what was taken whole, with nothing that waits
-pub Passes-empty : (a b : Option (List ℕ)) (waiting : List ℕ) {octets : List ℕ} → waiting ≡ [] → Appends a b octets → Passes a b waiting octets
-Passes-empty a b waiting {octets} e p = record { written = octets; whole = sym (append-nil octets) ∙ ap (λ (xs : List ℕ). octets ++ xs) (sym e); appended = p }
+pub Passes-empty : (a b : Option (List ℕ)) (waiting : List ℕ) {octets : List ℕ} → waiting ≡ [] → Appends a b octets
+    → Passes a b waiting octets
+Passes-empty a b waiting {octets} e p = record {
+  written = octets;
+  whole = sym (append-nil octets)
+      ∙ ap (λ (xs : List ℕ). octets ++ xs) (sym e);
+  appended = p;
+}

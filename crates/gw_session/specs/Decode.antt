@@ -4,6 +4,7 @@ use Rattle.std.specs.Prelude.{ℕ, min, true, false, List, [], length, Option, S
 use Rattle.std.specs.Prelude.{is_none, Result, Ok, Err}
 use Rattle.std.specs.List.{flat_map}
 use Rattle.std.specs.Io.KnownBytes.{Appends, IsAtEnd}
+use Rattle.g726_codec.specs.Kinds.{dec}
 use Rattle.rtp_packet.specs.declared.RtpFault.{RtpFault}
 use Rattle.rtp_packet.specs.Rtp.{Parts}
 use Rattle.rtp_packet.specs.Read.{read_of}
@@ -38,9 +39,9 @@ record_words s _ = None
 abbrev pub words_in : StreamSpec → List Record → List ℕ
 words_in s records = flat_map (λ r. unwrap_or (record_words s r) []) records
 
--- the speech of code words: in G.711 the words themselves
+-- the speech of code words, of one decoder from reset: an octet for each word
 abbrev pub speech_of : StreamSpec → List ℕ → List ℕ
-speech_of s words = words
+speech_of s words = dec s.law s.codec words
 
 -- the speech in records
 abbrev pub decoded : StreamSpec → List Record → List ℕ

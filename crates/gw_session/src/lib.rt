@@ -1,6 +1,7 @@
 //! Sessions: octets and records from a source to a sink.
 #![tactic(auto)]
 
+mod coding;
 mod decode;
 mod encode;
 pub mod laws;

@@ -4,6 +4,7 @@ ghost use Rattle.std.specs.Prelude.{◌≡◌, ◌<◌};
 
 use crate::{RunFault, StreamSpec, Totals, decode_stream, encode_stream};
 use e1_g711::Law;
+use g726_codec::CodecKind;
 use memory::{MemSink, MemSource};
 use std::test::Fail;
 
@@ -28,7 +29,7 @@ fn two_records() -> [u8; 352] {
 
 // The stream of the two records.
 fn a_law() -> Option<StreamSpec> {
-    StreamSpec::new(Law::A, 8, 7, 65535, 4294967200, 20)
+    StreamSpec::new(Law::A, CodecKind::G711, 8, 7, 65535, 4294967200, 20)
 }
 
 fn no_totals() -> Totals {
@@ -105,7 +106,7 @@ fn two_packets(rt: HostRuntime) -> Result<(), Fail> {
 
 #[test]
 fn short_tail_mu(rt: HostRuntime) -> Result<(), Fail> {
-    let spec = StreamSpec::new(Law::Mu, 0, 0, 0, 0, 20).ok_or("a stream")?;
+    let spec = StreamSpec::new(Law::Mu, CodecKind::G711, 0, 0, 0, 0, 20).ok_or("a stream")?;
     let mut source = MemSource::new(rt.alloc(), &[0], 1, None)?;
     let mut sink = MemSink::new(4096, None);
     let ended = encode_stream(&spec, &mut source, &mut sink);
@@ -153,6 +154,72 @@ fn empty_session(rt: HostRuntime) -> Result<(), Fail> {
     let ended = decode(&rt, &[], 1, &mut sink)?;
     assert!(rt; ended == Ok(no_totals()));
     assert!(rt; sink.octets.is_empty());
+    Ok(())
+}
+
+// The usual stream of G.726: payload type 96 and packets of 20 ms.
+fn g726(law: Law, codec: CodecKind) -> Option<StreamSpec> {
+    StreamSpec::new(law, codec, 96, 0, 0, 0, 20)
+}
+
+#[test]
+fn two_samples_filled(rt: HostRuntime) -> Result<(), Fail> {
+    let spec = g726(Law::A, CodecKind::G32).ok_or("a stream")?;
+    let mut source = MemSource::new(rt.alloc(), &[0xD5, 0xD5], 1, None)?;
+    let mut sink = MemSink::new(4096, None);
+    let ended = encode_stream(&spec, &mut source, &mut sink);
+    assert!(rt;
+        ended
+            == Ok(Totals {
+                datagrams: 1,
+                ..no_totals()
+            })
+    );
+    assert!(rt; sink.octets.len() == 4 + 12 + 80);
+    let front = [
+        0x44, 0x01, 0x00, 0x5C, 0x80, 0x60, 0, 0, 0, 0, 0, 0, 0, 0, 0, 0, 0x11,
+    ];
+    assert!(rt; sink.octets.starts_with(&front));
+    Ok(())
+}
+
+#[test]
+fn record_lengths(rt: HostRuntime) -> Result<(), Fail> {
+    for (codec, len) in [
+        (CodecKind::G16, 0x34),
+        (CodecKind::G24, 0x48),
+        (CodecKind::G32, 0x5C),
+        (CodecKind::G40, 0x70),
+    ] {
+        let spec = g726(Law::A, codec).ok_or("a stream")?;
+        let mut source = MemSource::new(rt.alloc(), &SPEECH[..160], 100, None)?;
+        let mut sink = MemSink::new(4096, None);
+        let _ = encode_stream(&spec, &mut source, &mut sink);
+        assert!(rt; sink.octets.starts_with(&[0x44, 0x01, 0x00, len]));
+        assert!(rt; sink.octets.len() == 4 + usize::from(len));
+    }
+    Ok(())
+}
+
+#[test]
+fn all_zero_payload(rt: HostRuntime) -> Result<(), Fail> {
+    let mut record = [0u8; 96];
+    record[..6].copy_from_slice(&[0x44, 0x01, 0x00, 0x5C, 0x80, 0x60]);
+    for (law, first) in [(Law::A, 0x55), (Law::Mu, 0xFE)] {
+        let spec = g726(law, CodecKind::G32).ok_or("a stream")?;
+        let mut source = MemSource::new(rt.alloc(), &record, 50, None)?;
+        let mut sink = MemSink::new(4096, None);
+        let ended = decode_stream(rt.alloc(), &spec, &mut source, &mut sink);
+        assert!(rt;
+            ended
+                == Ok(Totals {
+                    records: 1,
+                    ..no_totals()
+                })
+        );
+        assert!(rt; sink.octets.len() == 160);
+        assert!(rt; sink.octets.starts_with(&[first]));
+    }
     Ok(())
 }
 
