@@ -10,7 +10,7 @@ ghost use Rattle.gw_session.specs.Decode.{datagram_words, DecodesAll, DecodesUnt
 ghost use Rattle.gw_session.specs.Sessions.{answer_of, count_record, speech_behind};
 
 use crate::coding::word_bits;
-use crate::outcome::{RunFault, Totals};
+use crate::outcome::{NO_TOTALS, RunFault, Totals};
 use crate::reader::Reader;
 use crate::records::{Ending, Kinds, first_record};
 use crate::spec::StreamSpec;
@@ -234,13 +234,7 @@ pub fn decode_stream<S: Source, K: Sink>(
     g726_codec::laws::prefixes_come_first();
     let mut codec = AnyCodec::new(spec.law, spec.codec);
     let mut waiting = Waiting::new();
-    let mut totals = Totals {
-        records: 0,
-        octets: 0,
-        datagrams: 0,
-        dropped: 0,
-        port_faults: 0,
-    };
+    let mut totals = NO_TOTALS;
     'decoding: loop {
         match first_record(&DATAGRAMS, reader.held()) {
             Ok(first) => {

@@ -13,7 +13,7 @@ ghost use Rattle.gw_session.specs.Packets.{header_with, IsPacket, IsUnderWay, en
 ghost use Rattle.gw_session.specs.declared.spec.StreamSpec.{StreamSpec};
 
 use crate::coding::{encode_all, word_bits};
-use crate::outcome::{RunFault, Totals};
+use crate::outcome::{NO_TOTALS, RunFault, Totals};
 use crate::reader::{MAX_READS, read_behind};
 use crate::spec::StreamSpec;
 use crate::streams::{Sink, Source};
@@ -235,11 +235,8 @@ fn encode_totals(datagrams: u64) -> Totals
     } }
 {
     Totals {
-        records: 0,
-        octets: 0,
         datagrams,
-        dropped: 0,
-        port_faults: 0,
+        ..NO_TOTALS
     }
 }
 

@@ -16,6 +16,15 @@ pub struct Totals {
     pub port_faults: u64,
 }
 
+/// The totals before anything is done.
+pub const NO_TOTALS: Totals = Totals {
+    records: 0,
+    octets: 0,
+    datagrams: 0,
+    dropped: 0,
+    port_faults: 0,
+};
+
 /// Why a session ended before the end of its source. The printed form is the program's line for it.
 #[derive(Clone, Copy, Debug, PartialEq, Eq, Error)]
 pub enum RunFault {
