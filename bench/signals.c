@@ -45,6 +45,22 @@ struct maker {
     enum law law;
 };
 
+/* Fills a list, or a part of one. */
+typedef void making(struct maker *maker, uint8_t *list, size_t len);
+
+/* Segments of some length, each by one of the first so many ways to make a list. */
+static void segments(struct maker *maker, making *const ways[], uint32_t count, uint8_t *list, size_t len)
+{
+    for (size_t at = 0; at < len;) {
+        size_t segment = 20 + pick(&maker->random, 2000);
+        if (segment > len - at)
+            segment = len - at;
+        maker->number = next_random(&maker->random) >> 8;
+        ways[pick(&maker->random, count)](maker, list + at, segment);
+        at += segment;
+    }
+}
+
 /* Code words. The greatest positive one is all ones after the sign bit's zero, the greatest negative one its
    complement. */
 
@@ -113,21 +129,14 @@ static void periodic_words(struct maker *maker, uint8_t *words, size_t len)
 
 static void word_segments(struct maker *maker, uint8_t *words, size_t len);
 
-static void (*const word_makers[])(struct maker *, uint8_t *, size_t) = {
+static making *const word_makers[] = {
     zero_words, one_word, loudest_words, two_words, word_after_loud, periodic_words, random_words,
     random_words, word_segments,
 };
 
 static void word_segments(struct maker *maker, uint8_t *words, size_t len)
 {
-    for (size_t at = 0; at < len;) {
-        size_t segment = 20 + pick(&maker->random, 2000);
-        if (segment > len - at)
-            segment = len - at;
-        maker->number = next_random(&maker->random) >> 8;
-        word_makers[pick(&maker->random, 7)](maker, words + at, segment);
-        at += segment;
-    }
+    segments(maker, word_makers, 7, words, len);
 }
 
 const struct kind *word_kinds(int bits)
@@ -267,21 +276,14 @@ static void speech(struct maker *maker, uint8_t *octets, size_t len)
 
 static void octet_segments(struct maker *maker, uint8_t *octets, size_t len);
 
-static void (*const octet_makers[])(struct maker *, uint8_t *, size_t) = {
+static making *const octet_makers[] = {
     one_octet, two_octets, loudest_octets, random_octets, tones, noise, loud_then_silent, speech,
     random_octets, speech, octet_segments,
 };
 
 static void octet_segments(struct maker *maker, uint8_t *octets, size_t len)
 {
-    for (size_t at = 0; at < len;) {
-        size_t segment = 20 + pick(&maker->random, 2000);
-        if (segment > len - at)
-            segment = len - at;
-        maker->number = next_random(&maker->random) >> 8;
-        octet_makers[pick(&maker->random, 8)](maker, octets + at, segment);
-        at += segment;
-    }
+    segments(maker, octet_makers, 8, octets, len);
 }
 
 const struct kind *octet_kinds(void)

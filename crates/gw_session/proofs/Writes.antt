@@ -31,11 +31,6 @@ split_more octets written rest n h e = grind (arith, common_steps)
 pub took_some : (n m old new : ℕ) → 0 < n → new ≡ cond ((n == 0) && nat_lt 0 m) (one_more old) old → new ≡ old
 took_some n m old new h e = grind (arith, common_steps)
 
--- a write that took nothing counts a failure
-pub took_none : (n m old new : ℕ) → n ≤ 0 → 0 < m → old < 2 ^ 64 - 1
-    → new ≡ cond ((n == 0) && nat_lt 0 m) (one_more old) old → old < new
-took_none n m old new h l f e = grind (arith, common_steps)
-
 -- an append, and then nothing
 pub Appends-keep : (a b c : Option (List ℕ)) (xs : List ℕ) → Appends a b xs → Keeps b c → Appends a c xs
 Appends-keep None b c xs p q = tt
@@ -74,22 +69,6 @@ AppendsPrefix-join a b c xs ys all p q e = record {
 -- a failed read counts
 pub read_failed : (old start new : ℕ) → start ≡ old → old < 2 ^ 64 - 1 → new ≡ one_more start → old < new
 read_failed old start new e h n = omega arith
-
--- a read of nothing
-take_none : (xs ys : List ℕ) (n : ℕ) → n ≡ 0 → xs ++ take n ys ≡ xs
-take_none xs ys n e = ap (λ (k : ℕ). xs ++ take k ys) e ∙ append-nil xs
-
-pub Appends-zero : (a b c : Option (List ℕ)) (xs ys : List ℕ) (n : ℕ) → n ≡ 0 → Appends a b xs
-    → Appends b c (take n ys) → Appends a c xs
-Appends-zero a b c xs ys n e p q =
-    let P : List ℕ → Type 0 = λ zs. Appends a c zs in subst P (take_none xs ys n e) (Appends-join a b c xs
-    (take n ys) p q)
-
-pub Consumes-zero : (a b c : Option (List ℕ)) (xs ys : List ℕ) (n : ℕ) → n ≡ 0 → Consumes a b xs
-    → Consumes b c (take n ys) → Consumes a c xs
-Consumes-zero a b c xs ys n e p q =
-    let P : List ℕ → Type 0 = λ zs. Consumes a c zs in subst P (take_none xs ys n e) (Consumes-join a b c xs
-    (take n ys) p q)
 
 -- an append of an equal list
 pub Appends-same : (a b : Option (List ℕ)) (xs ys : List ℕ) → xs ≡ ys → Appends a b xs → Appends a b ys

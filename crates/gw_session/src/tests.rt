@@ -2,6 +2,7 @@ mod memory;
 
 ghost use Rattle.std.specs.Prelude.{◌≡◌, ◌<◌};
 
+use crate::outcome::NO_TOTALS;
 use crate::{RunFault, StreamSpec, Totals, decode_stream, encode_stream};
 use e1_g711::Law;
 use g726_codec::CodecKind;
@@ -30,16 +31,6 @@ fn two_records() -> [u8; 352] {
 // The stream of the two records.
 fn a_law() -> Option<StreamSpec> {
     StreamSpec::new(Law::A, CodecKind::G711, 8, 7, 65535, 4294967200, 20)
-}
-
-fn no_totals() -> Totals {
-    Totals {
-        records: 0,
-        octets: 0,
-        datagrams: 0,
-        dropped: 0,
-        port_faults: 0,
-    }
 }
 
 // Encodes octets, at most so many in a read and in a write.
@@ -81,7 +72,7 @@ fn two_packets(rt: HostRuntime) -> Result<(), Fail> {
             ended
                 == Ok(Totals {
                     datagrams: 2,
-                    ..no_totals()
+                    ..NO_TOTALS
                 }),
             "of {len}"
         );
@@ -95,7 +86,7 @@ fn two_packets(rt: HostRuntime) -> Result<(), Fail> {
             ended
                 == Ok(Totals {
                     records: 2,
-                    ..no_totals()
+                    ..NO_TOTALS
                 }),
             "of {len}"
         );
@@ -114,7 +105,7 @@ fn short_tail_mu(rt: HostRuntime) -> Result<(), Fail> {
         ended
             == Ok(Totals {
                 datagrams: 1,
-                ..no_totals()
+                ..NO_TOTALS
             })
     );
     let mut record = [0xFF; 176];
@@ -141,7 +132,7 @@ fn decode_refusals(rt: HostRuntime) -> Result<(), Fail> {
             == Ok(Totals {
                 records: 1,
                 dropped: 1,
-                ..no_totals()
+                ..NO_TOTALS
             })
     );
     assert!(rt; sink.octets.is_empty());
@@ -152,7 +143,7 @@ fn decode_refusals(rt: HostRuntime) -> Result<(), Fail> {
 fn empty_session(rt: HostRuntime) -> Result<(), Fail> {
     let mut sink = MemSink::new(4096, None);
     let ended = decode(&rt, &[], 1, &mut sink)?;
-    assert!(rt; ended == Ok(no_totals()));
+    assert!(rt; ended == Ok(NO_TOTALS));
     assert!(rt; sink.octets.is_empty());
     Ok(())
 }
@@ -172,7 +163,7 @@ fn two_samples_filled(rt: HostRuntime) -> Result<(), Fail> {
         ended
             == Ok(Totals {
                 datagrams: 1,
-                ..no_totals()
+                ..NO_TOTALS
             })
     );
     assert!(rt; sink.octets.len() == 4 + 12 + 80);
@@ -214,7 +205,7 @@ fn all_zero_payload(rt: HostRuntime) -> Result<(), Fail> {
             ended
                 == Ok(Totals {
                     records: 1,
-                    ..no_totals()
+                    ..NO_TOTALS
                 })
         );
         assert!(rt; sink.octets.len() == 160);
