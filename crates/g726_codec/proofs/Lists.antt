@@ -13,7 +13,8 @@ use Rattle.g726_quant.specs.Tables.{RateTables, tables16, tables24, tables32, ta
 use Rattle.g726_codec.specs.Codec.{CodecState, at_reset, word_for, stepped, sync, words_from, octets_from}
 use Rattle.g726_codec.specs.Codec.{encoded, decoded}
 use Rattle.g726_codec.specs.Kinds.{enc, dec, encoder_after, decoder_after}
-use Rattle.g726_codec.specs.Laws.{WordsAreCounted, WordsFit, PrefixesComeFirst, OctetsAreWords, NothingIsKept}
+use Rattle.g726_codec.specs.Laws.{WordsAreCounted, WordsFit, PrefixesComeFirst, NothingIsCoded, OctetsAreWords}
+use Rattle.g726_codec.specs.Laws.{NothingIsKept}
 use Rattle.g726_codec.specs.declared.CodecKind.{CodecKind}
 use Rattle.g726_codec.specs.declared.CodecKind.TheVariants.{G711, G16, G24, G32, G40}
 
@@ -120,3 +121,23 @@ same_words law octets = (refl, refl)
 pub nothing_kept : NothingIsKept
 unfolding encoder_after decoder_after
 nothing_kept law octets words = refl
+
+-- of no octets there are no words, and of no words no octets
+enc_of_none : (law : Law) (kind : CodecKind) → enc law kind [] ≡ []
+unfolding enc encoded
+enc_of_none law G711 = refl
+enc_of_none law G16 = refl
+enc_of_none law G24 = refl
+enc_of_none law G32 = refl
+enc_of_none law G40 = refl
+
+dec_of_none : (law : Law) (kind : CodecKind) → dec law kind [] ≡ []
+unfolding dec decoded
+dec_of_none law G711 = refl
+dec_of_none law G16 = refl
+dec_of_none law G24 = refl
+dec_of_none law G32 = refl
+dec_of_none law G40 = refl
+
+pub none_coded : NothingIsCoded
+none_coded law kind = (enc_of_none law kind, dec_of_none law kind)

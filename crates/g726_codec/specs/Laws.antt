@@ -25,6 +25,10 @@ PrefixesComeFirst =
     → ((octets later : List ℕ) → take (length octets) (enc law kind (octets ++ later)) ≡ enc law kind octets)
     × ((words later : List ℕ) → take (length words) (dec law kind (words ++ later)) ≡ dec law kind words)
 
+-- of no octets there are no words, and of no words no octets
+abbrev pub NothingIsCoded : Type 0
+NothingIsCoded = (law : Law) (kind : CodecKind) → (enc law kind [] ≡ []) × (dec law kind [] ≡ [])
+
 -- in G.711 octets are their own words, and words their own octets
 abbrev pub OctetsAreWords : Type 0
 OctetsAreWords =

@@ -1,5 +1,5 @@
 //! Laws of the definitions, each proved by a function that does nothing.
-ghost use Rattle.g726_codec.specs.Laws.{WordsAreCounted, WordsFit, PrefixesComeFirst};
+ghost use Rattle.g726_codec.specs.Laws.{WordsAreCounted, WordsFit, PrefixesComeFirst, NothingIsCoded};
 ghost use Rattle.g726_codec.specs.Laws.{OctetsAreWords, NothingIsKept};
 
 /// There is a word for each octet and an octet for each word.
@@ -15,6 +15,11 @@ pub fn words_fit()
 /// The words of the first octets are the first words, and the octets of the first words the first octets.
 pub fn prefixes_come_first()
     ensures { PrefixesComeFirst }
+{}
+
+/// There are no words of no octets, and no octets of no words.
+pub fn nothing_is_coded()
+    ensures { NothingIsCoded }
 {}
 
 /// In G.711 the words are the octets themselves, and a codec is after any of them as it is at reset.

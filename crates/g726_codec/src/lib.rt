@@ -9,11 +9,13 @@ mod decoder;
 mod duplex;
 mod encoder;
 pub mod laws;
+mod names;
 mod state;
 
 pub use any::AnyCodec;
 pub use decoder::Decoder;
 pub use encoder::Encoder;
+pub use names::CodecName;
 
 /// The codec of a circuit's speech in RTP.
 #[derive(Clone, Copy, Debug, PartialEq, Eq)]

@@ -1,4 +1,3 @@
-pub mod Stream
 pub mod Streams
 pub mod Records
 pub mod Reading
@@ -8,3 +7,10 @@ pub mod Encode
 pub mod Packets
 pub mod Decode
 pub mod Sessions
+pub mod Answers
+pub mod Running
+pub mod Acting
+pub mod Ports
+pub mod Serve
+pub mod Serving
+pub mod ServeLaws

@@ -13,12 +13,12 @@ use Rattle.q421_line.specs.declared.LineFault.TheVariants.{WrongRole, NotIdle, N
 use Rattle.q421_line.specs.declared.LineFault.TheVariants.{NotInCall, NotBlocked}
 
 -- the number of a fault
-unfoldable pub number_of : LineFault → ℕ
-number_of WrongRole = 1
-number_of NotIdle = 2
-number_of NotSeized = 3
-number_of NotInCall = 4
-number_of NotBlocked = 5
+unfoldable pub fault_number : LineFault → ℕ
+fault_number WrongRole = 1
+fault_number NotIdle = 2
+fault_number NotSeized = 3
+fault_number NotInCall = 4
+fault_number NotBlocked = 5
 
 -- the command is for lines of this role (ITU-T Q.421): seizing and clear-forward are forward signals,
 -- answer, clear-back and blocking are backward ones

@@ -3,7 +3,7 @@
 #![tactic(auto)]
 
 ghost use Rattle.std.specs.Prelude.{◌≡◌};
-ghost use Rattle.q421_line.specs.Commands.{number_of};
+ghost use Rattle.q421_line.specs.Commands.{fault_number};
 
 use thiserror::Error;
 
@@ -85,9 +85,9 @@ pub enum LineFault {
 
 impl LineFault {
     /// The fault's number, 1 to 5 in the order of the variants.
-    #[tactic(auto, unfolding(crate::specs::Commands::number_of))]
+    #[tactic(auto, unfolding(crate::specs::Commands::fault_number))]
     pub fn number(self) -> u8
-        ensures { result ≡ number_of self }
+        ensures { result ≡ fault_number self }
     {
         match self {
             LineFault::WrongRole => 1,

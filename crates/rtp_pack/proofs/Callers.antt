@@ -9,7 +9,7 @@ use Rattle.std.specs.Int.{bytes_low_first}
 use Rattle.byteorder.specs.Endian.{little_number}
 use Rattle.byteorder.specs.Numbers.{little_number-reads_back, length-bytes_low_first}
 use Rattle.std.proofs.lemmas.List.{append-nil}
-use Rattle.rtp_pack.specs.Payload.{IsPayload, number_of, octets_of, words_of, words_from, whole_words_of}
+use Rattle.rtp_pack.specs.Payload.{IsPayload, payload_number, octets_of, words_of, words_from, whole_words_of}
 use Rattle.rtp_pack.specs.Laws.{ReadsBack, WordsAreCounted, WordsFit, OctetsAreWords, WordsAreOctets}
 use Rattle.rtp_pack.proofs.Numbers.{number-front, little-front, octets-little, pow-octets, number-lt}
 use Rattle.rtp_pack.proofs.WordsLeft.{words_from-first, number-back}
@@ -22,12 +22,12 @@ reads_back k ws size payload =
     let n = k * length ws / 8 in
     let whole = payload.whole in
     let eight : 8 * n ≡ k * length ws = omega (arith, whole) in
-    let len : length (bytes_low_first 0 n (number_of k ws)) ≡ n = length-bytes_low_first 0 n (number_of k ws) in
+    let len : length (bytes_low_first 0 n (payload_number k ws)) ≡ n = length-bytes_low_first 0 n (payload_number k ws) in
     let room : 256 ^ n ≡ 2 ^ (k * length ws) = pow-octets n ∙ ap (λ (m : ℕ). 2 ^ m) eight in
-    let fits : number_of k ws < 256 ^ n = rw room (number-lt k ws payload.each) in
-    let octets = bytes_low_first 0 n (number_of k ws) in
-    let back : little_number n octets ≡ number_of k ws =
-    ap (little_number n) (sym (append-nil octets)) ∙ little_number-reads_back n (number_of k ws) [] fits in
+    let fits : payload_number k ws < 256 ^ n = rw room (number-lt k ws payload.each) in
+    let octets = bytes_low_first 0 n (payload_number k ws) in
+    let back : little_number n octets ≡ payload_number k ws =
+    ap (little_number n) (sym (append-nil octets)) ∙ little_number-reads_back n (payload_number k ws) [] fits in
     let count : 8 * n / k ≡ length ws = ap (λ (m : ℕ). m / k) eight ∙ mul-div_cancel_left (length ws) some in
     rw (len, back, count) (number-back k ws payload.each)
 
@@ -75,10 +75,10 @@ octets_are_words octets each =
     rw count (eight_bit_words octets each)
 
 -- words of 8 bits make the number of these octets
-eight_bit_number : (words : List ℕ) → number_of 8 words ≡ little_number (length words) words
+eight_bit_number : (words : List ℕ) → payload_number 8 words ≡ little_number (length words) words
 eight_bit_number [] = refl
 eight_bit_number (w ∷ words) =
-    let front : number_of 8 (w ∷ words) ≡ number_of 8 words * 256 + w = number-front 8 w words in
+    let front : payload_number 8 (w ∷ words) ≡ payload_number 8 words * 256 + w = number-front 8 w words in
     let little = little-front w words in
     let behind = eight_bit_number words in
     omega (arith, front, little, behind)

@@ -4,35 +4,35 @@ use Rattle.std.specs.Prelude.{MatchOption}
 use Rattle.rtp_packet.specs.declared.RtpFault.{RtpFault}
 use Rattle.rtp_packet.specs.declared.RtpFault.TheVariants.{Short, Version, ShortSources, ShortExtension}
 use Rattle.rtp_packet.specs.declared.RtpFault.TheVariants.{BadPadding}
-use Rattle.rtp_packet.specs.Fault.{number_of}
+use Rattle.rtp_packet.specs.Fault.{fault_number}
 
 -- the numbers begin with 1
-from-1 : (f : RtpFault) → 1 ≤ number_of f
+from-1 : (f : RtpFault) → 1 ≤ fault_number f
 from-1 Short = omega arith
 from-1 _ = omega arith
 
 -- where the first fault does not hold, one that does has a number from 2 on
-from-2 : (holds : RtpFault → Bool) → holds Short ≡ false → (f : RtpFault) → holds f ≡ true → 2 ≤ number_of f
+from-2 : (holds : RtpFault → Bool) → holds Short ≡ false → (f : RtpFault) → holds f ≡ true → 2 ≤ fault_number f
 from-2 holds a Short h = absurd (cc)
 from-2 holds a _ h = omega arith
 
 -- where the first two do not hold, from 3 on
 from-3 : (holds : RtpFault → Bool) → holds Short ≡ false → holds Version ≡ false → (f : RtpFault) → holds f ≡ true
-    → 3 ≤ number_of f
+    → 3 ≤ fault_number f
 from-3 holds a b Short h = absurd (cc)
 from-3 holds a b Version h = absurd (cc)
 from-3 holds a b _ h = omega arith
 
 -- where the first three do not hold, from 4 on
 from-4 : (holds : RtpFault → Bool) → holds Short ≡ false → holds Version ≡ false → holds ShortSources ≡ false
-    → (f : RtpFault) → holds f ≡ true → 4 ≤ number_of f
+    → (f : RtpFault) → holds f ≡ true → 4 ≤ fault_number f
 from-4 holds a b c ShortExtension h = omega arith
 from-4 holds a b c BadPadding h = omega arith
 from-4 holds a b c _ h = absurd (cc)
 
 -- where the first four do not hold, 5
 from-5 : (holds : RtpFault → Bool) → holds Short ≡ false → holds Version ≡ false → holds ShortSources ≡ false
-    → holds ShortExtension ≡ false → (f : RtpFault) → holds f ≡ true → 5 ≤ number_of f
+    → holds ShortExtension ≡ false → (f : RtpFault) → holds f ≡ true → 5 ≤ fault_number f
 from-5 holds a b c d BadPadding h = omega arith
 from-5 holds a b c d _ h = absurd (cc)
 
@@ -51,7 +51,7 @@ pub least : (holds : RtpFault → Bool) (a b c d e : Bool) → holds Short ≡ a
     → MatchOption (cond a (Some Short) (cond b (Some Version) (cond c (Some ShortSources)
     (cond d (Some ShortExtension) (cond e (Some BadPadding) None)))))
     ((f : RtpFault) → holds f ≡ false)
-    (λ f. (holds f ≡ true) × ((other : RtpFault) → holds other ≡ true → number_of f ≤ number_of other))
+    (λ f. (holds f ≡ true) × ((other : RtpFault) → holds other ≡ true → fault_number f ≤ fault_number other))
 least holds true b c d e pa pb pc pd pe = (pa, λ other h. from-1 other)
 least holds false true c d e pa pb pc pd pe = (pb, from-2 holds pa)
 least holds false false true d e pa pb pc pd pe = (pc, from-3 holds pa pb)

@@ -31,6 +31,13 @@ impl<'a> RtpView<'a> {
     ghost use Rattle.std.specs.Prelude.{◌≡◌};
     ghost use Rattle.rtp_packet.specs.Rtp.{as_extension};
 
+    /// The fields of the fixed header that change from datagram to datagram (RFC 3550, 5.1).
+    pub fn header(&self) -> Header
+        ensures { result ≡ self.now.header }
+    {
+        self.header
+    }
+
     /// What the payload is, from 0 to 127 (RFC 3550, 5.1, PT).
     pub fn payload_type(&self) -> u8
         ensures { result ≡ self.now.header.payload_type }

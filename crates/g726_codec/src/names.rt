@@ -1,0 +1,84 @@
+//! The names of codecs, in configurations, listings and command lines.
+
+ghost use Rattle.std.specs.Prelude.{◌≡◌, ◌≤◌, length};
+ghost use Rattle.g726_codec.specs.Names.{text_of, codec_named, name_of, kind_of};
+
+use crate::CodecKind;
+use e1_g711::Law;
+
+/// A codec by its name: ITU-T G.711 in one of its laws, or ITU-T G.726 at one of its rates. RFC 3551, 4.5.4 and
+/// 4.5.14, has these names in capitals.
+#[derive(Clone, Copy, Debug, PartialEq, Eq)]
+pub enum CodecName {
+    /// `pcma`, G.711 in A-law.
+    Pcma,
+    /// `pcmu`, G.711 in mu-law.
+    Pcmu,
+    /// `g726-16`, G.726 at 16 kbit/s.
+    G16,
+    /// `g726-24`, G.726 at 24 kbit/s.
+    G24,
+    /// `g726-32`, G.726 at 32 kbit/s.
+    G32,
+    /// `g726-40`, G.726 at 40 kbit/s.
+    G40,
+}
+
+impl CodecName {
+    /// The name of a codec on a trunk of this law.
+    pub fn of(law: Law, kind: CodecKind) -> CodecName
+        ensures { result ≡ name_of law kind }
+    {
+        match (law, kind) {
+            (Law::A, CodecKind::G711) => CodecName::Pcma,
+            (Law::Mu, CodecKind::G711) => CodecName::Pcmu,
+            (_, CodecKind::G16) => CodecName::G16,
+            (_, CodecKind::G24) => CodecName::G24,
+            (_, CodecKind::G32) => CodecName::G32,
+            (_, CodecKind::G40) => CodecName::G40,
+        }
+    }
+
+    /// The codec of this text, if it is a name.
+    pub fn named(text: &str) -> Option<CodecName>
+        ensures { result ≡ codec_named text.now }
+    {
+        match text {
+            "pcma" => Some(CodecName::Pcma),
+            "pcmu" => Some(CodecName::Pcmu),
+            "g726-16" => Some(CodecName::G16),
+            "g726-24" => Some(CodecName::G24),
+            "g726-32" => Some(CodecName::G32),
+            "g726-40" => Some(CodecName::G40),
+            _ => None,
+        }
+    }
+
+    /// The text of the name, of at most seven letters.
+    pub fn text(self) -> &'static str
+        ensures text { result.now ≡ text_of self }
+        ensures len { length result.now ≤ 7 }
+    {
+        match self {
+            CodecName::Pcma => "pcma",
+            CodecName::Pcmu => "pcmu",
+            CodecName::G16 => "g726-16",
+            CodecName::G24 => "g726-24",
+            CodecName::G32 => "g726-32",
+            CodecName::G40 => "g726-40",
+        }
+    }
+
+    /// The codec that is named.
+    pub fn kind(self) -> CodecKind
+        ensures { result ≡ kind_of self }
+    {
+        match self {
+            CodecName::Pcma | CodecName::Pcmu => CodecKind::G711,
+            CodecName::G16 => CodecKind::G16,
+            CodecName::G24 => CodecKind::G24,
+            CodecName::G32 => CodecKind::G32,
+            CodecName::G40 => CodecKind::G40,
+        }
+    }
+}

@@ -1,0 +1,216 @@
+//! One table of the list.
+
+ghost use Rattle.std.specs.Prelude.{◌≡◌, ◌≤◌, ◌||◌, ◌==◌, IsTrue, IfOk, Some, None, codes, option_map, Ok};
+ghost use Rattle.toml.specs.Data.{as_integer};
+ghost use Rattle.toml.specs.View.{table_view};
+ghost use Rattle.rtp_pack.specs.PacketTime.{IsPacketTime};
+ghost use Rattle.gw_config.specs.Keys.{read_as, value_at};
+ghost use Rattle.gw_config.specs.Names.{payload_of, ptime_of, static_type};
+ghost use Rattle.gw_config.specs.Meaning.{speech_of, stream_of, port_at, ports_at, settings, entry_of};
+ghost use Rattle.gw_config.specs.Settings.{settings_view};
+ghost use Rattle.gw_config.specs.Views.{speech_view, stream_view, ports_view, entry_view};
+
+use crate::fault::Kind;
+use crate::keys::{choice_at, has_only, integer_at, look_up, whole_at, words_at};
+use crate::names::CodecName;
+use e1_g711::Law;
+use gw_circuit::CircuitConfig;
+use q421_line::Role;
+use toml::Table;
+
+pub(crate) const LOOPBACK: &str = "127.0.0.1";
+
+#[derive(Clone, Copy)]
+pub(crate) struct Speech {
+    pub number: u8,
+    pub role: Role,
+    pub name: CodecName,
+    pub payload_type: u8,
+}
+
+#[derive(Clone, Copy)]
+pub(crate) struct Stream {
+    pub ptime: u8,
+    pub prefill: u16,
+    pub ssrc: u32,
+    pub sequence: u16,
+    pub timestamp: u32,
+}
+
+#[derive(Clone, Copy)]
+pub(crate) struct Ends<'a> {
+    pub local_port: u16,
+    pub peer_host: &'a str,
+    pub peer_port: u16,
+}
+
+#[derive(Clone, Copy)]
+pub(crate) struct Entry<'a> {
+    pub number: u8,
+    pub settings: CircuitConfig,
+    pub ports: Option<Ends<'a>>,
+}
+
+#[tactic(auto, unfolding(crate::specs::Keys::value_at))]
+fn payload_at(name: CodecName, table: &Table) -> Result<u8, Kind>
+    ensures value { result ≡ value_at as_integer (payload_of name) (static_type name) (codes "payload") (table_view table.now) }
+    ensures bound { IfOk result (λ n. n ≤ 127) }
+{
+    match integer_at(table, "payload")? {
+        None => name.static_type().ok_or(Kind::Missing),
+        Some(number) => {
+            let own = match name.static_type() {
+                Some(fixed) => number == i64::from(fixed),
+                None => false,
+            };
+            if own || (number >= 96 && number <= 127) {
+                return Ok(number as u8);
+            }
+            Err(Kind::OutOfRange)
+        }
+    }
+}
+
+#[tactic(auto, unfolding(crate::specs::Keys::value_at))]
+fn ptime_at(table: &Table) -> Result<u8, Kind>
+    ensures value { result ≡ value_at as_integer ptime_of (Some 20) (codes "ptime") (table_view table.now) }
+    ensures bound { IfOk result (λ n. IsPacketTime n) }
+{
+    match integer_at(table, "ptime")? {
+        None => Ok(20),
+        Some(10) => Ok(10),
+        Some(20) => Ok(20),
+        Some(30) => Ok(30),
+        Some(_) => Err(Kind::OutOfRange),
+    }
+}
+
+#[tactic(auto, unfolding(crate::specs::Meaning::speech_of))]
+fn speech_of(law: Law, table: &Table) -> Result<Speech, Kind>
+    ensures value { read_as speech_view result ≡ speech_of law (table_view table.now) }
+    ensures payload { IfOk result (λ s. s.payload_type ≤ 127) }
+    ensures number { IfOk result (λ s. s.number ≤ 30) }
+{
+    let number = whole_at(table, "number", 1, 30, None)? as u8;
+    let role = choice_at(table, "role", Some(Role::Outgoing))?;
+    let name = choice_at(table, "codec", Some(CodecName::of_law(law)))?;
+    let payload_type = payload_at(name, table)?;
+    Ok(Speech {
+        number,
+        role,
+        name,
+        payload_type,
+    })
+}
+
+#[tactic(auto, unfolding(crate::specs::Meaning::stream_of))]
+fn stream_of(number: u8, table: &Table) -> Result<Stream, Kind>
+    ensures value { read_as stream_view result ≡ stream_of number (table_view table.now) }
+    ensures ptime { IfOk result (λ s. IsPacketTime s.ptime) }
+    ensures prefill { IfOk result (λ s. s.prefill ≤ 1600) }
+{
+    let ptime = ptime_at(table)?;
+    let prefill = whole_at(table, "prefill", 0, 1600, Some(0))? as u16;
+    let ssrc = whole_at(table, "ssrc", 0, u32::MAX, Some(u32::from(number)))?;
+    let sequence = whole_at(table, "sequence", 0, 65535, Some(0))? as u16;
+    let timestamp = whole_at(table, "timestamp", 0, u32::MAX, Some(0))?;
+    Ok(Stream {
+        ptime,
+        prefill,
+        ssrc,
+        sequence,
+        timestamp,
+    })
+}
+
+#[tactic(auto, unfolding(crate::specs::Keys::value_at))]
+fn port_at(table: &Table, key: &str, other: &str) -> Result<Option<u16>, Kind>
+    ensures { result ≡ port_at key.now other.now (table_view table.now) }
+{
+    match integer_at(table, key)? {
+        None => {
+            if look_up(table, other).is_some() {
+                return Err(Kind::Missing);
+            }
+            Ok(None)
+        }
+        Some(number) => {
+            if number < 1 || number > 65535 {
+                return Err(Kind::OutOfRange);
+            }
+            Ok(Some(number as u16))
+        }
+    }
+}
+
+#[tactic(auto, unfolding(crate::specs::Meaning::ports_at))]
+fn ports_at<'a>(table: &'a Table) -> Result<Option<Ends<'a>>, Kind>
+    ensures { read_as ports_view result ≡ ports_at (table_view table.now) }
+{
+    let here = port_at(table, "local_port", "peer_port")?;
+    let there = port_at(table, "peer_port", "local_port")?;
+    let peer_host = words_at(table, "peer_host", LOOPBACK)?;
+    match (here, there) {
+        (Some(local_port), Some(peer_port)) => Ok(Some(Ends {
+            local_port,
+            peer_host,
+            peer_port,
+        })),
+        _ => Ok(None),
+    }
+}
+
+fn settings(speech: &Speech, stream: &Stream) -> CircuitConfig
+    requires payload { speech.now.payload_type ≤ 127 }
+    requires ptime { IsPacketTime stream.now.ptime }
+    requires prefill { stream.now.prefill ≤ 1600 }
+    ensures { settings_view result ≡ settings (speech_view speech.now) (stream_view stream.now) }
+{
+    CircuitConfig::new(
+        speech.role,
+        speech.name.codec(),
+        speech.payload_type,
+        stream.ptime,
+        stream.prefill,
+        stream.ssrc,
+        stream.sequence,
+        stream.timestamp,
+    )
+    .unwrap()
+}
+
+const CIRCUIT_KEYS: [&str; 12] = [
+    "number",
+    "role",
+    "codec",
+    "payload",
+    "ptime",
+    "prefill",
+    "ssrc",
+    "sequence",
+    "timestamp",
+    "local_port",
+    "peer_port",
+    "peer_host",
+];
+
+/// What one table says by itself.
+#[tactic(auto, unfolding(crate::specs::Meaning::entry_of))]
+pub(crate) fn entry_of<'a>(law: Law, table: &'a Table) -> Result<Entry<'a>, Kind>
+    ensures { read_as entry_view result ≡ entry_of law (table_view table.now) }
+{
+    if !has_only(table, &CIRCUIT_KEYS) {
+        return Err(Kind::UnknownKey);
+    }
+    let speech = speech_of(law, table)?;
+    let stream = stream_of(speech.number, table)?;
+    let ports = ports_at(table)?;
+    if !speech.name.goes_with(law) {
+        return Err(Kind::LawCodec);
+    }
+    Ok(Entry {
+        number: speech.number,
+        settings: settings(&speech, &stream),
+        ports,
+    })
+}

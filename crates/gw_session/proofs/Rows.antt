@@ -1,0 +1,141 @@
+-- Worked rows, of records and of what is written for them by given replies.
+use Rattle.std.proofs.Common.{◌≡◌, ℕ, List, [], ◌∷◌, ◌++◌, take, refl, arith, Some, None, Ok, Err}
+use Rattle.std.specs.Prelude.{map, replicate}
+use Rattle.q421_line.specs.declared.LineFault.TheVariants as line
+use Rattle.q421_line.specs.Commands.{fault_number}
+use Rattle.gw_circuit.specs.declared.Dropped.TheVariants as dropped
+use Rattle.gw_circuit.specs.declared.CodecFault.TheVariants as codec
+use Rattle.gw_switch.specs.Whole.{Reply}
+use Rattle.gw_session.specs.declared.records.Ending.TheVariants as endings
+use Rattle.gw_session.specs.Records.{Record, Reads, end_of, has_bad_kind, has_bad_circuit, has_bad_length, is_cut}
+use Rattle.gw_session.specs.Records.{has_bad_command}
+use Rattle.gw_session.specs.Answers.{render}
+use Rattle.gw_session.specs.Running.{all_kinds}
+
+abbrev seize : Record
+seize = Record.Command 1 1
+
+abbrev stray : Record
+stray = Record.Datagram 1 (0 ∷ [])
+
+-- a command, a datagram and half a head
+abbrev session : List ℕ
+session = 0x43 ∷ 1 ∷ 0 ∷ 1 ∷ 1 ∷ 0x44 ∷ 1 ∷ 0 ∷ 1 ∷ 0 ∷ 0x54 ∷ 0 ∷ 0 ∷ []
+
+-- .. is read as two records, and then cut
+refused_records : Reads all_kinds session (seize ∷ stray ∷ []) endings.Truncated
+unfolding end_of has_bad_kind has_bad_circuit has_bad_length is_cut has_bad_command
+refused_records = record {
+  rest = 0x54 ∷ 0 ∷ 0 ∷ [];
+  whole = refl;
+  good = (
+    (refl, (omega arith, omega arith), omega arith, omega arith),
+    ((refl, omega arith, (omega arith, omega arith)), tt),
+  );
+  ends = refl;
+}
+
+refusals_written : render (seize ∷ stray ∷ [])
+    (Reply.Obeyed (Err line.NotIdle) ∷ Reply.Admitted (Err dropped.NotOpen) ∷ [])
+    ≡ 0x52 ∷ 1 ∷ 0 ∷ 2 ∷ 0x43 ∷ 2 ∷ 0x52 ∷ 1 ∷ 0 ∷ 2 ∷ 0x44 ∷ 0x14 ∷ []
+unfolding fault_number
+refusals_written = refl
+
+-- how single records end
+bad_kind : end_of all_kinds (0x58 ∷ 0 ∷ 0 ∷ 0 ∷ []) ≡ Some endings.BadKind
+unfolding end_of has_bad_kind
+bad_kind = refl
+
+cut_kind : end_of all_kinds (0x58 ∷ []) ≡ Some endings.Truncated
+unfolding end_of
+cut_kind = refl
+
+bad_circuit : end_of all_kinds (0x54 ∷ 1 ∷ 0 ∷ 0 ∷ []) ≡ Some endings.BadCircuit
+unfolding end_of has_bad_kind has_bad_circuit
+bad_circuit = refl
+
+bad_command_length : end_of all_kinds (0x43 ∷ 1 ∷ 0 ∷ 2 ∷ []) ≡ Some endings.BadCommand
+unfolding end_of has_bad_kind has_bad_circuit has_bad_length
+bad_command_length = refl
+
+bad_command : end_of all_kinds (0x43 ∷ 1 ∷ 0 ∷ 1 ∷ 7 ∷ []) ≡ Some endings.BadCommand
+unfolding end_of has_bad_kind has_bad_circuit has_bad_length is_cut has_bad_command
+bad_command = refl
+
+bad_codec_length : end_of all_kinds (0x4B ∷ 1 ∷ 0 ∷ 1 ∷ 4 ∷ []) ≡ Some endings.BadCommand
+unfolding end_of has_bad_kind has_bad_circuit has_bad_length
+bad_codec_length = refl
+
+bad_codec : end_of all_kinds (0x4B ∷ 1 ∷ 0 ∷ 2 ∷ 6 ∷ 0x60 ∷ []) ≡ Some endings.BadCommand
+unfolding end_of has_bad_kind has_bad_circuit has_bad_length is_cut has_bad_command
+bad_codec = refl
+
+bad_payload_type : end_of all_kinds (0x4B ∷ 1 ∷ 0 ∷ 2 ∷ 4 ∷ 0x80 ∷ []) ≡ Some endings.BadCommand
+unfolding end_of has_bad_kind has_bad_circuit has_bad_length is_cut has_bad_command
+bad_payload_type = refl
+
+-- a codec record, taken and refused
+codec_record : Reads all_kinds (0x4B ∷ 1 ∷ 0 ∷ 2 ∷ 4 ∷ 0x60 ∷ []) (Record.Codec 1 4 0x60 ∷ []) endings.End
+unfolding end_of
+codec_record = record {
+  rest = [];
+  whole = refl;
+  good = ((refl, (omega arith, omega arith), omega arith, omega arith, omega arith), tt);
+  ends = refl;
+}
+
+codec_taken : render (Record.Codec 1 4 0x60 ∷ []) (Reply.Changed (Ok tt) ∷ [])
+    ≡ 0x52 ∷ 1 ∷ 0 ∷ 2 ∷ 0x4B ∷ 0 ∷ []
+codec_taken = refl
+
+codec_refused : render (Record.Codec 1 4 8 ∷ []) (Reply.Changed (Err codec.PayloadType) ∷ [])
+    ≡ 0x52 ∷ 1 ∷ 0 ∷ 2 ∷ 0x4B ∷ 0x1F ∷ []
+codec_refused = refl
+
+-- empty bodies
+empty_trunk : render (Record.Trunk [] ∷ []) [] ≡ 0x54 ∷ 0 ∷ 0 ∷ 0 ∷ []
+empty_trunk = refl
+
+empty_datagram : render (Record.Datagram 1 [] ∷ []) (Reply.Admitted (Err dropped.NotOpen) ∷ [])
+    ≡ 0x52 ∷ 1 ∷ 0 ∷ 2 ∷ 0x44 ∷ 0x14 ∷ []
+empty_datagram = refl
+
+-- two frames
+abbrev two_frames : List ℕ
+two_frames =
+    (0x9B ∷ replicate 15 0xD5) ++ (0x0F ∷ replicate 15 0xD5) ++ (0xFF ∷ replicate 15 0xD5) ++ (0x99 ∷ replicate 15 0xD5)
+
+two_frames_replayed : render (Record.Trunk (replicate 64 0xD5) ∷ [])
+    (map (λ o. Reply.Sent (record { octet = o; packet = None })) two_frames)
+    ≡ 0x54 ∷ 0 ∷ 0 ∷ 0x40 ∷ two_frames
+two_frames_replayed = refl
+
+-- a datagram that is sent comes before its trunk record
+packet_first : render (Record.Trunk (1 ∷ 2 ∷ []) ∷ [])
+    (Reply.Sent (record { octet = 3; packet = None })
+    ∷ Reply.Sent (record { octet = 4; packet = Some (7, 5 ∷ 6 ∷ []) }) ∷ [])
+    ≡ 0x44 ∷ 7 ∷ 0 ∷ 2 ∷ 5 ∷ 6 ∷ 0x54 ∷ 0 ∷ 0 ∷ 2 ∷ 3 ∷ 4 ∷ []
+packet_first = refl
+
+-- the session cut to each length
+cut_to_each_length :
+    (end_of all_kinds (take 0 session) ≡ Some endings.End)
+    × (end_of all_kinds (take 1 session) ≡ Some endings.Truncated)
+    × (end_of all_kinds (take 2 session) ≡ Some endings.Truncated)
+    × (end_of all_kinds (take 3 session) ≡ Some endings.Truncated)
+    × (end_of all_kinds (take 4 session) ≡ Some endings.Truncated)
+unfolding end_of has_bad_kind has_bad_circuit has_bad_length is_cut has_bad_command
+cut_to_each_length = (refl, refl, refl, refl, refl)
+
+abbrev later : List ℕ
+later = 0x44 ∷ 1 ∷ 0 ∷ 1 ∷ 0 ∷ []
+
+cut_datagram :
+    (end_of all_kinds (take 0 later) ≡ Some endings.End)
+    × (end_of all_kinds (take 1 later) ≡ Some endings.Truncated)
+    × (end_of all_kinds (take 2 later) ≡ Some endings.Truncated)
+    × (end_of all_kinds (take 3 later) ≡ Some endings.Truncated)
+    × (end_of all_kinds (take 4 later) ≡ Some endings.Truncated)
+    × (end_of all_kinds (take 5 later) ≡ None)
+unfolding end_of has_bad_kind has_bad_circuit has_bad_length is_cut has_bad_command
+cut_datagram = (refl, refl, refl, refl, refl, refl)

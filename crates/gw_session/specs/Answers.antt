@@ -1,0 +1,100 @@
+-- What a session of a gateway makes of its records, and what it writes for them.
+use Rattle.std.specs.Prelude.{◌==◌, ℕ, if◌then◌else◌, List, [], ◌∷◌, ◌++◌, length, take, drop, map}
+use Rattle.std.specs.Prelude.{Option, Some, None, Err}
+use Rattle.std.specs.List.{flat_map}
+use Rattle.q421_line.specs.declared.Cmd.{Cmd}
+use Rattle.q421_line.specs.declared.Cmd.TheVariants.{Seize, Clear, Answer, ClearBack, Block, Unblock}
+use Rattle.q421_line.specs.Commands.{fault_number}
+use Rattle.g726_codec.specs.declared.CodecKind.{CodecKind}
+use Rattle.g726_codec.specs.declared.CodecKind.TheVariants.{G711, G16, G24, G32, G40}
+use Rattle.gw_switch.specs.Events.{Event}
+use Rattle.gw_circuit.specs.Faults as refusals
+use Rattle.gw_switch.specs.Whole.{Reply}
+use Rattle.gw_session.specs.Records.{Record, record_of}
+
+-- the command of an octet from 1 to 6
+abbrev pub command_of : ℕ → Cmd
+command_of octet =
+    if octet == 1 then Seize else (if octet == 2 then Clear else (if octet == 3 then Answer
+    else (if octet == 4 then ClearBack else (if octet == 5 then Block else Unblock))))
+
+-- the codec of an octet from 1 to 5
+abbrev pub codec_of : ℕ → CodecKind
+codec_of octet =
+    if octet == 1 then G711 else (if octet == 2 then G16 else (if octet == 3 then G24
+    else (if octet == 4 then G32 else G40)))
+
+-- the events of a record
+abbrev pub events_of : Record → List Event
+events_of (Record.Trunk octets) = map Event.Octet octets
+events_of (Record.Datagram circuit octets) = Event.Datagram circuit octets ∷ []
+events_of (Record.Command circuit command) = Event.Command circuit (command_of command) ∷ []
+events_of (Record.Codec circuit codec payload_type) = Event.Codec circuit (codec_of codec) payload_type ∷ []
+
+abbrev pub events : List Record → List Event
+events records = flat_map events_of records
+
+-- a record that is written
+pub data Written : Type 0 where
+  Trunk : (octets : List ℕ) → Written
+  Datagram : (circuit : ℕ) → (octets : List ℕ) → Written
+  Answered : (circuit : ℕ) → (kind : ℕ) → (code : ℕ) → Written
+
+-- its octets
+abbrev pub written_out : Written → List ℕ
+written_out (Written.Trunk octets) = record_of 0x54 0 octets
+written_out (Written.Datagram circuit octets) = record_of 0x44 circuit octets
+written_out (Written.Answered circuit kind code) = record_of 0x52 circuit (kind ∷ code ∷ [])
+
+-- the datagram that is sent with an octet
+abbrev pub packet_of : Option (ℕ × List ℕ) → List Written
+packet_of (Some p) = Written.Datagram p.0 p.1 ∷ []
+packet_of None = []
+
+-- what a reply says of the trunk: the octet that is sent, and the datagram that goes with it
+abbrev pub octet_in : Reply → ℕ
+octet_in (Reply.Sent out) = out.octet
+octet_in _ = 0
+
+abbrev pub packets_in : Reply → List Written
+packets_in (Reply.Sent out) = packet_of out.packet
+packets_in _ = []
+
+-- 0, or the number of the fault
+abbrev pub code_of : Reply → ℕ
+code_of (Reply.Admitted (Err dropped)) = refusals.code_of dropped
+code_of (Reply.Obeyed (Err fault)) = fault_number fault
+code_of (Reply.Changed (Err fault)) = refusals.fault_number fault
+code_of _ = 0
+
+-- What answers a record, by the replies to its events: the datagrams that go with the octets of a trunk
+-- record, and then a trunk record of equal length; one answer for any other.
+abbrev pub answers : Record → List Reply → List Written
+answers (Record.Trunk octets) replies =
+    flat_map packets_in replies ++ Written.Trunk (map octet_in replies) ∷ []
+answers (Record.Datagram circuit octets) replies =
+    map (λ r. Written.Answered circuit 0x44 (code_of r)) replies
+answers (Record.Command circuit command) replies =
+    map (λ r. Written.Answered circuit 0x43 (code_of r)) replies
+answers (Record.Codec circuit codec payload_type) replies =
+    map (λ r. Written.Answered circuit 0x4B (code_of r)) replies
+
+-- what answers records, by the replies to the events of all of them
+abbrev pub answered : List Record → List Reply → List Written
+answered [] replies = []
+answered (r ∷ records) replies =
+    answers r (take (length (events_of r)) replies) ++ answered records (drop (length (events_of r)) replies)
+
+-- .. as octets
+abbrev pub render : List Record → List Reply → List ℕ
+render records replies = flat_map written_out (answered records replies)
+
+-- the octets of the trunk in a record that is written
+abbrev pub trunk_in : Written → List ℕ
+trunk_in (Written.Trunk octets) = octets
+trunk_in _ = []
+
+-- the datagram in a record that is written
+abbrev pub datagrams_in : Written → List (ℕ × List ℕ)
+datagrams_in (Written.Datagram circuit octets) = (circuit, octets) ∷ []
+datagrams_in _ = []
