@@ -101,7 +101,6 @@ impl Aligner {
     }
 
     // Does what `octet` does, for an octet that may be a signal.
-    #[inline(never)]
     fn follow(&mut self, octet: u8) -> Place
         ensures placed { (history : List ℕ) → Stands self.old history
             → result ≡ place (history ++ octet ∷ []) (length history) }

@@ -34,7 +34,6 @@ impl Signalling {
     }
 
     // Hears an octet of slot 0 or 16, or one that has no slot.
-    #[inline(never)]
     fn hear_framing(&mut self, place: Place, octet: u8)
         ensures { Hears self.old self.new place octet }
     {
