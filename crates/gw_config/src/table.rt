@@ -12,8 +12,9 @@ ghost use Rattle.gw_config.specs.Views.{speech_view, stream_view, ports_view, en
 
 use crate::fault::Kind;
 use crate::keys::{choice_at, has_only, integer_at, look_up, whole_at, words_at};
-use crate::names::CodecName;
+use crate::names::{goes_with, static_type};
 use e1_g711::Law;
+use g726_codec::{CodecKind, CodecName};
 use gw_circuit::CircuitConfig;
 use q421_line::Role;
 use toml::Table;
@@ -57,9 +58,9 @@ fn payload_at(name: CodecName, table: &Table) -> Result<u8, Kind>
     ensures bound { IfOk result (λ n. n ≤ 127) }
 {
     match integer_at(table, "payload")? {
-        None => name.static_type().ok_or(Kind::Missing),
+        None => static_type(name).ok_or(Kind::Missing),
         Some(number) => {
-            let own = match name.static_type() {
+            let own = match static_type(name) {
                 Some(fixed) => number == i64::from(fixed),
                 None => false,
             };
@@ -93,7 +94,7 @@ fn speech_of(law: Law, table: &Table) -> Result<Speech, Kind>
 {
     let number = whole_at(table, "number", 1, 30, None)? as u8;
     let role = choice_at(table, "role", Some(Role::Outgoing))?;
-    let name = choice_at(table, "codec", Some(CodecName::of_law(law)))?;
+    let name = choice_at(table, "codec", Some(CodecName::of(law, CodecKind::G711)))?;
     let payload_type = payload_at(name, table)?;
     Ok(Speech {
         number,
@@ -168,7 +169,7 @@ fn settings(speech: &Speech, stream: &Stream) -> CircuitConfig
 {
     CircuitConfig::new(
         speech.role,
-        speech.name.codec(),
+        speech.name.kind(),
         speech.payload_type,
         stream.ptime,
         stream.prefill,
@@ -205,7 +206,7 @@ pub(crate) fn entry_of<'a>(law: Law, table: &'a Table) -> Result<Entry<'a>, Kind
     let speech = speech_of(law, table)?;
     let stream = stream_of(speech.number, table)?;
     let ports = ports_at(table)?;
-    if !speech.name.goes_with(law) {
+    if !goes_with(law, speech.name) {
         return Err(Kind::LawCodec);
     }
     Ok(Entry {
