@@ -1,5 +1,5 @@
-use Rattle.std.proofs.Common.{◌≡◌, ◌<◌, ℕ, pos, length, rules, get_or, ◌∙◌, map, of_z, SFits, w16}
-use Rattle.g726_predict.proofs.Lanes.{eight, eight_of, all_lanes, at_lane}
+use Rattle.std.proofs.Common.{◌≡◌, pos, length, rules, get_or, ◌∙◌, SFits, w16}
+use Rattle.g726_predict.proofs.Lanes.{eight, all_lanes, at_lane}
 use Rattle.g726_predict.proofs.LaneProducts.{bits_below}
 use Rattle.g726_predict.proofs.LaneSums.{product, product_fits, products_are, all_sum, zeros_sum, half_is}
 use Rattle.g726_predict.proofs.accum.estimates.Goals as goal

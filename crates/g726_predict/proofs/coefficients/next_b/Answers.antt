@@ -1,4 +1,4 @@
-use Rattle.std.proofs.Common.{◌≡◌, ◌<◌, ℕ, pos, length, rules, get_or, SFits, nat_le, ℤ, Bool, to_z, of_z, w16, w32}
+use Rattle.std.proofs.Common.{◌≡◌, ℕ, pos, length, rules, get_or, SFits, nat_le, ℤ, Bool, to_z, of_z, w16, w32}
 use Rattle.std.proofs.lemmas.Int.{to_z-of_z}
 use Rattle.g726_predict.specs.Coefficients.{updated_b}
 use Rattle.g726_predict.specs.Predictor.{trigb}
