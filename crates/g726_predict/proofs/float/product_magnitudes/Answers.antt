@@ -1,6 +1,6 @@
 use Rattle.std.proofs.Common.{◌<◌, get_or}
 use Rattle.g726_predict.proofs.Lanes.{eight, same_lanes, all_lanes, at_lane}
-use Rattle.g726_predict.proofs.LaneProducts.{product_is, places_below, product_fits}
+use Rattle.g726_predict.proofs.LaneProducts.{product_is, places_below, magnitude_fits}
 use Rattle.g726_predict.proofs.float.product_magnitudes.Goals as goal
 
 pub overflow_shl-moved : goal.overflow_shl-moved
@@ -18,7 +18,7 @@ overflow_cast-result c =
     let ws = c.args.words in
     rw (c.floata.ensures.exponents, c.floata.ensures.mantissas, eight 0 xs c.requires.eight)
     (rw (eight 0 ws c.requires.eight_words)
-    (all_lanes (λ i h. product_fits (get_or xs i 0) (get_or ws i 0))))
+    (all_lanes (λ i h. magnitude_fits (get_or xs i 0) (get_or ws i 0))))
 
 pub returns : goal.returns
 returns c =
