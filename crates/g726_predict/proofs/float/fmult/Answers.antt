@@ -1,0 +1,22 @@
+use Rattle.std.proofs.Common.{◌<◌, get_or}
+use Rattle.g726_predict.proofs.Lanes.{eight, same_lanes, all_lanes, at_lane}
+use Rattle.g726_predict.proofs.LaneProducts.{fmult_is, coefficient_below}
+use Rattle.g726_predict.proofs.float.fmult.Goals as goal
+
+pub product_magnitudes-magnitudes-requires-clause-magnitudes :
+    goal.product_magnitudes-magnitudes-requires-clause-magnitudes
+product_magnitudes-magnitudes-requires-clause-magnitudes c =
+    let xs = c.args.coefficients in
+    let fits = at_lane (λ x. x < 65536) 0 xs c.requires.eight c.requires.coefficients in
+    rw (c.coefficient_magnitudes.ensures, eight 0 xs c.requires.eight)
+    (all_lanes (λ i h. coefficient_below (get_or xs i 0) (fits i h)))
+
+pub returns : goal.returns
+returns c =
+    let xs = c.args.coefficients in
+    let ws = c.args.words in
+    let xs_fit = at_lane (λ x. x < 65536) 0 xs c.requires.eight c.requires.coefficients in
+    let ws_fit = at_lane (λ w. w < 2048) 0 ws c.requires.eight_words c.requires.words in
+    rw (c.product_magnitudes-magnitudes.ensures, c.coefficient_magnitudes.ensures, eight 0 xs c.requires.eight)
+    (rw (eight 0 ws c.requires.eight_words)
+    (same_lanes (λ i h. fmult_is (get_or xs i 0) (get_or ws i 0) (xs_fit i h) (ws_fit i h))))
