@@ -23,7 +23,7 @@ pub(crate) fn encode(codec: &mut AnyCodec, kind: CodecKind, octet: u8) -> u8
     g726_codec::laws::octets_are_words();
     match kind {
         CodecKind::G711 => octet,
-        _ => codec.encode(octet),
+        _ => encode_g726(codec, octet),
     }
 }
 
@@ -47,7 +47,21 @@ pub(crate) fn decode(codec: &mut AnyCodec, kind: CodecKind, word: u8) -> u8
     }
 }
 
-// Apart, so that a slot of G.711 does not save the registers that a step of G.726 takes.
+// These two are apart, so that a slot of G.711 does not save the registers that a step of G.726 takes.
+#[inline(never)]
+fn encode_g726(codec: &mut AnyCodec, octet: u8) -> u8
+    ensures bound { result < 2 ^ bits_of codec.old.kind }
+    ensures kind { codec.new.kind ≡ codec.old.kind }
+    ensures words { (law : Law) (kind : CodecKind) (octets words : List ℕ)
+        → codec.old ≡ coder_after law kind octets words
+        → enc law kind (octets ++ octet ∷ []) ≡ enc law kind octets ++ result ∷ [] }
+    ensures stands { (law : Law) (kind : CodecKind) (octets words : List ℕ)
+        → codec.old ≡ coder_after law kind octets words
+        → codec.new ≡ coder_after law kind (octets ++ octet ∷ []) words }
+{
+    codec.encode(octet)
+}
+
 #[inline(never)]
 fn decode_g726(codec: &mut AnyCodec, word: u8) -> u8
     requires { word < 2 ^ bits_of codec.old.kind }
