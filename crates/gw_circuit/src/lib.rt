@@ -2,6 +2,7 @@
 #![tactic(auto)]
 
 mod circuit;
+mod codec;
 mod config;
 pub mod laws;
 mod payload_types;

@@ -1,0 +1,77 @@
+//! The steps of a codec, which G.711 passes by: its words are its octets, and its codec keeps nothing.
+
+ghost use Rattle.std.specs.Prelude.{◌≡◌, ◌<◌, ◌^◌, ◌++◌, ◌∷◌, [], ℕ, List};
+ghost use Rattle.e1_g711.specs.declared.Law.{Law};
+ghost use Rattle.g726_codec.specs.declared.CodecKind.{CodecKind};
+ghost use Rattle.g726_codec.specs.Kinds.{bits_of, enc, dec, coder_after};
+
+use g726_codec::{AnyCodec, CodecKind};
+
+// The word of the next octet.
+#[inline]
+pub(crate) fn encode(codec: &mut AnyCodec, kind: CodecKind, octet: u8) -> u8
+    requires { codec.old.kind ≡ kind }
+    ensures bound { result < 2 ^ bits_of kind }
+    ensures kind { codec.new.kind ≡ kind }
+    ensures words { (law : Law) (kind : CodecKind) (octets words : List ℕ)
+        → codec.old ≡ coder_after law kind octets words
+        → enc law kind (octets ++ octet ∷ []) ≡ enc law kind octets ++ result ∷ [] }
+    ensures stands { (law : Law) (kind : CodecKind) (octets words : List ℕ)
+        → codec.old ≡ coder_after law kind octets words
+        → codec.new ≡ coder_after law kind (octets ++ octet ∷ []) words }
+{
+    g726_codec::laws::octets_are_words();
+    match kind {
+        CodecKind::G711 => octet,
+        _ => encode_g726(codec, octet),
+    }
+}
+
+// The octet of the next word.
+#[inline]
+pub(crate) fn decode(codec: &mut AnyCodec, kind: CodecKind, word: u8) -> u8
+    requires kind { codec.old.kind ≡ kind }
+    requires word { word < 2 ^ bits_of kind }
+    ensures kind { codec.new.kind ≡ kind }
+    ensures octets { (law : Law) (kind : CodecKind) (octets words : List ℕ)
+        → codec.old ≡ coder_after law kind octets words
+        → dec law kind (words ++ word ∷ []) ≡ dec law kind words ++ result ∷ [] }
+    ensures stands { (law : Law) (kind : CodecKind) (octets words : List ℕ)
+        → codec.old ≡ coder_after law kind octets words
+        → codec.new ≡ coder_after law kind octets (words ++ word ∷ []) }
+{
+    g726_codec::laws::octets_are_words();
+    match kind {
+        CodecKind::G711 => word,
+        _ => decode_g726(codec, word),
+    }
+}
+
+// These two are apart, so that a slot of G.711 does not save the registers that a step of G.726 takes.
+#[inline(never)]
+fn encode_g726(codec: &mut AnyCodec, octet: u8) -> u8
+    ensures bound { result < 2 ^ bits_of codec.old.kind }
+    ensures kind { codec.new.kind ≡ codec.old.kind }
+    ensures words { (law : Law) (kind : CodecKind) (octets words : List ℕ)
+        → codec.old ≡ coder_after law kind octets words
+        → enc law kind (octets ++ octet ∷ []) ≡ enc law kind octets ++ result ∷ [] }
+    ensures stands { (law : Law) (kind : CodecKind) (octets words : List ℕ)
+        → codec.old ≡ coder_after law kind octets words
+        → codec.new ≡ coder_after law kind (octets ++ octet ∷ []) words }
+{
+    codec.encode(octet)
+}
+
+#[inline(never)]
+fn decode_g726(codec: &mut AnyCodec, word: u8) -> u8
+    requires { word < 2 ^ bits_of codec.old.kind }
+    ensures kind { codec.new.kind ≡ codec.old.kind }
+    ensures octets { (law : Law) (kind : CodecKind) (octets words : List ℕ)
+        → codec.old ≡ coder_after law kind octets words
+        → dec law kind (words ++ word ∷ []) ≡ dec law kind words ++ result ∷ [] }
+    ensures stands { (law : Law) (kind : CodecKind) (octets words : List ℕ)
+        → codec.old ≡ coder_after law kind octets words
+        → codec.new ≡ coder_after law kind octets (words ++ word ∷ []) }
+{
+    codec.decode(word)
+}
