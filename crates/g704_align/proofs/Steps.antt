@@ -308,3 +308,11 @@ module _ (c : List ℕ) (x age ws wd : ℕ) (h : IsAlignment age ws wd c) where
   -- an age is below two frames
   pub age-below : age < 64
   age-below = let a = h.counted in omega arith
+
+  -- an octet between the signals, with the next age as it is computed
+  pub between-signals : (next : ℕ) → age % 32 ≢ 0 → (age < 64 → next ≡ (age + 1) % 64)
+      → IsAlignment next ws wd (c ++ x ∷ [])
+  between-signals next between is =
+      let zero : age ≢ 0 = λ e. between (omega (arith, e)) in
+      let frame : age ≢ 32 = λ e. between (omega (arith, e)) in
+      subst (λ a. IsAlignment a ws wd (c ++ x ∷ [])) (sym (is age-below)) (other-more zero frame)

@@ -2,6 +2,8 @@
 #![tactic(auto)]
 
 ghost use Rattle.std.specs.Prelude.{◌≡◌, ◌+◌, ◌%◌, ◌<◌, ℕ, List, Option, [], ◌∷◌, ◌++◌, length};
+ghost use Rattle.std.specs.Prelude.{nat_lt};
+ghost use Rattle.g704_align.specs.declared.Place.TheVariants.{Slot};
 ghost use Rattle.g704_align.specs.Search.{is_fas, is_nfas};
 ghost use Rattle.g704_align.specs.Placing.{place, alarm_after, number_of};
 ghost use Rattle.g704_align.specs.Aligner.{IsCandidate, is_refuted, IsAlignment, count_after, Describes};
@@ -73,6 +75,33 @@ impl Aligner {
 
     /// Takes the next octet of the stream and tells its place.
     pub fn octet(&mut self, octet: u8) -> Place
+        ensures placed { (history : List ℕ) → Stands self.old history
+            → result ≡ place (history ++ octet ∷ []) (length history) }
+        ensures stands { (history : List ℕ) → Stands self.old history
+            → Stands self.new (history ++ octet ∷ []) }
+        ensures in_frame { number_of result < 32 }
+    {
+        // The octets between the signals move nothing but the age, and are 31 of 32.
+        if let Phase::Aligned {
+            age,
+            wrong_fas,
+            wrong_nfas,
+        } = self.phase
+        {
+            if age % FRAME != 0 {
+                self.phase = Phase::Aligned {
+                    age: next_age(age),
+                    wrong_fas,
+                    wrong_nfas,
+                };
+                return slot_at(age);
+            }
+        }
+        self.follow(octet)
+    }
+
+    // Does what `octet` does, for an octet that may be a signal.
+    fn follow(&mut self, octet: u8) -> Place
         ensures placed { (history : List ℕ) → Stands self.old history
             → result ≡ place (history ++ octet ∷ []) (length history) }
         ensures stands { (history : List ℕ) → Stands self.old history
@@ -200,7 +229,17 @@ fn after_aligned(age: u8, wrong_fas: u8, wrong_nfas: u8, octet: u8) -> Phase
 fn next_age(age: u8) -> u8
     ensures { age < 64 → result ≡ (age + 1) % 64 }
 {
-    if age < TWO_FRAMES - 1 { age + 1 } else { 0 }
+    age.wrapping_add(1) % TWO_FRAMES
+}
+
+// The place of an octet of this age.
+fn slot_at(age: u8) -> Place
+    ensures { result ≡ Slot (age % 32) (nat_lt age 32) }
+{
+    Place::Slot {
+        number: age % FRAME,
+        fas: age < FRAME,
+    }
 }
 
 // The count of wrong octets in a row after one more octet of its kind; `None` where alignment is lost by it.
@@ -224,10 +263,7 @@ fn place_between(before: Phase, after: Phase) -> Place
     ensures in_frame { number_of result < 32 }
 {
     match (before, after) {
-        (Phase::Aligned { age, .. }, Phase::Aligned { .. }) => Place::Slot {
-            number: age % FRAME,
-            fas: age < FRAME,
-        },
+        (Phase::Aligned { age, .. }, Phase::Aligned { .. }) => slot_at(age),
         _ => Place::Hunting,
     }
 }

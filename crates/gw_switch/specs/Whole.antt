@@ -19,6 +19,7 @@ use Rattle.gw_circuit.specs.Coding as coding
 use Rattle.gw_circuit.specs.Lone as lone
 use Rattle.gw_switch.specs.declared.GatewayConfig.{GatewayConfig}
 use Rattle.gw_switch.specs.declared.OctetOut.{OctetOut}
+use Rattle.gw_switch.specs.declared.OctetSent.{OctetSent}
 use Rattle.gw_switch.specs.declared.Alarms.{Alarms}
 use Rattle.gw_switch.specs.Hearing.{slot16_octets, heard, signalled, remote_frame, remote_multiframe}
 use Rattle.gw_switch.specs.Events.{Event, octets, view}
@@ -31,6 +32,10 @@ pub record Sending : Type 0 where
 
 abbrev pub sending_of : OctetOut → Sending
 sending_of out = record { octet = out.octet; packet = option_map (λ p. (p.0, p.1.items)) out.packet }
+
+-- the same, where a datagram is in room that was lent
+abbrev pub sending_in : OctetSent → List ℕ → Sending
+sending_in out room = record { octet = out.octet; packet = option_map (λ c. (c, room)) out.circuit }
 
 -- a configuration, where none is meant: of a circuit that a gateway does not have
 abbrev pub spare_config : CircuitConfig
