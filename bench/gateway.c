@@ -317,7 +317,7 @@ static int circuit_command(struct circuit *c, int command)
 /* Offers a datagram to the playout; answers 0 or the code of what it was dropped for. */
 static int circuit_datagram(struct circuit *c, const uint8_t *octets, size_t len)
 {
-    static uint8_t words[8 * MAX_BODY];
+    static uint8_t words[4 * MAX_BODY];
     struct playout *p = &c->playout;
     struct rtp rtp;
     if (!is_open(&c->line))
@@ -403,23 +403,23 @@ static void circuit_send(struct circuit *c, int circuit)
 /* The circuit's slot is sent: takes the octet that was heard, or NONE. */
 static uint8_t circuit_slot(struct circuit *c, int circuit, int heard)
 {
-    uint8_t octet = peer_idle(LAW_A), law;
+    uint8_t idle = peer_idle(LAW_A);
     c->clock++;
     if (!is_open(&c->line))
-        return octet;
-    c->packet[c->filled++] = heard == NONE ? octet : (uint8_t)heard;
+        return idle;
+    c->packet[c->filled++] = heard == NONE ? idle : (uint8_t)heard;
     if (c->filled == SAMPLES)
         circuit_send(c, circuit);
-    int word = playout_take(&c->playout);
-    if (word == NONE)
-        return octet;
-    law = (uint8_t)word;
-    if (bits < 8) {
-        int16_t sound[1];
-        g726_decode(c->decoder, sound, &law, 1);
-        memcpy(&law, sound, 1);
-    }
-    return law;
+    int due = playout_take(&c->playout);
+    if (due == NONE)
+        return idle;
+    if (bits == 8)
+        return (uint8_t)due;
+    uint8_t word = (uint8_t)due, octet;
+    int16_t sound;
+    g726_decode(c->decoder, &sound, &word, 1);
+    memcpy(&octet, &sound, 1);
+    return octet;
 }
 
 /* The trunk */
