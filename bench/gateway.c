@@ -15,6 +15,7 @@ enum {
     CIRCUITS = 30,
     SIGNALLING_SLOT = 16,
     LOW = 15,               /* the circuit whose ABCD bits are the low ones has a number this much higher */
+    SILENCE = 0xD5,         /* in A-law */
     NONE = -1,              /* no octet, no nibble, no pair, no word */
     SAMPLES = 160,          /* of a packet */
     PLACES = 3200,          /* of the playout */
@@ -403,16 +404,15 @@ static void circuit_send(struct circuit *c, int circuit)
 /* The circuit's slot is sent: takes the octet that was heard, or NONE. */
 static uint8_t circuit_slot(struct circuit *c, int circuit, int heard)
 {
-    uint8_t idle = peer_idle(LAW_A);
     c->clock++;
     if (!is_open(&c->line))
-        return idle;
-    c->packet[c->filled++] = heard == NONE ? idle : (uint8_t)heard;
+        return SILENCE;
+    c->packet[c->filled++] = heard == NONE ? SILENCE : (uint8_t)heard;
     if (c->filled == SAMPLES)
         circuit_send(c, circuit);
     int due = playout_take(&c->playout);
     if (due == NONE)
-        return idle;
+        return SILENCE;
     if (bits == 8)
         return (uint8_t)due;
     uint8_t word = (uint8_t)due, octet;
