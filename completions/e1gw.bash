@@ -1,0 +1,50 @@
+# bash completion for e1gw: subcommands, options and their values, and a file for --config.
+
+# The values of an option, or nothing where it takes a number of its own.
+_e1gw_values() {
+  case $1 in
+    --law) echo 'a mu' ;;
+    --codec) echo 'g711 g726-16 g726-24 g726-32 g726-40' ;;
+    --ptime) echo '10 20 30' ;;
+  esac
+}
+
+# The options of a subcommand, or those without one.
+_e1gw_options() {
+  case $1 in
+    encode | decode) echo '--law --codec --payload --ptime --ssrc --sequence --timestamp --totals --help' ;;
+    replay | check | serve) echo '--config --totals --help' ;;
+    '') echo '--help --version' ;;
+  esac
+}
+
+_e1gw() {
+  local subcommands='encode decode replay check serve help'
+  local cur=${COMP_WORDS[COMP_CWORD]} prev=${COMP_WORDS[COMP_CWORD - 1]} subcommand=''
+  [ "$COMP_CWORD" -lt 2 ] || subcommand=${COMP_WORDS[1]}
+  # readline makes a word of the sign in --law=mu
+  if [ "$cur" = = ]; then
+    cur=''
+  elif [ "$prev" = = ]; then
+    prev=${COMP_WORDS[COMP_CWORD - 2]}
+  fi
+  COMPREPLY=()
+  case $prev in
+    --law | --codec | --ptime)
+      mapfile -t COMPREPLY < <(compgen -W "$(_e1gw_values "$prev")" -- "$cur")
+      return ;;
+    --payload | --ssrc | --sequence | --timestamp)
+      return ;;
+    --config)
+      compopt -o filenames 2> /dev/null
+      mapfile -t COMPREPLY < <(compgen -f -- "$cur")
+      return ;;
+  esac
+  case $subcommand:$cur in
+    help:*) [ "$COMP_CWORD" -ne 2 ] || mapfile -t COMPREPLY < <(compgen -W "${subcommands% help}" -- "$cur") ;;
+    :[!-]* | :) mapfile -t COMPREPLY < <(compgen -W "$subcommands" -- "$cur") ;;
+    *) mapfile -t COMPREPLY < <(compgen -W "$(_e1gw_options "$subcommand")" -- "$cur") ;;
+  esac
+}
+
+complete -F _e1gw e1gw

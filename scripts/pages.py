@@ -1,0 +1,211 @@
+"""Compares the manual pages and the completion with the program. scripts/pages runs it: pages.py TOP PROGRAM."""
+import os
+import re
+import subprocess
+import sys
+import tempfile
+
+TOP, PROGRAM = sys.argv[1:3]
+SUBCOMMANDS = ['encode', 'decode', 'replay', 'check', 'serve']
+STREAMS = ['encode', 'decode']
+SPEECH = bytes(range(256)) * 3
+
+failures = []
+
+
+def expect(what, found, wanted):
+    """Notes a difference between what was found and what was wanted."""
+    found, wanted = (sorted(value) if isinstance(value, set) else value for value in (found, wanted))
+    if found != wanted:
+        failures.append(f'{what}: {found!r} and not {wanted!r}')
+
+
+def page(name):
+    """The lines of a manual page."""
+    with open(os.path.join(TOP, 'man', name), encoding='utf-8') as file:
+        return file.read().splitlines()
+
+
+def run(*words, given=b''):
+    """The program with these words and this input: its status, its output and its faults."""
+    done = subprocess.run([PROGRAM, *words], input=given, capture_output=True)
+    return done.returncode, done.stdout, done.stderr.decode()
+
+
+def helped(*words):
+    """The options that the help of a subcommand, or of the program, names."""
+    status, text, _ = run(*words, '--help')
+    expect(f'status of {" ".join(words)} --help', status, 0)
+    return set(re.findall(r'^ +(?:-\w, )?--([\w-]+)', text.decode(), re.M))
+
+
+def synopses(lines):
+    """The options of each subcommand in the synopsis; those without one stand at ''."""
+    found, name = {'': set()}, ''
+    for line in lines[lines.index('.Sh SYNOPSIS'):lines.index('.Sh DESCRIPTION')]:
+        if line == '.Nm':
+            name = ''
+        elif line.startswith('.Cm '):
+            name = line.split()[1]
+            found[name] = set()
+        else:
+            found[name].update(re.findall(r'(?:Fl|\|) -([\w-]+)', line))
+    return found
+
+
+def described(lines):
+    """The items of the page that describe an option: its name, and the lines under it."""
+    found, name = {}, None
+    for line in lines:
+        if line.startswith(('.It ', '.El', '.Ss', '.Sh')):
+            item = re.match(r'\.It Fl (?:\w , )?-([\w-]+)', line)
+            name = item and item.group(1)
+            if name:
+                found[name] = []
+        elif name:
+            found[name].append(line)
+    return found
+
+
+def values(lines):
+    """The values that an option's lines mark as such."""
+    return {word for line in lines if line.startswith('.Cm ') for word in line[4:].split() if re.match(r'\w', word)}
+
+
+def completed(*words):
+    """What the completion offers for the last of these words."""
+    script = '. "$0"; COMP_WORDS=("$@"); COMP_CWORD=$(($# - 1)); _e1gw; printf "%s\\n" "${COMPREPLY[@]}"'
+    done = subprocess.run(['bash', '-c', script, os.path.join(TOP, 'completions/e1gw.bash'), 'e1gw', *words],
+                          stdout=subprocess.PIPE, text=True, check=True)
+    return {line for line in done.stdout.splitlines() if line}
+
+
+def compare_options(lines):
+    """Synopsis, descriptions, completion and help name the same options."""
+    synopsis, items = synopses(lines), described(lines)
+    expect('options of the page without a subcommand', synopsis[''], helped())
+    expect('completion of --', completed('--'), {f'--{option}' for option in helped()})
+    for name in SUBCOMMANDS:
+        options = helped(name)
+        expect(f'options of {name} on the page', synopsis[name] | {'help'}, options)
+        expect(f'completion of {name} --', completed(name, '--'), {f'--{option}' for option in options})
+    expect('options described', set(items), set().union(*synopsis.values()))
+    expect('completion of the first word', completed(''), set(SUBCOMMANDS) | {'help'})
+    expect('completion after help', completed('help', ''), set(SUBCOMMANDS))
+
+
+def compare_values(option, lines):
+    """The values of an option of a stream are those that the program takes, and its default is the program's."""
+    text = ' '.join(line.removeprefix('.Cm ') for line in lines)
+    default = re.search(r'The default is (\S+?) ?\.', text)
+    bounds = re.search(r'(\d+) to (\d+)\.', text)
+    if bounds:
+        good, bad = [bounds[1], bounds[2]], str(int(bounds[2]) + 1)
+    else:
+        good, bad = sorted(values(lines)), 'none'
+        expect(f'completion of --{option}', completed('encode', f'--{option}', ''), set(good))
+    for name in STREAMS:
+        for value in good:
+            expect(f'{name} --{option} {value}', run(name, f'--{option}', value)[0], 0)
+        expect(f'status of {name} --{option} {bad}', run(name, f'--{option}', bad)[0], 2)
+    if default:
+        expect(f'encode --{option} {default[1]}', run('encode', f'--{option}', default[1], given=SPEECH),
+               run('encode', given=SPEECH))
+
+
+def compare_payloads():
+    """The payload types that the page says are the defaults."""
+    for words, payload in [([], 8), (['--law', 'mu'], 0), (['--codec', 'g726-16'], 96),
+                           (['--codec', 'g726-40', '--law', 'mu'], 96)]:
+        expect(f'payload type of encode {" ".join(words)}', run('encode', *words, given=SPEECH)[1][5], payload)
+
+
+def compare_options_passed_over(lines):
+    """The options that decode is said to pass over change nothing of its output, and the others stand in the page."""
+    start = lines.index('it accepts')
+    passed = {option for line in lines[start:lines.index('and passes them over, so that one set of options names a'
+                                                         ' stream at both ends.')]
+              for option in re.findall(r'Fl -(\w+)', line)}
+    expect('options that decode passes over', passed, {'ptime', 'ssrc', 'sequence', 'timestamp'})
+    records = run('encode', given=SPEECH)[1]
+    speech = run('decode', given=records)
+    for option in passed:
+        expect(f'decode --{option} 10', run('decode', f'--{option}', '10', given=records), speech)
+
+
+def examples(lines):
+    """The literal blocks of a page."""
+    found, block = [], None
+    for line in lines:
+        if line.startswith('.Bd -literal'):
+            block = []
+        elif line == '.Ed':
+            found.append('\n'.join(block))
+            block = None
+        elif block is not None:
+            block.append(line.replace('\\e', '\\'))
+    return found
+
+
+def try_examples(folder):
+    """The configuration of the page is one, and the session of the page gives the records of the page."""
+    config = os.path.join(folder, 'example.toml')
+    with open(config, 'w', encoding='utf-8') as file:
+        file.write(examples(page('e1gw.toml.5'))[0] + '\n')
+    status, listing, faults = run('check', '--config', config)
+    expect('check of the example of e1gw.toml(5)', (status, listing.count(b'\n'), faults), (0, 30, ''))
+    with open(config, 'w', encoding='utf-8') as file:
+        file.write('law = "A"\n')
+    given, wanted = (bytes.fromhex(text) for text in examples(page('e1gw-session.5')))
+    expect('replay of the example of e1gw-session(5)', run('replay', '--config', config, given=given),
+           (0, wanted, ''))
+
+
+def totals(*words, given):
+    """The totals of a session as --totals prints them, and the other lines of its faults."""
+    _, _, faults = run(*words, '--totals', given=given)
+    lines = [re.fullmatch(r'(\w+) (\d+)', line) or line for line in faults.splitlines()]
+    return ([(line[1], int(line[2])) for line in lines if not isinstance(line, str)],
+            [line for line in lines if isinstance(line, str)])
+
+
+def compare_totals(lines, folder):
+    """The totals have the names of the page, and count what it says."""
+    names = [line.split()[2] for line in lines[lines.index('.It Fl -totals'):lines.index('.It Fl h , -help')]
+             if line.startswith('.It Ql')]
+    config = os.path.join(folder, 'totals.toml')
+    with open(config, 'w', encoding='utf-8') as file:
+        file.write('law = "A"\n')
+    session = bytes.fromhex(examples(page('e1gw-session.5'))[0])
+    records = run('encode', given=SPEECH)[1]
+    for words, given, counts, others in [
+            (['encode'], SPEECH, [0, 0, 5, 0, 0], []),
+            (['decode'], records, [5, 0, 0, 0, 0], []),
+            (['decode', '--payload', '9'], records, [5, 0, 0, 5, 0], ['passed over 5 of 5 datagrams']),
+            (['replay', '--config', config], session, [5, 64, 0, 1, 0], []),
+            (['check', '--config', config], session, [5, 64, 0, 1, 0], []),
+            (['serve', '--config', config], session[:68], [1, 64, 0, 0, 0], [])]:
+        expect(f'totals of {" ".join(words)}', totals(*words, given=given), (list(zip(names, counts)), others))
+
+
+def main():
+    lines = page('e1gw.1')
+    compare_options(lines)
+    for option, about in described(lines).items():
+        if option not in {'config', 'totals', 'help', 'version'}:
+            compare_values(option, about)
+    compare_payloads()
+    compare_options_passed_over(lines)
+    with tempfile.TemporaryDirectory() as folder:
+        try_examples(folder)
+        compare_totals(lines, folder)
+    with open(os.path.join(TOP, 'VERSION'), encoding='utf-8') as file:
+        expect('--version', run('--version')[1].decode(), f'e1gw {file.read().strip()}\n')
+    for failure in failures:
+        print(f'failed: {failure}')
+    if not failures:
+        print('options, values, ranges, defaults, totals, examples and completion: as the program has them')
+    sys.exit(1 if failures else 0)
+
+
+main()
