@@ -11,7 +11,7 @@ MULTIFRAME = 16 * FRAME     # 2 ms
 FAS, NFAS = 0x9B, 0xDF      # slot 0: the frame alignment signal, and the octet between two of them
 REMOTE_ALARM = 0x20         # bit A of the octet between two signals
 MULTIFRAME_ALARM = 0x04     # bit y of slot 16 in frame 0
-SILENCE = 0xD5              # A-law
+IDLE_OCTET = {'A': 0xD5, 'mu': 0xFF}
 
 # The pairs ab of ITU-T Q.421.
 SEIZED, ANSWERED, IDLE, ACKNOWLEDGED = 0b00, 0b01, 0b10, 0b11
@@ -80,7 +80,8 @@ class Serve:
 class Exchange:
     """The exchange at the other end of a trunk: it sends multiframes, and reads those that come back."""
 
-    def __init__(self):
+    def __init__(self, law='A'):
+        self.silence = bytes([IDLE_OCTET[law]])
         self.pairs = {circuit: IDLE for circuit in range(1, 31)}     # the line signals that it sends
         self.speech = {}            # by circuit: octets that wait to be sent
         self.heard = {}             # by circuit: octets received since the first multiframe
@@ -91,7 +92,7 @@ class Exchange:
 
     def multiframe(self):
         """The next 16 frames."""
-        out = bytearray([SILENCE]) * MULTIFRAME
+        out = bytearray(self.silence) * MULTIFRAME
         out[0::2 * FRAME] = bytes([FAS]) * 8
         out[FRAME::2 * FRAME] = bytes([NFAS]) * 8
         out[16] = 0x0B
@@ -101,7 +102,7 @@ class Exchange:
             out[circuit * FRAME + 16] = high << 4 | low
         for circuit, waiting in self.speech.items():
             piece, waiting[:] = waiting[:16], waiting[16:]
-            out[slot_of(circuit)::FRAME] = piece.ljust(16, bytes([SILENCE]))
+            out[slot_of(circuit)::FRAME] = piece.ljust(16, self.silence)
         return bytes(out)
 
     def hear(self, octets):
@@ -149,20 +150,27 @@ def first_multiframe(octets):
     return None
 
 
-def linear(octet):
-    """The sample of an octet of A-law, from -4032 to 4032 (ITU-T G.711, Table 1)."""
+def a_law(octet):
+    """The value of an octet of A-law, from -4032 to 4032 (ITU-T G.711, Table 1)."""
     t = octet ^ 0x55
     segment, step = t >> 4 & 7, t & 15
     size = 2 * step + 1 if segment == 0 else (2 * step + 33) << segment - 1
     return size if t & 0x80 else -size
 
 
-LINEAR = [linear(octet) for octet in range(256)]
+def mu_law(octet):
+    """The value of an octet of mu-law, from -8031 to 8031 (ITU-T G.711, Table 2)."""
+    t = octet ^ 0xFF
+    size = ((2 * (t & 15) + 33) << (t >> 4 & 7)) - 33
+    return -size if t & 0x80 else size
 
 
-def samples(octets):
-    """The samples of octets of A-law."""
-    return [LINEAR[octet] for octet in octets]
+VALUES = {'A': [a_law(octet) for octet in range(256)], 'mu': [mu_law(octet) for octet in range(256)]}
+
+
+def samples(octets, law='A'):
+    """The values of octets of G.711."""
+    return [VALUES[law][octet] for octet in octets]
 
 
 def loudest(spoken, length):
