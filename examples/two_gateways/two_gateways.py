@@ -13,8 +13,8 @@ import sys
 
 HERE = os.path.dirname(os.path.abspath(__file__))
 sys.path.insert(0, os.path.join(HERE, '..', '..', 'scripts'))
-from exchange import (ACKNOWLEDGED, ANSWERED, IDLE, SEIZED, Exchange, Serve, decibels, delay, record, records,  # noqa: E402
-                      samples)
+from exchange import (ACKNOWLEDGED, ANSWERED, IDLE, SEIZED, Exchange, Serve,  # noqa: E402
+                      decibels, delay, record, records, samples)
 
 CIRCUIT = 1
 PATIENCE = 500      # multiframes, 1 s
