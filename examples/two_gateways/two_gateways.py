@@ -1,0 +1,197 @@
+"""Two gateways and the exchanges at the ends of their trunks; `run` beside this file makes the speech and starts it.
+
+Arguments: the program, the folder of west.toml and east.toml, and a file of A-law octets for each of the two.
+
+Both trunks are driven in lock step, as fast as the machine goes: each gateway is given one multiframe (2 ms of its
+trunk), and its answer is read before the other has its turn. So the two trunks have one clock, a packet that one
+gateway sends waits in the other's socket when that one reads next, and none is late or lost, however fast or slow
+the machine is. On a real trunk the line's clock does the same.
+"""
+import os
+import subprocess
+import sys
+
+HERE = os.path.dirname(os.path.abspath(__file__))
+sys.path.insert(0, os.path.join(HERE, '..', '..', 'scripts'))
+from exchange import (ACKNOWLEDGED, ANSWERED, IDLE, SEIZED, Exchange, Serve,  # noqa: E402
+                      decibels, delay, record, records, samples)
+
+CIRCUIT = 1
+PATIENCE = 500      # multiframes, 1 s
+BAR = 20            # decibels
+
+
+class End:
+    """A gateway, its trunk and the exchange there."""
+
+    def __init__(self, name, program, folder, first):
+        self.name = name
+        self.config = os.path.join(folder, name + '.toml')
+        self.program = program
+        self.serve = Serve(program, self.config)
+        self.exchange = Exchange()
+        # The trunk does not begin with a frame: the gateway has to look for one.
+        self.exchange.hear(self.serve.trunk(self.exchange.multiframe()[first:]))
+
+    def step(self):
+        self.exchange.hear(self.serve.trunk(self.exchange.multiframe()))
+
+    def sends(self, pair):
+        """The line signal that the exchange sends."""
+        self.exchange.pairs[CIRCUIT] = pair
+
+    def sees(self, pair):
+        """Whether the exchange sees this line signal."""
+        return self.exchange.signals.get(CIRCUIT) == pair
+
+    def session(self, datagrams=None, later=0):
+        """The session so far; with datagrams, each stands before the trunk record that was to read it."""
+        out, turn = [], 0
+        for given in self.serve.given:
+            if given[:1] == b'T':
+                if datagrams and turn >= later:
+                    out += datagrams[turn - later]
+                turn += 1
+            out.append(given)
+        return b''.join(out)
+
+    def run(self, command, session):
+        return subprocess.run([self.program, command, '--config', self.config], input=session,
+                              stdout=subprocess.PIPE, check=True).stdout
+
+    def listed(self, session):
+        """The circuit's line of the listing that `e1gw check` gives for a session."""
+        return self.run('check', session).decode().splitlines()[CIRCUIT - 1]
+
+    def datagrams(self):
+        """For each trunk record the datagrams that the gateway sent, as `e1gw replay` tells them."""
+        sent = [[]]
+        for kind, circuit, body in records(self.run('replay', self.session())):
+            if kind == b'D':
+                sent[-1].append(record(b'D', circuit, body))
+            elif kind == b'T':
+                sent.append([])
+        return sent
+
+
+class Call:
+    def __init__(self, west, east):
+        self.west, self.east = west, east
+        self.steps = 0
+
+    def step(self, count=1):
+        for _ in range(count):
+            self.west.step()
+            self.east.step()
+            self.steps += 1
+
+    def until(self, what, holds):
+        """Goes on until something holds."""
+        for _ in range(PATIENCE):
+            if holds():
+                return
+            self.step()
+        raise SystemExit(f'two_gateways: after a second still not: {what}')
+
+    def tell(self, what):
+        """Prints what happened and both states, by the listing of the sessions so far."""
+        states = [end.listed(end.session()).split()[2] for end in (self.west, self.east)]
+        print(f'{self.steps * 2:6d} ms  {what:58s} {states[0]:11s} {states[1]}', flush=True)
+
+    def set_up(self):
+        west, east = self.west, self.east
+        self.until('alignment', lambda: all(end.exchange.aligned and not end.exchange.remote_alarms
+                                            for end in (west, east)))
+        self.tell('gateways and exchanges have frames and multiframes')
+        self.until('idle', lambda: west.sees(IDLE))
+        self.step(10)
+        self.tell('ten times idle from the exchanges')
+        west.sends(SEIZED)
+        self.until('acknowledged', lambda: west.sees(ACKNOWLEDGED))
+        self.tell('the exchange in the west seizes, the gateway acknowledges')
+        self.command(east, 'seize')
+        self.until('seized', lambda: east.sees(SEIZED))
+        self.tell('command: seize in the east')
+        east.sends(ACKNOWLEDGED)
+        self.step(11)
+        self.tell('the exchange in the east acknowledges')
+        east.sends(ANSWERED)
+        self.step(11)
+        self.tell('the one who is called answers')
+        self.command(west, 'answer')
+        self.until('answered', lambda: west.sees(ANSWERED))
+        self.tell('command: answer in the west')
+
+    def speak(self, sentences):
+        """Puts both sentences on the trunks; returns for each the octets that come out at the far end."""
+        starts = [len(end.exchange.heard[CIRCUIT]) for end in (self.east, self.west)]
+        for end, sentence in zip((self.west, self.east), sentences):
+            end.exchange.speech[CIRCUIT] = bytearray(sentence)
+        self.step(max(map(len, sentences)) // 16 + 100)
+        self.tell('both have spoken')
+        return [end.exchange.heard[CIRCUIT][start:] for end, start in zip((self.east, self.west), starts)]
+
+    def clear(self):
+        west, east = self.west, self.east
+        west.sends(IDLE)
+        self.until('idle', lambda: west.sees(IDLE))
+        self.tell('the exchange in the west clears')
+        self.command(east, 'clear')
+        self.until('cleared', lambda: east.sees(IDLE))
+        self.tell('command: clear in the east')
+        east.sends(IDLE)
+        self.step(11)
+        self.tell('the exchange in the east is idle')
+
+    @staticmethod
+    def command(end, name):
+        answer = end.serve.command(CIRCUIT, name)
+        if answer != 0:
+            raise SystemExit(f'two_gateways: {name} in the {end.name} is refused with {answer}')
+
+
+def came_through(name, sentence, octets):
+    """Compares a sentence with what came out; prints and returns the signal-to-noise ratio."""
+    spoken, heard = samples(sentence), samples(octets)
+    lag = delay(spoken, heard, 1600)
+    ratio = decibels(spoken, heard[lag:])
+    print(f'from the {name}: {len(spoken) / 8000:.1f} s, {lag / 8:.1f} ms later, signal to noise {ratio:.1f} dB')
+    return ratio
+
+
+def replayed(west, east):
+    """Gives both sessions, with the datagrams between them, to `e1gw replay`; prints the listing of both ends."""
+    of_west, of_east = west.datagrams(), east.datagrams()
+    same = True
+    # In each turn the west is first, so it reads what the east sent the turn before.
+    for end, session in ((west, west.session(of_east, 1)), (east, east.session(of_west, 0))):
+        trunk = b''.join(body for kind, _, body in records(end.run('replay', session)) if kind == b'T')
+        served = b''.join(body for kind, _, body in records(b''.join(end.serve.answered)) if kind == b'T')
+        same = same and trunk == served
+        print(f'{end.name}: {end.listed(session)}')
+    print('the recorded sessions, replayed with these datagrams, give ' + ('the same' if same else 'OTHER')
+          + ' trunk octets')
+    return same
+
+
+def main():
+    program, folder, *files = sys.argv[1:]
+    sentences = []
+    for file in files:
+        with open(file, 'rb') as speech:
+            sentences.append(speech.read())
+    call = Call(End('west', program, folder, 77), End('east', program, folder, 300))
+    print(f'{"trunk time":9s} {"what":58s} {"west":11s} east')
+    call.set_up()
+    heard = call.speak(sentences)
+    call.clear()
+    statuses = [end.serve.end() for end in (call.west, call.east)]
+    ratios = [came_through(*each) for each in zip(('west', 'east'), sentences, heard)]
+    same = replayed(call.west, call.east)
+    good = min(ratios) >= BAR and statuses == [0, 0]
+    print('the speech came through' if good else f'NOT as it should: below {BAR} dB, or status {statuses}')
+    sys.exit(0 if good and same else 1)
+
+
+if __name__ == '__main__':
+    main()

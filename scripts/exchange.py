@@ -1,0 +1,201 @@
+"""Both ends of a trunk for scripts: `e1gw serve` as a process, and the exchange that its trunk leads to.
+
+Python's standard library alone. Used by examples/two_gateways, bench/interwork and bench/flood.
+"""
+import math
+import struct
+import subprocess
+
+FRAME = 32                  # octets of a frame, one for each time slot
+MULTIFRAME = 16 * FRAME     # 2 ms
+FAS, NFAS = 0x9B, 0xDF      # slot 0: the frame alignment signal, and the octet between two of them
+REMOTE_ALARM = 0x20         # bit A of the octet between two signals
+MULTIFRAME_ALARM = 0x04     # bit y of slot 16 in frame 0
+IDLE_OCTET = {'A': 0xD5, 'mu': 0xFF}
+
+# The pairs ab of ITU-T Q.421.
+SEIZED, ANSWERED, IDLE, ACKNOWLEDGED = 0b00, 0b01, 0b10, 0b11
+
+COMMANDS = {'seize': 1, 'clear': 2, 'answer': 3, 'clear-back': 4, 'block': 5, 'unblock': 6}
+
+
+def record(kind, circuit, body):
+    """A record of a session: its kind and circuit, the length of its body, its body."""
+    return struct.pack('>cBH', kind, circuit, len(body)) + body
+
+
+def records(session):
+    """The records of a session: kind, circuit, body."""
+    at = 0
+    while at < len(session):
+        kind, circuit, length = struct.unpack_from('>cBH', session, at)
+        yield kind, circuit, bytes(session[at + 4:at + 4 + length])
+        at += 4 + length
+
+
+class Serve:
+    """A running `e1gw serve`. What it was given and what it answered is kept, record by record."""
+
+    def __init__(self, program, config, *options, **streams):
+        self.process = subprocess.Popen([program, 'serve', '--config', config, *options],
+                                        stdin=subprocess.PIPE, stdout=subprocess.PIPE, **streams)
+        self.given = []
+        self.answered = []
+
+    def _give(self, given):
+        self.given.append(given)
+        try:
+            self.process.stdin.write(given)
+            self.process.stdin.flush()
+        except BrokenPipeError:
+            self._gone()
+
+    def _answer(self):
+        head = self.process.stdout.read(4)
+        if len(head) < 4:
+            self._gone()
+        body = self.process.stdout.read(struct.unpack('>xxH', head)[0])
+        self.answered.append(head + body)
+        return body
+
+    def _gone(self):
+        raise SystemExit(f'e1gw serve has ended with status {self.process.wait()}')
+
+    def trunk(self, octets):
+        """Gives it octets of the trunk; returns as many that it sends."""
+        self._give(record(b'T', 0, octets))
+        return self._answer()
+
+    def command(self, circuit, name):
+        """An operator's command; returns 0, or the number of the fault."""
+        self._give(record(b'C', circuit, bytes([COMMANDS[name]])))
+        return self._answer()[1]
+
+    def end(self):
+        """Ends its input and returns its status."""
+        self.process.stdin.close()
+        return self.process.wait()
+
+
+class Exchange:
+    """The exchange at the other end of a trunk: it sends multiframes, and reads those that come back."""
+
+    def __init__(self, law='A'):
+        self.silence = bytes([IDLE_OCTET[law]])
+        self.pairs = {circuit: IDLE for circuit in range(1, 31)}     # the line signals that it sends
+        self.speech = {}            # by circuit: octets that wait to be sent
+        self.heard = {}             # by circuit: octets received since the first multiframe
+        self.signals = {}           # by circuit: the pair of the last multiframe
+        self.aligned = False        # a multiframe was found in what is received
+        self.remote_alarms = True   # the other end has no frame alignment, or no multiframe alignment
+        self.received = bytearray()
+
+    def multiframe(self):
+        """The next 16 frames."""
+        out = bytearray(self.silence) * MULTIFRAME
+        out[0::2 * FRAME] = bytes([FAS]) * 8
+        out[FRAME::2 * FRAME] = bytes([NFAS]) * 8
+        out[16] = 0x0B
+        for circuit in range(1, 16):
+            # The bits cd are 01.
+            high, low = (self.pairs[c] << 2 | 1 for c in (circuit, circuit + 15))
+            out[circuit * FRAME + 16] = high << 4 | low
+        for circuit, waiting in self.speech.items():
+            piece, waiting[:] = waiting[:16], waiting[16:]
+            out[slot_of(circuit)::FRAME] = piece.ljust(16, self.silence)
+        return bytes(out)
+
+    def hear(self, octets):
+        """Takes what the gateway sent: finds its frames and multiframes once, then reads each multiframe."""
+        self.received += octets
+        if not self.aligned:
+            start = first_multiframe(self.received)
+            if start is None:
+                return
+            self.aligned = True
+            del self.received[:start]
+        while len(self.received) >= MULTIFRAME:
+            self._read(bytes(self.received[:MULTIFRAME]))
+            del self.received[:MULTIFRAME]
+
+    def _read(self, multiframe):
+        if not is_multiframe(multiframe, 0):
+            raise SystemExit('the exchange has lost the alignment of what the gateway sends')
+        self.remote_alarms = bool(multiframe[FRAME] & REMOTE_ALARM or multiframe[16] & MULTIFRAME_ALARM)
+        for circuit in range(1, 31):
+            self.heard.setdefault(circuit, bytearray()).extend(multiframe[slot_of(circuit)::FRAME])
+            signals = multiframe[(circuit - 1) % 15 * FRAME + FRAME + 16]
+            self.signals[circuit] = (signals >> 4 if circuit < 16 else signals & 15) >> 2
+
+
+def slot_of(circuit):
+    """The time slot of a circuit: slots 0 and 16 are not for speech."""
+    return circuit if circuit < 16 else circuit + 1
+
+
+def is_multiframe(octets, at):
+    """A multiframe begins there: eight frame alignment signals (ITU-T G.704, 2.3), and the multiframe's own."""
+    slots = octets[at:at + MULTIFRAME:FRAME]
+    signalling = octets[at + 16:at + MULTIFRAME:FRAME]
+    return (len(signalling) == 16 and all(octet & 0x7F == FAS & 0x7F for octet in slots[0::2])
+            and all(octet & 0x40 for octet in slots[1::2])
+            and signalling[0] & 0xF0 == 0 and all(octet & 0xF0 for octet in signalling[1:]))
+
+
+def first_multiframe(octets):
+    """Where the first multiframe begins, or None. A seized circuit's 0001 is no multiframe signal, 0000 is."""
+    for at in range(len(octets) - MULTIFRAME + 1):
+        if octets[at] & 0x7F == FAS & 0x7F and is_multiframe(octets, at):
+            return at
+    return None
+
+
+def a_law(octet):
+    """The value of an octet of A-law, from -4032 to 4032 (ITU-T G.711, Table 1)."""
+    t = octet ^ 0x55
+    segment, step = t >> 4 & 7, t & 15
+    size = 2 * step + 1 if segment == 0 else (2 * step + 33) << segment - 1
+    return size if t & 0x80 else -size
+
+
+def mu_law(octet):
+    """The value of an octet of mu-law, from -8031 to 8031 (ITU-T G.711, Table 2)."""
+    t = octet ^ 0xFF
+    size = ((2 * (t & 15) + 33) << (t >> 4 & 7)) - 33
+    return -size if t & 0x80 else size
+
+
+VALUES = {'A': [a_law(octet) for octet in range(256)], 'mu': [mu_law(octet) for octet in range(256)]}
+
+
+def samples(octets, law='A'):
+    """The values of octets of G.711."""
+    return [VALUES[law][octet] for octet in octets]
+
+
+def loudest(spoken, length):
+    """Where the loudest stretch of that length begins, in steps of a tenth."""
+    step = max(1, length // 10)
+    starts = range(0, max(1, len(spoken) - length), step)
+    return max(starts, key=lambda at: sum(abs(x) for x in spoken[at:at + length]))
+
+
+def delay(spoken, heard, longest):
+    """By how many samples heard comes after spoken: where the correlation of a loud stretch is greatest."""
+    length = min(1600, len(spoken))
+    at = loudest(spoken, length)
+    part = spoken[at:at + length]
+
+    def correlation(lag):
+        other = heard[at + lag:at + lag + length]
+        energy = math.sqrt(sum(x * x for x in other)) or 1
+        return sum(x * y for x, y in zip(part, other)) / energy
+
+    return max(range(0, longest), key=correlation)
+
+
+def decibels(spoken, heard):
+    """Signal to noise: how far the difference of the two lies below what was spoken."""
+    noise = sum((x - y) ** 2 for x, y in zip(spoken, heard))
+    signal = sum(x * x for x in spoken)
+    return math.inf if noise == 0 else 10 * math.log10(signal / noise) if signal else -math.inf
