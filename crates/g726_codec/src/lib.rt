@@ -9,7 +9,7 @@ mod decoder;
 mod duplex;
 mod encoder;
 pub mod laws;
-mod names;
+pub mod names;
 mod state;
 
 pub use any::AnyCodec;

@@ -6,6 +6,24 @@ ghost use Rattle.g726_codec.specs.Names.{text_of, codec_named, name_of, kind_of}
 use crate::CodecKind;
 use e1_g711::Law;
 
+/// The text of [`CodecName::Pcma`].
+pub const PCMA: &str = "pcma";
+
+/// The text of [`CodecName::Pcmu`].
+pub const PCMU: &str = "pcmu";
+
+/// The text of [`CodecName::G16`].
+pub const G726_16: &str = "g726-16";
+
+/// The text of [`CodecName::G24`].
+pub const G726_24: &str = "g726-24";
+
+/// The text of [`CodecName::G32`].
+pub const G726_32: &str = "g726-32";
+
+/// The text of [`CodecName::G40`].
+pub const G726_40: &str = "g726-40";
+
 /// A codec by its name: ITU-T G.711 in one of its laws, or ITU-T G.726 at one of its rates. RFC 3551, 4.5.4 and
 /// 4.5.14, has these names in capitals.
 #[derive(Clone, Copy, Debug, PartialEq, Eq)]
@@ -44,12 +62,12 @@ impl CodecName {
         ensures { result ≡ codec_named text.now }
     {
         match text {
-            "pcma" => Some(CodecName::Pcma),
-            "pcmu" => Some(CodecName::Pcmu),
-            "g726-16" => Some(CodecName::G16),
-            "g726-24" => Some(CodecName::G24),
-            "g726-32" => Some(CodecName::G32),
-            "g726-40" => Some(CodecName::G40),
+            PCMA => Some(CodecName::Pcma),
+            PCMU => Some(CodecName::Pcmu),
+            G726_16 => Some(CodecName::G16),
+            G726_24 => Some(CodecName::G24),
+            G726_32 => Some(CodecName::G32),
+            G726_40 => Some(CodecName::G40),
             _ => None,
         }
     }
@@ -60,12 +78,12 @@ impl CodecName {
         ensures len { length result.now ≤ 7 }
     {
         match self {
-            CodecName::Pcma => "pcma",
-            CodecName::Pcmu => "pcmu",
-            CodecName::G16 => "g726-16",
-            CodecName::G24 => "g726-24",
-            CodecName::G32 => "g726-32",
-            CodecName::G40 => "g726-40",
+            CodecName::Pcma => PCMA,
+            CodecName::Pcmu => PCMU,
+            CodecName::G16 => G726_16,
+            CodecName::G24 => G726_24,
+            CodecName::G32 => G726_32,
+            CodecName::G40 => G726_40,
         }
     }
 

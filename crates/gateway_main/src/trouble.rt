@@ -1,0 +1,71 @@
+//! What the program says where it could not do what was asked, and its statuses.
+
+ghost use Rattle.std.specs.Prelude.{◌≡◌, ◌≤◌};
+ghost use Rattle.gateway_main.specs.Status.{fault_status, trouble_status, refusal_status};
+
+use clap::error::ErrorKind;
+use gw_config::ConfigFault;
+use gw_session::RunFault;
+use thiserror::Error;
+
+/// The status where all is done, and after help.
+pub const DONE: u8 = 0;
+
+const FAULT: u8 = 1;
+
+const BAD_COMMAND: u8 = 2;
+
+const NO_MEMORY: u8 = 3;
+
+/// Why the program did not do what was asked. It prints as the line on standard error.
+#[derive(Debug, Drop, Error)]
+pub enum Trouble {
+    /// A session ended with a fault.
+    #[error("{0}")]
+    Session(RunFault),
+    /// The socket of the circuit of this number can't be opened.
+    #[error("socket {0}")]
+    Socket(u8),
+    /// The command line is not text.
+    #[error("error: the command line is not text")]
+    NotText,
+    /// The command line names nothing to do.
+    #[error("error: nothing to do")]
+    Nothing,
+    /// The file of the configuration can't be read.
+    #[error("cannot read the configuration")]
+    File,
+    /// The file says no configuration.
+    #[error("{0}")]
+    Config(ConfigFault),
+    /// Memory was refused.
+    #[error("out of memory")]
+    OutOfMemory,
+}
+
+impl Trouble {
+    /// The status of the program: 1 at a fault of a session or a socket, 2 where the command line, the file or
+    /// the configuration is refused, and 3 for want of memory.
+    pub fn status(&self) -> u8
+        ensures { result ≡ trouble_status self.now }
+    {
+        match self {
+            Trouble::Session(RunFault::OutOfMemory)
+            | Trouble::Config(ConfigFault::OutOfMemory)
+            | Trouble::OutOfMemory => NO_MEMORY,
+            Trouble::Session(_) | Trouble::Socket(_) => FAULT,
+            Trouble::NotText | Trouble::Nothing | Trouble::File | Trouble::Config(_) => BAD_COMMAND,
+        }
+    }
+}
+
+/// The status where `clap` refuses the command line so: help is no fault.
+pub fn refusal_status(kind: ErrorKind) -> u8
+    ensures { result ≡ refusal_status kind }
+{
+    match kind {
+        ErrorKind::OutOfMemory => NO_MEMORY,
+        ErrorKind::DisplayHelp | ErrorKind::DisplayVersion => DONE,
+        _ => BAD_COMMAND,
+    }
+}
