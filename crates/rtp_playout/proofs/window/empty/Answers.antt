@@ -28,10 +28,9 @@ loop-preserved c =
 
 pub returns : goal.returns
 returns c =
-    let capacity = c.args.window.now.capacity in
-    let same : c.clear.new.self.capacity ≡ capacity =
-    ap (λ (b : Buffer (Option ℕ)). b.capacity) c.clear.ensures in
+    let capacity = c.clear.new.self.capacity in
+    let same : capacity ≡ c.args.window.now.capacity = ap (λ (b : Buffer (Option ℕ)). b.capacity) c.clear.ensures in
     let told = c.capacity.ensures.capacity in
     let over = c.loop-test.false in
     let all : min (64 * c.loop.counter) capacity ≡ capacity = omega arith in
-    c.loop.invariant ∙ ap (λ (k : ℕ). buffer (no_words k) capacity) all
+    c.loop.invariant ∙ ap (λ (k : ℕ). buffer (no_words k) capacity) all ∙ ap (λ (k : ℕ). buffer (no_words k) k) same
