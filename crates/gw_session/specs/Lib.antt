@@ -7,6 +7,7 @@ pub mod Encode
 pub mod Packets
 pub mod Decode
 pub mod Sessions
+pub mod Faults
 pub mod Answers
 pub mod Running
 pub mod Acting
