@@ -43,8 +43,8 @@ def rtp(payload_type, sequence, stamp, ssrc, payload):
     return struct.pack('>BBHII', 0x80, payload_type, sequence & 0xFFFF, stamp & 0xFFFFFFFF, ssrc) + payload
 
 
-def strangers():
-    """Datagrams of strangers, one after another, for ever."""
+def strangers(large):
+    """Datagrams of strangers, one after another, for ever; with large ones, of the most that IPv4 has, among them."""
     chance = random.Random(2)
     sequence = 0
     while True:
@@ -65,14 +65,16 @@ def strangers():
                 yield bytes([0x80 | chance.randrange(64)]) + noise
             else:
                 yield rtp(chance.choice((8, 8, 0, 96)), sequence, sequence * 160, ssrc, noise)
-        yield rtp(8, sequence, sequence * 160, ssrc, bytes(65507 - 12))
+        if large:
+            yield rtp(8, sequence, sequence * 160, ssrc, bytes(65507 - 12))
 
 
 def flood(port, seconds):
     """Sends the strangers' datagrams from eight sockets, RATE a second; prints how many and in what time."""
     sockets = [socket.socket(socket.AF_INET, socket.SOCK_DGRAM) for _ in range(8)]
     begun = time.monotonic()
-    sent, datagrams = 0, strangers()
+    # Three large ones fill a socket, so at the call's own port they would crowd its packets out in the kernel.
+    sent, datagrams = 0, strangers(port != CALL)
     while sent < RATE * seconds:
         due = min(RATE * seconds, int((time.monotonic() - begun) * RATE))
         for _ in range(due - sent):
@@ -99,14 +101,15 @@ def kernel(port):
     return 0, 0
 
 
-def call(program, path, flooded):
-    """Runs the calls for some seconds; returns what circuit 1 sent to the trunk and to its peer."""
+def call(program, path, flooded, what):
+    """Runs the calls for some seconds, with a flood at that port if one is named; returns what circuit 1 sent to the
+    trunk and to its peer, with the status, and how many datagrams the kernel dropped at that port."""
     peer = socket.socket(socket.AF_INET, socket.SOCK_DGRAM)
     peer.bind(('127.0.0.1', PEER))
     peer.setblocking(False)
     serve, exchange, packets, speech = Serve(program, path), Exchange(), [], random.Random(1)
     spoken = random.Random(3)
-    due, late, strangers_at_work = time.monotonic(), 0.0, None
+    due, late, dropped, strangers_at_work = time.monotonic(), 0.0, 0, None
     for step in range(round((SECONDS + 1) / STEP)):
         if step == 50:
             for circuit in (1, 2):
@@ -115,7 +118,7 @@ def call(program, path, flooded):
         if step == 55:
             exchange.pairs.update({1: ACKNOWLEDGED, 2: ACKNOWLEDGED})
         if step == 150 and flooded:
-            strangers_at_work = subprocess.Popen([sys.executable, '-B', __file__, 'flood', str(FLOODED), str(SECONDS)],
+            strangers_at_work = subprocess.Popen([sys.executable, '-B', __file__, 'flood', str(flooded), str(SECONDS)],
                                                  stdout=subprocess.PIPE, text=True)
         if step >= 100 and step % PACKET_STEPS == 0:
             turn = step // PACKET_STEPS
@@ -130,14 +133,14 @@ def call(program, path, flooded):
         sent, seconds = strangers_at_work.communicate()[0].split()
         # What came since the last trunk octet is taken with some more.
         serve.trunk(exchange.multiframe() * 16)
-        waiting, dropped = kernel(FLOODED)
-        print(f'flood: {sent} datagrams in {float(seconds):.1f} s; the kernel had no room for {dropped}, '
+        waiting, dropped = kernel(flooded)
+        print(f'{what}: {sent} datagrams in {float(seconds):.1f} s; the kernel had no room for {dropped}, '
               f'{waiting} octets wait, all others were received')
     status = serve.end()
     peer.close()
-    print(f'{"with" if flooded else "without"} the flood: circuit 1 sent {len(exchange.heard[1])} octets to the trunk '
+    print(f'{what}: circuit 1 sent {len(exchange.heard[1])} octets to the trunk '
           f'and {len(packets)} packets, status {status}; the trunk was at most {late * 1000:.1f} ms behind')
-    return bytes(exchange.heard[1]), packets, status
+    return (bytes(exchange.heard[1]), packets, status), dropped
 
 
 def received(peer):
@@ -162,9 +165,14 @@ def main():
     program = sys.argv[1]
     with tempfile.TemporaryDirectory() as folder:
         path = config(folder, CONFIG.replace('HOST', '127.0.0.1'))
-        alone, beside = call(program, path, False), call(program, path, True)
-        good = alone == beside and alone[2] == 0 and len(alone[1]) > 200
-        print('circuit 1: the same octets and packets in both' if alone == beside else 'circuit 1: NOT the same')
+        alone, _ = call(program, path, None, 'no flood')
+        good = alone[2] == 0 and len(alone[1]) > 200
+        for port, what in ((FLOODED, "flood at circuit 2's port"), (CALL, "flood at circuit 1's own port")):
+            flooded, dropped = call(program, path, port, what)
+            print(f'{what}: ' + ('the same octets and packets' if flooded == alone else
+                                 'not the same, but the kernel may have dropped some of the call' if port == CALL
+                                 and dropped else 'NOT the same octets and packets'))
+            good = good and (flooded == alone or port == CALL and dropped > 0)
         with socket.socket(socket.AF_INET, socket.SOCK_DGRAM) as taken:
             taken.bind(('127.0.0.1', FLOODED))
             good = refused(program, path, 'a port in use', 'socket 2') and good

@@ -182,10 +182,27 @@ def compare(codec, program, folder):
         speech = file.read()
     with open(f'{folder}/config', 'w', encoding='ascii') as file:
         file.write(CONFIG.format(law=codec.law, codec=codec.config, payload=codec.payload))
+    started = []
+    try:
+        heard = calls(codec, program, folder, speech, started)
+    finally:
+        for process in started:
+            process.kill()
+            process.wait()
+    good = True
+    for circuit, peer in zip(PORTS, PEERS):
+        with open(f'{folder}/out.{circuit}', 'rb') as file:
+            good = judge(codec, f'{peer} to e1gw', speech, heard[circuit]) and good
+            good = judge(codec, f'e1gw to {peer}', speech, file.read()) and good
+    return captured(folder, codec) and good
+
+
+def calls(codec, program, folder, speech, started):
+    """Has the calls, and returns what came to the exchange. The processes are added to those started."""
     ports = ' or '.join(str(port) for pair in PORTS.values() for port in pair)
     capture = subprocess.Popen(['tshark', '-n', '-q', '-i', 'lo', '-w', f'{folder}/pcap', '-f', f'udp port {ports}'],
                                stdout=subprocess.DEVNULL, stderr=subprocess.PIPE, text=True)
-    hearing = [subprocess.Popen(words) for words in receivers(codec, folder)]
+    started += [capture, *(subprocess.Popen(words) for words in receivers(codec, folder))]
     time.sleep(2)
     if capture.poll() is not None:
         sys.stderr.write(capture.stderr.read())
@@ -199,21 +216,17 @@ def compare(codec, program, folder):
     for circuit in PORTS:
         trunk.exchange.speech[circuit] = bytearray(speech)
     # ffmpeg prints an SDP text.
-    speaking = [subprocess.Popen(words, stdout=subprocess.DEVNULL) for words in senders(codec, folder)]
+    started += [subprocess.Popen(words, stdout=subprocess.DEVNULL) for words in senders(codec, folder)]
     trunk.run(len(speech) / 8000 + 1.5)
-    for each in (*speaking, *hearing, capture):
-        each.send_signal(signal.SIGINT)
+    for process in started:
+        process.send_signal(signal.SIGINT)
     # A receiver looks for the signal when a packet comes, so the calls go on.
     trunk.run(0.5)
-    for each in (*speaking, *hearing, capture):
-        each.wait()
-    status = trunk.serve.end()
-    good = status == 0
-    for circuit, peer in zip(PORTS, PEERS):
-        with open(f'{folder}/out.{circuit}', 'rb') as file:
-            good = judge(codec, f'{peer} to e1gw', speech, trunk.exchange.heard[circuit]) and good
-            good = judge(codec, f'e1gw to {peer}', speech, file.read()) and good
-    return captured(folder, codec) and good
+    for process in started:
+        process.wait()
+    if trunk.serve.end() != 0:
+        raise SystemExit('interwork: e1gw serve does not end with status 0')
+    return trunk.exchange.heard
 
 
 def main():
