@@ -149,11 +149,13 @@ def examples(lines):
 
 def try_examples(folder):
     """The configuration of the page is one, and the session of the page gives the records of the page."""
-    config = os.path.join(folder, 'example.toml')
-    with open(config, 'w', encoding='utf-8') as file:
-        file.write(examples(page('e1gw.toml.5'))[0] + '\n')
-    status, listing, faults = run('check', '--config', config)
+    shipped = os.path.join(TOP, 'system/example.toml')
+    with open(shipped, encoding='utf-8') as file:
+        _, text = file.read().split('\n\n', 1)
+    expect('the example of e1gw.toml(5)', examples(page('e1gw.toml.5'))[0] + '\n', text)
+    status, listing, faults = run('check', '--config', shipped)
     expect('check of the example of e1gw.toml(5)', (status, listing.count(b'\n'), faults), (0, 30, ''))
+    config = os.path.join(folder, 'trunk.toml')
     with open(config, 'w', encoding='utf-8') as file:
         file.write('law = "A"\n')
     given, wanted = (bytes.fromhex(text) for text in examples(page('e1gw-session.5')))
