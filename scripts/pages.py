@@ -26,9 +26,10 @@ def page(name):
         return file.read().splitlines()
 
 
-def run(*words, given=b''):
+def run(*words, given=b'', **streams):
     """The program with these words and this input: its status, its output and its faults."""
-    done = subprocess.run([PROGRAM, *words], input=given, capture_output=True)
+    streams = {'input': given, 'stdout': subprocess.PIPE} | streams
+    done = subprocess.run([PROGRAM, *words], stderr=subprocess.PIPE, **streams)
     return done.returncode, done.stdout, done.stderr.decode()
 
 
@@ -149,16 +150,57 @@ def examples(lines):
 
 def try_examples(folder):
     """The configuration of the page is one, and the session of the page gives the records of the page."""
-    config = os.path.join(folder, 'example.toml')
-    with open(config, 'w', encoding='utf-8') as file:
-        file.write(examples(page('e1gw.toml.5'))[0] + '\n')
-    status, listing, faults = run('check', '--config', config)
+    shipped = os.path.join(TOP, 'system/example.toml')
+    with open(shipped, encoding='utf-8') as file:
+        _, text = file.read().split('\n\n', 1)
+    expect('the example of e1gw.toml(5)', examples(page('e1gw.toml.5'))[0] + '\n', text)
+    status, listing, faults = run('check', '--config', shipped)
     expect('check of the example of e1gw.toml(5)', (status, listing.count(b'\n'), faults), (0, 30, ''))
+    config = os.path.join(folder, 'trunk.toml')
     with open(config, 'w', encoding='utf-8') as file:
         file.write('law = "A"\n')
     given, wanted = (bytes.fromhex(text) for text in examples(page('e1gw-session.5')))
     expect('replay of the example of e1gw-session(5)', run('replay', '--config', config, given=given),
            (0, wanted, ''))
+
+
+SESSION_FAULTS = [b'X\0\0\0', b'T\1\0\0', b'C\1\0\1\7', b'T\0\0\1']
+
+CONFIG_FAULTS = ['law = A', 'x = 1', '', 'law = 1', 'law = "B"',
+                 'law = "A"\n[[circuit]]\nnumber = 4\n[[circuit]]\nnumber = 4',
+                 'law = "mu"\n[[circuit]]\nnumber = 1\ncodec = "pcma"', ' ' * 65537]
+
+
+def diagnosed(name, word):
+    """The lines that a page shows for the faults whose lines begin with a word."""
+    return [line.removeprefix('.It ') for line in page(name) if line.startswith(f'.It {word} ')]
+
+
+def compare_faults(folder):
+    """The lines of faults are those of the pages, one for each number."""
+    config = os.path.join(folder, 'fault.toml')
+    with open(config, 'w', encoding='utf-8') as file:
+        file.write('law = "A"\n')
+    replay = ['replay', '--config', config]
+    ended = [run(*replay, given=given) for given in SESSION_FAULTS]
+    with open('/dev/full', 'wb') as full:
+        unread = os.open(folder, os.O_RDONLY)
+        ended += [run(*replay, input=None, stdin=unread), run(*replay, given=b'T\0\0\0', stdout=full)]
+        os.close(unread)
+    expect('faults of a session', [(status, line) for status, _, line in ended],
+           [(1, f'{line}\n') for line in diagnosed('e1gw.1', 'fault')])
+    told = []
+    for text in CONFIG_FAULTS:
+        with open(config, 'w', encoding='utf-8') as file:
+            file.write(text)
+        status, _, line = run('check', '--config', config)
+        told.append((status, re.sub(r'at [1-9]\d*$', 'at P', line.rstrip())))
+    expect('faults of a configuration', told,
+           [(2, line.replace('at P', 'at 0') if number < 6 else line)
+            for number, line in enumerate(diagnosed('e1gw.toml.5', 'config'), 1)])
+    os.unlink(config)
+    expect('a configuration that is not there', run('check', '--config', config)[::2],
+           (2, 'cannot read the configuration\n'))
 
 
 def totals(*words, given):
@@ -199,12 +241,13 @@ def main():
     with tempfile.TemporaryDirectory() as folder:
         try_examples(folder)
         compare_totals(lines, folder)
+        compare_faults(folder)
     with open(os.path.join(TOP, 'VERSION'), encoding='utf-8') as file:
         expect('--version', run('--version')[1].decode(), f'e1gw {file.read().strip()}\n')
     for failure in failures:
         print(f'failed: {failure}')
     if not failures:
-        print('options, values, ranges, defaults, totals, examples and completion: as the program has them')
+        print('options, values, ranges, defaults, totals, faults, examples and completion: as the program has them')
     sys.exit(1 if failures else 0)
 
 
