@@ -38,7 +38,7 @@ pub enum PlayoutFault {
     /// 15: there are more than 1600 words.
     #[error("too many words")]
     TooMany,
-    /// 16: the last word is due behind the window.
+    /// 16: the last word is due after the window.
     #[error("too far ahead")]
     Full,
 }
