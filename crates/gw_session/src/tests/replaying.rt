@@ -127,8 +127,8 @@ fn trunk_cut_otherwise(rt: HostRuntime) -> Result<(), Fail> {
     Ok(())
 }
 
-// The samples of octets 51201, 51233, .., 51425: four are heard in slots that are not theirs, three are not heard
-// while alignment is looked for, and the last is the call's again. They stand in the eighth datagram.
+// The samples of octets 51201, 51233, .., 51425: four are heard in slots that are not theirs, three are not
+// heard while alignment is looked for, and the last is the call's again. They stand in the eighth datagram.
 #[test]
 fn inserted_octets(rt: HostRuntime) -> Result<(), Fail> {
     let session = call(rt.alloc(), Trunk::Inserted, 57_000, &[], 57_000, 512)?;
