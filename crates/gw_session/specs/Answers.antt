@@ -1,4 +1,5 @@
--- What a session of a gateway makes of its records, and what it writes for them.
+-- What a session of a gateway makes of its records, and what it writes for them (modules `acting`, `sending`
+-- and `service`).
 use Rattle.std.specs.Prelude.{◌==◌, ℕ, if◌then◌else◌, List, [], ◌∷◌, ◌++◌, length, take, drop, map}
 use Rattle.std.specs.Prelude.{Option, Some, None, Err}
 use Rattle.std.specs.List.{flat_map}

@@ -55,8 +55,8 @@ fn of_first_call(position: u32) -> u8 {
     }
 }
 
-// Circuits 3 and 18 are signalled 1001, and 1101 from the thirteenth multiframe on; then 18 is answered. A quiet
-// circuit 18 is signalled 1001, and hears 0xD5.
+// Circuits 3 and 18 are signalled 1001, and 1101 from the thirteenth multiframe on; then 18 is answered. A
+// quiet circuit 18 is signalled 1001, and hears 0xD5.
 fn of_two_calls(position: u32, hostile: bool) -> u8 {
     let multiframe = position / 512;
     let others = match multiframe {

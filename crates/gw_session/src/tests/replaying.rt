@@ -127,8 +127,8 @@ fn trunk_cut_otherwise(rt: HostRuntime) -> Result<(), Fail> {
     Ok(())
 }
 
-// Of the octets from 51201 to 51425 in slot 1, eight are heard but for the last, the misplaced ones before alignment
-// is lost among them. They stand in the eighth datagram.
+// The samples of octets 51201, 51233, .., 51425: four are heard in slots that are not theirs, three are not
+// heard while alignment is looked for, and the last is the call's again. They stand in the eighth datagram.
 #[test]
 fn inserted_octets(rt: HostRuntime) -> Result<(), Fail> {
     let session = call(rt.alloc(), Trunk::Inserted, 57_000, &[], 57_000, 512)?;
@@ -209,8 +209,8 @@ fn codec_refused(rt: HostRuntime) -> Result<(), Fail> {
     Ok(())
 }
 
-// Two datagrams fill the window of an open path; then one that is too long for it, one that is too long at all, and
-// one of another payload type.
+// Two datagrams fill the window of an open path; then one that is too long for it, one that is too long at
+// all, and one of another payload type.
 #[test]
 fn refusals_when_full(rt: HostRuntime) -> Result<(), Fail> {
     let mut session = call(rt.alloc(), Trunk::FirstCall, 10_801, &[], 10_801, 65_535)?;
@@ -245,8 +245,8 @@ fn refusals_when_full(rt: HostRuntime) -> Result<(), Fail> {
     Ok(())
 }
 
-// Circuits 3 and 18, both of G.726 at 32 kbit/s. Circuit 18 is left alone, or is in a call too and gets datagrams
-// that are repeated, late and too long, and, where it is asked for, codecs.
+// Circuits 3 and 18, both of G.726 at 32 kbit/s. Circuit 18 is left alone, or is in a call too and gets
+// datagrams that are repeated, late and too long, and, where it is asked for, codecs.
 fn two_calls(alloc: Global, hostile: bool, codecs: bool) -> Result<Session, AllocError> {
     let trunk = if hostile {
         Trunk::Hostile
