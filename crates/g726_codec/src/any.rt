@@ -47,6 +47,7 @@ impl Codec {
         }
     }
 
+    #[inline(always)]
     fn encode(&mut self, law: Law, octet: u8) -> u8
         ensures bound { result < 2 ^ bits_of (kind_of self.old) }
         ensures word { result ≡ word_in (kind_of self.old) law (states_of self.old).encoder octet }
@@ -61,6 +62,7 @@ impl Codec {
         }
     }
 
+    #[inline(always)]
     fn decode(&mut self, law: Law, word: u8) -> u8
         requires { word < 2 ^ bits_of (kind_of self.old) }
         ensures octet { result ≡ octet_in (kind_of self.old) law (states_of self.old).decoder word }
@@ -105,6 +107,7 @@ impl AnyCodec {
     }
 
     /// The word of the next octet, below `2^bits`. An octet of G.711 is its own word.
+    #[inline(always)]
     pub fn encode(&mut self, octet: u8) -> u8
         ensures bound { result < 2 ^ bits_of self.old.kind }
         ensures word { result ≡ word_in self.old.kind self.old.law self.old.encoder octet }
@@ -120,6 +123,7 @@ impl AnyCodec {
     }
 
     /// The octet of the next word, which is below `2^bits`. A word of G.711 is its own octet.
+    #[inline(always)]
     pub fn decode(&mut self, word: u8) -> u8
         requires { word < 2 ^ bits_of self.old.kind }
         ensures octet { result ≡ octet_in self.old.kind self.old.law self.old.decoder word }

@@ -49,6 +49,7 @@ impl<R: Rate> Decoder<R> {
 
     /// The octet of the next word, in a law (ITU-T G.726, RECONST to ADDB, COMPRESS, EXPAND, and SUBTA to SYNC;
     /// the other blocks for the state).
+    #[inline(always)]
     pub fn decode(&mut self, law: Law, word: Word<R>) -> u8
         ensures octet { result ≡ sync R.tables law self.old word }
         ensures state { self.new ≡ stepped R.tables self.old word }

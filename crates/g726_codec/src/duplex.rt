@@ -34,6 +34,7 @@ impl<R: Rate> Duplex<R> {
     }
 
     // The word of the next octet.
+    #[inline(always)]
     pub(crate) fn encode(&mut self, law: Law, octet: u8) -> u8
         ensures bound { result < 2 ^ R.tables.bits }
         ensures word { result ≡ word_for R.tables self.old.encoder (expanded law octet) }
@@ -44,6 +45,7 @@ impl<R: Rate> Duplex<R> {
     }
 
     // The octet of the next word.
+    #[inline(always)]
     pub(crate) fn decode(&mut self, law: Law, word: u8) -> u8
         requires { word < 2 ^ R.tables.bits }
         ensures octet { result ≡ sync R.tables law self.old.decoder word }

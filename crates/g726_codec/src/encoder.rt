@@ -37,6 +37,7 @@ impl<R: Rate> Encoder<R> {
 
     /// The word of the next octet, which is a code of a law (ITU-T G.726, EXPAND to QUAN; the other blocks for
     /// the state).
+    #[inline(always)]
     pub fn encode(&mut self, law: Law, octet: u8) -> Word<R>
         ensures word { result ≡ word_for R.tables self.old (expanded law octet) }
         ensures state { self.new ≡ stepped R.tables self.old result }
