@@ -38,7 +38,7 @@ impl<'a> RtpView<'a> {
         self.header
     }
 
-    /// What the payload is, from 0 to 127 (RFC 3550, 5.1, PT).
+    /// What the payload is (RFC 3550, 5.1, PT): from 0 to 127 in what `parse` reads.
     pub fn payload_type(&self) -> u8
         ensures { result ≡ self.now.header.payload_type }
     {
