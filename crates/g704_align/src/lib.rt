@@ -15,6 +15,8 @@ const FRAME: u8 = 32;
 
 const TWO_FRAMES: u8 = 64;
 
+const HALF_FRAME: u8 = 16;
+
 // So many wrong octets in a row alignment stands.
 const TOLERATED: u8 = 2;
 
@@ -81,20 +83,13 @@ impl Aligner {
             → Stands self.new (history ++ octet ∷ []) }
         ensures in_frame { number_of result < 32 }
     {
-        // The octets between the signals move nothing but the age, and are 31 of 32.
-        if let Phase::Aligned {
-            age,
-            wrong_fas,
-            wrong_nfas,
-        } = self.phase
-        {
-            if age % FRAME != 0 {
-                self.phase = Phase::Aligned {
-                    age: next_age(age),
-                    wrong_fas,
-                    wrong_nfas,
-                };
-                return slot_at(age);
+        // An octet in any slot but 0 moves nothing but the age. Those in slot 16 are left to `follow`, so that a
+        // caller who looks for the slots 0 and 16 needs no test of its own once this is put into its code.
+        if let Phase::Aligned { age, .. } = &mut self.phase {
+            let now = *age;
+            if now % HALF_FRAME != 0 {
+                *age = next_age(now);
+                return slot_at(now);
             }
         }
         self.follow(octet)

@@ -1,0 +1,42 @@
+use Rattle.std.proofs.Common.{◌+◌, ◌%◌, length, refl, sym, ◌∙◌, arith}
+use Rattle.g704_cas.specs.Numbers.{frame_with}
+use Rattle.gw_switch.specs.Hearing.{signalled}
+use Rattle.gw_switch.proofs.Rounds.{frame_with-low, frame_with-high, frame_with-small, place_in_round, next_in_round}
+use Rattle.gw_switch.proofs.HearingLemmas.{octet_kept, nibble_heard, nibble_taken}
+use Rattle.gw_switch.proofs.trunk.Trunk.take_nibbles.Goals as goal
+
+pub returns-clause-high : goal.returns-clause-high
+unfolding signalled
+returns-clause-high c = λ s n h sixteen at.
+    let k = c.args.frame in
+    let small = c.requires.last in
+    c.take_nibbles.ensures.high
+    ∙ nibble_heard s k n _ h.awaited
+    (place_in_round n (frame_with k) (frame_with-small k (omega arith)) sixteen (sym at ∙ sym (frame_with-low k small)))
+    (h.nibbles k c.requires.first (omega arith))
+
+pub returns-clause-low : goal.returns-clause-low
+unfolding signalled
+returns-clause-low c = λ s n h sixteen at.
+    let k = c.args.frame + 15 in
+    let small = c.requires.last in
+    c.take_nibbles.ensures.low
+    ∙ nibble_heard s k n _ h.awaited
+    (place_in_round n (frame_with k) (frame_with-small k (omega arith)) sixteen
+    (sym at ∙ sym (frame_with-high c.args.frame c.requires.first)))
+    (h.nibbles k (omega arith) (omega arith))
+
+pub returns-clause-sent : goal.returns-clause-sent
+returns-clause-sent c = λ s n h sixteen at. record {
+  position = next_in_round n (length s) _ (omega (arith, h.awaited)) h.position;
+  awaited = omega arith;
+  frames = h.frames;
+  multiframes = h.multiframes;
+  octets = λ k lt speech.
+      octet_kept s k n _ h.awaited lt (λ e. speech (omega (arith, e, sixteen))) (h.octets k lt speech);
+  nibbles = λ k low high.
+      nibble_taken s k n c.args.frame _ _ h.awaited high sixteen at (h.nibbles k low high)
+      (c.take_nibbles.ensures.each k low high);
+  remote_frame = h.remote_frame;
+  remote_multiframe = h.remote_multiframe;
+}

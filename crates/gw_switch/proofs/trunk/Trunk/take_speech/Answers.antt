@@ -1,0 +1,29 @@
+use Rattle.std.proofs.Common.{◌%◌, length, get_or, None, refl, sym, ◌∙◌, ap, arith}
+use Rattle.g704_cas.specs.Numbers.{slot_of, frame_with}
+use Rattle.gw_switch.specs.Hearing.{heard}
+use Rattle.gw_switch.proofs.Rounds.{slot_of-small, slot_of-speech, frame_with-small, elsewhere, next_in_round}
+use Rattle.gw_switch.proofs.HearingLemmas.{octet_heard, octet_taken, nibble_kept}
+use Rattle.gw_switch.proofs.trunk.Trunk.take_speech.Goals as goal
+
+pub returns-clause-heard : goal.returns-clause-heard
+unfolding heard
+returns-clause-heard c = λ s n h at k low high own.
+    c.take_octet-heard.ensures.taken
+    ∙ ap (λ i. get_or c.args.self.now.octets i None) (at ∙ own)
+    ∙ octet_heard s (slot_of k) n _ h.awaited (sym own)
+    (h.octets (slot_of k) (slot_of-small k high) (slot_of-speech k low high))
+
+pub returns-clause-sent : goal.returns-clause-sent
+returns-clause-sent c = λ s n h at speech. record {
+  position = next_in_round n (length s) _ (omega (arith, h.awaited)) h.position;
+  awaited = omega arith;
+  frames = h.frames;
+  multiframes = h.multiframes;
+  octets = λ k lt own.
+      octet_taken s k c.args.slot n _ _ h.awaited lt at (h.octets k lt own) (c.take_octet-heard.ensures.each k lt);
+  nibbles = λ k low high.
+      nibble_kept s k n _ h.awaited high
+      (λ e. speech (at ∙ (elsewhere n (frame_with k) (frame_with-small k high) e).0)) (h.nibbles k low high);
+  remote_frame = h.remote_frame;
+  remote_multiframe = h.remote_multiframe;
+}
