@@ -1,4 +1,4 @@
-//! One table of the list.
+//! What one table of the list `circuit` says by itself.
 
 ghost use Rattle.std.specs.Prelude.{◌≡◌, ◌≤◌, ◌||◌, ◌==◌, IsTrue, IfOk, Some, None, codes, option_map, Ok};
 ghost use Rattle.toml.specs.Data.{as_integer};
@@ -12,32 +12,57 @@ ghost use Rattle.gw_config.specs.Views.{speech_view, stream_view, ports_view, en
 
 use crate::fault::Kind;
 use crate::keys::{choice_at, has_only, integer_at, look_up, whole_at, words_at};
-use crate::names::{goes_with, static_type};
+use crate::names::{
+    DEFAULT_PTIME, DEFAULT_ROLE, LOOPBACK, goes_with, payload_of, ptime_of, static_type,
+};
 use e1_g711::Law;
 use g726_codec::{CodecKind, CodecName};
 use gw_circuit::CircuitConfig;
 use q421_line::Role;
 use toml::Table;
 
-pub(crate) const LOOPBACK: &str = "127.0.0.1";
+const CIRCUIT_KEYS: [&str; 12] = [
+    "number",
+    "role",
+    "codec",
+    "payload",
+    "ptime",
+    "prefill",
+    "ssrc",
+    "sequence",
+    "timestamp",
+    "local_port",
+    "peer_port",
+    "peer_host",
+];
 
+// The greatest `prefill`, in samples: that of a circuit's playout.
+const MAX_PREFILL: u32 = 1600;
+
+/// Which circuit a table is of, and how its speech is coded.
 #[derive(Clone, Copy)]
 pub(crate) struct Speech {
+    /// 1 to 30.
     pub number: u8,
     pub role: Role,
     pub name: CodecName,
+    /// At most 127.
     pub payload_type: u8,
 }
 
+/// How the datagrams of a circuit are made and played out.
 #[derive(Clone, Copy)]
 pub(crate) struct Stream {
+    /// 10, 20 or 30 ms.
     pub ptime: u8,
+    /// 0 to 1600 samples.
     pub prefill: u16,
     pub ssrc: u32,
     pub sequence: u16,
     pub timestamp: u32,
 }
 
+/// Where the datagrams of a circuit come in and go, before the text of the host is copied.
 #[derive(Clone, Copy)]
 pub(crate) struct Ends<'a> {
     pub local_port: u16,
@@ -45,30 +70,25 @@ pub(crate) struct Ends<'a> {
     pub peer_port: u16,
 }
 
+/// What a table says.
 #[derive(Clone, Copy)]
 pub(crate) struct Entry<'a> {
+    /// 1 to 30.
     pub number: u8,
     pub settings: CircuitConfig,
     pub ports: Option<Ends<'a>>,
 }
 
+// The payload type of a codec: that of the table, or the codec's own.
 #[tactic(auto, unfolding(crate::specs::Keys::value_at))]
 fn payload_at(name: CodecName, table: &Table) -> Result<u8, Kind>
-    ensures value { result ≡ value_at as_integer (payload_of name) (static_type name) (codes "payload") (table_view table.now) }
+    ensures value { result
+        ≡ value_at as_integer (payload_of name) (static_type name) (codes "payload") (table_view table.now) }
     ensures bound { IfOk result (λ n. n ≤ 127) }
 {
     match integer_at(table, "payload")? {
         None => static_type(name).ok_or(Kind::Missing),
-        Some(number) => {
-            let own = match static_type(name) {
-                Some(fixed) => number == i64::from(fixed),
-                None => false,
-            };
-            if own || (number >= 96 && number <= 127) {
-                return Ok(number as u8);
-            }
-            Err(Kind::OutOfRange)
-        }
+        Some(number) => payload_of(name, number).ok_or(Kind::OutOfRange),
     }
 }
 
@@ -78,11 +98,8 @@ fn ptime_at(table: &Table) -> Result<u8, Kind>
     ensures bound { IfOk result (λ n. IsPacketTime n) }
 {
     match integer_at(table, "ptime")? {
-        None => Ok(20),
-        Some(10) => Ok(10),
-        Some(20) => Ok(20),
-        Some(30) => Ok(30),
-        Some(_) => Err(Kind::OutOfRange),
+        None => Ok(DEFAULT_PTIME),
+        Some(number) => ptime_of(number).ok_or(Kind::OutOfRange),
     }
 }
 
@@ -93,7 +110,7 @@ fn speech_of(law: Law, table: &Table) -> Result<Speech, Kind>
     ensures number { IfOk result (λ s. s.number ≤ 30) }
 {
     let number = whole_at(table, "number", 1, 30, None)? as u8;
-    let role = choice_at(table, "role", Some(Role::Outgoing))?;
+    let role = choice_at(table, "role", Some(DEFAULT_ROLE))?;
     let name = choice_at(table, "codec", Some(CodecName::of(law, CodecKind::G711)))?;
     let payload_type = payload_at(name, table)?;
     Ok(Speech {
@@ -104,6 +121,7 @@ fn speech_of(law: Law, table: &Table) -> Result<Speech, Kind>
     })
 }
 
+// The SSRC of a circuit is by default its number; all else that is counted begins at 0.
 #[tactic(auto, unfolding(crate::specs::Meaning::stream_of))]
 fn stream_of(number: u8, table: &Table) -> Result<Stream, Kind>
     ensures value { read_as stream_view result ≡ stream_of number (table_view table.now) }
@@ -111,7 +129,7 @@ fn stream_of(number: u8, table: &Table) -> Result<Stream, Kind>
     ensures prefill { IfOk result (λ s. s.prefill ≤ 1600) }
 {
     let ptime = ptime_at(table)?;
-    let prefill = whole_at(table, "prefill", 0, 1600, Some(0))? as u16;
+    let prefill = whole_at(table, "prefill", 0, MAX_PREFILL, Some(0))? as u16;
     let ssrc = whole_at(table, "ssrc", 0, u32::MAX, Some(u32::from(number)))?;
     let sequence = whole_at(table, "sequence", 0, 65535, Some(0))? as u16;
     let timestamp = whole_at(table, "timestamp", 0, u32::MAX, Some(0))?;
@@ -124,6 +142,7 @@ fn stream_of(number: u8, table: &Table) -> Result<Stream, Kind>
     })
 }
 
+// The port at a key. It may be absent only where the other one is, of whatever type that is.
 #[tactic(auto, unfolding(crate::specs::Keys::value_at))]
 fn port_at(table: &Table, key: &str, other: &str) -> Result<Option<u16>, Kind>
     ensures { result ≡ port_at key.now other.now (table_view table.now) }
@@ -144,6 +163,7 @@ fn port_at(table: &Table, key: &str, other: &str) -> Result<Option<u16>, Kind>
     }
 }
 
+// Both ports and the host, or none; `peer_host` is looked at without ports too.
 #[tactic(auto, unfolding(crate::specs::Meaning::ports_at))]
 fn ports_at<'a>(table: &'a Table) -> Result<Option<Ends<'a>>, Kind>
     ensures { read_as ports_view result ≡ ports_at (table_view table.now) }
@@ -161,6 +181,7 @@ fn ports_at<'a>(table: &'a Table) -> Result<Option<Ends<'a>>, Kind>
     }
 }
 
+// A circuit's settings, whose values were tested when they were read.
 fn settings(speech: &Speech, stream: &Stream) -> CircuitConfig
     requires payload { speech.now.payload_type ≤ 127 }
     requires ptime { IsPacketTime stream.now.ptime }
@@ -180,22 +201,7 @@ fn settings(speech: &Speech, stream: &Stream) -> CircuitConfig
     .unwrap()
 }
 
-const CIRCUIT_KEYS: [&str; 12] = [
-    "number",
-    "role",
-    "codec",
-    "payload",
-    "ptime",
-    "prefill",
-    "ssrc",
-    "sequence",
-    "timestamp",
-    "local_port",
-    "peer_port",
-    "peer_host",
-];
-
-/// What one table says by itself.
+// What a table says, or its first fault: unknown keys, then the keys in their order, then the law.
 #[tactic(auto, unfolding(crate::specs::Meaning::entry_of))]
 pub(crate) fn entry_of<'a>(law: Law, table: &'a Table) -> Result<Entry<'a>, Kind>
     ensures { read_as entry_view result ≡ entry_of law (table_view table.now) }

@@ -1,0 +1,16 @@
+-- The numbers of the kinds of faults.
+use Rattle.std.specs.Prelude.{ℕ}
+use Rattle.gw_config.specs.declared.fault.Kind.{Kind}
+use Rattle.gw_config.specs.declared.fault.Kind.TheVariants.{Syntax, UnknownKey, Missing, WrongType}
+use Rattle.gw_config.specs.declared.fault.Kind.TheVariants.{OutOfRange, Twice, LawCodec, TooLong}
+
+-- the number that is told
+abbrev pub kind_number : Kind → ℕ
+kind_number Syntax = 1
+kind_number UnknownKey = 2
+kind_number Missing = 3
+kind_number WrongType = 4
+kind_number OutOfRange = 5
+kind_number Twice = 6
+kind_number LawCodec = 7
+kind_number TooLong = 8
