@@ -83,8 +83,8 @@ impl Aligner {
             → Stands self.new (history ++ octet ∷ []) }
         ensures in_frame { number_of result < 32 }
     {
-        // An octet in any slot but 0 moves nothing but the age. Those in slot 16 are left to `follow`, so that a
-        // caller who looks for the slots 0 and 16 needs no test of its own once this is put into its code.
+        // An octet in any slot but 0 moves nothing but the age. Those in slot 16 are left to `follow`, so
+        // that a caller who looks for slots 0 and 16 needs no test of its own once this is put into it.
         if let Phase::Aligned { age, .. } = &mut self.phase {
             let now = *age;
             if now % HALF_FRAME != 0 {

@@ -13,7 +13,8 @@ not_signal age ne e = ne (omega (arith, e))
 pub returns-then-now-ne0-clause-placed : goal.returns-then-now-ne0-clause-placed
 returns-then-now-ne0-clause-placed c history h =
     let fields = rw c.in-Aligned.is at h.fields in
-    let more = between-signals h.since c.args.octet _ _ _ fields _ (not_signal _ c.if-now-ne0.true) c.next_age.ensures in
+    let more = between-signals h.since c.args.octet _ _ _ fields _
+    (not_signal _ c.if-now-ne0.true) c.next_age.ensures in
     c.slot_at.ensures
     ∙ place-aligned (last_of None h.earlier) h.since c.args.octet _ _ _ _ _ _ fields more
     ∙ place-history history h.earlier h.since c.args.octet h.whole h.over
@@ -21,7 +22,8 @@ returns-then-now-ne0-clause-placed c history h =
 pub returns-then-now-ne0-clause-stands : goal.returns-then-now-ne0-clause-stands
 returns-then-now-ne0-clause-stands c history h =
     stands-follows _ history h.earlier h.since c.args.octet h.whole h.over
-    (between-signals h.since c.args.octet _ _ _ (rw c.in-Aligned.is at h.fields) _ (not_signal _ c.if-now-ne0.true) c.next_age.ensures)
+    (between-signals h.since c.args.octet _ _ _ (rw c.in-Aligned.is at h.fields) _
+    (not_signal _ c.if-now-ne0.true) c.next_age.ensures)
 
 -- what was looked at without being changed is as it was
 stands-before : (c : goal.After-follow) (history : List ℕ) → Stands c.args.self.now history
