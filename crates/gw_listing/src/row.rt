@@ -99,7 +99,7 @@ fn push_line_part(line: &mut ArrayString<96>, circuit: CircuitNo, status: &Statu
 /// ```text
 ///  1 outgoing fault       10 --          0          0          0 pcma      8
 /// ```
-#[tactic(auto, unfolding(crate::specs::Row::row))]
+#[tactic(auto, unfolding(crate::specs::Row::row), using(crate::proofs::Decimals::ten_digits))]
 pub fn line(circuit: CircuitNo, status: &Status) -> ArrayString<96>
     ensures bytes { result.bytes ≡ row circuit status.now }
     ensures len { array_string_len result ≡ 74 }
