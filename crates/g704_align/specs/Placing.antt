@@ -15,7 +15,8 @@ place_of (Some age) = Slot (age % 32) ((age / 32) % 2 == 0)
 unfoldable pub place : List ℕ → ℕ → Place
 place stream position = place_of (age_in 65 (alignments stream) position)
 
--- The alarm after the octet at a position: no alignment stands. (ITU-T G.706, 4.1)
+-- The alarm after the octet at a position: no alignment stands (ITU-T G.706, 4.1). Past the end of the stream it
+-- is what would follow without a loss.
 unfoldable pub alarm : List ℕ → ℕ → Bool
 alarm stream position = is_none (age_in 64 (alignments stream) position)
 

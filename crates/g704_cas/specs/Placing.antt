@@ -15,7 +15,8 @@ place_of (Some age) = Frame (age % 16)
 unfoldable pub place : List ℕ → ℕ → MfPlace
 place octets position = place_of (age_in 0 (alignments octets) position)
 
--- the alarm after the octet at a position: no alignment stands
+-- The alarm after the octet at a position: no alignment stands. Past the end of the octets it is what would follow
+-- without a loss.
 unfoldable pub alarm : List ℕ → ℕ → Bool
 alarm octets position = is_none (age_in 0 (alignments octets) position)
 
