@@ -1,4 +1,4 @@
-use Rattle.std.proofs.Common.{◌%◌, length, arith}
+use Rattle.std.proofs.Common.{length, arith}
 use Rattle.gw_switch.proofs.Rounds.{next_in_round}
 use Rattle.gw_switch.proofs.HearingLemmas.{octet_kept, nibble_kept}
 use Rattle.gw_switch.proofs.trunk.Trunk.pass_turn.Goals as goal

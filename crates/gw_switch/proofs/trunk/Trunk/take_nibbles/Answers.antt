@@ -1,4 +1,4 @@
-use Rattle.std.proofs.Common.{◌+◌, ◌%◌, length, refl, sym, ◌∙◌, arith}
+use Rattle.std.proofs.Common.{◌+◌, length, sym, ◌∙◌, arith}
 use Rattle.g704_cas.specs.Numbers.{frame_with}
 use Rattle.gw_switch.specs.Hearing.{signalled}
 use Rattle.gw_switch.proofs.Rounds.{frame_with-low, frame_with-high, frame_with-small, place_in_round, next_in_round}

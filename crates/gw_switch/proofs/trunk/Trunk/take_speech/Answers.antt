@@ -1,4 +1,4 @@
-use Rattle.std.proofs.Common.{◌%◌, length, get_or, None, refl, sym, ◌∙◌, ap, arith}
+use Rattle.std.proofs.Common.{length, get_or, None, sym, ◌∙◌, ap, arith}
 use Rattle.g704_cas.specs.Numbers.{slot_of, frame_with}
 use Rattle.gw_switch.specs.Hearing.{heard}
 use Rattle.gw_switch.proofs.Rounds.{slot_of-small, slot_of-speech, frame_with-small, elsewhere, next_in_round}
