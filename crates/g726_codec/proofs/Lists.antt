@@ -10,7 +10,7 @@ use Rattle.e1_g711.specs.declared.Law.{Law}
 use Rattle.e1_g711.specs.Samples.{expanded}
 use Rattle.g726_quant.specs.Blocks.{quan_magnitude, quantised, subtb, log}
 use Rattle.g726_quant.specs.Tables.{RateTables, tables16, tables24, tables32, tables40}
-use Rattle.g726_codec.specs.Codec.{CodecState, at_reset, word_for, stepped, sync, words_from, octets_from}
+use Rattle.g726_codec.specs.Codec.{Variables, at_reset, word_for, stepped, sync, words_from, octets_from}
 use Rattle.g726_codec.specs.Codec.{encoded, decoded}
 use Rattle.g726_codec.specs.Kinds.{enc, dec, encoder_after, decoder_after}
 use Rattle.g726_codec.specs.Laws.{WordsAreCounted, WordsFit, PrefixesComeFirst, NothingIsCoded, OctetsAreWords}
@@ -19,13 +19,13 @@ use Rattle.g726_codec.specs.declared.CodecKind.{CodecKind}
 use Rattle.g726_codec.specs.declared.CodecKind.TheVariants.{G711, G16, G24, G32, G40}
 
 -- a word for each octet, and an octet for each word, from any state on
-words_counted : (r : RateTables) (law : Law) (s : CodecState) (octets : List ℕ)
+words_counted : (r : RateTables) (law : Law) (s : Variables) (octets : List ℕ)
     → length (words_from r law s octets) ≡ length octets
 words_counted r law s [] = refl
 words_counted r law s (octet ∷ octets) =
     ap suc (words_counted r law (stepped r s (word_for r s (expanded law octet))) octets)
 
-octets_counted : (r : RateTables) (law : Law) (s : CodecState) (words : List ℕ)
+octets_counted : (r : RateTables) (law : Law) (s : Variables) (words : List ℕ)
     → length (octets_from r law s words) ≡ length words
 octets_counted r law s [] = refl
 octets_counted r law s (word ∷ words) = ap suc (octets_counted r law (stepped r s word) words)
@@ -50,14 +50,14 @@ pub counted : WordsAreCounted
 counted law kind = (enc_counted law kind, dec_counted law kind)
 
 -- the words of a prefix, and the octets of one, come first, from any state on
-words_of_prefix : (r : RateTables) (law : Law) (s : CodecState) (octets later : List ℕ)
+words_of_prefix : (r : RateTables) (law : Law) (s : Variables) (octets later : List ℕ)
     → take (length octets) (words_from r law s (octets ++ later)) ≡ words_from r law s octets
 words_of_prefix r law s [] later = refl
 words_of_prefix r law s (octet ∷ octets) later =
     let word = word_for r s (expanded law octet) in
     ap (λ (rest : List ℕ). word ∷ rest) (words_of_prefix r law (stepped r s word) octets later)
 
-octets_of_prefix : (r : RateTables) (law : Law) (s : CodecState) (words later : List ℕ)
+octets_of_prefix : (r : RateTables) (law : Law) (s : Variables) (words later : List ℕ)
     → take (length words) (octets_from r law s (words ++ later)) ≡ octets_from r law s words
 octets_of_prefix r law s [] later = refl
 octets_of_prefix r law s (word ∷ words) later =
@@ -98,7 +98,7 @@ word_fits r d y few =
     let counted = count_by-le-length (λ threshold. int_le threshold dln) r.thresholds in
     complement_fits _ (2 ^ r.bits) (quan_magnitude r.thresholds dln) (omega (arith, counted, few))
 
-words_fit : (r : RateTables) (law : Law) → length r.thresholds < 2 ^ r.bits → (s : CodecState) (octets : List ℕ)
+words_fit : (r : RateTables) (law : Law) → length r.thresholds < 2 ^ r.bits → (s : Variables) (octets : List ℕ)
     → All (λ word. word < 2 ^ r.bits) (words_from r law s octets)
 words_fit r law few s [] = All-nil (λ word. word < 2 ^ r.bits)
 words_fit r law few s (octet ∷ octets) =

@@ -1,7 +1,7 @@
 -- An encoder and a decoder at one rate.
-use Rattle.g726_codec.specs.Codec.{CodecState}
+use Rattle.g726_codec.specs.Codec.{Variables}
 
 -- the variables of the encoder, and those of the decoder
-pub record BothStates : Type 0 where
-  pub encoder : CodecState
-  pub decoder : CodecState
+pub record DuplexState : Type 0 where
+  pub encoder : Variables
+  pub decoder : Variables

@@ -1,8 +1,8 @@
 -- What contracts see of a codec.
 use Rattle.e1_g711.specs.declared.Law.{Law}
 use Rattle.g726_codec.specs.Codec.{at_reset}
-use Rattle.g726_codec.specs.Duplex.{BothStates}
-use Rattle.g726_codec.specs.Kinds.{Coder}
+use Rattle.g726_codec.specs.Duplex.{DuplexState}
+use Rattle.g726_codec.specs.Kinds.{CodecState}
 use Rattle.g726_codec.specs.declared.CodecKind.{CodecKind}
 use Rattle.g726_codec.specs.declared.CodecKind.TheVariants.{G711, G16, G24, G32, G40}
 use Rattle.g726_codec.specs.declared.any.Codec.{Codec}
@@ -17,7 +17,7 @@ kind_of (At32 both) = G32
 kind_of (At40 both) = G40
 
 -- the variables of its encoder and of its decoder. Those of G.711 stay as at reset
-abbrev pub states_of : Codec → BothStates
+abbrev pub states_of : Codec → DuplexState
 states_of At64 = record { encoder = at_reset; decoder = at_reset }
 states_of (At16 both) = both
 states_of (At24 both) = both
@@ -25,8 +25,8 @@ states_of (At32 both) = both
 states_of (At40 both) = both
 
 -- a codec in a law
-abbrev pub coder_of : Law → Codec → Coder
-coder_of law codec = record {
+abbrev pub state_of : Law → Codec → CodecState
+state_of law codec = record {
   law = law;
   kind = kind_of codec;
   encoder = (states_of codec).encoder;

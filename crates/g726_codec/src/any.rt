@@ -1,9 +1,9 @@
 //! A codec of any kind.
 ghost use Rattle.std.specs.Prelude.{◌≡◌, ◌<◌, ◌^◌, ℕ, List, [], ◌∷◌, ◌++◌};
 ghost use Rattle.g726_codec.specs.Codec.{at_reset};
-ghost use Rattle.g726_codec.specs.Kinds.{bits_of, enc, dec, coder_after};
+ghost use Rattle.g726_codec.specs.Kinds.{bits_of, enc, dec, codec_after};
 ghost use Rattle.g726_codec.specs.Kinds.{word_in, octet_in, after_encoding, after_decoding};
-ghost use Rattle.g726_codec.specs.Views.{kind_of, states_of, coder_of};
+ghost use Rattle.g726_codec.specs.Views.{kind_of, states_of, state_of};
 
 use crate::CodecKind;
 use crate::duplex::Duplex;
@@ -23,7 +23,7 @@ enum Codec {
 
 impl Codec {
     fn reset(kind: CodecKind) -> Codec
-        ensures { (law : Law) → coder_of law result
+        ensures { (law : Law) → state_of law result
             ≡ record { law = law; kind = kind; encoder = at_reset; decoder = at_reset } }
     {
         match kind {
@@ -51,7 +51,7 @@ impl Codec {
     fn encode(&mut self, law: Law, octet: u8) -> u8
         ensures bound { result < 2 ^ bits_of (kind_of self.old) }
         ensures word { result ≡ word_in (kind_of self.old) law (states_of self.old).encoder octet }
-        ensures state { coder_of law self.new ≡ after_encoding (coder_of law self.old) result }
+        ensures state { state_of law self.new ≡ after_encoding (state_of law self.old) result }
     {
         match self {
             Codec::At64 => octet,
@@ -66,7 +66,7 @@ impl Codec {
     fn decode(&mut self, law: Law, word: u8) -> u8
         requires { word < 2 ^ bits_of (kind_of self.old) }
         ensures octet { result ≡ octet_in (kind_of self.old) law (states_of self.old).decoder word }
-        ensures state { coder_of law self.new ≡ after_decoding (coder_of law self.old) word }
+        ensures state { state_of law self.new ≡ after_decoding (state_of law self.old) word }
     {
         match self {
             Codec::At64 => word,
@@ -87,18 +87,18 @@ pub struct AnyCodec {
 }
 
 impl Model for AnyCodec {
-    ghost use Rattle.g726_codec.specs.Kinds.{Coder};
-    ghost use Rattle.g726_codec.specs.Views.{coder_of};
+    ghost use Rattle.g726_codec.specs.Kinds.{CodecState};
+    ghost use Rattle.g726_codec.specs.Views.{state_of};
 
-    ghost Value = { Coder };
+    ghost Value = { CodecState };
 
-    ghost view = { λ a. coder_of a.law a.codec };
+    ghost view = { λ a. state_of a.law a.codec };
 }
 
 impl AnyCodec {
     /// A codec whose encoder and decoder are at reset.
     pub fn new(law: Law, kind: CodecKind) -> AnyCodec
-        ensures { result ≡ coder_after law kind [] [] }
+        ensures { result ≡ codec_after law kind [] [] }
     {
         AnyCodec {
             law,
@@ -113,11 +113,11 @@ impl AnyCodec {
         ensures word { result ≡ word_in self.old.kind self.old.law self.old.encoder octet }
         ensures state { self.new ≡ after_encoding self.old result }
         ensures words { (law : Law) (kind : CodecKind) (octets words : List ℕ)
-            → self.old ≡ coder_after law kind octets words
+            → self.old ≡ codec_after law kind octets words
             → enc law kind (octets ++ octet ∷ []) ≡ enc law kind octets ++ result ∷ [] }
         ensures stands { (law : Law) (kind : CodecKind) (octets words : List ℕ)
-            → self.old ≡ coder_after law kind octets words
-            → self.new ≡ coder_after law kind (octets ++ octet ∷ []) words }
+            → self.old ≡ codec_after law kind octets words
+            → self.new ≡ codec_after law kind (octets ++ octet ∷ []) words }
     {
         self.codec.encode(self.law, octet)
     }
@@ -129,18 +129,18 @@ impl AnyCodec {
         ensures octet { result ≡ octet_in self.old.kind self.old.law self.old.decoder word }
         ensures state { self.new ≡ after_decoding self.old word }
         ensures octets { (law : Law) (kind : CodecKind) (octets words : List ℕ)
-            → self.old ≡ coder_after law kind octets words
+            → self.old ≡ codec_after law kind octets words
             → dec law kind (words ++ word ∷ []) ≡ dec law kind words ++ result ∷ [] }
         ensures stands { (law : Law) (kind : CodecKind) (octets words : List ℕ)
-            → self.old ≡ coder_after law kind octets words
-            → self.new ≡ coder_after law kind octets (words ++ word ∷ []) }
+            → self.old ≡ codec_after law kind octets words
+            → self.new ≡ codec_after law kind octets (words ++ word ∷ []) }
     {
         self.codec.decode(self.law, word)
     }
 
     /// Puts encoder and decoder back to reset.
     pub fn reset(&mut self)
-        ensures { self.new ≡ coder_after self.old.law self.old.kind [] [] }
+        ensures { self.new ≡ codec_after self.old.law self.old.kind [] [] }
     {
         self.codec = Codec::reset(self.codec.kind());
     }

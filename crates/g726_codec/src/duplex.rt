@@ -16,9 +16,9 @@ pub(crate) struct Duplex<R: Rate> {
 }
 
 impl<R: Rate> Model for Duplex<R> {
-    ghost use Rattle.g726_codec.specs.Duplex.{BothStates};
+    ghost use Rattle.g726_codec.specs.Duplex.{DuplexState};
 
-    ghost Value = { BothStates };
+    ghost Value = { DuplexState };
 
     ghost view = { λ d. record { encoder = d.encoder; decoder = d.decoder } };
 }

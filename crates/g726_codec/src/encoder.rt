@@ -16,9 +16,9 @@ pub struct Encoder<R: Rate> {
 }
 
 impl<R: Rate> Model for Encoder<R> {
-    ghost use Rattle.g726_codec.specs.Codec.{CodecState};
+    ghost use Rattle.g726_codec.specs.Codec.{Variables};
 
-    ghost Value = { CodecState };
+    ghost Value = { Variables };
 
     ghost view = { λ e. e.state };
 }
@@ -35,8 +35,8 @@ impl<R: Rate> Encoder<R> {
         }
     }
 
-    /// The word of the next octet, which is a code of a law (ITU-T G.726, EXPAND to QUAN; the other blocks for
-    /// the state).
+    /// The word of the next octet, which is a code of a law (ITU-T G.726, EXPAND to QUAN; the other blocks
+    /// for the state).
     #[inline(always)]
     pub fn encode(&mut self, law: Law, octet: u8) -> Word<R>
         ensures word { result ≡ word_for R.tables self.old (expanded law octet) }

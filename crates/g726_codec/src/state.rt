@@ -33,9 +33,9 @@ pub(crate) struct State {
 }
 
 impl Model for State {
-    ghost use Rattle.g726_codec.specs.Codec.{CodecState};
+    ghost use Rattle.g726_codec.specs.Codec.{Variables};
 
-    ghost Value = { CodecState };
+    ghost Value = { Variables };
 
     ghost view = { λ s. record { adaptation = s.adapt; prediction = s.predictor } };
 }
