@@ -1,7 +1,7 @@
 -- One word and one octet more.
 use Rattle.std.proofs.Common.{◌≡◌, refl, ap, ℕ, List, [], ◌∷◌, ◌++◌}
 use Rattle.e1_g711.specs.declared.Law.{Law}
-use Rattle.e1_g711.specs.Samples.{expanded}
+use Rattle.e1_g711.specs.Samples.{expand}
 use Rattle.g726_quant.specs.Tables.{RateTables}
 use Rattle.g726_codec.specs.Codec.{Variables, at_reset, word_for, stepped, sync, words_from, octets_from, state_after}
 use Rattle.g726_codec.specs.Codec.{encoded, decoded, after_words, after_octets}
@@ -9,10 +9,10 @@ use Rattle.g726_codec.specs.Codec.{encoded, decoded, after_words, after_octets}
 -- the words of one octet more are one word more
 words_of_one_more : (r : RateTables) (law : Law) (s : Variables) (octets : List ℕ) (octet : ℕ)
     → words_from r law s (octets ++ octet ∷ [])
-    ≡ words_from r law s octets ++ word_for r (state_after r s (words_from r law s octets)) (expanded law octet) ∷ []
+    ≡ words_from r law s octets ++ word_for r (state_after r s (words_from r law s octets)) (expand law octet) ∷ []
 words_of_one_more r law s [] octet = refl
 words_of_one_more r law s (first ∷ octets) octet =
-    let word = word_for r s (expanded law first) in
+    let word = word_for r s (expand law first) in
     ap (λ rest. word ∷ rest) (words_of_one_more r law (stepped r s word) octets octet)
 
 -- the state after one word more
@@ -32,7 +32,7 @@ octets_of_one_more r law s (first ∷ words) word =
 -- the same from reset
 pub encoded_one_more : (r : RateTables) (law : Law) (octets : List ℕ) (octet : ℕ)
     → encoded r law (octets ++ octet ∷ [])
-    ≡ encoded r law octets ++ word_for r (after_octets r law octets) (expanded law octet) ∷ []
+    ≡ encoded r law octets ++ word_for r (after_octets r law octets) (expand law octet) ∷ []
 unfolding encoded after_words after_octets
 encoded_one_more r law octets octet = words_of_one_more r law at_reset octets octet
 
@@ -48,20 +48,20 @@ after_one_word_more r words word = state_after_one_more r at_reset words word
 
 pub after_one_octet_more : (r : RateTables) (law : Law) (octets : List ℕ) (octet : ℕ)
     → after_octets r law (octets ++ octet ∷ [])
-    ≡ stepped r (after_octets r law octets) (word_for r (after_octets r law octets) (expanded law octet))
+    ≡ stepped r (after_octets r law octets) (word_for r (after_octets r law octets) (expand law octet))
 unfolding after_octets
 after_one_octet_more r law octets octet =
-    let word = word_for r (after_octets r law octets) (expanded law octet) in
+    let word = word_for r (after_octets r law octets) (expand law octet) in
     rw (encoded_one_more r law octets octet) (after_one_word_more r (encoded r law octets) word)
 
 -- an encoder that stands after octets gives the next of their words, and stands after one more
 pub next_word : (r : RateTables) (law : Law) (octets : List ℕ) (octet : ℕ) (old : Variables) (word : ℕ)
-    → old ≡ after_octets r law octets → word ≡ word_for r old (expanded law octet)
+    → old ≡ after_octets r law octets → word ≡ word_for r old (expand law octet)
     → encoded r law (octets ++ octet ∷ []) ≡ encoded r law octets ++ word ∷ []
 next_word r law octets octet old word e f = rw (encoded_one_more r law octets octet, ← e, ← f) refl
 
 pub next_encoder : (r : RateTables) (law : Law) (octets : List ℕ) (octet : ℕ) (old new : Variables) (word : ℕ)
-    → old ≡ after_octets r law octets → word ≡ word_for r old (expanded law octet) → new ≡ stepped r old word
+    → old ≡ after_octets r law octets → word ≡ word_for r old (expand law octet) → new ≡ stepped r old word
     → new ≡ after_octets r law (octets ++ octet ∷ [])
 next_encoder r law octets octet old new word e f g = rw (after_one_octet_more r law octets octet, ← e, ← f) g
 

@@ -7,7 +7,7 @@ use Rattle.std.proofs.Math.Seq.{take-append_seam}
 use Rattle.std.proofs.lemmas.List.Elements.{All-nil, All-cons}
 use Rattle.std.proofs.lemmas.List.Sums.{count_by-le-length}
 use Rattle.e1_g711.specs.declared.Law.{Law}
-use Rattle.e1_g711.specs.Samples.{expanded}
+use Rattle.e1_g711.specs.Samples.{expand}
 use Rattle.g726_quant.specs.Blocks.{quan_magnitude, quantised, subtb, log}
 use Rattle.g726_quant.specs.Tables.{RateTables, tables16, tables24, tables32, tables40}
 use Rattle.g726_codec.specs.Codec.{Variables, at_reset, word_for, stepped, sync, words_from, octets_from}
@@ -23,7 +23,7 @@ words_counted : (r : RateTables) (law : Law) (s : Variables) (octets : List ℕ)
     → length (words_from r law s octets) ≡ length octets
 words_counted r law s [] = refl
 words_counted r law s (octet ∷ octets) =
-    ap suc (words_counted r law (stepped r s (word_for r s (expanded law octet))) octets)
+    ap suc (words_counted r law (stepped r s (word_for r s (expand law octet))) octets)
 
 octets_counted : (r : RateTables) (law : Law) (s : Variables) (words : List ℕ)
     → length (octets_from r law s words) ≡ length words
@@ -54,7 +54,7 @@ words_of_prefix : (r : RateTables) (law : Law) (s : Variables) (octets later : L
     → take (length octets) (words_from r law s (octets ++ later)) ≡ words_from r law s octets
 words_of_prefix r law s [] later = refl
 words_of_prefix r law s (octet ∷ octets) later =
-    let word = word_for r s (expanded law octet) in
+    let word = word_for r s (expand law octet) in
     ap (λ (rest : List ℕ). word ∷ rest) (words_of_prefix r law (stepped r s word) octets later)
 
 octets_of_prefix : (r : RateTables) (law : Law) (s : Variables) (words later : List ℕ)
@@ -102,7 +102,7 @@ words_fit : (r : RateTables) (law : Law) → length r.thresholds < 2 ^ r.bits �
     → All (λ word. word < 2 ^ r.bits) (words_from r law s octets)
 words_fit r law few s [] = All-nil (λ word. word < 2 ^ r.bits)
 words_fit r law few s (octet ∷ octets) =
-    let word = word_for r s (expanded law octet) in
+    let word = word_for r s (expand law octet) in
     All-cons (λ word. word < 2 ^ r.bits) word _ (word_fits r _ _ few) (words_fit r law few (stepped r s word) octets)
 
 pub fit : WordsFit

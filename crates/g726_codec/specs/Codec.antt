@@ -1,14 +1,13 @@
 -- The encoder and the decoder of ITU-T G.726 over whole lists.
 use Rattle.std.specs.Prelude.{ℕ, ℤ, ◌+ℤ◌, ◌-ℤ◌, ◌==◌, nat_lt, List, [], ◌∷◌, if◌then◌else◌}
-use Rattle.e1_g711.specs.Codes.{code_above, code_below}
-use Rattle.e1_g711.specs.Samples.{compressed, expanded}
+use Rattle.e1_g711.specs.Codes.{next_up, next_down}
+use Rattle.e1_g711.specs.Samples.{compress, expand}
 use Rattle.e1_g711.specs.declared.Law.{Law}
-use Rattle.g726_quant.specs.Arithmetic.{wrap16}
+use Rattle.g726_quant.specs.Arithmetic.{signed, wrap16}
 use Rattle.g726_quant.specs.Blocks.{quantised, reconstructed, word_is_negative, word_magnitude, word_order}
 use Rattle.g726_quant.specs.Tables.{RateTables}
 use Rattle.g726_tone.specs.Adaptation.{Adaptation, scale, trans, adapted}
 use Rattle.g726_tone.specs.Adaptation as adaptation
-use Rattle.g726_predict.specs.Float.{signed}
 use Rattle.g726_predict.specs.Predictor.{Prediction, se, tone, updated}
 use Rattle.g726_predict.specs.Predictor as prediction
 
@@ -45,25 +44,25 @@ stepped r s word =
 
 -- COMPRESS: SP, the octet of the reconstructed signal
 abbrev pub sp : RateTables → Law → Variables → ℕ → ℕ
-sp r law s word = compressed law (addb r s word)
+sp r law s word = compress law (addb r s word)
 
 -- SYNC: a code stays where ID, the order of the word that it gives, is IM, that of the received word. Where
 -- ID is below IM the next more positive code is given, else the next more negative one
 abbrev pub adjusted : Law → ℕ → ℕ → ℕ → ℕ
 adjusted law code id im =
-    if id == im then code else (if nat_lt id im then code_above law code else code_below law code)
+    if id == im then code else (if nat_lt id im then next_up law code else next_down law code)
 
 -- SYNC: SD, the octet of a word: SP, expanded and quantised again, gives the word that is compared
 unfoldable pub sync : RateTables → Law → Variables → ℕ → ℕ
 sync r law s word =
     let code = sp r law s word in
-    adjusted law code (word_order r.bits (word_for r s (expanded law code))) (word_order r.bits word)
+    adjusted law code (word_order r.bits (word_for r s (expand law code))) (word_order r.bits word)
 
 -- the words of octets, from a state on
 abbrev pub words_from : RateTables → Law → Variables → List ℕ → List ℕ
 words_from r law s [] = []
 words_from r law s (octet ∷ octets) =
-    let word = word_for r s (expanded law octet) in
+    let word = word_for r s (expand law octet) in
     word ∷ words_from r law (stepped r s word) octets
 
 -- the octets of words, from a state on

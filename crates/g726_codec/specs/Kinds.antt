@@ -4,7 +4,7 @@ use Rattle.e1_g711.specs.declared.Law.{Law}
 use Rattle.g726_quant.specs.Tables.{tables16, tables24, tables32, tables40}
 use Rattle.g726_codec.specs.Codec.{Variables, at_reset, word_for, sync, stepped, encoded, decoded}
 use Rattle.g726_codec.specs.Codec.{after_words, after_octets}
-use Rattle.e1_g711.specs.Samples.{expanded}
+use Rattle.e1_g711.specs.Samples.{expand}
 use Rattle.g726_codec.specs.declared.CodecKind.{CodecKind}
 use Rattle.g726_codec.specs.declared.CodecKind.TheVariants.{G711, G16, G24, G32, G40}
 
@@ -57,10 +57,10 @@ pub record CodecState : Type 0 where
 -- the word that an encoder gives for an octet, from its variables
 abbrev pub word_in : CodecKind → Law → Variables → ℕ → ℕ
 word_in G711 law s octet = octet
-word_in G16 law s octet = word_for tables16 s (expanded law octet)
-word_in G24 law s octet = word_for tables24 s (expanded law octet)
-word_in G32 law s octet = word_for tables32 s (expanded law octet)
-word_in G40 law s octet = word_for tables40 s (expanded law octet)
+word_in G16 law s octet = word_for tables16 s (expand law octet)
+word_in G24 law s octet = word_for tables24 s (expand law octet)
+word_in G32 law s octet = word_for tables32 s (expand law octet)
+word_in G40 law s octet = word_for tables40 s (expand law octet)
 
 -- the octet that a decoder gives for a word, from its variables
 abbrev pub octet_in : CodecKind → Law → Variables → ℕ → ℕ

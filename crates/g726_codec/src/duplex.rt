@@ -1,6 +1,6 @@
 //! An encoder and a decoder at one rate.
 ghost use Rattle.std.specs.Prelude.{◌≡◌, ◌<◌, ◌^◌};
-ghost use Rattle.e1_g711.specs.Samples.{expanded};
+ghost use Rattle.e1_g711.specs.Samples.{expand};
 ghost use Rattle.g726_codec.specs.Codec.{at_reset, word_for, stepped, sync};
 
 use crate::{Decoder, Encoder};
@@ -37,7 +37,7 @@ impl<R: Rate> Duplex<R> {
     #[inline(always)]
     pub(crate) fn encode(&mut self, law: Law, octet: u8) -> u8
         ensures bound { result < 2 ^ R.tables.bits }
-        ensures word { result ≡ word_for R.tables self.old.encoder (expanded law octet) }
+        ensures word { result ≡ word_for R.tables self.old.encoder (expand law octet) }
         ensures state { self.new
             ≡ record { encoder = stepped R.tables self.old.encoder result; decoder = self.old.decoder } }
     {

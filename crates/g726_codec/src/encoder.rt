@@ -1,6 +1,6 @@
 //! The encoder of ITU-T G.726.
 ghost use Rattle.std.specs.Prelude.{◌≡◌, ℕ, List, [], ◌∷◌, ◌++◌};
-ghost use Rattle.e1_g711.specs.Samples.{expanded};
+ghost use Rattle.e1_g711.specs.Samples.{expand};
 ghost use Rattle.g726_codec.specs.Codec.{at_reset, word_for, stepped, encoded, after_octets};
 
 use crate::state::{State, word_of};
@@ -39,7 +39,7 @@ impl<R: Rate> Encoder<R> {
     /// for the state).
     #[inline(always)]
     pub fn encode(&mut self, law: Law, octet: u8) -> Word<R>
-        ensures word { result ≡ word_for R.tables self.old (expanded law octet) }
+        ensures word { result ≡ word_for R.tables self.old (expand law octet) }
         ensures state { self.new ≡ stepped R.tables self.old result }
         ensures words { (octets : List ℕ) → self.old ≡ after_octets R.tables law octets
             → encoded R.tables law (octets ++ octet ∷ []) ≡ encoded R.tables law octets ++ result ∷ [] }
