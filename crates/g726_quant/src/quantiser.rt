@@ -10,7 +10,6 @@ use crate::word::Word;
 
 /// I, the code word of a difference `d` at the scale factor `y`, as 15 for 0 at 544 and 32 kbit/s (ITU-T
 /// G.726, blocks LOG, SUBTB and QUAN).
-#[tactic(auto, unfolding(crate::specs::Blocks::quantised))]
 pub fn quantise<R: Rate>(d: i16, y: u16) -> Word<R>
     requires difference { d ≢ negsuc 32767 }
     requires low { 544 ≤ y }
