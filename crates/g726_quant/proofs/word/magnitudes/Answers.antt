@@ -1,6 +1,6 @@
 use Rattle.std.proofs.Common.{arith, ◌≡◌}
 use Rattle.g726_quant.proofs.Places.{few_bits, few_magnitudes}
-use Rattle.g726_quant.proofs.word.half.Goals as goal
+use Rattle.g726_quant.proofs.word.magnitudes.Goals as goal
 
 pub returns-clause-bound : goal.returns-clause-bound
 returns-clause-bound g c =

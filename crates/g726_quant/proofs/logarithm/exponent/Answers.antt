@@ -1,5 +1,5 @@
 use Rattle.g726_quant.proofs.Bits.{exponent_of_max}
-use Rattle.g726_quant.proofs.logarithm.top_bit.Goals as goal
+use Rattle.g726_quant.proofs.logarithm.exponent.Goals as goal
 
 pub returns-clause-value : goal.returns-clause-value
 returns-clause-value c =
