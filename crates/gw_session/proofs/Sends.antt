@@ -1,7 +1,6 @@
 -- Octets that are heard and sent one after another.
 use Rattle.std.proofs.Common.{◌≡◌, ◌+◌, ◌-◌, ◌^◌, ◌<◌, ◌++◌, ◌∷◌, [], ℕ, Bool, min, List, length}
 use Rattle.std.proofs.Common.{take, drop, get_or, refl, sym, ap, ◌∙◌, subst, append_assoc, append-nil, length-append, arith}
-use mir.Val.{bool_byte}
 use Rattle.std.proofs.Math.Seq.{take-append_seam}
 use Rattle.std.specs.List.{flat_map}
 use Rattle.std.specs.Prelude.{map, Option, Some, None, Result, Ok, Err, OnOk, is_some, option_map}
@@ -123,13 +122,6 @@ stops_between g g' g'' s s' a b c xs ys zs octets e p q = rw e (record {
       (AppendsPrefix-behind _ _ _ _ _ _ t.passes (q.took config (before ++ map Event.Octet xs) t.stands))));
   counted = omega (arith, p.no_failure, q.counted);
 })
-
--- a count with one datagram more, or none
-pub count_packet : (t n m : ℕ) (is_sent : Bool) (circuit : Option ℕ) (room : List ℕ) → t < 2 ^ 64
-    → is_sent ≡ is_some circuit → n ≡ bool_byte is_sent → m ≡ min (t + n) (2 ^ 64 - 1)
-    → m ≡ counted t (length (packet_of (option_map (λ c. (c, room)) circuit)))
-count_packet t n m is_sent None room h s e f = let z : n ≡ 0 = rw s at e in omega (arith, z, f)
-count_packet t n m is_sent (Some c) room h s e f = let o : n ≡ 1 = rw s at e in omega (arith, o, f)
 
 -- one octet was heard, and the one to send and its datagram were put
 pub send_one : (g g' : Gateway) (s s' : Underway) (a b : SinkState) (x : ℕ) (out : Sending)
