@@ -2,7 +2,7 @@
 #![tactic(auto)]
 
 ghost use Rattle.std.specs.Prelude.{◌≡◌, ◌+◌, ◌%◌, ◌<◌, ℕ, List, Option, [], ◌∷◌, ◌++◌, length};
-ghost use Rattle.std.specs.Prelude.{nat_lt};
+ghost use Rattle.std.specs.Prelude.{nat_lt, ◌≢◌, IfSome, IfNone};
 ghost use Rattle.g704_align.specs.declared.Place.TheVariants.{Slot};
 ghost use Rattle.g704_align.specs.Search.{is_fas, is_nfas};
 ghost use Rattle.g704_align.specs.Placing.{place, alarm_after, number_of};
@@ -83,16 +83,33 @@ impl Aligner {
             → Stands self.new (history ++ octet ∷ []) }
         ensures in_frame { number_of result < 32 }
     {
-        // An octet in any slot but 0 moves nothing but the age. Those in slot 16 are left to `follow`, so
-        // that a caller who looks for slots 0 and 16 needs no test of its own once this is put into it.
+        match self.pass() {
+            Some(place) => place,
+            None => self.follow(octet),
+        }
+    }
+
+    /// Passes over the next octet unseen, where alignment stands and the octet is in another slot than 0 and
+    /// 16, and tells its place: it is what `octet` does with any octet there. Else nothing is changed, and
+    /// the octet is for `octet`. (Those of slot 16 are left to it too, since a caller has use for them.)
+    #[inline]
+    pub fn pass(&mut self) -> Option<Place>
+        ensures placed { (history : List ℕ) (octet : ℕ) → Stands self.old history
+            → IfSome result (λ p. p ≡ place (history ++ octet ∷ []) (length history)) }
+        ensures stands { (history : List ℕ) (octet : ℕ) → Stands self.old history
+            → IfSome result (λ _. Stands self.new (history ++ octet ∷ [])) }
+        ensures none { IfNone result (self.new ≡ self.old) }
+        ensures in_frame { IfSome result (λ p. number_of p < 32) }
+        ensures speech { IfSome result (λ p. number_of p % 16 ≢ 0) }
+    {
         if let Phase::Aligned { age, .. } = &mut self.phase {
             let now = *age;
             if now % HALF_FRAME != 0 {
                 *age = next_age(now);
-                return slot_at(now);
+                return Some(slot_at(now));
             }
         }
-        self.follow(octet)
+        None
     }
 
     // Does what `octet` does, for an octet that may be a signal.

@@ -1,96 +1,86 @@
--- One octet and one word more, for each kind of codec.
-use Rattle.std.proofs.Common.{◌≡◌, refl, ap, sym, ◌∙◌, ℕ, List, [], ◌∷◌, ◌++◌}
+-- Octets and words that come after others, for a codec of any kind.
+use Rattle.std.proofs.Common.{◌≡◌, refl, ap, ◌∙◌, ℕ, Option, Some, None, List, [], ◌∷◌, ◌++◌}
 use Rattle.e1_g711.specs.declared.Law.{Law}
-use Rattle.g726_quant.specs.Tables.{tables16, tables24, tables32, tables40}
-use Rattle.g726_codec.specs.Codec.{CodecState, at_reset, encoded, after_words, after_octets}
-use Rattle.g726_codec.specs.Kinds.{enc, dec, encoder_after, decoder_after, Coder, coder_after}
-use Rattle.g726_codec.specs.Kinds.{word_in, octet_in, moved, after_encoding, after_decoding}
+use Rattle.g726_quant.specs.Tables.{RateTables}
+use Rattle.g726_codec.specs.Codec.{Variables, at_reset}
+use Rattle.g726_codec.specs.Kinds.{tables_of, word_by, octet_by, words_by, octets_by, after_by, enc, dec, CodecState}
+use Rattle.g726_codec.specs.Kinds.{encoder_after, decoder_after, codec_after, after_encoding, after_decoding}
 use Rattle.g726_codec.specs.declared.CodecKind.{CodecKind}
-use Rattle.g726_codec.specs.declared.CodecKind.TheVariants.{G711, G16, G24, G32, G40}
-use Rattle.g726_codec.proofs.Histories.{encoded_one_more, decoded_one_more, after_one_octet_more}
-use Rattle.g726_codec.proofs.Histories.{after_one_word_more}
+use Rattle.g726_codec.proofs.Histories.{next_words, next_encoder, next_octets, next_decoder}
+
+-- by the tables, if any: the words of one octet, the octets of one word, and the state after no words
+one_word : (t : Option RateTables) (law : Law) (s : Variables) (octet : ℕ)
+    → word_by t law s octet ∷ [] ≡ words_by t law s (octet ∷ [])
+one_word None law s octet = refl
+one_word (Some r) law s octet = refl
+
+one_octet : (t : Option RateTables) (law : Law) (s : Variables) (word : ℕ)
+    → octet_by t law s word ∷ [] ≡ octets_by t law s (word ∷ [])
+one_octet None law s word = refl
+one_octet (Some r) law s word = refl
+
+after_none : (t : Option RateTables) (law : Law)
+    → (at_reset ≡ after_by t at_reset (words_by t law at_reset [])) × (at_reset ≡ after_by t at_reset [])
+after_none None law = (refl, refl)
+after_none (Some r) law = (refl, refl)
+
+-- the words of one octet, from its word, and the octets of one word
+pub words_of_one : (c : CodecState) (octet word : ℕ) → word ≡ word_by (tables_of c.kind) c.law c.encoder octet
+    → word ∷ [] ≡ words_by (tables_of c.kind) c.law c.encoder (octet ∷ [])
+words_of_one c octet word e = ap (λ (w : ℕ). w ∷ []) e ∙ one_word (tables_of c.kind) c.law c.encoder octet
+
+pub octets_of_one : (c : CodecState) (word octet : ℕ) → octet ≡ octet_by (tables_of c.kind) c.law c.decoder word
+    → octet ∷ [] ≡ octets_by (tables_of c.kind) c.law c.decoder (word ∷ [])
+octets_of_one c word octet e = ap (λ (o : ℕ). o ∷ []) e ∙ one_octet (tables_of c.kind) c.law c.decoder word
 
 -- a codec at reset is one after no octets and no words
 pub reset_stands : (law : Law) (kind : CodecKind)
-    → record { law = law; kind = kind; encoder = at_reset; decoder = at_reset } ≡ coder_after law kind [] []
-unfolding encoder_after decoder_after after_octets after_words encoded
-reset_stands law G711 = refl
-reset_stands law G16 = refl
-reset_stands law G24 = refl
-reset_stands law G32 = refl
-reset_stands law G40 = refl
+    → record { law = law; kind = kind; encoder = at_reset; decoder = at_reset } ≡ codec_after law kind [] []
+unfolding encoder_after decoder_after
+reset_stands law kind =
+    let none = after_none (tables_of kind) law in
+    let with_encoder : Variables → CodecState =
+    λ s. record { law = law; kind = kind; encoder = s; decoder = at_reset } in
+    let with_decoder : Variables → CodecState =
+    λ s. record { law = law; kind = kind; encoder = encoder_after law kind []; decoder = s } in
+    ap with_encoder none.0 ∙ ap with_decoder none.1
 
--- the words of one octet more, the octets of one word more, and the states after them
-enc_one_more : (law : Law) (kind : CodecKind) (octets : List ℕ) (octet : ℕ)
-    → enc law kind (octets ++ octet ∷ [])
-    ≡ enc law kind octets ++ word_in kind law (encoder_after law kind octets) octet ∷ []
+-- a codec that stands gives the words of the next octets, and stands after them
+pub next_words_of : (law : Law) (kind : CodecKind) (given words : List ℕ) (old : CodecState) (octets coded : List ℕ)
+    → old ≡ codec_after law kind given words → coded ≡ words_by (tables_of old.kind) old.law old.encoder octets
+    → enc law kind (given ++ octets) ≡ enc law kind given ++ coded
 unfolding enc encoder_after
-enc_one_more law G711 octets octet = refl
-enc_one_more law G16 octets octet = encoded_one_more tables16 law octets octet
-enc_one_more law G24 octets octet = encoded_one_more tables24 law octets octet
-enc_one_more law G32 octets octet = encoded_one_more tables32 law octets octet
-enc_one_more law G40 octets octet = encoded_one_more tables40 law octets octet
+next_words_of law kind given words old octets coded e f =
+    next_words (tables_of kind) law given octets _ coded refl
+    (f ∙ ap (λ (c : CodecState). words_by (tables_of c.kind) c.law c.encoder octets) e)
 
-encoder_after_one_more : (law : Law) (kind : CodecKind) (octets : List ℕ) (octet : ℕ)
-    → encoder_after law kind (octets ++ octet ∷ [])
-    ≡ moved kind (encoder_after law kind octets) (word_in kind law (encoder_after law kind octets) octet)
+pub stands_after_octets : (law : Law) (kind : CodecKind) (given words : List ℕ) (old new : CodecState)
+    (octets coded : List ℕ) → old ≡ codec_after law kind given words
+    → coded ≡ words_by (tables_of old.kind) old.law old.encoder octets → new ≡ after_encoding old coded
+    → new ≡ codec_after law kind (given ++ octets) words
 unfolding encoder_after
-encoder_after_one_more law G711 octets octet = refl
-encoder_after_one_more law G16 octets octet = after_one_octet_more tables16 law octets octet
-encoder_after_one_more law G24 octets octet = after_one_octet_more tables24 law octets octet
-encoder_after_one_more law G32 octets octet = after_one_octet_more tables32 law octets octet
-encoder_after_one_more law G40 octets octet = after_one_octet_more tables40 law octets octet
+stands_after_octets law kind given words old new octets coded e f g =
+    let same = f ∙ ap (λ (c : CodecState). words_by (tables_of c.kind) c.law c.encoder octets) e in
+    let state = next_encoder (tables_of kind) law given octets _ _ coded refl same refl in
+    let with : Variables → CodecState =
+    λ s. record { law = law; kind = kind; encoder = s; decoder = decoder_after kind words } in
+    g ∙ ap (λ (c : CodecState). after_encoding c coded) e ∙ ap with state
 
-dec_one_more : (law : Law) (kind : CodecKind) (words : List ℕ) (word : ℕ)
-    → dec law kind (words ++ word ∷ []) ≡ dec law kind words ++ octet_in kind law (decoder_after kind words) word ∷ []
+-- a codec that stands gives the octets of the next words, and stands after them
+pub next_octets_of : (law : Law) (kind : CodecKind) (octets given : List ℕ) (old : CodecState) (words coded : List ℕ)
+    → old ≡ codec_after law kind octets given → coded ≡ octets_by (tables_of old.kind) old.law old.decoder words
+    → dec law kind (given ++ words) ≡ dec law kind given ++ coded
 unfolding dec decoder_after
-dec_one_more law G711 words word = refl
-dec_one_more law G16 words word = decoded_one_more tables16 law words word
-dec_one_more law G24 words word = decoded_one_more tables24 law words word
-dec_one_more law G32 words word = decoded_one_more tables32 law words word
-dec_one_more law G40 words word = decoded_one_more tables40 law words word
+next_octets_of law kind octets given old words coded e f =
+    next_octets (tables_of kind) law given words _ coded refl
+    (f ∙ ap (λ (c : CodecState). octets_by (tables_of c.kind) c.law c.decoder words) e)
 
-decoder_after_one_more : (kind : CodecKind) (words : List ℕ) (word : ℕ)
-    → decoder_after kind (words ++ word ∷ []) ≡ moved kind (decoder_after kind words) word
+pub stands_after_words : (law : Law) (kind : CodecKind) (octets given : List ℕ) (old new : CodecState)
+    (words : List ℕ) → old ≡ codec_after law kind octets given → new ≡ after_decoding old words
+    → new ≡ codec_after law kind octets (given ++ words)
 unfolding decoder_after
-decoder_after_one_more G711 words word = refl
-decoder_after_one_more G16 words word = after_one_word_more tables16 words word
-decoder_after_one_more G24 words word = after_one_word_more tables24 words word
-decoder_after_one_more G32 words word = after_one_word_more tables32 words word
-decoder_after_one_more G40 words word = after_one_word_more tables40 words word
-
--- a codec that stands gives the next word, and stands after its octet
-pub next_word_of : (law : Law) (kind : CodecKind) (octets words : List ℕ) (old : Coder) (octet word : ℕ)
-    → old ≡ coder_after law kind octets words → word ≡ word_in old.kind old.law old.encoder octet
-    → enc law kind (octets ++ octet ∷ []) ≡ enc law kind octets ++ word ∷ []
-next_word_of law kind octets words old octet word e f =
-    let same = f ∙ ap (λ (c : Coder). word_in c.kind c.law c.encoder octet) e in
-    enc_one_more law kind octets octet ∙ ap (λ (w : ℕ). enc law kind octets ++ w ∷ []) (sym same)
-
-pub stands_after_octet : (law : Law) (kind : CodecKind) (octets words : List ℕ) (old new : Coder) (octet word : ℕ)
-    → old ≡ coder_after law kind octets words → word ≡ word_in old.kind old.law old.encoder octet
-    → new ≡ after_encoding old word → new ≡ coder_after law kind (octets ++ octet ∷ []) words
-stands_after_octet law kind octets words old new octet word e f g =
-    let same = f ∙ ap (λ (c : Coder). word_in c.kind c.law c.encoder octet) e in
-    let moved_on = sym (encoder_after_one_more law kind octets octet) in
-    let state = ap (moved kind (encoder_after law kind octets)) same ∙ moved_on in
-    let decoder = decoder_after kind words in
-    let with : CodecState → Coder = λ s. record { law = law; kind = kind; encoder = s; decoder = decoder } in
-    g ∙ ap (λ (c : Coder). after_encoding c word) e ∙ ap with state
-
--- a codec that stands gives the next octet, and stands after its word
-pub next_octet_of : (law : Law) (kind : CodecKind) (octets words : List ℕ) (old : Coder) (word octet : ℕ)
-    → old ≡ coder_after law kind octets words → octet ≡ octet_in old.kind old.law old.decoder word
-    → dec law kind (words ++ word ∷ []) ≡ dec law kind words ++ octet ∷ []
-next_octet_of law kind octets words old word octet e f =
-    let same = f ∙ ap (λ (c : Coder). octet_in c.kind c.law c.decoder word) e in
-    dec_one_more law kind words word ∙ ap (λ (o : ℕ). dec law kind words ++ o ∷ []) (sym same)
-
-pub stands_after_word : (law : Law) (kind : CodecKind) (octets words : List ℕ) (old new : Coder) (word : ℕ)
-    → old ≡ coder_after law kind octets words → new ≡ after_decoding old word
-    → new ≡ coder_after law kind octets (words ++ word ∷ [])
-stands_after_word law kind octets words old new word e g =
-    let state = sym (decoder_after_one_more kind words word) in
-    let encoder = encoder_after law kind octets in
-    let with : CodecState → Coder = λ s. record { law = law; kind = kind; encoder = encoder; decoder = s } in
-    g ∙ ap (λ (c : Coder). after_decoding c word) e ∙ ap with state
+stands_after_words law kind octets given old new words e g =
+    let state = next_decoder (tables_of kind) given words _ _ refl refl in
+    let with : Variables → CodecState =
+    λ s. record { law = law; kind = kind; encoder = encoder_after law kind octets; decoder = s } in
+    g ∙ ap (λ (c : CodecState). after_decoding c words) e ∙ ap with state

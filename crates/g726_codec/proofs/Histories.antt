@@ -1,85 +1,73 @@
--- One word and one octet more.
-use Rattle.std.proofs.Common.{◌≡◌, refl, ap, ℕ, List, [], ◌∷◌, ◌++◌}
+-- Octets and words that come after others, at a rate and in ITU-T G.711.
+use Rattle.std.proofs.Common.{◌≡◌, refl, ap, ℕ, Option, Some, None, List, [], ◌∷◌, ◌++◌}
 use Rattle.e1_g711.specs.declared.Law.{Law}
-use Rattle.e1_g711.specs.Samples.{expanded}
+use Rattle.e1_g711.specs.Samples.{expand}
 use Rattle.g726_quant.specs.Tables.{RateTables}
-use Rattle.g726_codec.specs.Codec.{CodecState, at_reset, word_for, stepped, sync, words_from, octets_from, state_after}
-use Rattle.g726_codec.specs.Codec.{encoded, decoded, after_words, after_octets}
+use Rattle.g726_codec.specs.Codec.{Variables, at_reset, word_for, stepped, sync, words_from, octets_from, state_after}
+use Rattle.g726_codec.specs.Kinds.{words_by, octets_by, after_by}
 
--- the words of one octet more are one word more
-words_of_one_more : (r : RateTables) (law : Law) (s : CodecState) (octets : List ℕ) (octet : ℕ)
-    → words_from r law s (octets ++ octet ∷ [])
-    ≡ words_from r law s octets ++ word_for r (state_after r s (words_from r law s octets)) (expanded law octet) ∷ []
-words_of_one_more r law s [] octet = refl
-words_of_one_more r law s (first ∷ octets) octet =
-    let word = word_for r s (expanded law first) in
-    ap (λ rest. word ∷ rest) (words_of_one_more r law (stepped r s word) octets octet)
+-- the words of later octets are those from the state after the words before
+pub words_from_more : (r : RateTables) (law : Law) (s : Variables) (octets later : List ℕ)
+    → words_from r law s (octets ++ later)
+    ≡ words_from r law s octets ++ words_from r law (state_after r s (words_from r law s octets)) later
+words_from_more r law s [] later = refl
+words_from_more r law s (octet ∷ octets) later =
+    let word = word_for r s (expand law octet) in
+    ap (λ (rest : List ℕ). word ∷ rest) (words_from_more r law (stepped r s word) octets later)
 
--- the state after one word more
-state_after_one_more : (r : RateTables) (s : CodecState) (words : List ℕ) (word : ℕ)
-    → state_after r s (words ++ word ∷ []) ≡ stepped r (state_after r s words) word
-state_after_one_more r s [] word = refl
-state_after_one_more r s (first ∷ words) word = state_after_one_more r (stepped r s first) words word
+-- the octets of later words are those from the state after the words before
+octets_from_more : (r : RateTables) (law : Law) (s : Variables) (words later : List ℕ)
+    → octets_from r law s (words ++ later)
+    ≡ octets_from r law s words ++ octets_from r law (state_after r s words) later
+octets_from_more r law s [] later = refl
+octets_from_more r law s (word ∷ words) later =
+    ap (λ (rest : List ℕ). sync r law s word ∷ rest) (octets_from_more r law (stepped r s word) words later)
 
--- the octets of one word more are one octet more
-octets_of_one_more : (r : RateTables) (law : Law) (s : CodecState) (words : List ℕ) (word : ℕ)
-    → octets_from r law s (words ++ word ∷ [])
-    ≡ octets_from r law s words ++ sync r law (state_after r s words) word ∷ []
-octets_of_one_more r law s [] word = refl
-octets_of_one_more r law s (first ∷ words) word =
-    ap (λ rest. sync r law s first ∷ rest) (octets_of_one_more r law (stepped r s first) words word)
+-- the state after later words is that from the state after the words before
+pub state_after_more : (r : RateTables) (s : Variables) (words later : List ℕ)
+    → state_after r s (words ++ later) ≡ state_after r (state_after r s words) later
+state_after_more r s [] later = refl
+state_after_more r s (word ∷ words) later = state_after_more r (stepped r s word) words later
 
--- the same from reset
-pub encoded_one_more : (r : RateTables) (law : Law) (octets : List ℕ) (octet : ℕ)
-    → encoded r law (octets ++ octet ∷ [])
-    ≡ encoded r law octets ++ word_for r (after_octets r law octets) (expanded law octet) ∷ []
-unfolding encoded after_words after_octets
-encoded_one_more r law octets octet = words_of_one_more r law at_reset octets octet
+-- the same by the tables, if any
+pub words_more : (t : Option RateTables) (law : Law) (s : Variables) (octets later : List ℕ)
+    → words_by t law s (octets ++ later)
+    ≡ words_by t law s octets ++ words_by t law (after_by t s (words_by t law s octets)) later
+words_more None law s octets later = refl
+words_more (Some r) law s octets later = words_from_more r law s octets later
 
-pub decoded_one_more : (r : RateTables) (law : Law) (words : List ℕ) (word : ℕ)
-    → decoded r law (words ++ word ∷ []) ≡ decoded r law words ++ sync r law (after_words r words) word ∷ []
-unfolding decoded after_words
-decoded_one_more r law words word = octets_of_one_more r law at_reset words word
+pub octets_more : (t : Option RateTables) (law : Law) (s : Variables) (words later : List ℕ)
+    → octets_by t law s (words ++ later) ≡ octets_by t law s words ++ octets_by t law (after_by t s words) later
+octets_more None law s words later = refl
+octets_more (Some r) law s words later = octets_from_more r law s words later
 
-pub after_one_word_more : (r : RateTables) (words : List ℕ) (word : ℕ)
-    → after_words r (words ++ word ∷ []) ≡ stepped r (after_words r words) word
-unfolding after_words
-after_one_word_more r words word = state_after_one_more r at_reset words word
+after_more : (t : Option RateTables) (s : Variables) (words later : List ℕ)
+    → after_by t s (words ++ later) ≡ after_by t (after_by t s words) later
+after_more None s words later = refl
+after_more (Some r) s words later = state_after_more r s words later
 
-pub after_one_octet_more : (r : RateTables) (law : Law) (octets : List ℕ) (octet : ℕ)
-    → after_octets r law (octets ++ octet ∷ [])
-    ≡ stepped r (after_octets r law octets) (word_for r (after_octets r law octets) (expanded law octet))
-unfolding after_octets
-after_one_octet_more r law octets octet =
-    let word = word_for r (after_octets r law octets) (expanded law octet) in
-    rw (encoded_one_more r law octets octet) (after_one_word_more r (encoded r law octets) word)
+-- an encoder that stands after octets gives the words of the next ones, and stands after them
+pub next_words : (t : Option RateTables) (law : Law) (given octets : List ℕ) (old : Variables) (words : List ℕ)
+    → old ≡ after_by t at_reset (words_by t law at_reset given) → words ≡ words_by t law old octets
+    → words_by t law at_reset (given ++ octets) ≡ words_by t law at_reset given ++ words
+next_words t law given octets old words e f = rw (words_more t law at_reset given octets, ← e, ← f) refl
 
--- an encoder that stands after octets gives the next of their words, and stands after one more
-pub next_word : (r : RateTables) (law : Law) (octets : List ℕ) (octet : ℕ) (old : CodecState) (word : ℕ)
-    → old ≡ after_octets r law octets → word ≡ word_for r old (expanded law octet)
-    → encoded r law (octets ++ octet ∷ []) ≡ encoded r law octets ++ word ∷ []
-next_word r law octets octet old word e f = rw (encoded_one_more r law octets octet, ← e, ← f) refl
+pub next_encoder : (t : Option RateTables) (law : Law) (given octets : List ℕ) (old new : Variables) (words : List ℕ)
+    → old ≡ after_by t at_reset (words_by t law at_reset given) → words ≡ words_by t law old octets
+    → new ≡ after_by t old words → new ≡ after_by t at_reset (words_by t law at_reset (given ++ octets))
+next_encoder t law given octets old new words e f g =
+    rw (
+      next_words t law given octets old words e f,
+      after_more t at_reset (words_by t law at_reset given) words,
+      ← e,
+    ) g
 
-pub next_encoder : (r : RateTables) (law : Law) (octets : List ℕ) (octet : ℕ) (old new : CodecState) (word : ℕ)
-    → old ≡ after_octets r law octets → word ≡ word_for r old (expanded law octet) → new ≡ stepped r old word
-    → new ≡ after_octets r law (octets ++ octet ∷ [])
-next_encoder r law octets octet old new word e f g = rw (after_one_octet_more r law octets octet, ← e, ← f) g
+-- a decoder that stands after words gives the octets of the next ones, and stands after them
+pub next_octets : (t : Option RateTables) (law : Law) (given words : List ℕ) (old : Variables) (octets : List ℕ)
+    → old ≡ after_by t at_reset given → octets ≡ octets_by t law old words
+    → octets_by t law at_reset (given ++ words) ≡ octets_by t law at_reset given ++ octets
+next_octets t law given words old octets e f = rw (octets_more t law at_reset given words, ← e, ← f) refl
 
--- a decoder that stands after words gives the next of their octets, and stands after one more
-pub next_octet : (r : RateTables) (law : Law) (words : List ℕ) (word : ℕ) (old : CodecState) (octet : ℕ)
-    → old ≡ after_words r words → octet ≡ sync r law old word
-    → decoded r law (words ++ word ∷ []) ≡ decoded r law words ++ octet ∷ []
-next_octet r law words word old octet e f = rw (decoded_one_more r law words word, ← e, ← f) refl
-
-pub next_decoder : (r : RateTables) (words : List ℕ) (word : ℕ) (old new : CodecState)
-    → old ≡ after_words r words → new ≡ stepped r old word → new ≡ after_words r (words ++ word ∷ [])
-next_decoder r words word old new e f = rw (after_one_word_more r words word, ← e) f
-
--- at reset
-pub at_reset_words : (r : RateTables) → at_reset ≡ after_words r []
-unfolding after_words
-at_reset_words r = refl
-
-pub at_reset_octets : (r : RateTables) (law : Law) → at_reset ≡ after_octets r law []
-unfolding encoded after_words after_octets
-at_reset_octets r law = refl
+pub next_decoder : (t : Option RateTables) (given words : List ℕ) (old new : Variables)
+    → old ≡ after_by t at_reset given → new ≡ after_by t old words → new ≡ after_by t at_reset (given ++ words)
+next_decoder t given words old new e f = rw (after_more t at_reset given words, ← e) f

@@ -1,88 +1,63 @@
 -- The words of a list of octets and the octets of a list of words.
-use Rattle.std.proofs.Common.{◌≡◌, refl, ap, ℕ, suc, ◌-◌, ◌^◌, ◌<◌, ℤ, Bool, true, false, cond}
-use Rattle.std.proofs.Common.{List, [], ◌∷◌, ◌++◌, length, take, arith, unsigned_abs}
+use Rattle.std.proofs.Common.{◌≡◌, refl, ap, sym, ◌∙◌, ℕ, suc, ◌-◌, ◌^◌, ◌<◌, ℤ, Bool, true, false, cond}
+use Rattle.std.proofs.Common.{Option, Some, None, List, [], ◌∷◌, ◌++◌, length, take, arith, unsigned_abs}
 use Rattle.std.specs.List.{All}
 use Rattle.std.specs.Int.RustNames.{int_le}
 use Rattle.std.proofs.Math.Seq.{take-append_seam}
 use Rattle.std.proofs.lemmas.List.Elements.{All-nil, All-cons}
 use Rattle.std.proofs.lemmas.List.Sums.{count_by-le-length}
 use Rattle.e1_g711.specs.declared.Law.{Law}
-use Rattle.e1_g711.specs.Samples.{expanded}
+use Rattle.e1_g711.specs.Samples.{expand}
 use Rattle.g726_quant.specs.Blocks.{quan_magnitude, quantised, subtb, log}
 use Rattle.g726_quant.specs.Tables.{RateTables, tables16, tables24, tables32, tables40}
-use Rattle.g726_codec.specs.Codec.{CodecState, at_reset, word_for, stepped, sync, words_from, octets_from}
-use Rattle.g726_codec.specs.Codec.{encoded, decoded}
-use Rattle.g726_codec.specs.Kinds.{enc, dec, encoder_after, decoder_after}
+use Rattle.g726_codec.specs.Codec.{Variables, at_reset, word_for, stepped, sync, words_from, octets_from}
+use Rattle.g726_codec.specs.Kinds.{tables_of, words_by, octets_by, enc, dec, encoder_after, decoder_after}
 use Rattle.g726_codec.specs.Laws.{WordsAreCounted, WordsFit, PrefixesComeFirst, NothingIsCoded, OctetsAreWords}
 use Rattle.g726_codec.specs.Laws.{NothingIsKept}
 use Rattle.g726_codec.specs.declared.CodecKind.{CodecKind}
 use Rattle.g726_codec.specs.declared.CodecKind.TheVariants.{G711, G16, G24, G32, G40}
+use Rattle.g726_codec.proofs.Histories.{words_more, octets_more}
 
 -- a word for each octet, and an octet for each word, from any state on
-words_counted : (r : RateTables) (law : Law) (s : CodecState) (octets : List ℕ)
+words_counted : (r : RateTables) (law : Law) (s : Variables) (octets : List ℕ)
     → length (words_from r law s octets) ≡ length octets
 words_counted r law s [] = refl
 words_counted r law s (octet ∷ octets) =
-    ap suc (words_counted r law (stepped r s (word_for r s (expanded law octet))) octets)
+    ap suc (words_counted r law (stepped r s (word_for r s (expand law octet))) octets)
 
-octets_counted : (r : RateTables) (law : Law) (s : CodecState) (words : List ℕ)
+octets_counted : (r : RateTables) (law : Law) (s : Variables) (words : List ℕ)
     → length (octets_from r law s words) ≡ length words
 octets_counted r law s [] = refl
 octets_counted r law s (word ∷ words) = ap suc (octets_counted r law (stepped r s word) words)
 
-enc_counted : (law : Law) (kind : CodecKind) (octets : List ℕ) → length (enc law kind octets) ≡ length octets
-unfolding enc encoded
-enc_counted law G711 octets = refl
-enc_counted law G16 octets = words_counted tables16 law at_reset octets
-enc_counted law G24 octets = words_counted tables24 law at_reset octets
-enc_counted law G32 octets = words_counted tables32 law at_reset octets
-enc_counted law G40 octets = words_counted tables40 law at_reset octets
+words_by_counted : (t : Option RateTables) (law : Law) (s : Variables) (octets : List ℕ)
+    → length (words_by t law s octets) ≡ length octets
+words_by_counted None law s octets = refl
+words_by_counted (Some r) law s octets = words_counted r law s octets
 
-dec_counted : (law : Law) (kind : CodecKind) (words : List ℕ) → length (dec law kind words) ≡ length words
-unfolding dec decoded
-dec_counted law G711 words = refl
-dec_counted law G16 words = octets_counted tables16 law at_reset words
-dec_counted law G24 words = octets_counted tables24 law at_reset words
-dec_counted law G32 words = octets_counted tables32 law at_reset words
-dec_counted law G40 words = octets_counted tables40 law at_reset words
+octets_by_counted : (t : Option RateTables) (law : Law) (s : Variables) (words : List ℕ)
+    → length (octets_by t law s words) ≡ length words
+octets_by_counted None law s words = refl
+octets_by_counted (Some r) law s words = octets_counted r law s words
 
 pub counted : WordsAreCounted
-counted law kind = (enc_counted law kind, dec_counted law kind)
+unfolding enc dec
+counted law kind = (words_by_counted (tables_of kind) law at_reset, octets_by_counted (tables_of kind) law at_reset)
 
--- the words of a prefix, and the octets of one, come first, from any state on
-words_of_prefix : (r : RateTables) (law : Law) (s : CodecState) (octets later : List ℕ)
-    → take (length octets) (words_from r law s (octets ++ later)) ≡ words_from r law s octets
-words_of_prefix r law s [] later = refl
-words_of_prefix r law s (octet ∷ octets) later =
-    let word = word_for r s (expanded law octet) in
-    ap (λ (rest : List ℕ). word ∷ rest) (words_of_prefix r law (stepped r s word) octets later)
+-- what comes first in a list that is as long
+first_of : (xs ys given : List ℕ) → length xs ≡ length given → take (length given) (xs ++ ys) ≡ xs
+first_of xs ys given e = ap (λ (n : ℕ). take n (xs ++ ys)) (sym e) ∙ take-append_seam xs ys
 
-octets_of_prefix : (r : RateTables) (law : Law) (s : CodecState) (words later : List ℕ)
-    → take (length words) (octets_from r law s (words ++ later)) ≡ octets_from r law s words
-octets_of_prefix r law s [] later = refl
-octets_of_prefix r law s (word ∷ words) later =
-    ap (λ (rest : List ℕ). sync r law s word ∷ rest) (octets_of_prefix r law (stepped r s word) words later)
-
-enc_of_prefix : (law : Law) (kind : CodecKind) (octets later : List ℕ)
-    → take (length octets) (enc law kind (octets ++ later)) ≡ enc law kind octets
-unfolding enc encoded
-enc_of_prefix law G711 octets later = take-append_seam octets later
-enc_of_prefix law G16 octets later = words_of_prefix tables16 law at_reset octets later
-enc_of_prefix law G24 octets later = words_of_prefix tables24 law at_reset octets later
-enc_of_prefix law G32 octets later = words_of_prefix tables32 law at_reset octets later
-enc_of_prefix law G40 octets later = words_of_prefix tables40 law at_reset octets later
-
-dec_of_prefix : (law : Law) (kind : CodecKind) (words later : List ℕ)
-    → take (length words) (dec law kind (words ++ later)) ≡ dec law kind words
-unfolding dec decoded
-dec_of_prefix law G711 words later = take-append_seam words later
-dec_of_prefix law G16 words later = octets_of_prefix tables16 law at_reset words later
-dec_of_prefix law G24 words later = octets_of_prefix tables24 law at_reset words later
-dec_of_prefix law G32 words later = octets_of_prefix tables32 law at_reset words later
-dec_of_prefix law G40 words later = octets_of_prefix tables40 law at_reset words later
-
+-- the words of a prefix, and the octets of one, come first
 pub come_first : PrefixesComeFirst
-come_first law kind = (enc_of_prefix law kind, dec_of_prefix law kind)
+unfolding enc dec
+come_first law kind =
+    let t = tables_of kind in (
+      λ octets later. ap (take (length octets)) (words_more t law at_reset octets later)
+          ∙ first_of _ _ octets (words_by_counted t law at_reset octets),
+      λ words later. ap (take (length words)) (octets_more t law at_reset words later)
+          ∙ first_of _ _ words (octets_by_counted t law at_reset words),
+    )
 
 -- a magnitude that fits, and its complement, fit
 complement_fits : (is_complement : Bool) (whole magnitude : ℕ) → magnitude < whole
@@ -98,15 +73,15 @@ word_fits r d y few =
     let counted = count_by-le-length (λ threshold. int_le threshold dln) r.thresholds in
     complement_fits _ (2 ^ r.bits) (quan_magnitude r.thresholds dln) (omega (arith, counted, few))
 
-words_fit : (r : RateTables) (law : Law) → length r.thresholds < 2 ^ r.bits → (s : CodecState) (octets : List ℕ)
+pub words_fit : (r : RateTables) (law : Law) → length r.thresholds < 2 ^ r.bits → (s : Variables) (octets : List ℕ)
     → All (λ word. word < 2 ^ r.bits) (words_from r law s octets)
 words_fit r law few s [] = All-nil (λ word. word < 2 ^ r.bits)
 words_fit r law few s (octet ∷ octets) =
-    let word = word_for r s (expanded law octet) in
+    let word = word_for r s (expand law octet) in
     All-cons (λ word. word < 2 ^ r.bits) word _ (word_fits r _ _ few) (words_fit r law few (stepped r s word) octets)
 
 pub fit : WordsFit
-unfolding enc encoded
+unfolding enc
 fit law G711 octets all = all
 fit law G16 octets all = words_fit tables16 law (omega arith) at_reset octets
 fit law G24 octets all = words_fit tables24 law (omega arith) at_reset octets
@@ -123,21 +98,10 @@ unfolding encoder_after decoder_after
 nothing_kept law octets words = refl
 
 -- of no octets there are no words, and of no words no octets
-enc_of_none : (law : Law) (kind : CodecKind) → enc law kind [] ≡ []
-unfolding enc encoded
-enc_of_none law G711 = refl
-enc_of_none law G16 = refl
-enc_of_none law G24 = refl
-enc_of_none law G32 = refl
-enc_of_none law G40 = refl
-
-dec_of_none : (law : Law) (kind : CodecKind) → dec law kind [] ≡ []
-unfolding dec decoded
-dec_of_none law G711 = refl
-dec_of_none law G16 = refl
-dec_of_none law G24 = refl
-dec_of_none law G32 = refl
-dec_of_none law G40 = refl
+none_by : (t : Option RateTables) (law : Law) → (words_by t law at_reset [] ≡ []) × (octets_by t law at_reset [] ≡ [])
+none_by None law = (refl, refl)
+none_by (Some r) law = (refl, refl)
 
 pub none_coded : NothingIsCoded
-none_coded law kind = (enc_of_none law kind, dec_of_none law kind)
+unfolding enc dec
+none_coded law kind = none_by (tables_of kind) law

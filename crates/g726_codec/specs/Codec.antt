@@ -1,38 +1,37 @@
 -- The encoder and the decoder of ITU-T G.726 over whole lists.
 use Rattle.std.specs.Prelude.{ℕ, ℤ, ◌+ℤ◌, ◌-ℤ◌, ◌==◌, nat_lt, List, [], ◌∷◌, if◌then◌else◌}
-use Rattle.e1_g711.specs.Codes.{code_above, code_below}
-use Rattle.e1_g711.specs.Samples.{compressed, expanded}
+use Rattle.e1_g711.specs.Codes.{next_up, next_down}
+use Rattle.e1_g711.specs.Samples.{compress, expand}
 use Rattle.e1_g711.specs.declared.Law.{Law}
-use Rattle.g726_quant.specs.Arithmetic.{wrap16}
+use Rattle.g726_quant.specs.Arithmetic.{signed, wrap16}
 use Rattle.g726_quant.specs.Blocks.{quantised, reconstructed, word_is_negative, word_magnitude, word_order}
 use Rattle.g726_quant.specs.Tables.{RateTables}
 use Rattle.g726_tone.specs.Adaptation.{Adaptation, scale, trans, adapted}
 use Rattle.g726_tone.specs.Adaptation as adaptation
-use Rattle.g726_predict.specs.Float.{signed}
 use Rattle.g726_predict.specs.Predictor.{Prediction, se, tone, updated}
 use Rattle.g726_predict.specs.Predictor as prediction
 
 -- the variables of an encoder or a decoder that are kept from one sample to the next
-pub record CodecState : Type 0 where
+pub record Variables : Type 0 where
   pub adaptation : Adaptation
   pub prediction : Prediction
 
 -- their values at reset
-abbrev pub at_reset : CodecState
+abbrev pub at_reset : Variables
 at_reset = record { adaptation = adaptation.at_reset; prediction = prediction.at_reset }
 
 -- SUBTA: D, then LOG, SUBTB and QUAN: I, the word for a sample
-abbrev pub word_for : RateTables → CodecState → ℤ → ℕ
+abbrev pub word_for : RateTables → Variables → ℤ → ℕ
 word_for r s sample = quantised r (wrap16 (sample -ℤ se s.prediction)) (scale s.adaptation)
 
 -- ADDB: SR, the reconstructed signal
-abbrev pub addb : RateTables → CodecState → ℕ → ℤ
+abbrev pub addb : RateTables → Variables → ℕ → ℤ
 addb r s word =
     let magnitude = reconstructed r word (scale s.adaptation) in
     wrap16 (signed (word_is_negative r.bits word) magnitude +ℤ se s.prediction)
 
 -- the state after a sample, of an encoder and of a decoder alike: it goes by the word alone
-unfoldable pub stepped : RateTables → CodecState → ℕ → CodecState
+unfoldable pub stepped : RateTables → Variables → ℕ → Variables
 stepped r s word =
     let negative = word_is_negative r.bits word in
     let magnitude = reconstructed r word (scale s.adaptation) in
@@ -44,35 +43,35 @@ stepped r s word =
     }
 
 -- COMPRESS: SP, the octet of the reconstructed signal
-abbrev pub sp : RateTables → Law → CodecState → ℕ → ℕ
-sp r law s word = compressed law (addb r s word)
+abbrev pub sp : RateTables → Law → Variables → ℕ → ℕ
+sp r law s word = compress law (addb r s word)
 
--- SYNC: a code stays where ID, the order of the word that it gives, is IM, that of the received word. Where ID
--- is below IM the next more positive code is given, else the next more negative one
+-- SYNC: a code stays where ID, the order of the word that it gives, is IM, that of the received word. Where
+-- ID is below IM the next more positive code is given, else the next more negative one
 abbrev pub adjusted : Law → ℕ → ℕ → ℕ → ℕ
 adjusted law code id im =
-    if id == im then code else (if nat_lt id im then code_above law code else code_below law code)
+    if id == im then code else (if nat_lt id im then next_up law code else next_down law code)
 
 -- SYNC: SD, the octet of a word: SP, expanded and quantised again, gives the word that is compared
-unfoldable pub sync : RateTables → Law → CodecState → ℕ → ℕ
+unfoldable pub sync : RateTables → Law → Variables → ℕ → ℕ
 sync r law s word =
     let code = sp r law s word in
-    adjusted law code (word_order r.bits (word_for r s (expanded law code))) (word_order r.bits word)
+    adjusted law code (word_order r.bits (word_for r s (expand law code))) (word_order r.bits word)
 
 -- the words of octets, from a state on
-abbrev pub words_from : RateTables → Law → CodecState → List ℕ → List ℕ
+abbrev pub words_from : RateTables → Law → Variables → List ℕ → List ℕ
 words_from r law s [] = []
 words_from r law s (octet ∷ octets) =
-    let word = word_for r s (expanded law octet) in
+    let word = word_for r s (expand law octet) in
     word ∷ words_from r law (stepped r s word) octets
 
 -- the octets of words, from a state on
-abbrev pub octets_from : RateTables → Law → CodecState → List ℕ → List ℕ
+abbrev pub octets_from : RateTables → Law → Variables → List ℕ → List ℕ
 octets_from r law s [] = []
 octets_from r law s (word ∷ words) = sync r law s word ∷ octets_from r law (stepped r s word) words
 
 -- the state after words
-abbrev pub state_after : RateTables → CodecState → List ℕ → CodecState
+abbrev pub state_after : RateTables → Variables → List ℕ → Variables
 state_after r s [] = s
 state_after r s (word ∷ words) = state_after r (stepped r s word) words
 
@@ -85,9 +84,9 @@ unfoldable pub decoded : RateTables → Law → List ℕ → List ℕ
 decoded r law words = octets_from r law at_reset words
 
 -- the state of a decoder after words
-unfoldable pub after_words : RateTables → List ℕ → CodecState
+unfoldable pub after_words : RateTables → List ℕ → Variables
 after_words r words = state_after r at_reset words
 
 -- the state of an encoder after octets
-unfoldable pub after_octets : RateTables → Law → List ℕ → CodecState
+unfoldable pub after_octets : RateTables → Law → List ℕ → Variables
 after_octets r law octets = after_words r (encoded r law octets)

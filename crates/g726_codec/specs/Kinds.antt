@@ -1,10 +1,9 @@
 -- The codecs of a circuit: ITU-T G.711 itself and ITU-T G.726 at its four rates.
-use Rattle.std.specs.Prelude.{ℕ, List}
+use Rattle.std.specs.Prelude.{ℕ, List, Option, Some, None}
 use Rattle.e1_g711.specs.declared.Law.{Law}
-use Rattle.g726_quant.specs.Tables.{tables16, tables24, tables32, tables40}
-use Rattle.g726_codec.specs.Codec.{CodecState, at_reset, word_for, sync, stepped, encoded, decoded}
-use Rattle.g726_codec.specs.Codec.{after_words, after_octets}
-use Rattle.e1_g711.specs.Samples.{expanded}
+use Rattle.e1_g711.specs.Samples.{expand}
+use Rattle.g726_quant.specs.Tables.{RateTables, tables16, tables24, tables32, tables40}
+use Rattle.g726_codec.specs.Codec.{Variables, at_reset, word_for, sync, words_from, octets_from, state_after}
 use Rattle.g726_codec.specs.declared.CodecKind.{CodecKind}
 use Rattle.g726_codec.specs.declared.CodecKind.TheVariants.{G711, G16, G24, G32, G40}
 
@@ -16,88 +15,80 @@ bits_of G24 = 3
 bits_of G32 = 4
 bits_of G40 = 5
 
--- the words of octets, from reset
-unfoldable pub enc : Law → CodecKind → List ℕ → List ℕ
-enc law G711 octets = octets
-enc law G16 octets = encoded tables16 law octets
-enc law G24 octets = encoded tables24 law octets
-enc law G32 octets = encoded tables32 law octets
-enc law G40 octets = encoded tables40 law octets
+-- the tables of the rate of a kind. G.711 has none: its octets are their own words, and it keeps nothing
+abbrev pub tables_of : CodecKind → Option RateTables
+tables_of G711 = None
+tables_of G16 = Some tables16
+tables_of G24 = Some tables24
+tables_of G32 = Some tables32
+tables_of G40 = Some tables40
 
--- the octets of words, from reset
+-- by the tables, if any: the word that an encoder gives for an octet, from its variables
+abbrev pub word_by : Option RateTables → Law → Variables → ℕ → ℕ
+word_by None law s octet = octet
+word_by (Some r) law s octet = word_for r s (expand law octet)
+
+-- the octet that a decoder gives for a word
+abbrev pub octet_by : Option RateTables → Law → Variables → ℕ → ℕ
+octet_by None law s word = word
+octet_by (Some r) law s word = sync r law s word
+
+-- the words of octets, and the octets of words
+abbrev pub words_by : Option RateTables → Law → Variables → List ℕ → List ℕ
+words_by None law s octets = octets
+words_by (Some r) law s octets = words_from r law s octets
+
+abbrev pub octets_by : Option RateTables → Law → Variables → List ℕ → List ℕ
+octets_by None law s words = words
+octets_by (Some r) law s words = octets_from r law s words
+
+-- the variables after words, of an encoder and of a decoder alike
+abbrev pub after_by : Option RateTables → Variables → List ℕ → Variables
+after_by None s words = s
+after_by (Some r) s words = state_after r s words
+
+-- the words of octets, and the octets of words, from reset
+unfoldable pub enc : Law → CodecKind → List ℕ → List ℕ
+enc law kind octets = words_by (tables_of kind) law at_reset octets
+
 unfoldable pub dec : Law → CodecKind → List ℕ → List ℕ
-dec law G711 words = words
-dec law G16 words = decoded tables16 law words
-dec law G24 words = decoded tables24 law words
-dec law G32 words = decoded tables32 law words
-dec law G40 words = decoded tables40 law words
+dec law kind words = octets_by (tables_of kind) law at_reset words
 
 -- the variables of the encoder after octets, and of the decoder after words. Those of G.711 stay as at reset
-unfoldable pub encoder_after : Law → CodecKind → List ℕ → CodecState
-encoder_after law G711 octets = at_reset
-encoder_after law G16 octets = after_octets tables16 law octets
-encoder_after law G24 octets = after_octets tables24 law octets
-encoder_after law G32 octets = after_octets tables32 law octets
-encoder_after law G40 octets = after_octets tables40 law octets
+unfoldable pub encoder_after : Law → CodecKind → List ℕ → Variables
+encoder_after law kind octets =
+    after_by (tables_of kind) at_reset (words_by (tables_of kind) law at_reset octets)
 
-unfoldable pub decoder_after : CodecKind → List ℕ → CodecState
-decoder_after G711 words = at_reset
-decoder_after G16 words = after_words tables16 words
-decoder_after G24 words = after_words tables24 words
-decoder_after G32 words = after_words tables32 words
-decoder_after G40 words = after_words tables40 words
+unfoldable pub decoder_after : CodecKind → List ℕ → Variables
+decoder_after kind words = after_by (tables_of kind) at_reset words
 
 -- a codec: its law, its kind, and the variables of its encoder and of its decoder
-pub record Coder : Type 0 where
+pub record CodecState : Type 0 where
   pub law : Law
   pub kind : CodecKind
-  pub encoder : CodecState
-  pub decoder : CodecState
+  pub encoder : Variables
+  pub decoder : Variables
 
--- the word that an encoder gives for an octet, from its variables
-abbrev pub word_in : CodecKind → Law → CodecState → ℕ → ℕ
-word_in G711 law s octet = octet
-word_in G16 law s octet = word_for tables16 s (expanded law octet)
-word_in G24 law s octet = word_for tables24 s (expanded law octet)
-word_in G32 law s octet = word_for tables32 s (expanded law octet)
-word_in G40 law s octet = word_for tables40 s (expanded law octet)
-
--- the octet that a decoder gives for a word, from its variables
-abbrev pub octet_in : CodecKind → Law → CodecState → ℕ → ℕ
-octet_in G711 law s word = word
-octet_in G16 law s word = sync tables16 law s word
-octet_in G24 law s word = sync tables24 law s word
-octet_in G32 law s word = sync tables32 law s word
-octet_in G40 law s word = sync tables40 law s word
-
--- the variables after a word, of an encoder and of a decoder alike
-abbrev pub moved : CodecKind → CodecState → ℕ → CodecState
-moved G711 s word = s
-moved G16 s word = stepped tables16 s word
-moved G24 s word = stepped tables24 s word
-moved G32 s word = stepped tables32 s word
-moved G40 s word = stepped tables40 s word
-
--- a codec whose encoder has given a word, and one whose decoder has taken a word
-abbrev pub after_encoding : Coder → ℕ → Coder
-after_encoding c word = record {
+-- a codec whose encoder has given words, and one whose decoder has taken words
+abbrev pub after_encoding : CodecState → List ℕ → CodecState
+after_encoding c words = record {
   law = c.law;
   kind = c.kind;
-  encoder = moved c.kind c.encoder word;
+  encoder = after_by (tables_of c.kind) c.encoder words;
   decoder = c.decoder;
 }
 
-abbrev pub after_decoding : Coder → ℕ → Coder
-after_decoding c word = record {
+abbrev pub after_decoding : CodecState → List ℕ → CodecState
+after_decoding c words = record {
   law = c.law;
   kind = c.kind;
   encoder = c.encoder;
-  decoder = moved c.kind c.decoder word;
+  decoder = after_by (tables_of c.kind) c.decoder words;
 }
 
 -- a codec after these octets to encode and these words to decode, since its reset
-abbrev pub coder_after : Law → CodecKind → List ℕ → List ℕ → Coder
-coder_after law kind octets words = record {
+abbrev pub codec_after : Law → CodecKind → List ℕ → List ℕ → CodecState
+codec_after law kind octets words = record {
   law = law;
   kind = kind;
   encoder = encoder_after law kind octets;

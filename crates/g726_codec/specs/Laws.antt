@@ -1,7 +1,7 @@
 -- Laws of the codecs.
 use Rattle.std.specs.Prelude.{ℕ, ◌≡◌, ◌<◌, ◌^◌, List, [], ◌++◌, length, take, All}
 use Rattle.e1_g711.specs.declared.Law.{Law}
-use Rattle.g726_codec.specs.Kinds.{bits_of, enc, dec, coder_after}
+use Rattle.g726_codec.specs.Kinds.{bits_of, enc, dec, codec_after}
 use Rattle.g726_codec.specs.declared.CodecKind.{CodecKind}
 use Rattle.g726_codec.specs.declared.CodecKind.TheVariants.{G711}
 
@@ -38,4 +38,4 @@ OctetsAreWords =
 abbrev pub NothingIsKept : Type 0
 NothingIsKept =
     (law : Law) (octets words : List ℕ)
-    → coder_after law G711 octets words ≡ coder_after law G711 [] []
+    → codec_after law G711 octets words ≡ codec_after law G711 [] []

@@ -1,37 +1,37 @@
 //! A codec of any kind.
-ghost use Rattle.std.specs.Prelude.{◌≡◌, ◌<◌, ◌^◌, ℕ, List, [], ◌∷◌, ◌++◌};
+ghost use Rattle.std.specs.Prelude.{◌≡◌, ◌<◌, ◌^◌, ℕ, List, [], ◌∷◌, ◌++◌, length};
+ghost use Rattle.std.specs.List.{All};
 ghost use Rattle.g726_codec.specs.Codec.{at_reset};
-ghost use Rattle.g726_codec.specs.Kinds.{bits_of, enc, dec, coder_after};
-ghost use Rattle.g726_codec.specs.Kinds.{word_in, octet_in, after_encoding, after_decoding};
-ghost use Rattle.g726_codec.specs.Views.{kind_of, states_of, coder_of};
+ghost use Rattle.g726_codec.specs.Kinds.{bits_of, tables_of, word_by, octet_by, words_by, enc, dec};
+ghost use Rattle.g726_codec.specs.Kinds.{codec_after, after_encoding, after_decoding};
+ghost use Rattle.g726_codec.specs.Views.{kind_of, encoder_of, decoder_of, state_of};
 
-use crate::CodecKind;
-use crate::duplex::Duplex;
+use crate::{CodecKind, Decoder, Encoder};
 use e1_g711::Law;
-use g726_quant::{R16, R24, R32, R40};
+use g726_quant::{R16, R24, R32, R40, Word};
 use std::marker::Model;
 
-// A codec of each kind. G.711 has no state.
+// A codec of each kind: an encoder and a decoder. G.711 has no state.
 #[derive(Drop)]
 enum Codec {
-    At64,
-    At16(Duplex<R16>),
-    At24(Duplex<R24>),
-    At32(Duplex<R32>),
-    At40(Duplex<R40>),
+    G711,
+    G16(Encoder<R16>, Decoder<R16>),
+    G24(Encoder<R24>, Decoder<R24>),
+    G32(Encoder<R32>, Decoder<R32>),
+    G40(Encoder<R40>, Decoder<R40>),
 }
 
 impl Codec {
     fn reset(kind: CodecKind) -> Codec
-        ensures { (law : Law) → coder_of law result
+        ensures { (law : Law) → state_of law result
             ≡ record { law = law; kind = kind; encoder = at_reset; decoder = at_reset } }
     {
         match kind {
-            CodecKind::G711 => Codec::At64,
-            CodecKind::G16 => Codec::At16(Duplex::reset()),
-            CodecKind::G24 => Codec::At24(Duplex::reset()),
-            CodecKind::G32 => Codec::At32(Duplex::reset()),
-            CodecKind::G40 => Codec::At40(Duplex::reset()),
+            CodecKind::G711 => Codec::G711,
+            CodecKind::G16 => Codec::G16(Encoder::reset(), Decoder::reset()),
+            CodecKind::G24 => Codec::G24(Encoder::reset(), Decoder::reset()),
+            CodecKind::G32 => Codec::G32(Encoder::reset(), Decoder::reset()),
+            CodecKind::G40 => Codec::G40(Encoder::reset(), Decoder::reset()),
         }
     }
 
@@ -39,41 +39,57 @@ impl Codec {
         ensures { result ≡ kind_of self.now }
     {
         match self {
-            Codec::At64 => CodecKind::G711,
-            Codec::At16(_) => CodecKind::G16,
-            Codec::At24(_) => CodecKind::G24,
-            Codec::At32(_) => CodecKind::G32,
-            Codec::At40(_) => CodecKind::G40,
+            Codec::G711 => CodecKind::G711,
+            Codec::G16(_, _) => CodecKind::G16,
+            Codec::G24(_, _) => CodecKind::G24,
+            Codec::G32(_, _) => CodecKind::G32,
+            Codec::G40(_, _) => CodecKind::G40,
         }
     }
 
     #[inline(always)]
     fn encode(&mut self, law: Law, octet: u8) -> u8
         ensures bound { result < 2 ^ bits_of (kind_of self.old) }
-        ensures word { result ≡ word_in (kind_of self.old) law (states_of self.old).encoder octet }
-        ensures state { coder_of law self.new ≡ after_encoding (coder_of law self.old) result }
+        ensures word { result ≡ word_by (tables_of (kind_of self.old)) law (encoder_of self.old) octet }
+        ensures state { state_of law self.new ≡ after_encoding (state_of law self.old) (result ∷ []) }
     {
         match self {
-            Codec::At64 => octet,
-            Codec::At16(duplex) => duplex.encode(law, octet),
-            Codec::At24(duplex) => duplex.encode(law, octet),
-            Codec::At32(duplex) => duplex.encode(law, octet),
-            Codec::At40(duplex) => duplex.encode(law, octet),
+            Codec::G711 => octet,
+            Codec::G16(encoder, _) => encoder.encode(law, octet).get(),
+            Codec::G24(encoder, _) => encoder.encode(law, octet).get(),
+            Codec::G32(encoder, _) => encoder.encode(law, octet).get(),
+            Codec::G40(encoder, _) => encoder.encode(law, octet).get(),
+        }
+    }
+
+    fn encode_all(&mut self, law: Law, octets: &mut [u8])
+        ensures len { length octets.new ≡ length octets.old }
+        ensures fit { All (λ word. word < 2 ^ bits_of (kind_of self.old)) octets.new }
+        ensures words { octets.new
+            ≡ words_by (tables_of (kind_of self.old)) law (encoder_of self.old) octets.old }
+        ensures state { state_of law self.new ≡ after_encoding (state_of law self.old) octets.new }
+    {
+        match self {
+            Codec::G711 => {}
+            Codec::G16(encoder, _) => encoder.encode_all(law, octets),
+            Codec::G24(encoder, _) => encoder.encode_all(law, octets),
+            Codec::G32(encoder, _) => encoder.encode_all(law, octets),
+            Codec::G40(encoder, _) => encoder.encode_all(law, octets),
         }
     }
 
     #[inline(always)]
     fn decode(&mut self, law: Law, word: u8) -> u8
         requires { word < 2 ^ bits_of (kind_of self.old) }
-        ensures octet { result ≡ octet_in (kind_of self.old) law (states_of self.old).decoder word }
-        ensures state { coder_of law self.new ≡ after_decoding (coder_of law self.old) word }
+        ensures octet { result ≡ octet_by (tables_of (kind_of self.old)) law (decoder_of self.old) word }
+        ensures state { state_of law self.new ≡ after_decoding (state_of law self.old) (word ∷ []) }
     {
         match self {
-            Codec::At64 => word,
-            Codec::At16(duplex) => duplex.decode(law, word),
-            Codec::At24(duplex) => duplex.decode(law, word),
-            Codec::At32(duplex) => duplex.decode(law, word),
-            Codec::At40(duplex) => duplex.decode(law, word),
+            Codec::G711 => word,
+            Codec::G16(_, decoder) => decoder.decode(law, Word::new(word).unwrap()),
+            Codec::G24(_, decoder) => decoder.decode(law, Word::new(word).unwrap()),
+            Codec::G32(_, decoder) => decoder.decode(law, Word::new(word).unwrap()),
+            Codec::G40(_, decoder) => decoder.decode(law, Word::new(word).unwrap()),
         }
     }
 }
@@ -87,18 +103,18 @@ pub struct AnyCodec {
 }
 
 impl Model for AnyCodec {
-    ghost use Rattle.g726_codec.specs.Kinds.{Coder};
-    ghost use Rattle.g726_codec.specs.Views.{coder_of};
+    ghost use Rattle.g726_codec.specs.Kinds.{CodecState};
+    ghost use Rattle.g726_codec.specs.Views.{state_of};
 
-    ghost Value = { Coder };
+    ghost Value = { CodecState };
 
-    ghost view = { λ a. coder_of a.law a.codec };
+    ghost view = { λ a. state_of a.law a.codec };
 }
 
 impl AnyCodec {
     /// A codec whose encoder and decoder are at reset.
     pub fn new(law: Law, kind: CodecKind) -> AnyCodec
-        ensures { result ≡ coder_after law kind [] [] }
+        ensures { result ≡ codec_after law kind [] [] }
     {
         AnyCodec {
             law,
@@ -110,37 +126,54 @@ impl AnyCodec {
     #[inline(always)]
     pub fn encode(&mut self, octet: u8) -> u8
         ensures bound { result < 2 ^ bits_of self.old.kind }
-        ensures word { result ≡ word_in self.old.kind self.old.law self.old.encoder octet }
-        ensures state { self.new ≡ after_encoding self.old result }
+        ensures word { result ≡ word_by (tables_of self.old.kind) self.old.law self.old.encoder octet }
+        ensures state { self.new ≡ after_encoding self.old (result ∷ []) }
         ensures words { (law : Law) (kind : CodecKind) (octets words : List ℕ)
-            → self.old ≡ coder_after law kind octets words
+            → self.old ≡ codec_after law kind octets words
             → enc law kind (octets ++ octet ∷ []) ≡ enc law kind octets ++ result ∷ [] }
         ensures stands { (law : Law) (kind : CodecKind) (octets words : List ℕ)
-            → self.old ≡ coder_after law kind octets words
-            → self.new ≡ coder_after law kind (octets ++ octet ∷ []) words }
+            → self.old ≡ codec_after law kind octets words
+            → self.new ≡ codec_after law kind (octets ++ octet ∷ []) words }
     {
         self.codec.encode(self.law, octet)
+    }
+
+    /// Puts the words of the next octets into their places, each below `2^bits`.
+    pub fn encode_all(&mut self, octets: &mut [u8])
+        ensures len { length octets.new ≡ length octets.old }
+        ensures fit { All (λ word. word < 2 ^ bits_of self.old.kind) octets.new }
+        ensures coded { octets.new
+            ≡ words_by (tables_of self.old.kind) self.old.law self.old.encoder octets.old }
+        ensures state { self.new ≡ after_encoding self.old octets.new }
+        ensures words { (law : Law) (kind : CodecKind) (given words : List ℕ)
+            → self.old ≡ codec_after law kind given words
+            → enc law kind (given ++ octets.old) ≡ enc law kind given ++ octets.new }
+        ensures stands { (law : Law) (kind : CodecKind) (given words : List ℕ)
+            → self.old ≡ codec_after law kind given words
+            → self.new ≡ codec_after law kind (given ++ octets.old) words }
+    {
+        self.codec.encode_all(self.law, octets);
     }
 
     /// The octet of the next word, which is below `2^bits`. A word of G.711 is its own octet.
     #[inline(always)]
     pub fn decode(&mut self, word: u8) -> u8
         requires { word < 2 ^ bits_of self.old.kind }
-        ensures octet { result ≡ octet_in self.old.kind self.old.law self.old.decoder word }
-        ensures state { self.new ≡ after_decoding self.old word }
+        ensures octet { result ≡ octet_by (tables_of self.old.kind) self.old.law self.old.decoder word }
+        ensures state { self.new ≡ after_decoding self.old (word ∷ []) }
         ensures octets { (law : Law) (kind : CodecKind) (octets words : List ℕ)
-            → self.old ≡ coder_after law kind octets words
+            → self.old ≡ codec_after law kind octets words
             → dec law kind (words ++ word ∷ []) ≡ dec law kind words ++ result ∷ [] }
         ensures stands { (law : Law) (kind : CodecKind) (octets words : List ℕ)
-            → self.old ≡ coder_after law kind octets words
-            → self.new ≡ coder_after law kind octets (words ++ word ∷ []) }
+            → self.old ≡ codec_after law kind octets words
+            → self.new ≡ codec_after law kind octets (words ++ word ∷ []) }
     {
         self.codec.decode(self.law, word)
     }
 
     /// Puts encoder and decoder back to reset.
     pub fn reset(&mut self)
-        ensures { self.new ≡ coder_after self.old.law self.old.kind [] [] }
+        ensures { self.new ≡ codec_after self.old.law self.old.kind [] [] }
     {
         self.codec = Codec::reset(self.codec.kind());
     }

@@ -15,9 +15,9 @@ pub struct Decoder<R: Rate> {
 }
 
 impl<R: Rate> Model for Decoder<R> {
-    ghost use Rattle.g726_codec.specs.Codec.{CodecState};
+    ghost use Rattle.g726_codec.specs.Codec.{Variables};
 
-    ghost Value = { CodecState };
+    ghost Value = { Variables };
 
     ghost view = { λ d. d.state };
 }
@@ -47,8 +47,8 @@ impl<R: Rate> Decoder<R> {
         }
     }
 
-    /// The octet of the next word, in a law (ITU-T G.726, RECONST to ADDB, COMPRESS, EXPAND, and SUBTA to SYNC;
-    /// the other blocks for the state).
+    /// The octet of the next word, in a law (ITU-T G.726, RECONST to ADDB, COMPRESS, EXPAND, and SUBTA to
+    /// SYNC; the other blocks for the state).
     #[inline(always)]
     pub fn decode(&mut self, law: Law, word: Word<R>) -> u8
         ensures octet { result ≡ sync R.tables law self.old word }

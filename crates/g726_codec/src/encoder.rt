@@ -1,7 +1,9 @@
 //! The encoder of ITU-T G.726.
-ghost use Rattle.std.specs.Prelude.{◌≡◌, ℕ, List, [], ◌∷◌, ◌++◌};
-ghost use Rattle.e1_g711.specs.Samples.{expanded};
+ghost use Rattle.std.specs.Prelude.{◌≡◌, ◌<◌, ◌^◌, ℕ, List, [], ◌∷◌, ◌++◌, length};
+ghost use Rattle.std.specs.List.{All};
+ghost use Rattle.e1_g711.specs.Samples.{expand};
 ghost use Rattle.g726_codec.specs.Codec.{at_reset, word_for, stepped, encoded, after_octets};
+ghost use Rattle.g726_codec.specs.Codec.{words_from, state_after};
 
 use crate::state::{State, word_of};
 use e1_g711::Law;
@@ -16,9 +18,9 @@ pub struct Encoder<R: Rate> {
 }
 
 impl<R: Rate> Model for Encoder<R> {
-    ghost use Rattle.g726_codec.specs.Codec.{CodecState};
+    ghost use Rattle.g726_codec.specs.Codec.{Variables};
 
-    ghost Value = { CodecState };
+    ghost Value = { Variables };
 
     ghost view = { λ e. e.state };
 }
@@ -35,11 +37,11 @@ impl<R: Rate> Encoder<R> {
         }
     }
 
-    /// The word of the next octet, which is a code of a law (ITU-T G.726, EXPAND to QUAN; the other blocks for
-    /// the state).
+    /// The word of the next octet, which is a code of a law (ITU-T G.726, EXPAND to QUAN; the other blocks
+    /// for the state).
     #[inline(always)]
     pub fn encode(&mut self, law: Law, octet: u8) -> Word<R>
-        ensures word { result ≡ word_for R.tables self.old (expanded law octet) }
+        ensures word { result ≡ word_for R.tables self.old (expand law octet) }
         ensures state { self.new ≡ stepped R.tables self.old result }
         ensures words { (octets : List ℕ) → self.old ≡ after_octets R.tables law octets
             → encoded R.tables law (octets ++ octet ∷ []) ≡ encoded R.tables law octets ++ result ∷ [] }
@@ -50,5 +52,17 @@ impl<R: Rate> Encoder<R> {
         let word = word_of::<R>(law, octet, forecast);
         self.state.step(word, forecast);
         word
+    }
+
+    /// Puts the words of the next octets, codes of a law, into their places.
+    pub fn encode_all(&mut self, law: Law, octets: &mut [u8])
+        ensures len { length octets.new ≡ length octets.old }
+        ensures fit { All (λ word. word < 2 ^ R.tables.bits) octets.new }
+        ensures words { octets.new ≡ words_from R.tables law self.old octets.old }
+        ensures state { self.new ≡ state_after R.tables self.old octets.new }
+    {
+        for octet in octets.iter_mut() {
+            *octet = self.encode(law, *octet).get();
+        }
     }
 }

@@ -6,7 +6,6 @@ ghost use Rattle.g726_codec.specs.Kinds.{bits_of};
 
 mod any;
 mod decoder;
-mod duplex;
 mod encoder;
 pub mod laws;
 pub mod names;

@@ -24,8 +24,8 @@ pub const G726_32: &str = "g726-32";
 /// The text of [`CodecName::G40`].
 pub const G726_40: &str = "g726-40";
 
-/// A codec by its name: ITU-T G.711 in one of its laws, or ITU-T G.726 at one of its rates. RFC 3551, 4.5.4 and
-/// 4.5.14, has these names in capitals.
+/// A codec by its name: ITU-T G.711 in one of its laws, or ITU-T G.726 at one of its rates. RFC 3551, 4.5.4
+/// and 4.5.14, has these names in capitals.
 #[derive(Clone, Copy, Debug, PartialEq, Eq)]
 pub enum CodecName {
     /// `pcma`, G.711 in A-law.

@@ -1,10 +1,9 @@
 //! What an encoder and a decoder of ITU-T G.726 have alike.
 ghost use Rattle.std.specs.Prelude.{◌≡◌, ◌≤◌, pos, negsuc, ◌≤ℤ◌, ◌+ℤ◌, ◌-ℤ◌};
-ghost use Rattle.e1_g711.specs.Samples.{expanded};
-ghost use Rattle.g726_quant.specs.Arithmetic.{wrap16};
+ghost use Rattle.e1_g711.specs.Samples.{expand};
+ghost use Rattle.g726_quant.specs.Arithmetic.{signed, wrap16};
 ghost use Rattle.g726_quant.specs.Blocks.{quantised};
 ghost use Rattle.g726_tone.specs.Adaptation.{scale};
-ghost use Rattle.g726_predict.specs.Float.{signed};
 ghost use Rattle.g726_predict.specs.Predictor.{se};
 ghost use Rattle.g726_codec.specs.Codec.{at_reset, word_for, addb, stepped};
 
@@ -33,9 +32,9 @@ pub(crate) struct State {
 }
 
 impl Model for State {
-    ghost use Rattle.g726_codec.specs.Codec.{CodecState};
+    ghost use Rattle.g726_codec.specs.Codec.{Variables};
 
-    ghost Value = { CodecState };
+    ghost Value = { Variables };
 
     ghost view = { λ s. record { adaptation = s.adapt; prediction = s.predictor } };
 }
@@ -90,7 +89,7 @@ fn subta(sl: i16, se: i16) -> i16
 
 // SUBTA, LOG, SUBTB and QUAN: the word for an octet.
 pub(crate) fn word_of<R: Rate>(law: Law, octet: u8, forecast: Forecast) -> Word<R>
-    ensures { result ≡ quantised R.tables (wrap16 (expanded law octet -ℤ forecast.se)) forecast.y }
+    ensures { result ≡ quantised R.tables (wrap16 (expand law octet -ℤ forecast.se)) forecast.y }
 {
     quantise::<R>(subta(expand(law, octet), forecast.se), forecast.y)
 }
@@ -99,15 +98,5 @@ pub(crate) fn word_of<R: Rate>(law: Law, octet: u8, forecast: Forecast) -> Word<
 fn addb(dq: Dq, se: i16) -> i16
     ensures { result ≡ wrap16 (signed dq.negative dq.mag +ℤ se) }
 {
-    wrap16(signed(dq) + se as i32)
-}
-
-// A difference as a number.
-fn signed(dq: Dq) -> i32
-    ensures value { result ≡ signed dq.negative dq.mag }
-    ensures low { negsuc 32766 ≤ℤ result }
-    ensures high { result ≤ℤ pos 32767 }
-{
-    let magnitude = dq.mag as i32;
-    if dq.negative { -magnitude } else { magnitude }
+    wrap16(dq.signed() + se as i32)
 }

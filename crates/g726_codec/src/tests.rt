@@ -30,6 +30,10 @@ fn first_a_law_words(rt: HostRuntime) {
     codec.reset();
     assert!(rt; codec.encode(0xD5) == 1);
     assert!(rt; codec.encode(0xD5) == 1);
+    let mut octets = [0xAA, 0xAA];
+    codec.reset();
+    codec.encode_all(&mut octets);
+    assert!(rt; octets == [7, 7]);
 }
 
 #[test]

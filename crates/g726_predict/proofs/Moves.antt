@@ -1,8 +1,8 @@
 -- A record of the predictor's variables, and how it moves on.
 use Rattle.std.proofs.Common.{◌≡◌, ℕ, ℤ, ◌+ℤ◌, Bool, [], ◌∷◌, refl}
 use Rattle.std.specs.Int.{is_negative}
-use Rattle.g726_quant.specs.Arithmetic.{wrap16}
-use Rattle.g726_predict.specs.Float.{FloatWord, float_word, float_of, signed}
+use Rattle.g726_quant.specs.Arithmetic.{signed, wrap16}
+use Rattle.g726_predict.specs.Float.{FloatWord, float_word, float_of}
 use Rattle.g726_predict.specs.Coefficients.{updated_a1, updated_a2, updated_b}
 use Rattle.g726_predict.specs.Predictor.{Prediction, sez, updated, new_a2, trigb}
 

@@ -1,9 +1,8 @@
 //! Sums of products: blocks ACCUM and ADDC of ITU-T G.726.
-ghost use Rattle.std.specs.Prelude.{◌≡◌, ◌<◌, pos, negsuc, ◌+ℤ◌, ◌≤ℤ◌, take, drop, map, FitsSigned};
+ghost use Rattle.std.specs.Prelude.{◌≡◌, ◌<◌, ◌+ℤ◌, take, drop, map, FitsSigned};
 ghost use Rattle.std.specs.Int.{int_shr, cast_unsigned, w16};
 ghost use Rattle.std.specs.Simd.Lanes.{Each1};
-ghost use Rattle.g726_quant.specs.Arithmetic.{wrap16};
-ghost use Rattle.g726_predict.specs.Float.{signed};
+ghost use Rattle.g726_quant.specs.Arithmetic.{signed, wrap16};
 ghost use Rattle.g726_predict.specs.Predictor.{sum_of_products};
 ghost use Rattle.g726_predict.specs.Words.{unpacked};
 
@@ -46,19 +45,9 @@ pub(crate) fn estimates(coefficients: [i16; 8], words: [u16; 8]) -> (i16, i16)
     (zeros.cast_signed() >> 1, all.cast_signed() >> 1)
 }
 
-// A difference as a number.
-fn signed(dq: Dq) -> i32
-    ensures value { result ≡ signed dq.negative dq.mag }
-    ensures low { negsuc 32766 ≤ℤ result }
-    ensures high { result ≤ℤ pos 32767 }
-{
-    let magnitude = dq.mag as i32;
-    if dq.negative { -magnitude } else { magnitude }
-}
-
 // ADDC: P.
 pub(crate) fn addc(dq: Dq, sez: i16) -> i16
     ensures { result ≡ wrap16 (signed dq.negative dq.mag +ℤ sez) }
 {
-    wrap16(signed(dq) + sez as i32)
+    wrap16(dq.signed() + sez as i32)
 }

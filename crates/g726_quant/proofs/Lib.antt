@@ -5,3 +5,5 @@ pub mod Logarithms
 pub mod Words
 pub mod Wrapping
 pub mod Rows
+pub mod Shifts
+pub mod Histories

@@ -1,5 +1,5 @@
 -- What a rate's tables have, from the test of its law.
-use Rattle.std.proofs.Common.{◌≡◌, ℕ, ◌+◌, ◌-◌, ◌≤◌, length, arith}
+use Rattle.std.proofs.Common.{◌≡◌, ℕ, ◌+◌, ◌-◌, ◌≤◌, ◌<◌, ◌^◌, length, arith}
 use Rattle.std.specs.Prelude.{IsTrue}
 use Rattle.std.proofs.Math.Pow.{pow_mono}
 use Rattle.std.proofs.lemmas.Bool.{and_parts, eqb-true, leb-true}
@@ -24,3 +24,8 @@ few_magnitudes bits h = omega (arith, pow_mono {i = bits - 1} {j = 4} (omega ari
 pub thresholds_count : (r : RateTables) → IsTrue (has_its_places r) → length r.thresholds + 1 ≡ magnitudes r.bits
 thresholds_count r h =
     eqb-true _ _ (and_parts _ _ (and_parts _ _ (and_parts _ _ (and_parts _ _ h).0).0).0).1
+
+-- and less of them than there are words
+pub thresholds_fit : (r : RateTables) → IsTrue (has_its_places r) → length r.thresholds < 2 ^ r.bits
+thresholds_fit r h =
+    omega (arith, thresholds_count r h, pow_mono {i = r.bits - 1} {j = r.bits} (omega arith))

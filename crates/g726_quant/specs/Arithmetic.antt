@@ -1,10 +1,14 @@
 -- The arithmetic of ITU-T G.726 on whole numbers. An arithmetic shift is `int_shr` of std, which rounds down.
-use Rattle.std.specs.Prelude.{ℕ, zero, suc, ◌/◌, ℤ}
+use Rattle.std.specs.Prelude.{ℕ, zero, suc, ◌/◌, ℤ, pos, neg_ℤ, Bool, if◌then◌else◌}
 use Rattle.std.specs.Int.{int_wrap, w16}
 
 -- the number from -32768 to 32767 that is congruent to one modulo 65536
 abbrev pub wrap16 : ℤ → ℤ
 wrap16 z = int_wrap w16 z
+
+-- the number of this sign and magnitude
+abbrev pub signed : Bool → ℕ → ℤ
+signed negative magnitude = if negative then neg_ℤ (pos magnitude) else pos magnitude
 
 -- how often a number is halved until it is 0, at most so many times
 abbrev pub halvings : ℕ → ℕ → ℕ

@@ -28,10 +28,13 @@ abbrev pub quan_word : ℕ → Bool → ℕ → ℕ
 quan_word bits ds magnitude =
     if ds || (nat_lt 2 bits && (magnitude == 0)) then 2 ^ bits - 1 - magnitude else magnitude
 
+-- QUAN: I
+abbrev pub quan : RateTables → Bool → ℤ → ℕ
+quan r ds dln = quan_word r.bits ds (quan_magnitude r.thresholds dln)
+
 -- LOG, SUBTB and QUAN: I, the word of a difference D at a scale factor Y
 unfoldable pub quantised : RateTables → ℤ → ℕ → ℕ
-quantised r d y =
-    quan_word r.bits (is_negative d) (quan_magnitude r.thresholds (subtb (log (unsigned_abs d)) y))
+quantised r d y = quan r (is_negative d) (subtb (log (unsigned_abs d)) y)
 
 -- RECONST: DQS, whether the top bit of a word is set
 abbrev pub word_is_negative : ℕ → ℕ → Bool

@@ -1,11 +1,12 @@
 //! The inverse adaptive quantiser: blocks RECONST, ADDA and ANTILOG of ITU-T G.726.
 
 ghost use Rattle.std.specs.Prelude.{◌≡◌, ◌≤◌, ◌<◌, pos, negsuc, ◌≤ℤ◌};
+ghost use Rattle.g726_quant.specs.Arithmetic.{signed};
 ghost use Rattle.g726_quant.specs.Blocks.{word_is_negative, adda, reconstructed};
 
-use crate::logarithm::antilogarithm;
-use crate::rate::{Rate, log_level};
-use crate::word::{Word, is_negative, magnitude};
+use crate::logarithm::antilog;
+use crate::rate::{Rate, reconst};
+use crate::word::{Word, magnitude, word_is_negative};
 
 /// DQ, a quantised difference: its sign, which 0 has too, and its magnitude, at most 32767.
 #[derive(Clone, Copy, Debug, PartialEq, Eq)]
@@ -15,6 +16,18 @@ pub struct Dq {
     /// DQMAG, at most 32767.
     pub mag: u16,
     ghost in_range: { mag ≤ 32767 },
+}
+
+impl Dq {
+    /// The difference as a number, in which -0 is 0.
+    pub fn signed(self) -> i32
+        ensures value { result ≡ signed self.negative self.mag }
+        ensures low { negsuc 32766 ≤ℤ result }
+        ensures high { result ≤ℤ pos 32767 }
+    {
+        let magnitude = self.mag as i32;
+        if self.negative { -magnitude } else { magnitude }
+    }
 }
 
 /// DQ, the quantised difference that a code word stands for at the scale factor `y`, as +22 for 7 at 544 and
@@ -27,22 +40,22 @@ pub fn reconstruct<R: Rate>(word: Word<R>, y: u16) -> Dq
     ensures magnitude { result.mag ≡ reconstructed R.tables word y }
     ensures bound { result.mag ≤ 32767 }
 {
-    let level = log_level::<R>(magnitude(word));
+    let dqln = reconst::<R>(magnitude(word));
     Dq {
-        negative: is_negative::<R>(word.get()),
-        mag: antilogarithm(scaled(level, y)),
+        negative: word_is_negative::<R>(word.get()),
+        mag: antilog(adda(dqln, y)),
     }
 }
 
 // DQL, a level with the scale factor, in twelve bits (block ADDA).
-fn scaled(level: i16, y: u16) -> u16
-    requires level_low { negsuc 2047 ≤ℤ level }
-    requires level_high { level ≤ℤ pos 566 }
+fn adda(dqln: i16, y: u16) -> u16
+    requires dqln_low { negsuc 2047 ≤ℤ dqln }
+    requires dqln_high { dqln ≤ℤ pos 566 }
     requires low { 544 ≤ y }
     requires high { y ≤ 5120 }
-    ensures value { result ≡ adda level y }
+    ensures value { result ≡ adda dqln y }
     ensures bound { result < 4096 }
     ensures whole { result < 2048 → result < 1920 }
 {
-    (level + (y >> 2) as i16).rem_euclid(4096) as u16
+    (dqln + (y >> 2) as i16).rem_euclid(4096) as u16
 }

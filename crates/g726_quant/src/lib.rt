@@ -13,7 +13,7 @@ mod word;
 
 pub use inverse::{Dq, reconstruct};
 pub use quantiser::quantise;
-pub use rate::{R16, R24, R32, R40, Rate, leak, multiplier, speed_value};
+pub use rate::{R16, R24, R32, R40, Rate, functf, functw, leak};
 pub use word::{Word, magnitude, order};
 
 /// The number from -32768 to 32767 that is congruent to `z` modulo 65536 (ITU-T G.726, two's complement of 16

@@ -7,7 +7,7 @@ ghost use Rattle.g726_quant.specs.Blocks.{exponent, log, antilog};
 const SIGN_BIT: u16 = 2048;
 
 // EXP, the place of the top bit of a magnitude, counted from 0, and 0 for 0.
-fn top_bit(magnitude: u16) -> u32
+fn exponent(magnitude: u16) -> u32
     requires { magnitude < 32768 }
     ensures value { result ≡ exponent magnitude }
     ensures bound { result ≤ 14 }
@@ -17,27 +17,27 @@ fn top_bit(magnitude: u16) -> u32
 
 // DL, the logarithm of a magnitude (block LOG).
 #[tactic(auto, unfolding(crate::specs::Blocks::log))]
-pub(crate) fn logarithm(magnitude: u16) -> u16
+pub(crate) fn log(magnitude: u16) -> u16
     requires { magnitude < 32768 }
     ensures value { result ≡ log magnitude }
     ensures bound { result < 1920 }
 {
-    let exponent = top_bit(magnitude);
+    let exponent = exponent(magnitude);
     let mantissa = ((magnitude as u32) << 7 >> exponent) % 128;
     (128 * exponent + mantissa) as u16
 }
 
 // DQMAG, the number with a logarithm DQL of twelve bits, 0 where its sign bit is set (block ANTILOG).
 #[tactic(auto, unfolding(crate::specs::Blocks::antilog))]
-pub(crate) fn antilogarithm(log: u16) -> u16
-    requires fits { log < 4096 }
-    requires whole { log < 2048 → log < 1920 }
-    ensures value { result ≡ antilog log }
+pub(crate) fn antilog(dql: u16) -> u16
+    requires fits { dql < 4096 }
+    requires whole { dql < 2048 → dql < 1920 }
+    ensures value { result ≡ antilog dql }
     ensures bound { result ≤ 32767 }
 {
-    if log >= SIGN_BIT {
+    if dql >= SIGN_BIT {
         0
     } else {
-        ((128 + log % 128) << 7) >> (14 - (log >> 7))
+        ((128 + dql % 128) << 7) >> (14 - (dql >> 7))
     }
 }

@@ -1,10 +1,10 @@
 //! The adaptive quantiser: blocks LOG, SUBTB and QUAN of ITU-T G.726.
 
 ghost use Rattle.std.specs.Prelude.{◌≡◌, ◌≢◌, ◌≤◌, ◌<◌, negsuc, length, IsTrue};
-ghost use Rattle.g726_quant.specs.Tables.{magnitudes, is_rising};
-ghost use Rattle.g726_quant.specs.Blocks.{quan_magnitude, quantised};
+ghost use Rattle.g726_quant.specs.Tables.{is_rising};
+ghost use Rattle.g726_quant.specs.Blocks.{subtb, quan_magnitude, quan, quantised};
 
-use crate::logarithm::logarithm;
+use crate::logarithm::log;
 use crate::rate::Rate;
 use crate::word::Word;
 
@@ -16,24 +16,31 @@ pub fn quantise<R: Rate>(d: i16, y: u16) -> Word<R>
     requires high { y ≤ 5120 }
     ensures { result ≡ quantised R.tables d y }
 {
-    let normalised = logarithm(d.unsigned_abs()) as i16 - (y >> 2) as i16;
-    let magnitude = magnitude_among::<R>(normalised);
-    Word::of_parts(d < 0, magnitude)
+    let dl = log(d.unsigned_abs());
+    quan(d < 0, subtb(dl, y))
 }
 
-// The number of thresholds of the rate that are not above a logarithm.
-fn magnitude_among<R: Rate>(normalised: i16) -> u8
-    ensures value { result ≡ quan_magnitude R.tables.thresholds normalised }
-    ensures bound { result < magnitudes R.tables.bits }
+// SUBTB: DLN.
+fn subtb(dl: u16, y: u16) -> i16
+    requires dl { dl < 1920 }
+    requires y { y ≤ 5120 }
+    ensures { result ≡ subtb dl y }
 {
-    count_not_above(R::thresholds(), normalised) as u8
+    dl as i16 - (y >> 2) as i16
 }
 
-// The number of rising thresholds that are not above a logarithm.
-fn count_not_above(thresholds: &[i16], normalised: i16) -> usize
+// QUAN: I, by the sign DS.
+fn quan<R: Rate>(ds: bool, dln: i16) -> Word<R>
+    ensures { result ≡ quan R.tables ds dln }
+{
+    Word::quan_word(ds, quan_magnitude(R::thresholds(), dln) as u8)
+}
+
+// QUAN: the number of rising thresholds that are not above DLN.
+fn quan_magnitude(thresholds: &[i16], dln: i16) -> usize
     requires { IsTrue (is_rising thresholds.now) }
-    ensures value { result ≡ quan_magnitude thresholds.now normalised }
+    ensures value { result ≡ quan_magnitude thresholds.now dln }
     ensures bound { result ≤ length thresholds.now }
 {
-    thresholds.partition_point(|threshold| *threshold <= normalised)
+    thresholds.partition_point(|threshold| *threshold <= dln)
 }

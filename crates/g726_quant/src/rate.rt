@@ -222,7 +222,7 @@ impl Rate for R40 {
 }
 
 /// WI, the multiplier of the scale factor at a magnitude of the rate (ITU-T G.726, block FUNCTW).
-pub fn multiplier<R: Rate>(magnitude: u8) -> i16
+pub fn functw<R: Rate>(magnitude: u8) -> i16
     requires { magnitude < magnitudes R.tables.bits }
     ensures value { result ≡ functw R.tables magnitude }
     ensures low { negsuc 21 ≤ℤ result }
@@ -232,7 +232,7 @@ pub fn multiplier<R: Rate>(magnitude: u8) -> i16
 }
 
 /// FI, the value of the speed control at a magnitude of the rate (ITU-T G.726, block FUNCTF).
-pub fn speed_value<R: Rate>(magnitude: u8) -> u8
+pub fn functf<R: Rate>(magnitude: u8) -> u8
     requires { magnitude < magnitudes R.tables.bits }
     ensures value { result ≡ functf R.tables magnitude }
     ensures high { result ≤ 7 }
@@ -250,7 +250,7 @@ pub fn leak<R: Rate>() -> u32
 }
 
 // DQLN, the logarithm of the quantised difference at a magnitude of the rate.
-pub(crate) fn log_level<R: Rate>(magnitude: u8) -> i16
+pub(crate) fn reconst<R: Rate>(magnitude: u8) -> i16
     requires { magnitude < magnitudes R.tables.bits }
     ensures value { result ≡ reconst R.tables magnitude }
     ensures low { negsuc 2047 ≤ℤ result }

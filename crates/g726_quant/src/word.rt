@@ -48,7 +48,7 @@ impl<R: Rate> Word<R> {
     }
 
     // I, the word of a sign DS and a magnitude. With more than two bits 0 is sent as all ones (block QUAN).
-    pub(crate) fn of_parts(negative: bool, magnitude: u8) -> Word<R>
+    pub(crate) fn quan_word(negative: bool, magnitude: u8) -> Word<R>
         requires { magnitude < magnitudes R.tables.bits }
         ensures { result ≡ quan_word R.tables.bits negative magnitude }
     {
@@ -73,7 +73,7 @@ pub fn magnitude<R: Rate>(word: Word<R>) -> u8
     ensures bound { result < magnitudes R.tables.bits }
 {
     let number = word.get();
-    if is_negative::<R>(number) {
+    if word_is_negative::<R>(number) {
         (1 << R::BITS) - 1 - number
     } else {
         number
@@ -86,22 +86,22 @@ pub fn order<R: Rate>(word: Word<R>) -> u8
     ensures bound { result < 2 ^ R.tables.bits }
 {
     let number = word.get();
-    if is_negative::<R>(number) {
-        number - half::<R>()
+    if word_is_negative::<R>(number) {
+        number - magnitudes::<R>()
     } else {
-        number + half::<R>()
+        number + magnitudes::<R>()
     }
 }
 
 // Whether the top bit of a word is set, the sign DQS.
-pub(crate) fn is_negative<R: Rate>(number: u8) -> bool
+pub(crate) fn word_is_negative<R: Rate>(number: u8) -> bool
     ensures { result ≡ word_is_negative R.tables.bits number }
 {
-    number >= half::<R>()
+    number >= magnitudes::<R>()
 }
 
-// The top bit of a word: half of all words have it, one for each magnitude.
-fn half<R: Rate>() -> u8
+// How many magnitudes a word has. It is the top bit of a word too.
+fn magnitudes<R: Rate>() -> u8
     ensures value { result ≡ magnitudes R.tables.bits }
     ensures bound { result ≤ 16 }
 {

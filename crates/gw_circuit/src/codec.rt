@@ -3,7 +3,7 @@
 ghost use Rattle.std.specs.Prelude.{◌≡◌, ◌<◌, ◌^◌, ◌++◌, ◌∷◌, [], ℕ, List};
 ghost use Rattle.e1_g711.specs.declared.Law.{Law};
 ghost use Rattle.g726_codec.specs.declared.CodecKind.{CodecKind};
-ghost use Rattle.g726_codec.specs.Kinds.{bits_of, enc, dec, coder_after};
+ghost use Rattle.g726_codec.specs.Kinds.{bits_of, enc, dec, codec_after};
 
 use g726_codec::{AnyCodec, CodecKind};
 
@@ -14,11 +14,11 @@ pub(crate) fn encode(codec: &mut AnyCodec, kind: CodecKind, octet: u8) -> u8
     ensures bound { result < 2 ^ bits_of kind }
     ensures kind { codec.new.kind ≡ kind }
     ensures words { (law : Law) (kind : CodecKind) (octets words : List ℕ)
-        → codec.old ≡ coder_after law kind octets words
+        → codec.old ≡ codec_after law kind octets words
         → enc law kind (octets ++ octet ∷ []) ≡ enc law kind octets ++ result ∷ [] }
     ensures stands { (law : Law) (kind : CodecKind) (octets words : List ℕ)
-        → codec.old ≡ coder_after law kind octets words
-        → codec.new ≡ coder_after law kind (octets ++ octet ∷ []) words }
+        → codec.old ≡ codec_after law kind octets words
+        → codec.new ≡ codec_after law kind (octets ++ octet ∷ []) words }
 {
     g726_codec::laws::octets_are_words();
     match kind {
@@ -34,11 +34,11 @@ pub(crate) fn decode(codec: &mut AnyCodec, kind: CodecKind, word: u8) -> u8
     requires word { word < 2 ^ bits_of kind }
     ensures kind { codec.new.kind ≡ kind }
     ensures octets { (law : Law) (kind : CodecKind) (octets words : List ℕ)
-        → codec.old ≡ coder_after law kind octets words
+        → codec.old ≡ codec_after law kind octets words
         → dec law kind (words ++ word ∷ []) ≡ dec law kind words ++ result ∷ [] }
     ensures stands { (law : Law) (kind : CodecKind) (octets words : List ℕ)
-        → codec.old ≡ coder_after law kind octets words
-        → codec.new ≡ coder_after law kind octets (words ++ word ∷ []) }
+        → codec.old ≡ codec_after law kind octets words
+        → codec.new ≡ codec_after law kind octets (words ++ word ∷ []) }
 {
     g726_codec::laws::octets_are_words();
     match kind {
@@ -53,11 +53,11 @@ fn encode_g726(codec: &mut AnyCodec, octet: u8) -> u8
     ensures bound { result < 2 ^ bits_of codec.old.kind }
     ensures kind { codec.new.kind ≡ codec.old.kind }
     ensures words { (law : Law) (kind : CodecKind) (octets words : List ℕ)
-        → codec.old ≡ coder_after law kind octets words
+        → codec.old ≡ codec_after law kind octets words
         → enc law kind (octets ++ octet ∷ []) ≡ enc law kind octets ++ result ∷ [] }
     ensures stands { (law : Law) (kind : CodecKind) (octets words : List ℕ)
-        → codec.old ≡ coder_after law kind octets words
-        → codec.new ≡ coder_after law kind (octets ++ octet ∷ []) words }
+        → codec.old ≡ codec_after law kind octets words
+        → codec.new ≡ codec_after law kind (octets ++ octet ∷ []) words }
 {
     codec.encode(octet)
 }
@@ -67,11 +67,11 @@ fn decode_g726(codec: &mut AnyCodec, word: u8) -> u8
     requires { word < 2 ^ bits_of codec.old.kind }
     ensures kind { codec.new.kind ≡ codec.old.kind }
     ensures octets { (law : Law) (kind : CodecKind) (octets words : List ℕ)
-        → codec.old ≡ coder_after law kind octets words
+        → codec.old ≡ codec_after law kind octets words
         → dec law kind (words ++ word ∷ []) ≡ dec law kind words ++ result ∷ [] }
     ensures stands { (law : Law) (kind : CodecKind) (octets words : List ℕ)
-        → codec.old ≡ coder_after law kind octets words
-        → codec.new ≡ coder_after law kind octets (words ++ word ∷ []) }
+        → codec.old ≡ codec_after law kind octets words
+        → codec.new ≡ codec_after law kind octets (words ++ word ∷ []) }
 {
     codec.decode(word)
 }

@@ -13,8 +13,8 @@ returns c =
     (rw (eight 0 ws c.requires.eight_words)
     (same_lanes (λ i h. product_is (get_or xs i 0) (get_or ws i 0) (xs_fit i h) (ws_fit i h))))
 
-pub overflow_shl-moved : goal.overflow_shl-moved
-overflow_shl-moved c =
+pub overflow_shl-shifted : goal.overflow_shl-shifted
+overflow_shl-shifted c =
     let xs = c.args.magnitudes in
     let ws = c.args.words in
     let xs_fit = at_lane (λ x. x < 8192) 0 xs c.requires.eight c.requires.magnitudes in

@@ -1,6 +1,6 @@
-use Rattle.std.proofs.Common.{◌∙◌}
-use Rattle.g726_codec.proofs.Histories.{at_reset_octets}
+use Rattle.g726_codec.specs.Codec.{encoded, after_words, after_octets}
 use Rattle.g726_codec.proofs.encoder.Encoder.reset.Goals as goal
 
 pub returns-clause-stands : goal.returns-clause-stands
-returns-clause-stands g c = λ law. c.reset.ensures ∙ at_reset_octets g.R.Rate.tables law
+unfolding encoded after_octets after_words
+returns-clause-stands g c = λ law. c.reset.ensures

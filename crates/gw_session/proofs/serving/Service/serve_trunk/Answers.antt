@@ -1,0 +1,18 @@
+use Rattle.std.proofs.Common.{◌≡◌, ◌^◌, ◌<◌, ◌∷◌, length, arith}
+use Rattle.std.proofs.lemmas.Grind.{common_steps}
+use Rattle.byteorder.specs.Endian.{big_bytes}
+use Rattle.gw_session.proofs.ServedActs.{trunk_acts, writes_so}
+use Rattle.gw_session.proofs.serving.Service.serve_trunk.Goals as goal
+
+pub returns : goal.returns
+returns g c =
+    let front : c.try_extend_from_slice.new.self.items ≡ 84 ∷ 0 ∷ big_bytes 2 (length c.args.body.now) =
+    grind (arith, common_steps) in
+    let fits : c.args.self.now.totals.octets < 2 ^ 64 = omega arith in
+    record {
+      acts = trunk_acts _ _ _ _ c.args.self.now.totals _ c.saturating_add-self.result c.saturating_add-self-2.result _ _
+          _ _ _ _ _ c.exchange_all.ensures.exchanges front
+          c.as_slice.ensures.value c.saturating_add-self.ensures c.saturating_add-self-2.ensures fits
+          (writes_so _ _ _ c.write_all.result c.write_all.ensures.ok c.write_all.ensures.no_failure
+          c.write_all.ensures.fault);
+    }
