@@ -9,9 +9,9 @@ use Rattle.g704_framing.specs.Age.{age_in}
 use Rattle.g704_framing.specs.Restart.{IsOver, last_of}
 use Rattle.g704_framing.proofs.Ends.{IsOver-nil, IsOver-append, alignments-standing}
 use Rattle.g704_framing.proofs.Ages.{age-over, age-at_over, age-early, age-standing}
-use Rattle.g704_align.specs.declared.Place.TheVariants.{Hunting, Slot}
-use Rattle.g704_align.specs.declared.Phase.{Phase}
-use Rattle.g704_align.specs.declared.Phase.TheVariants.{Searching, Candidate, Aligned}
+use Rattle.g704_align.specs.declared.alignment.Place.TheVariants.{Hunting, Slot}
+use Rattle.g704_align.specs.declared.alignment.Phase.{Phase}
+use Rattle.g704_align.specs.declared.alignment.Phase.TheVariants.{Searching, Candidate, Aligned}
 use Rattle.g704_align.specs.Loss.{frame_alignment}
 use Rattle.g704_align.specs.Placing.{place_of, place, alarm, alarm_after}
 use Rattle.g704_align.specs.Aligner.{IsAlignment, Describes, Follows, place_since, Stands}

@@ -5,10 +5,10 @@ use Rattle.std.specs.Prelude.{List, [], ◌++◌, length, slice_index, Option, S
 use Rattle.g704_framing.specs.Alignment.{alignments_from}
 use Rattle.g704_framing.specs.Age.{age_in}
 use Rattle.g704_framing.specs.Restart.{IsOver}
-use Rattle.g704_align.specs.declared.Place.{Place}
-use Rattle.g704_align.specs.declared.Aligner.{Aligner}
-use Rattle.g704_align.specs.declared.Phase.{Phase}
-use Rattle.g704_align.specs.declared.Phase.TheVariants.{Searching, Candidate, Aligned}
+use Rattle.g704_align.specs.declared.alignment.Place.{Place}
+use Rattle.g704_align.specs.declared.alignment.Aligner.{Aligner}
+use Rattle.g704_align.specs.declared.alignment.Phase.{Phase}
+use Rattle.g704_align.specs.declared.alignment.Phase.TheVariants.{Searching, Candidate, Aligned}
 use Rattle.g704_align.specs.Search.{is_fas, is_nfas}
 use Rattle.g704_align.specs.Loss.{is_wrong, is_third_wrong, frame_alignment}
 use Rattle.g704_align.specs.Placing.{place_of}

@@ -1,8 +1,8 @@
 -- Which slot of which frame an octet is, and when the alarm stands.
 use Rattle.std.specs.Prelude.{ℕ, ◌-◌, ◌/◌, ◌%◌, Bool, ◌==◌, List, length, Option, Some, None, is_none}
 use Rattle.g704_framing.specs.Age.{age_in}
-use Rattle.g704_align.specs.declared.Place.{Place}
-use Rattle.g704_align.specs.declared.Place.TheVariants.{Hunting, Slot}
+use Rattle.g704_align.specs.declared.alignment.Place.{Place}
+use Rattle.g704_align.specs.declared.alignment.Place.TheVariants.{Hunting, Slot}
 use Rattle.g704_align.specs.Loss.{alignments}
 
 -- the place of an octet of this age: even frames have the FAS octet

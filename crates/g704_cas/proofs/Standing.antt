@@ -8,9 +8,9 @@ use Rattle.g704_framing.specs.Age.{age_in}
 use Rattle.g704_framing.specs.Restart.{IsOver, last_of}
 use Rattle.g704_framing.proofs.Ends.{IsOver-nil, IsOver-append, alignments-standing, last_of-append}
 use Rattle.g704_framing.proofs.Ages.{age-over, age-at_over, age-standing}
-use Rattle.g704_cas.specs.declared.MfPlace.TheVariants.{Hunting, Frame}
-use Rattle.g704_cas.specs.declared.Phase.{Phase}
-use Rattle.g704_cas.specs.declared.Phase.TheVariants.{Searching, Aligned}
+use Rattle.g704_cas.specs.declared.alignment.MfPlace.TheVariants.{Hunting, Frame}
+use Rattle.g704_cas.specs.declared.alignment.Phase.{Phase}
+use Rattle.g704_cas.specs.declared.alignment.Phase.TheVariants.{Searching, Aligned}
 use Rattle.g704_cas.specs.Search.{is_not_zero}
 use Rattle.g704_cas.specs.Loss.{multiframe_alignment}
 use Rattle.g704_cas.specs.Placing.{place_of, place, alarm, alarm_after}

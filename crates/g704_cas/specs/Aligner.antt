@@ -5,10 +5,10 @@ use Rattle.std.specs.Prelude.{Option, None}
 use Rattle.g704_framing.specs.Alignment.{alignments_from}
 use Rattle.g704_framing.specs.Age.{age_in}
 use Rattle.g704_framing.specs.Restart.{IsOver, last_of}
-use Rattle.g704_cas.specs.declared.MfPlace.{MfPlace}
-use Rattle.g704_cas.specs.declared.MfAligner.{MfAligner}
-use Rattle.g704_cas.specs.declared.Phase.{Phase}
-use Rattle.g704_cas.specs.declared.Phase.TheVariants.{Searching, Aligned}
+use Rattle.g704_cas.specs.declared.alignment.MfPlace.{MfPlace}
+use Rattle.g704_cas.specs.declared.alignment.MfAligner.{MfAligner}
+use Rattle.g704_cas.specs.declared.alignment.Phase.{Phase}
+use Rattle.g704_cas.specs.declared.alignment.Phase.TheVariants.{Searching, Aligned}
 use Rattle.g704_cas.specs.Search.{is_mfas, is_not_zero}
 use Rattle.g704_cas.specs.Loss.{is_wrong, is_second_wrong, multiframe_alignment}
 use Rattle.g704_cas.specs.Placing.{place_of}

@@ -1,8 +1,8 @@
 -- Which frame of the multiframe an octet of time slot 16 belongs to, and when the alarm stands.
 use Rattle.std.specs.Prelude.{ℕ, ◌-◌, ◌%◌, Bool, List, length, Option, Some, None, is_none}
 use Rattle.g704_framing.specs.Age.{age_in}
-use Rattle.g704_cas.specs.declared.MfPlace.{MfPlace}
-use Rattle.g704_cas.specs.declared.MfPlace.TheVariants.{Hunting, Frame}
+use Rattle.g704_cas.specs.declared.alignment.MfPlace.{MfPlace}
+use Rattle.g704_cas.specs.declared.alignment.MfPlace.TheVariants.{Hunting, Frame}
 use Rattle.g704_cas.specs.Loss.{alignments}
 
 -- the place of an octet of this age

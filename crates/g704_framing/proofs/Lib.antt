@@ -6,3 +6,4 @@ pub mod Ages
 pub mod Settles
 pub mod Agrees
 pub mod Keeps
+pub mod Placings

@@ -3,3 +3,4 @@ pub mod Alignment
 pub mod Age
 pub mod Restart
 pub mod Laws
+pub mod Places

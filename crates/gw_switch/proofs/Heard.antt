@@ -1,8 +1,8 @@
 -- One octet more is heard.
 use Rattle.std.proofs.Common.{◌≡◌, ℕ, suc, List, length, [], ◌∷◌, ◌++◌, refl, ◌∙◌, arith}
 use Rattle.std.proofs.lemmas.List.{length_push}
-use Rattle.g704_align.specs.declared.Place.{Place}
-use Rattle.g704_align.specs.declared.Aligner.{Aligner}
+use Rattle.g704_align.specs.declared.alignment.Place.{Place}
+use Rattle.g704_align.specs.declared.alignment.Aligner.{Aligner}
 use Rattle.g704_align.specs.Placing.{place}
 use Rattle.g704_align.specs.Aligner as aligner
 use Rattle.gw_switch.specs.declared.trunk.Trunk.{Trunk}

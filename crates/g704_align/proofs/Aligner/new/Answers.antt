@@ -1,5 +1,0 @@
-use Rattle.g704_align.proofs.Standing.{stands-new}
-use Rattle.g704_align.proofs.Aligner.new.Goals as goal
-
-pub returns : goal.returns
-returns c = stands-new

@@ -1,0 +1,278 @@
+//! The aligner: one small machine, moved on by each octet.
+
+ghost use Rattle.std.specs.Prelude.{◌≡◌, ◌+◌, ◌%◌, ◌<◌, ℕ, List, Option, [], ◌∷◌, ◌++◌, length};
+ghost use Rattle.std.specs.Prelude.{nat_lt, ◌≢◌, IfSome, IfNone};
+ghost use Rattle.g704_align.specs.declared.alignment.Place.TheVariants.{Slot};
+ghost use Rattle.g704_align.specs.Search.{is_fas, is_nfas};
+ghost use Rattle.g704_align.specs.Placing.{place, alarm_after, number_of};
+ghost use Rattle.g704_align.specs.Aligner.{IsCandidate, is_refuted, IsAlignment, count_after, Describes};
+ghost use Rattle.g704_align.specs.Aligner.{Follows, place_since, Stands};
+
+const FRAME: u8 = 32;
+
+const TWO_FRAMES: u8 = 64;
+
+const HALF_FRAME: u8 = 16;
+
+// So many wrong octets in a row alignment stands.
+const TOLERATED: u8 = 2;
+
+// The frame alignment signal, and the bits of a FAS octet that carry it.
+const SIGNAL: u8 = 0x1b;
+
+const SIGNAL_BITS: u8 = 0x7f;
+
+// Bit 2 of an octet, which is set in an NFAS octet.
+const BIT_2: u8 = 0x40;
+
+/// Where an octet stands in its frame.
+#[derive(Clone, Copy, Debug, PartialEq, Eq)]
+pub enum Place {
+    /// Alignment is being looked for.
+    Hunting,
+    /// The octet is in a time slot of a frame.
+    Slot {
+        /// The number of the time slot, 0 to 31.
+        number: u8,
+        /// Whether the frame is one that begins with the frame alignment signal.
+        fas: bool,
+    },
+}
+
+// How far alignment has come. An age counts the octets from the first FAS octet on, itself included.
+#[derive(Clone, Copy, Debug, PartialEq, Eq)]
+enum Phase {
+    // No FAS octet is being followed.
+    Searching,
+    // A FAS octet is being followed.
+    Candidate {
+        age: u8,
+    },
+    // Alignment stands. The age is counted modulo two frames; the counts are those of wrong octets in a row.
+    Aligned {
+        age: u8,
+        wrong_fas: u8,
+        wrong_nfas: u8,
+    },
+}
+
+/// Finds frame alignment in a stream of octets, follows it, and tells the place of each octet.
+#[derive(Clone, Copy, Debug, PartialEq, Eq)]
+pub struct Aligner {
+    phase: Phase,
+}
+
+impl Aligner {
+    /// An aligner that has seen no octet, and hunts.
+    pub fn new() -> Self
+        ensures { Stands result [] }
+    {
+        Aligner {
+            phase: Phase::Searching,
+        }
+    }
+
+    /// Takes the next octet of the stream and tells its place.
+    pub fn octet(&mut self, octet: u8) -> Place
+        ensures placed { (history : List ℕ) → Stands self.old history
+            → result ≡ place (history ++ octet ∷ []) (length history) }
+        ensures stands { (history : List ℕ) → Stands self.old history
+            → Stands self.new (history ++ octet ∷ []) }
+        ensures in_frame { number_of result < 32 }
+    {
+        match self.pass() {
+            Some(place) => place,
+            None => self.follow(octet),
+        }
+    }
+
+    /// Passes over the next octet unseen, where alignment stands and the octet is in another slot than 0 and
+    /// 16, and tells its place: it is what `octet` does with any octet there. Else nothing is changed, and
+    /// the octet is for `octet`. (Those of slot 16 are left to it too, since a caller has use for them.)
+    #[inline]
+    pub fn pass(&mut self) -> Option<Place>
+        ensures placed { (history : List ℕ) (octet : ℕ) → Stands self.old history
+            → IfSome result (λ p. p ≡ place (history ++ octet ∷ []) (length history)) }
+        ensures stands { (history : List ℕ) (octet : ℕ) → Stands self.old history
+            → IfSome result (λ _. Stands self.new (history ++ octet ∷ [])) }
+        ensures none { IfNone result (self.new ≡ self.old) }
+        ensures in_frame { IfSome result (λ p. number_of p < 32) }
+        ensures speech { IfSome result (λ p. number_of p % 16 ≢ 0) }
+    {
+        if let Phase::Aligned { age, .. } = &mut self.phase {
+            let now = *age;
+            if now % HALF_FRAME != 0 {
+                *age = next_age(now);
+                return Some(slot_at(now));
+            }
+        }
+        None
+    }
+
+    // Does what `octet` does, for an octet that may be a signal.
+    fn follow(&mut self, octet: u8) -> Place
+        ensures placed { (history : List ℕ) → Stands self.old history
+            → result ≡ place (history ++ octet ∷ []) (length history) }
+        ensures stands { (history : List ℕ) → Stands self.old history
+            → Stands self.new (history ++ octet ∷ []) }
+        ensures in_frame { number_of result < 32 }
+    {
+        let before = self.phase;
+        self.phase = phase_after(before, octet);
+        place_between(before, self.phase)
+    }
+
+    /// Whether the alarm stands: alignment is being looked for. It does before the first octet.
+    pub fn alarm(&self) -> bool
+        ensures { (history : List ℕ) → Stands self.now history → result ≡ alarm_after history }
+    {
+        match self.phase {
+            Phase::Searching | Phase::Candidate { .. } => true,
+            Phase::Aligned { .. } => false,
+        }
+    }
+}
+
+// Whether the octet is right as a FAS octet.
+#[tactic(auto, unfolding(crate::specs::Search::is_fas))]
+fn is_fas(octet: u8) -> bool
+    ensures { result ≡ is_fas octet }
+{
+    octet & SIGNAL_BITS == SIGNAL
+}
+
+// Whether the octet is right as an NFAS octet.
+#[tactic(auto, unfolding(crate::specs::Search::is_nfas))]
+fn is_nfas(octet: u8) -> bool
+    ensures { result ≡ is_nfas octet }
+{
+    octet & BIT_2 != 0
+}
+
+// The phase after one more octet.
+fn phase_after(phase: Phase, octet: u8) -> Phase
+    ensures { (before : Option ℕ) (octets : List ℕ) → Describes phase octets
+        → Follows result before (octets ++ octet ∷ []) }
+{
+    match phase {
+        Phase::Searching => searched(octet),
+        Phase::Candidate { age } => after_candidate(age, octet),
+        Phase::Aligned {
+            age,
+            wrong_fas,
+            wrong_nfas,
+        } => after_aligned(age, wrong_fas, wrong_nfas, octet),
+    }
+}
+
+// The phase after an octet that a search looks at.
+fn searched(octet: u8) -> Phase
+    ensures { (before : Option ℕ) → Follows result before (octet ∷ []) }
+{
+    if is_fas(octet) {
+        Phase::Candidate { age: 1 }
+    } else {
+        Phase::Searching
+    }
+}
+
+// The phase after an octet that comes `age` octets after a FAS octet.
+fn after_candidate(age: u8, octet: u8) -> Phase
+    ensures { (before : Option ℕ) (octets : List ℕ) → IsCandidate age octets
+        → Follows result before (octets ++ octet ∷ []) }
+{
+    if refutes(age, octet) {
+        Phase::Searching
+    } else if age < TWO_FRAMES {
+        Phase::Candidate { age: age + 1 }
+    } else {
+        Phase::Aligned {
+            age: 1,
+            wrong_fas: 0,
+            wrong_nfas: 0,
+        }
+    }
+}
+
+// Whether an octet that comes `age` octets after a FAS octet is one that should confirm it, and is wrong.
+fn refutes(age: u8, octet: u8) -> bool
+    ensures { result ≡ is_refuted age octet }
+{
+    (age == FRAME && !is_nfas(octet)) || (age == TWO_FRAMES && !is_fas(octet))
+}
+
+// The phase after an octet in an alignment.
+fn after_aligned(age: u8, wrong_fas: u8, wrong_nfas: u8, octet: u8) -> Phase
+    ensures { (before : Option ℕ) (octets : List ℕ) → IsAlignment age wrong_fas wrong_nfas octets
+        → Follows result before (octets ++ octet ∷ []) }
+{
+    let next = next_age(age);
+    if age == 0 {
+        match count_after(wrong_fas, is_fas(octet)) {
+            Some(wrong_fas) => Phase::Aligned {
+                age: next,
+                wrong_fas,
+                wrong_nfas,
+            },
+            None => Phase::Searching,
+        }
+    } else if age == FRAME {
+        match count_after(wrong_nfas, is_nfas(octet)) {
+            Some(wrong_nfas) => Phase::Aligned {
+                age: next,
+                wrong_fas,
+                wrong_nfas,
+            },
+            None => Phase::Searching,
+        }
+    } else {
+        Phase::Aligned {
+            age: next,
+            wrong_fas,
+            wrong_nfas,
+        }
+    }
+}
+
+// The age of the next octet, counted modulo two frames.
+fn next_age(age: u8) -> u8
+    ensures { age < 64 → result ≡ (age + 1) % 64 }
+{
+    age.wrapping_add(1) % TWO_FRAMES
+}
+
+// The place of an octet of this age.
+fn slot_at(age: u8) -> Place
+    ensures { result ≡ Slot (age % 32) (nat_lt age 32) }
+{
+    Place::Slot {
+        number: age % FRAME,
+        fas: age < FRAME,
+    }
+}
+
+// The count of wrong octets in a row after one more octet of its kind; `None` where alignment is lost by it.
+fn count_after(count: u8, right: bool) -> Option<u8>
+    ensures { result ≡ count_after count right }
+{
+    if right {
+        Some(0)
+    } else if count < TOLERATED {
+        Some(count + 1)
+    } else {
+        None
+    }
+}
+
+// The place of the octet between two phases.
+fn place_between(before: Phase, after: Phase) -> Place
+    ensures placed { (earlier : Option ℕ) (octets : List ℕ) (octet : ℕ) → Describes before octets
+        → Follows after earlier (octets ++ octet ∷ [])
+        → result ≡ place_since earlier (octets ++ octet ∷ []) (length octets) }
+    ensures in_frame { number_of result < 32 }
+{
+    match (before, after) {
+        (Phase::Aligned { age, .. }, Phase::Aligned { .. }) => slot_at(age),
+        _ => Place::Hunting,
+    }
+}

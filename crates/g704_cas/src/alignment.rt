@@ -1,0 +1,159 @@
+//! The aligner of multiframes: one small machine, moved on by each octet of time slot 16.
+
+ghost use Rattle.std.specs.Prelude.{◌≡◌, ◌+◌, ◌%◌, ◌<◌, ℕ, List, Option, [], ◌∷◌, ◌++◌, length};
+ghost use Rattle.g704_cas.specs.Search.{is_mfas, is_not_zero};
+ghost use Rattle.g704_cas.specs.Placing.{place, alarm_after, frame_of};
+ghost use Rattle.g704_cas.specs.Aligner.{IsAlignment, Describes, Follows, place_since, Stands};
+
+const FRAMES: u8 = 16;
+
+// Bits 1 to 4 of an octet, which are all 0 in the multiframe alignment signal.
+const SIGNAL_BITS: u8 = 0xf0;
+
+/// Where an octet of time slot 16 stands in the multiframe.
+#[derive(Clone, Copy, Debug, PartialEq, Eq)]
+pub enum MfPlace {
+    /// Alignment is being looked for.
+    Hunting,
+    /// The octet is in the frame of this number, 0 to 15.
+    Frame(u8),
+}
+
+#[derive(Clone, Copy, Debug, PartialEq, Eq)]
+enum Phase {
+    // Alignment is being looked for: whether there is an octet before, and it is not 0.
+    Searching { after_nonzero: bool },
+    // Alignment stands: the frame of the next octet, and whether the last octet of a frame 0 was wrong.
+    Aligned { frame: u8, wrong: bool },
+}
+
+// The search before any octet.
+const AT_FIRST: Phase = Phase::Searching {
+    after_nonzero: false,
+};
+
+/// Finds multiframe alignment in the octets of time slot 16, follows it, and tells the frame of each octet.
+#[derive(Clone, Copy, Debug, PartialEq, Eq)]
+pub struct MfAligner {
+    phase: Phase,
+}
+
+impl MfAligner {
+    /// An aligner that has seen no octet, and hunts.
+    pub fn new() -> Self
+        ensures { Stands result [] }
+    {
+        MfAligner { phase: AT_FIRST }
+    }
+
+    /// Takes the next octet of time slot 16 and tells its place.
+    pub fn slot16(&mut self, octet: u8) -> MfPlace
+        ensures placed { (history : List ℕ) → Stands self.old history
+            → result ≡ place (history ++ octet ∷ []) (length history) }
+        ensures stands { (history : List ℕ) → Stands self.old history
+            → Stands self.new (history ++ octet ∷ []) }
+        ensures in_multiframe { frame_of result < 16 }
+    {
+        let before = self.phase;
+        self.phase = phase_after(before, octet);
+        place_between(before, self.phase)
+    }
+
+    /// Frame alignment is lost: hunts anew, and forgets all octets.
+    pub fn lost(&mut self)
+        ensures { Stands self.new [] }
+    {
+        self.phase = AT_FIRST;
+    }
+
+    /// Whether the alarm stands: alignment is being looked for. It does before the first octet.
+    pub fn alarm(&self) -> bool
+        ensures { (history : List ℕ) → Stands self.now history → result ≡ alarm_after history }
+    {
+        match self.phase {
+            Phase::Searching { .. } => true,
+            Phase::Aligned { .. } => false,
+        }
+    }
+}
+
+// Whether the octet is right as that of frame 0.
+#[tactic(auto, unfolding(crate::specs::Search::is_mfas))]
+fn is_mfas(octet: u8) -> bool
+    ensures { result ≡ is_mfas octet }
+{
+    octet & SIGNAL_BITS == 0
+}
+
+// The phase after one more octet.
+fn phase_after(phase: Phase, octet: u8) -> Phase
+    ensures { (before : Option ℕ) (octets : List ℕ) → Describes phase before octets
+        → Follows result before (octets ++ octet ∷ []) }
+{
+    match phase {
+        Phase::Searching { after_nonzero } => searched(after_nonzero, octet),
+        Phase::Aligned { frame, wrong } => after_aligned(frame, wrong, octet),
+    }
+}
+
+// The phase after an octet that a search looks at.
+fn searched(after_nonzero: bool, octet: u8) -> Phase
+    ensures { (before : Option ℕ) → after_nonzero ≡ is_not_zero before → Follows result before (octet ∷ []) }
+{
+    if after_nonzero && is_mfas(octet) {
+        Phase::Aligned {
+            frame: 1,
+            wrong: false,
+        }
+    } else {
+        Phase::Searching {
+            after_nonzero: octet != 0,
+        }
+    }
+}
+
+// The phase after an octet in an alignment.
+fn after_aligned(frame: u8, wrong: bool, octet: u8) -> Phase
+    ensures { (before : Option ℕ) (octets : List ℕ) → IsAlignment before frame wrong octets
+        → Follows result before (octets ++ octet ∷ []) }
+{
+    if frame == 0 {
+        let right = is_mfas(octet);
+        if wrong && !right {
+            Phase::Searching {
+                after_nonzero: true,
+            }
+        } else {
+            Phase::Aligned {
+                frame: 1,
+                wrong: !right,
+            }
+        }
+    } else {
+        Phase::Aligned {
+            frame: next_frame(frame),
+            wrong,
+        }
+    }
+}
+
+// The frame of the next octet.
+fn next_frame(frame: u8) -> u8
+    ensures { frame < 16 → result ≡ (frame + 1) % 16 }
+{
+    if frame < FRAMES - 1 { frame + 1 } else { 0 }
+}
+
+// The place of the octet between two phases.
+fn place_between(before: Phase, after: Phase) -> MfPlace
+    ensures placed { (earlier : Option ℕ) (octets : List ℕ) (octet : ℕ) → Describes before earlier octets
+        → Follows after earlier (octets ++ octet ∷ [])
+        → result ≡ place_since earlier (octets ++ octet ∷ []) (length octets) }
+    ensures in_multiframe { frame_of result < 16 }
+{
+    match (before, after) {
+        (_, Phase::Searching { .. }) => MfPlace::Hunting,
+        (Phase::Searching { .. }, Phase::Aligned { .. }) => MfPlace::Frame(0),
+        (Phase::Aligned { frame, .. }, Phase::Aligned { .. }) => MfPlace::Frame(frame % FRAMES),
+    }
+}
