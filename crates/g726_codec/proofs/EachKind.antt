@@ -14,11 +14,13 @@ one_word : (t : Option RateTables) (law : Law) (s : Variables) (octet : ℕ)
 one_word None law s octet = refl
 one_word (Some r) law s octet = refl
 
+-- the octets of one word
 one_octet : (t : Option RateTables) (law : Law) (s : Variables) (word : ℕ)
     → octet_by t law s word ∷ [] ≡ octets_by t law s (word ∷ [])
 one_octet None law s word = refl
 one_octet (Some r) law s word = refl
 
+-- the states after none
 after_none : (t : Option RateTables) (law : Law)
     → (at_reset ≡ after_by t at_reset (words_by t law at_reset [])) × (at_reset ≡ after_by t at_reset [])
 after_none None law = (refl, refl)
@@ -29,6 +31,7 @@ pub words_of_one : (c : CodecState) (octet word : ℕ) → word ≡ word_by (tab
     → word ∷ [] ≡ words_by (tables_of c.kind) c.law c.encoder (octet ∷ [])
 words_of_one c octet word e = ap (λ (w : ℕ). w ∷ []) e ∙ one_word (tables_of c.kind) c.law c.encoder octet
 
+-- the octets of one word, from its octet
 pub octets_of_one : (c : CodecState) (word octet : ℕ) → octet ≡ octet_by (tables_of c.kind) c.law c.decoder word
     → octet ∷ [] ≡ octets_by (tables_of c.kind) c.law c.decoder (word ∷ [])
 octets_of_one c word octet e = ap (λ (o : ℕ). o ∷ []) e ∙ one_octet (tables_of c.kind) c.law c.decoder word
@@ -54,6 +57,7 @@ next_words_of law kind given words old octets coded e f =
     next_words (tables_of kind) law given octets _ coded refl
     (f ∙ ap (λ (c : CodecState). words_by (tables_of c.kind) c.law c.encoder octets) e)
 
+-- and stands after them
 pub stands_after_octets : (law : Law) (kind : CodecKind) (given words : List ℕ) (old new : CodecState)
     (octets coded : List ℕ) → old ≡ codec_after law kind given words
     → coded ≡ words_by (tables_of old.kind) old.law old.encoder octets → new ≡ after_encoding old coded
@@ -75,6 +79,7 @@ next_octets_of law kind octets given old words coded e f =
     next_octets (tables_of kind) law given words _ coded refl
     (f ∙ ap (λ (c : CodecState). octets_by (tables_of c.kind) c.law c.decoder words) e)
 
+-- and stands after them
 pub stands_after_words : (law : Law) (kind : CodecKind) (octets given : List ℕ) (old new : CodecState)
     (words : List ℕ) → old ≡ codec_after law kind octets given → new ≡ after_decoding old words
     → new ≡ codec_after law kind octets (given ++ words)

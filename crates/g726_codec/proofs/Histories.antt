@@ -36,11 +36,13 @@ pub words_more : (t : Option RateTables) (law : Law) (s : Variables) (octets lat
 words_more None law s octets later = refl
 words_more (Some r) law s octets later = words_from_more r law s octets later
 
+-- the octets, by the tables
 pub octets_more : (t : Option RateTables) (law : Law) (s : Variables) (words later : List ℕ)
     → octets_by t law s (words ++ later) ≡ octets_by t law s words ++ octets_by t law (after_by t s words) later
 octets_more None law s words later = refl
 octets_more (Some r) law s words later = octets_from_more r law s words later
 
+-- the state, by the tables
 after_more : (t : Option RateTables) (s : Variables) (words later : List ℕ)
     → after_by t s (words ++ later) ≡ after_by t (after_by t s words) later
 after_more None s words later = refl
@@ -52,6 +54,7 @@ pub next_words : (t : Option RateTables) (law : Law) (given octets : List ℕ) (
     → words_by t law at_reset (given ++ octets) ≡ words_by t law at_reset given ++ words
 next_words t law given octets old words e f = rw (words_more t law at_reset given octets, ← e, ← f) refl
 
+-- and stands after them
 pub next_encoder : (t : Option RateTables) (law : Law) (given octets : List ℕ) (old new : Variables) (words : List ℕ)
     → old ≡ after_by t at_reset (words_by t law at_reset given) → words ≡ words_by t law old octets
     → new ≡ after_by t old words → new ≡ after_by t at_reset (words_by t law at_reset (given ++ octets))
@@ -68,6 +71,7 @@ pub next_octets : (t : Option RateTables) (law : Law) (given words : List ℕ) (
     → octets_by t law at_reset (given ++ words) ≡ octets_by t law at_reset given ++ octets
 next_octets t law given words old octets e f = rw (octets_more t law at_reset given words, ← e, ← f) refl
 
+-- and stands after them
 pub next_decoder : (t : Option RateTables) (given words : List ℕ) (old new : Variables)
     → old ≡ after_by t at_reset given → new ≡ after_by t old words → new ≡ after_by t at_reset (given ++ words)
 next_decoder t given words old new e f = rw (after_more t at_reset given words, ← e) f

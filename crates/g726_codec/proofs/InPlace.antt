@@ -42,10 +42,11 @@ coded_one_more r law first s s' old now i word so within word_is moved =
     let old_more : take (i + 1) old ≡ take i old ++ get_or now i 0 ∷ [] =
     ap (λ (n : ℕ). take n old) next ∙ take-suc old i 0 (omega (arith, so.len))
     ∙ ap (λ (o : ℕ). take i old ++ o ∷ []) (sym (same_octet now old i so.rest)) in
+    let words = words_from_more r law first (take i old) (get_or now i 0 ∷ []) in
     record {
       len = length-set now i word ∙ so.len;
       rest = rest_kept now old i word so.rest;
-      words = rw (now_more, old_more, words_from_more r law first (take i old) (get_or now i 0 ∷ []), ← so.words, ← so.state, ← word_is) refl;
+      words = rw (now_more, old_more, words, ← so.words, ← so.state, ← word_is) refl;
       state = rw (now_more, state_after_more r first (take i now) (word ∷ []), ← so.state) moved;
     }
 

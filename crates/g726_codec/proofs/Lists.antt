@@ -10,11 +10,10 @@ use Rattle.e1_g711.specs.declared.Law.{Law}
 use Rattle.e1_g711.specs.Samples.{expand}
 use Rattle.g726_quant.specs.Blocks.{quan_magnitude, quantised, subtb, log}
 use Rattle.g726_quant.specs.Tables.{RateTables, tables16, tables24, tables32, tables40}
-use Rattle.g726_codec.specs.Codec.{Variables, at_reset, word_for, stepped, sync, words_from, octets_from}
+use Rattle.g726_codec.specs.Codec.{Variables, at_reset, word_for, stepped, words_from, octets_from}
 use Rattle.g726_codec.specs.Kinds.{tables_of, words_by, octets_by, enc, dec, encoder_after, decoder_after}
 use Rattle.g726_codec.specs.Laws.{WordsAreCounted, WordsFit, PrefixesComeFirst, NothingIsCoded, OctetsAreWords}
 use Rattle.g726_codec.specs.Laws.{NothingIsKept}
-use Rattle.g726_codec.specs.declared.CodecKind.{CodecKind}
 use Rattle.g726_codec.specs.declared.CodecKind.TheVariants.{G711, G16, G24, G32, G40}
 use Rattle.g726_codec.proofs.Histories.{words_more, octets_more}
 
@@ -25,21 +24,25 @@ words_counted r law s [] = refl
 words_counted r law s (octet ∷ octets) =
     ap suc (words_counted r law (stepped r s (word_for r s (expand law octet))) octets)
 
+-- an octet for each word
 octets_counted : (r : RateTables) (law : Law) (s : Variables) (words : List ℕ)
     → length (octets_from r law s words) ≡ length words
 octets_counted r law s [] = refl
 octets_counted r law s (word ∷ words) = ap suc (octets_counted r law (stepped r s word) words)
 
+-- the same by the tables, if any
 words_by_counted : (t : Option RateTables) (law : Law) (s : Variables) (octets : List ℕ)
     → length (words_by t law s octets) ≡ length octets
 words_by_counted None law s octets = refl
 words_by_counted (Some r) law s octets = words_counted r law s octets
 
+-- and for the octets
 octets_by_counted : (t : Option RateTables) (law : Law) (s : Variables) (words : List ℕ)
     → length (octets_by t law s words) ≡ length words
 octets_by_counted None law s words = refl
 octets_by_counted (Some r) law s words = octets_counted r law s words
 
+-- so a codec of any kind gives as many as it takes
 pub counted : WordsAreCounted
 unfolding enc dec
 counted law kind = (words_by_counted (tables_of kind) law at_reset, octets_by_counted (tables_of kind) law at_reset)
@@ -73,6 +76,7 @@ word_fits r d y few =
     let counted = count_by-le-length (λ threshold. int_le threshold dln) r.thresholds in
     complement_fits _ (2 ^ r.bits) (quan_magnitude r.thresholds dln) (omega (arith, counted, few))
 
+-- so do the words of octets, from any state on
 pub words_fit : (r : RateTables) (law : Law) → length r.thresholds < 2 ^ r.bits → (s : Variables) (octets : List ℕ)
     → All (λ word. word < 2 ^ r.bits) (words_from r law s octets)
 words_fit r law few s [] = All-nil (λ word. word < 2 ^ r.bits)
@@ -80,6 +84,7 @@ words_fit r law few s (octet ∷ octets) =
     let word = word_for r s (expand law octet) in
     All-cons (λ word. word < 2 ^ r.bits) word _ (word_fits r _ _ few) (words_fit r law few (stepped r s word) octets)
 
+-- so does each word of a codec of any kind
 pub fit : WordsFit
 unfolding enc
 fit law G711 octets all = all
@@ -93,6 +98,7 @@ pub same_words : OctetsAreWords
 unfolding enc dec
 same_words law octets = (refl, refl)
 
+-- and no state is kept
 pub nothing_kept : NothingIsKept
 unfolding encoder_after decoder_after
 nothing_kept law octets words = refl
@@ -102,6 +108,7 @@ none_by : (t : Option RateTables) (law : Law) → (words_by t law at_reset [] �
 none_by None law = (refl, refl)
 none_by (Some r) law = (refl, refl)
 
+-- nor of a codec of any kind
 pub none_coded : NothingIsCoded
 unfolding enc dec
 none_coded law kind = none_by (tables_of kind) law

@@ -59,7 +59,7 @@ impl State {
         }
     }
 
-    // Moves on by a word. Answers SR, the reconstructed signal.
+    // Moves on by a word. Returns SR, the reconstructed signal.
     pub(crate) fn step<R: Rate>(&mut self, word: Word<R>, forecast: Forecast) -> i16
         requires estimate { forecast.se ≡ se self.old.prediction }
         requires scale { forecast.y ≡ scale self.old.adaptation }

@@ -20,7 +20,7 @@ made a1 a2 b1 b2 b3 b4 b5 b6 dq1 dq2 dq3 dq4 dq5 dq6 sr1 sr2 pk1 pk2 = record {
 }
 
 -- the state after a sample, by its steps: P, A2 and A1, both after TRIGB, and the new words
-pub moved : (leak : ℕ) (a1 a2 b1 b2 b3 b4 b5 b6 : ℤ) (dq1 dq2 dq3 dq4 dq5 dq6 sr1 sr2 : FloatWord)
+pub moves_by_steps : (leak : ℕ) (a1 a2 b1 b2 b3 b4 b5 b6 : ℤ) (dq1 dq2 dq3 dq4 dq5 dq6 sr1 sr2 : FloatWord)
     (pk1 pk2 negative : Bool) (magnitude : ℕ) (sr : ℤ) (tr : Bool)
     {zeros p next_a2 next_a1 kept_a1 kept_a2 : ℤ} {dq_word sr_word : FloatWord}
     → zeros ≡ sez (made a1 a2 b1 b2 b3 b4 b5 b6 dq1 dq2 dq3 dq4 dq5 dq6 sr1 sr2 pk1 pk2)
@@ -38,6 +38,6 @@ pub moved : (leak : ℕ) (a1 a2 b1 b2 b3 b4 b5 b6 : ℤ) (dq1 dq2 dq3 dq4 dq5 dq
     dq_word dq1 dq2 dq3 dq4 dq5 sr_word sr1 (is_negative p) pk1
     ≡ updated leak (made a1 a2 b1 b2 b3 b4 b5 b6 dq1 dq2 dq3 dq4 dq5 dq6 sr1 sr2 pk1 pk2) negative magnitude sr tr
 unfolding updated new_a2
-moved leak a1 a2 b1 b2 b3 b4 b5 b6 dq1 dq2 dq3 dq4 dq5 dq6 sr1 sr2 pk1 pk2 negative magnitude sr tr
+moves_by_steps leak a1 a2 b1 b2 b3 b4 b5 b6 dq1 dq2 dq3 dq4 dq5 dq6 sr1 sr2 pk1 pk2 negative magnitude sr tr
     zeros_are p_is a2_is a1_is a1_kept a2_kept dq_is sr_is =
     rw (a1_kept, a2_kept, a1_is, a2_is, p_is, zeros_are, dq_is, sr_is) refl

@@ -8,12 +8,14 @@ use Rattle.g726_quant.specs.Blocks.{exponent, log, antilog, quantised, reconstru
 abbrev near_zero : RateTables → ℕ × ℕ × ℕ
 near_zero r = (quantised r (pos 2) 544, quantised r (pos 0) 544, quantised r (negsuc 1) 544)
 
+-- at each rate
 quantised_near_zero :
     (near_zero tables16 ≡ (0, 0, 3)) × (near_zero tables24 ≡ (7, 7, 7)) × (near_zero tables32 ≡ (1, 15, 14)) ×
     (near_zero tables40 ≡ (2, 31, 29))
 unfolding quantised log exponent number_of_bits
 quantised_near_zero = (refl, refl, refl, refl)
 
+-- the words of the greatest and the least difference
 quantised_extremes : (quantised tables40 (pos 32767) 544 ≡ 15) × (quantised tables40 (negsuc 32766) 544 ≡ 16)
 unfolding quantised log exponent number_of_bits
 quantised_extremes = (refl, refl)
@@ -22,6 +24,7 @@ quantised_extremes = (refl, refl)
 abbrev value : RateTables → ℕ → Bool × ℕ
 value r word = (word_is_negative r.bits word, reconstructed r word 544)
 
+-- of some words at each rate
 reconstructed_words :
     (value tables32 0 ≡ (false, 0)) × (value tables32 15 ≡ (true, 0)) × (value tables32 1 ≡ (false, 2)) ×
     (value tables32 14 ≡ (true, 2)) × (value tables32 7 ≡ (false, 22)) × (value tables16 0 ≡ (false, 3)) ×

@@ -6,12 +6,15 @@ use Rattle.g726_predict.proofs.Lanes.{eight, same_lanes, all_lanes, at_lane}
 use Rattle.g726_predict.proofs.LaneUpdates.{brought_in, taken_out, wide, updated_fits}
 use Rattle.g726_predict.proofs.coefficients.next_b.Goals as goal
 
+-- a coefficient that is widened has its 16 bits
 in_fits : (z : ℤ) → SFits w16 z → SFits w16 (to_z w32 (of_z w32 (to_z w16 (of_z w16 z))))
 in_fits z h = rw (brought_in z h) h
 
+-- and one that is narrowed
 out_fits : (z : ℤ) → SFits w16 z → SFits w16 (to_z w32 (of_z w32 z))
 out_fits z h = rw (to_z-of_z w32 z (wide z h)) h
 
+-- a lane widened, updated and narrowed
 lane : (leak : ℕ) (b : ℤ) (magnitude : ℕ) (negative minus tr : Bool) → SFits w16 b
     → to_z w16 (of_z w16 (to_z w32 (of_z w32
     (trigb tr (updated_b leak (to_z w32 (of_z w32 (to_z w16 (of_z w16 b)))) magnitude negative minus)))))
