@@ -1,6 +1,5 @@
-use Rattle.std.proofs.Common.{◌≡◌, ◌^◌, ◌<◌, ap, ◌∙◌, arith}
+use Rattle.std.proofs.Common.{◌^◌, ◌<◌, ap, arith}
 use Rattle.gw_switch.specs.Whole.{sending_in}
-use Rattle.gw_session.specs.Acting.{with_datagrams}
 use Rattle.gw_session.proofs.Sends.{send_one, count_packet}
 use Rattle.gw_session.proofs.sending.Underway.send_octet.Goals as goal
 
