@@ -48,6 +48,14 @@ fn replay(
     })
 }
 
+// .. the session of circuit 1, by a gateway that was opened for it.
+fn replay_first(alloc: Global, session: &Session, most: usize) -> Result<Replayed, Fail>
+    requires { 0 < most }
+{
+    let mut gateway = outgoing(alloc)?;
+    replay(alloc, &mut gateway, session, most, 1)
+}
+
 // The session of a call of circuit 1, which is seized after octet 5168, with records after a later octet.
 fn call(
     alloc: Global,
@@ -68,6 +76,15 @@ fn call(
     Ok(session)
 }
 
+// .. with no record behind the first one, replayed.
+fn first_call_cut(alloc: Global, most: u16, given: usize) -> Result<Replayed, Fail>
+    requires cut { 0 < most }
+    requires given { 0 < given }
+{
+    let session = call(alloc, Trunk::FirstCall, 15_906, &[], 15_906, most)?;
+    replay_first(alloc, &session, given)
+}
+
 // The octets that circuit 1's first call sends at some positions.
 fn sends_first_call(trunk: &[u8]) -> bool {
     trunk.len() == 15_906 && trunk[5168] == 0x99 && trunk[5680] == 0x19
@@ -76,9 +93,7 @@ fn sends_first_call(trunk: &[u8]) -> bool {
 // Records of each length, and a source that gives as many octets as it is told.
 #[test]
 fn first_call(rt: HostRuntime) -> Result<(), Fail> {
-    let whole = call(rt.alloc(), Trunk::FirstCall, 15_906, &[], 15_906, 65_535)?;
-    let mut gateway = outgoing(rt.alloc())?;
-    let first = replay(rt.alloc(), &mut gateway, &whole, 131_078, 1)?;
+    let first = first_call_cut(rt.alloc(), 65_535, 131_078)?;
     assert!(rt;
         first.ended
             == Ok(Totals {
@@ -100,9 +115,7 @@ fn first_call(rt: HostRuntime) -> Result<(), Fail> {
 
 #[test]
 fn trunk_cut_otherwise(rt: HostRuntime) -> Result<(), Fail> {
-    let whole = call(rt.alloc(), Trunk::FirstCall, 15_906, &[], 15_906, 65_535)?;
-    let mut gateway = outgoing(rt.alloc())?;
-    let first = replay(rt.alloc(), &mut gateway, &whole, 131_078, 1)?;
+    let first = first_call_cut(rt.alloc(), 65_535, 131_078)?;
     assert!(rt; sends_first_call(first.written.trunk.as_slice()));
     for (most, given) in [
         (1, 131_078),
@@ -111,9 +124,7 @@ fn trunk_cut_otherwise(rt: HostRuntime) -> Result<(), Fail> {
         (65_535, 1),
         (65_535, 3),
     ] {
-        let cut = call(rt.alloc(), Trunk::FirstCall, 15_906, &[], 15_906, most)?;
-        let mut gateway = outgoing(rt.alloc())?;
-        let other = replay(rt.alloc(), &mut gateway, &cut, given, 1)?;
+        let other = first_call_cut(rt.alloc(), most, given)?;
         assert!(rt; other.ended.is_ok(), "of {most}, {given} at a time");
         assert!(rt;
             other.written.trunk.as_slice() == first.written.trunk.as_slice(),
@@ -132,8 +143,7 @@ fn trunk_cut_otherwise(rt: HostRuntime) -> Result<(), Fail> {
 #[test]
 fn inserted_octets(rt: HostRuntime) -> Result<(), Fail> {
     let session = call(rt.alloc(), Trunk::Inserted, 57_000, &[], 57_000, 512)?;
-    let mut gateway = outgoing(rt.alloc())?;
-    let call = replay(rt.alloc(), &mut gateway, &session, 131_078, 1)?;
+    let call = replay_first(rt.alloc(), &session, 131_078)?;
     let datagrams = call.written.datagrams.as_slice();
     assert!(rt; datagrams.len() == 9 * 176);
     for (place, timestamp) in [(0, 0x0152u16), (7, 0x05B2), (8, 0x0652)] {
@@ -152,8 +162,7 @@ fn longest_record(rt: HostRuntime) -> Result<(), Fail> {
     let mut session = Session::new(rt.alloc());
     session.add_trunk(Trunk::Idle, 0, 65_535, 65_535)?;
     for most in [1, 131_078] {
-        let mut gateway = outgoing(rt.alloc())?;
-        let done = replay(rt.alloc(), &mut gateway, &session, most, 1)?;
+        let done = replay_first(rt.alloc(), &session, most)?;
         assert!(rt;
             done.ended
                 == Ok(Totals {
@@ -172,8 +181,7 @@ fn longest_record(rt: HostRuntime) -> Result<(), Fail> {
 fn codec_changed_in_call(rt: HostRuntime) -> Result<(), Fail> {
     let codec = [0x4B, 0x01, 0x00, 0x02, 0x04, 0x60];
     let session = call(rt.alloc(), Trunk::FirstCall, 12_001, &codec, 17_090, 65_535)?;
-    let mut gateway = outgoing(rt.alloc())?;
-    let call = replay(rt.alloc(), &mut gateway, &session, 131_078, 1)?;
+    let call = replay_first(rt.alloc(), &session, 131_078)?;
     assert!(rt;
         call.written.answers.as_slice()
             == [
@@ -195,8 +203,7 @@ fn codec_changed_in_call(rt: HostRuntime) -> Result<(), Fail> {
 fn codec_refused(rt: HostRuntime) -> Result<(), Fail> {
     let codec = [0x4B, 0x01, 0x00, 0x02, 0x04, 0x08];
     let session = call(rt.alloc(), Trunk::FirstCall, 12_001, &codec, 15_906, 65_535)?;
-    let mut gateway = outgoing(rt.alloc())?;
-    let call = replay(rt.alloc(), &mut gateway, &session, 131_078, 1)?;
+    let call = replay_first(rt.alloc(), &session, 131_078)?;
     assert!(rt;
         call.written.answers.as_slice()
             == [
@@ -223,8 +230,7 @@ fn refusals_when_full(rt: HostRuntime) -> Result<(), Fail> {
     ] {
         session.add_datagram(1, payload_type, timestamp, len)?;
     }
-    let mut gateway = outgoing(rt.alloc())?;
-    let call = replay(rt.alloc(), &mut gateway, &session, 131_078, 1)?;
+    let call = replay_first(rt.alloc(), &session, 131_078)?;
     assert!(rt;
         call.ended
             == Ok(Totals {
@@ -296,36 +302,40 @@ fn agrees_on_three(one: &[u8], other: &[u8]) -> bool {
     true
 }
 
+// Circuits 3 and 18, replayed, and what is written for circuit 3.
+fn replay_two(alloc: Global, hostile: bool, codecs: bool) -> Result<Replayed, Fail> {
+    let session = two_calls(alloc, hostile, codecs)?;
+    let mut gateway = neighbours(alloc)?;
+    replay(alloc, &mut gateway, &session, 131_078, 3)
+}
+
 // Circuit 3 by itself, and with a neighbour.
-fn compare(rt: &impl Abort, alloc: Global, codecs: bool) -> Result<(), Fail> {
-    let quiet = two_calls(alloc, false, false)?;
-    let mut gateway = neighbours(alloc)?;
-    let alone = replay(alloc, &mut gateway, &quiet, 131_078, 3)?;
-    let hostile = two_calls(alloc, true, codecs)?;
-    let mut gateway = neighbours(alloc)?;
-    let beside = replay(alloc, &mut gateway, &hostile, 131_078, 3)?;
+fn compare(rt: &impl Abort, alone: &Replayed, beside: &Replayed) {
     assert!(rt; alone.ended.is_ok() && beside.ended.is_ok());
     assert!(rt; alone.written.answers.len() == 5 * 6);
     assert!(rt; alone.written.datagrams.len() == 2 * 96);
     assert!(rt; alone.written.answers.as_slice() == beside.written.answers.as_slice());
     assert!(rt; alone.written.datagrams.as_slice() == beside.written.datagrams.as_slice());
     assert!(rt; alone.status == beside.status);
-    assert!(rt; alone.written.trunk.as_slice() != beside.written.trunk.as_slice());
-    assert!(rt;
-        agrees_on_three(
-            alone.written.trunk.as_slice(),
-            beside.written.trunk.as_slice()
-        )
+    let (one, other) = (
+        alone.written.trunk.as_slice(),
+        beside.written.trunk.as_slice(),
     );
-    Ok(())
+    assert!(rt; one != other && agrees_on_three(one, other));
 }
 
 #[test]
 fn hostile_neighbour(rt: HostRuntime) -> Result<(), Fail> {
-    compare(&rt, rt.alloc(), false)
+    let alone = replay_two(rt.alloc(), false, false)?;
+    let beside = replay_two(rt.alloc(), true, false)?;
+    compare(&rt, &alone, &beside);
+    Ok(())
 }
 
 #[test]
 fn hostile_neighbour_with_codecs(rt: HostRuntime) -> Result<(), Fail> {
-    compare(&rt, rt.alloc(), true)
+    let alone = replay_two(rt.alloc(), false, false)?;
+    let beside = replay_two(rt.alloc(), true, true)?;
+    compare(&rt, &alone, &beside);
+    Ok(())
 }

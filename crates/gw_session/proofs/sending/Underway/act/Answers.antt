@@ -4,7 +4,7 @@ use Rattle.std.specs.Prelude.{Result}
 use Rattle.gw_circuit.specs.declared.Dropped.{Dropped}
 use Rattle.gw_switch.specs.Events.{Event}
 use Rattle.gw_switch.specs.Whole.{Reply}
-use Rattle.gw_session.specs.Answers.{command_of, codec_of, code_of}
+use Rattle.gw_session.specs.Answers.{code_of}
 use Rattle.gw_session.specs.Records.{Record}
 use Rattle.gw_session.specs.Acting.{Takes}
 use Rattle.gw_session.proofs.Acted.{five, trunk_totals, refused_once, answer_given}
