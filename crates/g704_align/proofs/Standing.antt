@@ -6,6 +6,7 @@ use Rattle.std.proofs.lemmas.List.{length_push, append_assoc, length-append, app
 use Rattle.std.proofs.lemmas.Bool.{lt-ltb, le-ltb, eq-eqb, ne_eqb, cases_lt}
 use Rattle.g704_framing.specs.Alignment.{alignments_from}
 use Rattle.g704_framing.specs.Age.{age_in}
+use Rattle.g704_framing.specs.Places.{place_in, alarm_in}
 use Rattle.g704_framing.specs.Restart.{IsOver, last_of}
 use Rattle.g704_framing.proofs.Ends.{IsOver-nil, IsOver-append, alignments-standing}
 use Rattle.g704_framing.proofs.Ages.{age-over, age-at_over, age-early, age-standing}
@@ -76,7 +77,7 @@ place-unless_before (Aligned a s d) b c x f unless = absurd (unless a s d refl)
 pub place-history : (history earlier since : List ℕ) (x : ℕ) → history ≡ earlier ++ since
     → IsOver frame_alignment None earlier
     → place_since (last_of None earlier) (since ++ x ∷ []) (length since) ≡ place (history ++ x ∷ []) (length history)
-unfolding place place_since
+unfolding place_in place_since
 place-history history earlier since x e over =
     rw (e, length-append earlier since, append_assoc earlier since (x ∷ []))
     (ap place_of (sym (age-over frame_alignment None earlier (since ++ x ∷ []) 65 (length since) over)))
@@ -128,7 +129,7 @@ age-since earlier since over lt =
 -- the alarm, by the octets since all began anew
 alarm-since : (phase : Phase) (earlier since : List ℕ) → IsOver frame_alignment None earlier → Describes phase since
     → alarm_of phase ≡ alarm_after (earlier ++ since)
-unfolding alarm
+unfolding alarm_in
 alarm-since Searching earlier since over f =
     rw (f, append-nil earlier)
     (ap is_none (sym (age-at_over frame_alignment None earlier 64 (length earlier - 1) over (omega arith))))

@@ -3,7 +3,8 @@
 ghost use Rattle.g704_framing.specs.Laws.{IsFraming};
 ghost use Rattle.g704_align.specs.Search.{SearchMeetsLeast};
 ghost use Rattle.g704_align.specs.Loss.{frame_alignment};
-ghost use Rattle.g704_align.specs.Laws.{PlacesAreSettled, PlacesAreAlike, OtherPlacesAreNotRead};
+ghost use Rattle.g704_framing.specs.Places.{PlacesAreSettled, PlacesAreAlike, OtherPlacesAreNotRead};
+ghost use Rattle.g704_align.specs.Placing.{frames};
 
 /// In the positions of the whole stream: a search meets the least position, from where it begins, that has a
 /// FAS octet. It finds it where the octets 32 and 64 octets on confirm it, and else what a search past the
@@ -20,16 +21,16 @@ pub fn frame_alignment_is_framing()
 
 /// No later octet moves a place, or changes the alarm that stood.
 pub fn places_are_settled()
-    ensures { PlacesAreSettled }
+    ensures { PlacesAreSettled frames }
 {}
 
 /// Places depend on slot 0 alone: streams whose searches end alike, and which are right or wrong alike in
 /// slot 0 of the first one's alignments, losses included, have the same alignments, places and alarms.
 pub fn places_are_alike()
-    ensures { PlacesAreAlike }
+    ensures { PlacesAreAlike frames }
 {}
 
 /// No search and no loss reads an octet of another slot than slot 0.
 pub fn other_places_are_not_read()
-    ensures { OtherPlacesAreNotRead }
+    ensures { OtherPlacesAreNotRead frames }
 {}

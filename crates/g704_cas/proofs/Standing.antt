@@ -5,6 +5,7 @@ use Rattle.std.specs.Prelude.{is_none}
 use Rattle.std.proofs.lemmas.List.{length_push, append_assoc, length-append, append-nil}
 use Rattle.g704_framing.specs.Alignment.{alignments_from}
 use Rattle.g704_framing.specs.Age.{age_in}
+use Rattle.g704_framing.specs.Places.{place_in, alarm_in}
 use Rattle.g704_framing.specs.Restart.{IsOver, last_of}
 use Rattle.g704_framing.proofs.Ends.{IsOver-nil, IsOver-append, alignments-standing, last_of-append}
 use Rattle.g704_framing.proofs.Ages.{age-over, age-at_over, age-standing}
@@ -53,7 +54,7 @@ place-next b c x frame frame' wrong wrong' h g =
 pub place-history : (history earlier since : List ℕ) (x : ℕ) → history ≡ earlier ++ since
     → IsOver multiframe_alignment None earlier
     → place_since (last_of None earlier) (since ++ x ∷ []) (length since) ≡ place (history ++ x ∷ []) (length history)
-unfolding place place_since
+unfolding place_in place_since
 place-history history earlier since x e over =
     rw (e, length-append earlier since, append_assoc earlier since (x ∷ []))
     (ap place_of (sym (age-over multiframe_alignment None earlier (since ++ x ∷ []) 0 (length since) over)))
@@ -90,7 +91,7 @@ stands-new = record {
 -- the alarm while it hunts
 pub alarm-searching : (phase : Phase) (history : List ℕ) (after : Bool) → phase ≡ Searching after
     → Stands (record { phase = phase }) history → true ≡ alarm_after history
-unfolding alarm
+unfolding alarm_in
 alarm-searching phase history after e h =
     let d : Describes (Searching after) (last_of None h.earlier) h.since
     = subst (λ p. Describes p (last_of None h.earlier) h.since) e h.fields in
@@ -102,7 +103,7 @@ alarm-searching phase history after e h =
 -- and while it is aligned
 pub alarm-aligned : (phase : Phase) (history : List ℕ) (frame : ℕ) (wrong : Bool) → phase ≡ Aligned frame wrong
     → Stands (record { phase = phase }) history → false ≡ alarm_after history
-unfolding alarm
+unfolding alarm_in
 alarm-aligned phase history frame wrong e h =
     let d : IsAlignment (last_of None h.earlier) frame wrong h.since
     = subst (λ p. Describes p (last_of None h.earlier) h.since) e h.fields in

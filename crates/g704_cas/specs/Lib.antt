@@ -3,4 +3,3 @@ pub mod Search
 pub mod Loss
 pub mod Placing
 pub mod Aligner
-pub mod Laws
