@@ -57,6 +57,12 @@ enum Phase {
 }
 
 /// Finds frame alignment in a stream of octets, follows it, and tells the place of each octet.
+///
+/// ```text
+/// let mut aligner = Aligner::new();
+/// for octet in first_65 { aligner.octet(octet); }    // 0x9B at 0 and 64, 0xDF at 32: alignment is found
+/// aligner.octet(0xD5)                                // Place::Slot { number: 1, fas: true }
+/// ```
 #[derive(Clone, Copy, Debug, PartialEq, Eq)]
 pub struct Aligner {
     phase: Phase,

@@ -26,8 +26,8 @@ alignments_in p stream = alignments_of p.framing stream
 unfoldable pub place_in : {Place : Type 0} → Placing Place → List ℕ → ℕ → Place
 place_in p stream position = p.place_of (age_in p.placed_from (alignments_in p stream) position)
 
--- The alarm after the octet at a position: no alignment stands (ITU-T G.706, 4.1). Past the end of the stream it
--- is what would follow without a loss.
+-- The alarm after the octet at a position: no alignment stands (ITU-T G.706, 4.1). Past the end of the stream
+-- it is what would follow without a loss.
 unfoldable pub alarm_in : {Place : Type 0} → Placing Place → List ℕ → ℕ → Bool
 alarm_in p stream position = is_none (age_in p.framing.found_at (alignments_in p stream) position)
 

@@ -16,6 +16,12 @@ use g704_cas::Nibble;
 const RELEASED_AFTER: u8 = 100;
 
 /// The line signals of one circuit at one end of it (ITU-T Q.421).
+///
+/// ```text
+/// let mut line = Line::new(Role::Outgoing);          // State::Fault: nothing is known of the other end
+/// for _ in 0..10 { line.signal(Some(idle)); }        // 1001, a multiframe each: State::Idle
+/// line.command(Cmd::Seize)?;                         // State::Seized: the next signal sends 0001
+/// ```
 #[derive(Clone, Copy, Debug, PartialEq, Eq)]
 pub struct Line {
     role: Role,

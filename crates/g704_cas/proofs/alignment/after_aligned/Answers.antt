@@ -4,7 +4,8 @@ use Rattle.std.proofs.lemmas.Bool.{and_left, and_right}
 use Rattle.g704_cas.specs.Aligner.{IsAlignment}
 use Rattle.g704_cas.proofs.Steps.{frame-below, zero-more, zero-lost, other-more, not_zero-wrong}
 use Rattle.g704_cas.proofs.alignment.after_aligned.Goals as goal
-use Rattle.g704_cas.proofs.alignment.after_aligned.Goals.{else-wrong-via-then-wrong+else-not-right, else-wrong-via-else-wrong}
+use Rattle.g704_cas.proofs.alignment.after_aligned.Goals.{else-wrong-via-then-wrong+else-not-right}
+use Rattle.g704_cas.proofs.alignment.after_aligned.Goals.{else-wrong-via-else-wrong}
 
 pub returns-then-not-right : goal.returns-then-not-right
 returns-then-not-right c before octets h =

@@ -16,9 +16,9 @@ returns c law config items stands opened =
     let plays = c.play.ensures.speaks law coding size config.prefill _ _ keeps.speech in
     let short = c.hear.ensures.short law coding size config.prefill _ _ plays in (
       octet-open law config items c.args.heard c.unwrap_or-octet.result opened
-      (rw quiet at (c.unwrap_or-octet.ensures ∙ ap (λ sound. unwrap_or sound c.idle-quiet.result)
-      (c.play.ensures.sound law coding size config.prefill _ _ keeps.speech))),
+          (rw quiet at (c.unwrap_or-octet.ensures ∙ ap (λ sound. unwrap_or sound c.idle-quiet.result)
+          (c.play.ensures.sound law coding size config.prefill _ _ keeps.speech))),
       datagram-none law config items c.args.heard opened short,
       stands-open c.args.self.now law config items c.args.heard c.hear.new.self stands opened
-      (rw (c.unwrap_or.ensures, quiet) at (c.hear.ensures.speaks law coding size config.prefill _ _ plays)) short,
+          (rw (c.unwrap_or.ensures, quiet) at (c.hear.ensures.speaks law coding size config.prefill _ _ plays)) short,
     )

@@ -16,14 +16,14 @@ returns c law config items stands opened =
     let plays = c.play.ensures.speaks law coding size config.prefill _ _ keeps.speech in
     let full = c.send.ensures.datagram law coding size config.prefill _ _ plays in (
       octet-open law config items c.args.heard c.unwrap_or-octet.result opened
-      (rw quiet at (c.unwrap_or-octet.ensures ∙ ap (λ sound. unwrap_or sound c.idle-quiet.result)
-      (c.play.ensures.sound law coding size config.prefill _ _ keeps.speech))),
+          (rw quiet at (c.unwrap_or-octet.ensures ∙ ap (λ sound. unwrap_or sound c.idle-quiet.result)
+          (c.play.ensures.sound law coding size config.prefill _ _ keeps.speech))),
       datagram-sent law config items c.args.heard c.send.new.datagram.items c.header-header.result opened full.0
-      (header-is c.args.self.now law config items c.play.new.self c.header-header.result _ _ stands plays full.0
-      c.header-header.ensures.value c.header-header.ensures.size)
-      (rw (c.unwrap_or.ensures, quiet) at full.1),
+          (header-is c.args.self.now law config items c.play.new.self c.header-header.result _ _ stands plays full.0
+          c.header-header.ensures.value c.header-header.ensures.size)
+          (rw (c.unwrap_or.ensures, quiet) at full.1),
       stands-sent c.args.self.now law config items c.args.heard c.send.new.self
-      c.saturating_add-self.result stands opened
-      (rw (c.unwrap_or.ensures, quiet) at (c.send.ensures.speaks law coding size config.prefill _ _ plays))
-      full.0 c.saturating_add-self.ensures,
+          c.saturating_add-self.result stands opened
+          (rw (c.unwrap_or.ensures, quiet) at (c.send.ensures.speaks law coding size config.prefill _ _ plays))
+          full.0 c.saturating_add-self.ensures,
     )

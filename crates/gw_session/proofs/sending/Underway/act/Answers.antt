@@ -16,7 +16,8 @@ returns-in-Trunk-clause-totals g c = λ config before at.
     let all = c.args.octets.now in
     let fits : c.args.self.now.totals.octets < 2 ^ 64 = omega arith in
     rw c.in-Trunk.is (ok_same _ _ _ c.give_trunk.result (trunk_totals c.args.self.now.totals config before
-    (drop 4 all) _ _ fits c.saturating_add-self.ensures (rw (sym (length-drop 4 all)) at c.saturating_add-self-in-Trunk.ensures))
+    (drop 4 all) _ _ fits c.saturating_add-self.ensures
+    (rw (sym (length-drop 4 all)) at c.saturating_add-self-in-Trunk.ensures))
     (c.give_trunk.ensures.totals config before at))
 
 pub returns-in-Datagram-clause-acts : goal.returns-in-Datagram-clause-acts

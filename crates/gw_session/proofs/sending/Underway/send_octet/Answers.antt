@@ -26,7 +26,8 @@ returns-in-None g c =
     let sent = record c.args.self.now { sent = c.push.new.self; datagram = c.octet_into-out.new.room } in
     record {
       sends = send_one _ _ c.args.self.now sent (g.K.Sink.tells c.args.sink.now) (g.K.Sink.tells c.args.sink.now)
-          c.args.octet (sending_in c.octet_into-out.result c.octet_into-out.new.room.items) (Ok c.push.result) c.push.ensures.items
+          c.args.octet (sending_in c.octet_into-out.result c.octet_into-out.new.room.items) (Ok c.push.result)
+          c.push.ensures.items
           (rw c.in-None.is refl) c.octet_into-out.ensures.stands c.octet_into-out.ensures.reply
           (rw c.in-None.is (Passes-none _ _, refl));
     }

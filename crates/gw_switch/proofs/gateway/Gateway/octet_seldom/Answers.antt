@@ -24,7 +24,6 @@ returns-then-slot-eq0-clause-others c = λ config events h.
     c.send_framing.ensures.others config events c.args.octet (record { trunk = heard; circuits = h.circuits })
     (omega (arith, c.slot.ensures.value _ _ heard, c.if-slot-eq0.true))
 
-
 -- slots of speech
 
 pub returns-clause-kept : goal.returns-clause-kept
