@@ -8,7 +8,7 @@ ghost use Rattle.g726_codec.specs.Kinds.{bits_of, enc, dec, codec_after};
 use g726_codec::{AnyCodec, CodecKind};
 
 // The word of the next octet.
-#[inline]
+#[inline(always)]
 pub(crate) fn encode(codec: &mut AnyCodec, kind: CodecKind, octet: u8) -> u8
     requires { codec.old.kind ≡ kind }
     ensures bound { result < 2 ^ bits_of kind }
@@ -28,7 +28,7 @@ pub(crate) fn encode(codec: &mut AnyCodec, kind: CodecKind, octet: u8) -> u8
 }
 
 // The octet of the next word.
-#[inline]
+#[inline(always)]
 pub(crate) fn decode(codec: &mut AnyCodec, kind: CodecKind, word: u8) -> u8
     requires kind { codec.old.kind ≡ kind }
     requires word { word < 2 ^ bits_of kind }
