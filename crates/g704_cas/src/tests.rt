@@ -18,7 +18,7 @@ fn multiframe_found_and_lost(rt: HostRuntime) {
 
 // The octets of the frames 1 to 15, all 0x99, and then this octet of the next frame 0.
 fn next_multiframe(aligner: &mut MfAligner, octet: u8) -> MfPlace {
-    for _frame in 1..FRAMES {
+    for _frame in 1..16 {
         let _place = aligner.slot16(0x99);
     }
     aligner.slot16(octet)
