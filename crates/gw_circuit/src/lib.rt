@@ -5,7 +5,7 @@ mod circuit;
 mod codec;
 mod config;
 pub mod laws;
-mod payload_types;
+pub mod payload_types;
 mod speech;
 
 ghost use Rattle.std.specs.Prelude.{◌≡◌};
