@@ -7,7 +7,7 @@ use crate::command::Job;
 use gw_session::Totals;
 use thiserror::Error;
 
-/// How many of the datagrams of a stream were passed over, being none of it. It prints as the line that says so.
+/// How many of the datagrams of a stream were passed over, being none of it. It prints as its line.
 #[derive(Clone, Copy, Debug, PartialEq, Eq, Error)]
 #[error("passed over {dropped} of {datagrams} datagrams")]
 pub struct PassedOver {

@@ -1,11 +1,13 @@
 //! What the program says where it could not do what was asked, and its statuses.
 
 ghost use Rattle.std.specs.Prelude.{◌≡◌, ◌≤◌};
-ghost use Rattle.gateway_main.specs.Status.{fault_status, trouble_status, refusal_status};
+ghost use Rattle.std.specs.IoError.{error_kind};
+ghost use Rattle.gateway_main.specs.Status.{trouble_of, fault_status, trouble_status, refusal_status};
 
 use clap::error::ErrorKind;
 use gw_config::ConfigFault;
 use gw_session::RunFault;
+use std::io;
 use thiserror::Error;
 
 /// The status where all is done, and after help.
@@ -44,8 +46,18 @@ pub enum Trouble {
 }
 
 impl Trouble {
-    /// The status of the program: 1 at a fault of a session or a socket, 2 where the command line, the file or
-    /// the configuration is refused, and 3 for want of memory.
+    /// What a failed call of the system comes to: want of memory, or else `otherwise`.
+    pub fn of(error: &io::Error, otherwise: Trouble) -> Trouble
+        ensures { result ≡ trouble_of (error_kind error.now) otherwise }
+    {
+        match error.kind() {
+            io::ErrorKind::OutOfMemory => Trouble::OutOfMemory,
+            _ => otherwise,
+        }
+    }
+
+    /// The status of the program: 1 at a fault of a session or a socket, 2 where the command line, the file
+    /// or the configuration is refused, and 3 for want of memory.
     pub fn status(&self) -> u8
         ensures { result ≡ trouble_status self.now }
     {
