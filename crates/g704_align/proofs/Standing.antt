@@ -1,21 +1,22 @@
 -- What an aligner that stands answers, and how it goes on.
-use Rattle.std.proofs.Common.{◌≡◌, ℕ, ◌+◌, ◌-◌, ◌<◌, ◌≤◌, ◌%◌, ◌/◌, List, [], ◌∷◌, ◌++◌, length, Bool, true, false}
+use Rattle.std.proofs.Common.{◌≡◌, ℕ, ◌-◌, ◌≤◌, ◌%◌, ◌/◌, List, [], ◌∷◌, ◌++◌, length, Bool, true, false}
 use Rattle.std.proofs.Common.{Option, Some, None, refl, sym, ap, ◌∙◌, arith, ltb, eqb, inl, inr}
 use Rattle.std.specs.Prelude.{nat_lt, is_none}
-use Rattle.std.proofs.lemmas.List.{length_push, append_assoc, length-append, append-nil}
+use Rattle.std.proofs.lemmas.List.{length_push}
 use Rattle.std.proofs.lemmas.Bool.{lt-ltb, le-ltb, eq-eqb, ne_eqb, cases_lt}
 use Rattle.g704_framing.specs.Alignment.{alignments_from}
 use Rattle.g704_framing.specs.Age.{age_in}
-use Rattle.g704_framing.specs.Places.{place_in, alarm_in}
+use Rattle.g704_framing.specs.Places.{place_since}
 use Rattle.g704_framing.specs.Restart.{IsOver, last_of}
-use Rattle.g704_framing.proofs.Ends.{IsOver-nil, IsOver-append, alignments-standing}
-use Rattle.g704_framing.proofs.Ages.{age-over, age-at_over, age-early, age-standing}
+use Rattle.g704_framing.proofs.Ends.{alignments-standing}
+use Rattle.g704_framing.proofs.Ages.{age-early, age-standing}
+use Rattle.g704_framing.proofs.Standings.{place-over, alarm-since, alarm-over, since-nothing, since-more, since-anew}
 use Rattle.g704_align.specs.declared.alignment.Place.TheVariants.{Hunting, Slot}
 use Rattle.g704_align.specs.declared.alignment.Phase.{Phase}
 use Rattle.g704_align.specs.declared.alignment.Phase.TheVariants.{Searching, Candidate, Aligned}
 use Rattle.g704_align.specs.Loss.{frame_alignment}
-use Rattle.g704_align.specs.Placing.{place_of, place, alarm, alarm_after}
-use Rattle.g704_align.specs.Aligner.{IsAlignment, Describes, Follows, place_since, Stands}
+use Rattle.g704_align.specs.Placing.{place_of, frames, alarm_after}
+use Rattle.g704_align.specs.Aligner.{IsAlignment, Describes, Follows, Stands}
 use Rattle.g704_align.proofs.Searches.{frame_is_framing, search-found}
 
 -- the age of an octet of an alignment that stands
@@ -35,7 +36,7 @@ even_frame n = elim (cases_lt (n % 64) 32) [
 
 -- between two phases of an alignment
 pub place-aligned : (b : Option ℕ) (c : List ℕ) (x age ws wd age' ws' wd' : ℕ) → IsAlignment age ws wd c
-    → IsAlignment age' ws' wd' (c ++ x ∷ []) → Slot (age % 32) (nat_lt age 32) ≡ place_since b (c ++ x ∷ []) (length c)
+    → IsAlignment age' ws' wd' (c ++ x ∷ []) → Slot (age % 32) (nat_lt age 32) ≡ place_since frames b (c ++ x ∷ []) (length c)
 unfolding place_since
 place-aligned b c x age ws wd age' ws' wd' h g =
     let a = h.counted in
@@ -44,22 +45,14 @@ place-aligned b c x age ws wd age' ws' wd' h g =
     rw (age-aligned b (c ++ x ∷ []) 65 (length c) age' ws' wd' g (omega arith), n, a, even_frame (length c)) refl
 
 -- an octet before the first that can have a place
-place-early : (b : Option ℕ) (c : List ℕ) (n : ℕ) → n ≤ 64 → Hunting ≡ place_since b c n
+place-early : (b : Option ℕ) (c : List ℕ) (n : ℕ) → n ≤ 64 → Hunting ≡ place_since frames b c n
 unfolding place_since
 place-early b c n le = ap place_of (sym (age-early frame_alignment b c 65 n (omega arith)))
 
--- the octet after which all begins anew
-place-over : (b : Option ℕ) (c : List ℕ) (x : ℕ) → IsOver frame_alignment b (c ++ x ∷ [])
-    → Hunting ≡ place_since b (c ++ x ∷ []) (length c)
-unfolding place_since
-place-over b c x over =
-    let l = length_push c x in
-    ap place_of (sym (age-at_over frame_alignment b (c ++ x ∷ []) 65 (length c) over (omega arith)))
-
 -- where alignment does not stand after the octet, it has no place
 pub place-unless_after : (after : Phase) (b : Option ℕ) (c : List ℕ) (x : ℕ) → Follows after b (c ++ x ∷ [])
-    → ((a s d : ℕ) → after ≡ Aligned a s d → ⊥) → Hunting ≡ place_since b (c ++ x ∷ []) (length c)
-place-unless_after Searching b c x f unless = place-over b c x f
+    → ((a s d : ℕ) → after ≡ Aligned a s d → ⊥) → Hunting ≡ place_since frames b (c ++ x ∷ []) (length c)
+place-unless_after Searching b c x f unless = place-over frames b c x f
 place-unless_after (Candidate age) b c x f unless =
     let a = f.counted in let y = f.young in let l = length_push c x in
     place-early b (c ++ x ∷ []) (length c) (omega arith)
@@ -67,50 +60,26 @@ place-unless_after (Aligned a s d) b c x f unless = absurd (unless a s d refl)
 
 -- nor where it did not stand before
 pub place-unless_before : (before : Phase) (b : Option ℕ) (c : List ℕ) (x : ℕ) → Describes before c
-    → ((a s d : ℕ) → before ≡ Aligned a s d → ⊥) → Hunting ≡ place_since b (c ++ x ∷ []) (length c)
+    → ((a s d : ℕ) → before ≡ Aligned a s d → ⊥) → Hunting ≡ place_since frames b (c ++ x ∷ []) (length c)
 place-unless_before Searching b c x f unless = place-early b (c ++ x ∷ []) (length c) (rw f (omega arith))
 place-unless_before (Candidate age) b c x f unless =
     let a = f.counted in let y = f.young in place-early b (c ++ x ∷ []) (length c) (omega arith)
 place-unless_before (Aligned a s d) b c x f unless = absurd (unless a s d refl)
 
--- the place in the whole history
-pub place-history : (history earlier since : List ℕ) (x : ℕ) → history ≡ earlier ++ since
-    → IsOver frame_alignment None earlier
-    → place_since (last_of None earlier) (since ++ x ∷ []) (length since) ≡ place (history ++ x ∷ []) (length history)
-unfolding place_in place_since
-place-history history earlier since x e over =
-    rw (e, length-append earlier since, append_assoc earlier since (x ∷ []))
-    (ap place_of (sym (age-over frame_alignment None earlier (since ++ x ∷ []) 65 (length since) over)))
-
 -- the aligner stands after one octet more
 pub stands-follows : (phase : Phase) (history earlier since : List ℕ) (x : ℕ) → history ≡ earlier ++ since
     → IsOver frame_alignment None earlier → Follows phase (last_of None earlier) (since ++ x ∷ [])
     → Stands (record { phase = phase }) (history ++ x ∷ [])
-stands-follows Searching history earlier since x e over f = record {
-  earlier = earlier ++ (since ++ x ∷ []);
-  since = [];
-  whole = rw (e, append_assoc earlier since (x ∷ []), append-nil (earlier ++ (since ++ x ∷ []))) refl;
-  over = IsOver-append frame_alignment None earlier (since ++ x ∷ []) over f;
-  fields = refl;
-}
-stands-follows (Candidate age) history earlier since x e over f = record {
-  earlier = earlier;
-  since = since ++ x ∷ [];
-  whole = rw (e, append_assoc earlier since (x ∷ [])) refl;
-  over = over;
-  fields = f;
-}
-stands-follows (Aligned age ws wd) history earlier since x e over f = record {
-  earlier = earlier;
-  since = since ++ x ∷ [];
-  whole = rw (e, append_assoc earlier since (x ∷ [])) refl;
-  over = over;
-  fields = f;
-}
+stands-follows Searching history earlier since x e over f =
+    since-anew frame_alignment _ history earlier since x e over f refl
+stands-follows (Candidate age) history earlier since x e over f =
+    since-more frame_alignment _ history earlier since x e over f
+stands-follows (Aligned age ws wd) history earlier since x e over f =
+    since-more frame_alignment _ history earlier since x e over f
 
 -- an aligner that has seen nothing
 pub stands-new : Stands (record { phase = Searching }) []
-stands-new = record { earlier = []; since = []; whole = refl; over = IsOver-nil frame_alignment None; fields = refl }
+stands-new = since-nothing frame_alignment _ refl
 
 -- the alarm, by the phase
 abbrev pub alarm_of : Phase → Bool
@@ -118,34 +87,23 @@ alarm_of Searching = true
 alarm_of (Candidate age) = true
 alarm_of (Aligned age ws wd) = false
 
--- the age of the last octet is that in the octets since all began anew
-age-since : (earlier since : List ℕ) → IsOver frame_alignment None earlier → 0 < length since
-    → age_in 64 (alignments_from frame_alignment None (earlier ++ since) 0) (length (earlier ++ since) - 1)
-    ≡ age_in 64 (alignments_from frame_alignment (last_of None earlier) since 0) (length since - 1)
-age-since earlier since over lt =
-    let e : (length earlier + length since) - 1 ≡ length earlier + (length since - 1) = omega arith in
-    rw (length-append earlier since, e) (age-over frame_alignment None earlier since 64 (length since - 1) over)
-
 -- the alarm, by the octets since all began anew
-alarm-since : (phase : Phase) (earlier since : List ℕ) → IsOver frame_alignment None earlier → Describes phase since
+alarm-after : (phase : Phase) (earlier since : List ℕ) → IsOver frame_alignment None earlier → Describes phase since
     → alarm_of phase ≡ alarm_after (earlier ++ since)
-unfolding alarm_in
-alarm-since Searching earlier since over f =
-    rw (f, append-nil earlier)
-    (ap is_none (sym (age-at_over frame_alignment None earlier 64 (length earlier - 1) over (omega arith))))
-alarm-since (Candidate age) earlier since over f =
+alarm-after Searching earlier since over f = rw f (alarm-over frames earlier over)
+alarm-after (Candidate age) earlier since over f =
     let a = f.counted in let b = f.begun in let y = f.young in
-    ap is_none (sym (age-since earlier since over (omega arith)
-    ∙ age-early frame_alignment (last_of None earlier) since 64 (length since - 1) (omega arith)))
-alarm-since (Aligned age ws wd) earlier since over f =
+    ap is_none (sym (age-early frame_alignment (last_of None earlier) since 64 (length since - 1) (omega arith)))
+    ∙ alarm-since frames earlier since over (omega arith)
+alarm-after (Aligned age ws wd) earlier since over f =
     let n = f.found in
-    ap is_none (sym (age-since earlier since over (omega arith)
-    ∙ age-aligned (last_of None earlier) since 64 (length since - 1) age ws wd f (omega arith)))
+    ap is_none (sym (age-aligned (last_of None earlier) since 64 (length since - 1) age ws wd f (omega arith)))
+    ∙ alarm-since frames earlier since over (omega arith)
 
 -- the alarm, in each phase
 alarm-stands : (phase : Phase) (history : List ℕ) → Stands (record { phase = phase }) history
     → alarm_of phase ≡ alarm_after history
-alarm-stands phase history h = rw h.whole (alarm-since phase h.earlier h.since h.over h.fields)
+alarm-stands phase history h = rw h.whole (alarm-after phase h.earlier h.since h.over h.fields)
 
 -- the same, where the phase is known
 pub alarm-in : (phase is : Phase) (history : List ℕ) → phase ≡ is → Stands (record { phase = phase }) history

@@ -1,17 +1,13 @@
 -- What the fields of an aligner say of the octets that it was given.
 use Rattle.std.specs.Prelude.{◌≡◌, ℕ, ◌+◌, ◌-◌, ◌%◌, ◌<◌, ◌≤◌, Bool, true, false, not, ◌&&◌, ◌||◌, ◌==◌}
 use Rattle.std.specs.Prelude.{nat_lt, if◌then◌else◌}
-use Rattle.std.specs.Prelude.{List, [], ◌++◌, length, slice_index, Option, Some, None}
-use Rattle.g704_framing.specs.Alignment.{alignments_from}
-use Rattle.g704_framing.specs.Age.{age_in}
-use Rattle.g704_framing.specs.Restart.{IsOver}
-use Rattle.g704_align.specs.declared.alignment.Place.{Place}
+use Rattle.std.specs.Prelude.{List, [], length, slice_index, Option, Some, None}
+use Rattle.g704_framing.specs.Restart.{IsOver, HoldsSince}
 use Rattle.g704_align.specs.declared.alignment.Aligner.{Aligner}
 use Rattle.g704_align.specs.declared.alignment.Phase.{Phase}
 use Rattle.g704_align.specs.declared.alignment.Phase.TheVariants.{Searching, Candidate, Aligned}
 use Rattle.g704_align.specs.Search.{is_fas, is_nfas}
 use Rattle.g704_align.specs.Loss.{is_wrong, is_third_wrong, frame_alignment}
-use Rattle.g704_align.specs.Placing.{place_of}
 
 -- A FAS octet came this many octets ago, itself counted, and is not refuted yet.
 pub record IsCandidate (age : ℕ) (octets : List ℕ) : Type 0 where
@@ -63,15 +59,6 @@ Follows Searching before octets = IsOver frame_alignment before octets
 Follows (Candidate age) before octets = IsCandidate age octets
 Follows (Aligned age wrong_fas wrong_nfas) before octets = IsAlignment age wrong_fas wrong_nfas octets
 
--- the place of the octet at a position, in octets that come after this one, if any
-unfoldable pub place_since : Option ℕ → List ℕ → ℕ → Place
-place_since before octets position =
-    place_of (age_in 65 (alignments_from frame_alignment before octets 0) position)
-
--- The aligner stands after this history: its fields describe the octets since all began anew.
-pub record Stands (aligner : Aligner) (history : List ℕ) : Type 0 where
-  pub earlier : List ℕ
-  pub since : List ℕ
-  pub whole : history ≡ earlier ++ since
-  pub over : IsOver frame_alignment None earlier
-  pub fields : Describes aligner.phase since
+-- the aligner stands after this history: its fields describe the octets since all began anew
+abbrev pub Stands : Aligner → List ℕ → Type 0
+Stands aligner history = HoldsSince frame_alignment (λ before since. Describes aligner.phase since) history

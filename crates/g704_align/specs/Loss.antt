@@ -1,7 +1,7 @@
 -- Losing frame alignment (ITU-T G.706, 4.1.1), and the alignments of a stream.
 use Rattle.std.specs.Prelude.{ℕ, ◌-◌, ◌/◌, ◌%◌, Bool, not, ◌&&◌, ◌==◌, nat_lt, if◌then◌else◌, List}
 use Rattle.std.specs.Prelude.{slice_index}
-use Rattle.g704_framing.specs.Alignment.{Framing, Alignment, alignments_of}
+use Rattle.g704_framing.specs.Alignment.{Framing}
 use Rattle.g704_align.specs.Search.{is_fas, is_nfas, search}
 
 -- right for slot 0 at this place, counted from the first FAS octet of the alignment: even frames begin with a
@@ -29,8 +29,3 @@ frame_alignment = record {
   period = 32;
   is_lost = is_third_wrong;
 }
-
--- the frame alignments of a stream, the first search from its first octet on, each further one from the octet
--- after a loss
-abbrev pub alignments : List ℕ → List Alignment
-alignments stream = alignments_of frame_alignment stream

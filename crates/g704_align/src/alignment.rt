@@ -4,9 +4,10 @@ ghost use Rattle.std.specs.Prelude.{◌≡◌, ◌+◌, ◌%◌, ◌<◌, ℕ, L
 ghost use Rattle.std.specs.Prelude.{nat_lt, ◌≢◌, IfSome, IfNone};
 ghost use Rattle.g704_align.specs.declared.alignment.Place.TheVariants.{Slot};
 ghost use Rattle.g704_align.specs.Search.{is_fas, is_nfas};
-ghost use Rattle.g704_align.specs.Placing.{place, alarm_after, number_of};
+ghost use Rattle.g704_framing.specs.Places.{place_since};
+ghost use Rattle.g704_align.specs.Placing.{frames, place, alarm_after, number_of};
 ghost use Rattle.g704_align.specs.Aligner.{IsCandidate, is_refuted, IsAlignment, count_after, Describes};
-ghost use Rattle.g704_align.specs.Aligner.{Follows, place_since, Stands};
+ghost use Rattle.g704_align.specs.Aligner.{Follows, Stands};
 
 const FRAME: u8 = 32;
 
@@ -274,7 +275,7 @@ fn count_after(count: u8, right: bool) -> Option<u8>
 fn place_between(before: Phase, after: Phase) -> Place
     ensures placed { (earlier : Option ℕ) (octets : List ℕ) (octet : ℕ) → Describes before octets
         → Follows after earlier (octets ++ octet ∷ [])
-        → result ≡ place_since earlier (octets ++ octet ∷ []) (length octets) }
+        → result ≡ place_since frames earlier (octets ++ octet ∷ []) (length octets) }
     ensures in_frame { number_of result < 32 }
 {
     match (before, after) {

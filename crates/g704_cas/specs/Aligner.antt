@@ -1,17 +1,13 @@
 -- What the fields of a multiframe aligner say of the octets that it was given.
-use Rattle.std.specs.Prelude.{◌≡◌, ℕ, ◌+◌, ◌-◌, ◌%◌, ◌<◌, ◌≤◌, Bool, true, false, List, [], ◌++◌, length}
+use Rattle.std.specs.Prelude.{◌≡◌, ℕ, ◌+◌, ◌-◌, ◌%◌, ◌<◌, ◌≤◌, Bool, true, false, List, [], length}
 use Rattle.std.specs.Prelude.{slice_index}
-use Rattle.std.specs.Prelude.{Option, None}
-use Rattle.g704_framing.specs.Alignment.{alignments_from}
-use Rattle.g704_framing.specs.Age.{age_in}
-use Rattle.g704_framing.specs.Restart.{IsOver, last_of}
-use Rattle.g704_cas.specs.declared.alignment.MfPlace.{MfPlace}
+use Rattle.std.specs.Prelude.{Option}
+use Rattle.g704_framing.specs.Restart.{IsOver, last_of, HoldsSince}
 use Rattle.g704_cas.specs.declared.alignment.MfAligner.{MfAligner}
 use Rattle.g704_cas.specs.declared.alignment.Phase.{Phase}
 use Rattle.g704_cas.specs.declared.alignment.Phase.TheVariants.{Searching, Aligned}
 use Rattle.g704_cas.specs.Search.{is_mfas, is_not_zero}
 use Rattle.g704_cas.specs.Loss.{is_wrong, is_second_wrong, multiframe_alignment}
-use Rattle.g704_cas.specs.Placing.{place_of}
 
 -- The octets are an alignment that stands, its first one first; the octet before them is not 0.
 pub record IsAlignment (before : Option ℕ) (frame : ℕ) (wrong : Bool) (octets : List ℕ) : Type 0 where
@@ -35,16 +31,7 @@ Follows (Searching after_nonzero) before octets =
     IsOver multiframe_alignment before octets × (after_nonzero ≡ is_not_zero (last_of before octets))
 Follows (Aligned frame wrong) before octets = IsAlignment before frame wrong octets
 
--- the place of the octet at a position, in octets that come after this one, if any
-unfoldable pub place_since : Option ℕ → List ℕ → ℕ → MfPlace
-place_since before octets position =
-    place_of (age_in 0 (alignments_from multiframe_alignment before octets 0) position)
-
 -- The aligner stands after these octets, which are those since it was made or was told of a loss of frame
 -- alignment: its fields describe the octets since all began anew.
-pub record Stands (aligner : MfAligner) (history : List ℕ) : Type 0 where
-  pub earlier : List ℕ
-  pub since : List ℕ
-  pub whole : history ≡ earlier ++ since
-  pub over : IsOver multiframe_alignment None earlier
-  pub fields : Describes aligner.phase (last_of None earlier) since
+abbrev pub Stands : MfAligner → List ℕ → Type 0
+Stands aligner history = HoldsSince multiframe_alignment (Describes aligner.phase) history

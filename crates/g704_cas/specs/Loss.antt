@@ -1,7 +1,7 @@
 -- Losing multiframe alignment (ITU-T G.732, 5.2), and the multiframe alignments of the octets of time slot
 -- 16.
 use Rattle.std.specs.Prelude.{ℕ, ◌-◌, ◌%◌, Bool, not, ◌&&◌, ◌==◌, nat_lt, List, slice_index}
-use Rattle.g704_framing.specs.Alignment.{Framing, Alignment, alignments_of}
+use Rattle.g704_framing.specs.Alignment.{Framing}
 use Rattle.g704_cas.specs.Search.{is_mfas, search}
 
 -- of the octets of an alignment: the one at this place is that of a frame 0, and is wrong
@@ -16,8 +16,3 @@ is_second_wrong octets place = nat_lt 0 place && (is_wrong octets place && is_wr
 -- wrong one in a row.
 abbrev pub multiframe_alignment : Framing
 multiframe_alignment = record { search = search; found_at = 0; period = 16; is_lost = is_second_wrong }
-
--- the multiframe alignments of octets of time slot 16, the first search from the first octet on, each further
--- one from the octet after a loss
-abbrev pub alignments : List ℕ → List Alignment
-alignments octets = alignments_of multiframe_alignment octets

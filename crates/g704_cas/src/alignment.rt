@@ -2,8 +2,9 @@
 
 ghost use Rattle.std.specs.Prelude.{◌≡◌, ◌+◌, ◌%◌, ◌<◌, ℕ, List, Option, [], ◌∷◌, ◌++◌, length};
 ghost use Rattle.g704_cas.specs.Search.{is_mfas, is_not_zero};
-ghost use Rattle.g704_cas.specs.Placing.{place, alarm_after, frame_of};
-ghost use Rattle.g704_cas.specs.Aligner.{IsAlignment, Describes, Follows, place_since, Stands};
+ghost use Rattle.g704_framing.specs.Places.{place_since};
+ghost use Rattle.g704_cas.specs.Placing.{multiframes, place, alarm_after, frame_of};
+ghost use Rattle.g704_cas.specs.Aligner.{IsAlignment, Describes, Follows, Stands};
 
 const FRAMES: u8 = 16;
 
@@ -148,7 +149,7 @@ fn next_frame(frame: u8) -> u8
 fn place_between(before: Phase, after: Phase) -> MfPlace
     ensures placed { (earlier : Option ℕ) (octets : List ℕ) (octet : ℕ) → Describes before earlier octets
         → Follows after earlier (octets ++ octet ∷ [])
-        → result ≡ place_since earlier (octets ++ octet ∷ []) (length octets) }
+        → result ≡ place_since multiframes earlier (octets ++ octet ∷ []) (length octets) }
     ensures in_multiframe { frame_of result < 16 }
 {
     match (before, after) {

@@ -57,16 +57,19 @@ age_in-early a m n (d ∷ ds) h =
     rw e (age_in-early a m n ds h)
 
 -- the ages in a stream whose first part is over
-pub age-over : (f : Framing) (b : Option ℕ) (c t : List ℕ) (a n : ℕ) → IsOver f b c
-    → age_in a (alignments_from f b (c ++ t) 0) (length c + n) ≡ age_in a (alignments_from f (last_of b c) t 0) n
+pub age-over : (framing : Framing) (before : Option ℕ) (octets rest : List ℕ) (first position : ℕ)
+    → IsOver framing before octets
+    → age_in first (alignments_from framing before (octets ++ rest) 0) (length octets + position)
+    ≡ age_in first (alignments_from framing (last_of before octets) rest 0) position
 age-over f b c t a n over =
     rw (over.anew t)
     (age_in-over a (length c) (length c + n) over.earlier _ (omega arith) over.all_lost
     ∙ age_in-moved a (length c) n (alignments_from f (last_of b c) t 0))
 
 -- at the last octet of a history that is over
-pub age-at_over : (f : Framing) (b : Option ℕ) (c : List ℕ) (a n : ℕ) → IsOver f b c → length c ≤ suc n
-    → age_in a (alignments_from f b c 0) n ≡ None
+pub age-at_over : (framing : Framing) (before : Option ℕ) (octets : List ℕ) (first position : ℕ)
+    → IsOver framing before octets → length octets ≤ suc position
+    → age_in first (alignments_from framing before octets 0) position ≡ None
 unfolding alignments_from
 age-at_over f b c a n over h =
     let e : alignments_from f b c 0 ≡ alignments_from f b (c ++ []) 0
@@ -74,15 +77,16 @@ age-at_over f b c a n over h =
     rw (e, over.anew []) (age_in-over a (length c) n over.earlier [] h over.all_lost)
 
 -- before the octet by which the first alignment can be found
-pub age-early : (f : Framing) (b : Option ℕ) (c : List ℕ) (a n : ℕ) → n < a
-    → age_in a (alignments_from f b c 0) n ≡ None
+pub age-early : (framing : Framing) (before : Option ℕ) (octets : List ℕ) (first position : ℕ) → position < first
+    → age_in first (alignments_from framing before octets 0) position ≡ None
 age-early f b c a n h =
     ap (λ ds. age_in a ds n) (sym (map-moved_zero (alignments_from f b c 0)))
     ∙ age_in-early a 0 n (alignments_from f b c 0) (omega arith)
 
 -- in an alignment at the head of the stream that is not lost
-pub age-standing : (a n : ℕ) (ds : List Alignment) → ds ≡ record { start = 0; lost = None } ∷ [] → a ≤ n
-    → age_in a ds n ≡ Some n
+pub age-standing : (first position : ℕ) (alignments : List Alignment)
+    → alignments ≡ record { start = 0; lost = None } ∷ [] → first ≤ position
+    → age_in first alignments position ≡ Some position
 age-standing a n ds e h =
     let zero_more : 0 + a ≡ a = omega arith in
     let standing : leb a n ≡ true = le-leb a n h in

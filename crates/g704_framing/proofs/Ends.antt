@@ -13,7 +13,7 @@ use Rattle.g704_framing.specs.Alignment.{after_search, after_loss}
 use Rattle.g704_framing.proofs.Turns.{alignments-turns, alignments-append, onto}
 
 -- the empty history is over
-pub IsOver-nil : (f : Framing) (b : Option ℕ) → IsOver f b []
+pub IsOver-nil : (framing : Framing) (before : Option ℕ) → IsOver framing before []
 IsOver-nil f b = record { earlier = []; all_lost = tt; anew = λ t. sym (map-moved_zero (alignments_from f b t 0)) }
 
 -- what is lost before a position is lost before a later one
@@ -42,17 +42,19 @@ all_append n [] es g h = h
 all_append n (d ∷ ds) es g h = (g.0, all_append n ds es g.1 h)
 
 -- the last octet of two lists, one after the other
-pub last_of-append : (b : Option ℕ) (a c : List ℕ) → last_of b (a ++ c) ≡ last_of (last_of b a) c
+pub last_of-append : (before : Option ℕ) (octets others : List ℕ)
+    → last_of before (octets ++ others) ≡ last_of (last_of before octets) others
 last_of-append b [] c = refl
 last_of-append b (x ∷ a) c = last_of-append (Some x) a c
 
 -- the last octet is the one that was added last
-pub last_of-push : (b : Option ℕ) (c : List ℕ) (x : ℕ) → last_of b (c ++ x ∷ []) ≡ Some x
+pub last_of-push : (before : Option ℕ) (octets : List ℕ) (octet : ℕ)
+    → last_of before (octets ++ octet ∷ []) ≡ Some octet
 last_of-push b c x = last_of-append b c (x ∷ [])
 
 -- all begins anew after two histories of which each is over
-pub IsOver-append : (f : Framing) (o : Option ℕ) (a b : List ℕ) → IsOver f o a → IsOver f (last_of o a) b
-    → IsOver f o (a ++ b)
+pub IsOver-append : (framing : Framing) (before : Option ℕ) (octets others : List ℕ) → IsOver framing before octets
+    → IsOver framing (last_of before octets) others → IsOver framing before (octets ++ others)
 IsOver-append f o a b p q = record {
   earlier = p.earlier ++ map (moved (length a)) q.earlier;
   all_lost = rw (length-append a b) (all_append (length a + length b) p.earlier (map (moved (length a)) q.earlier)
@@ -69,8 +71,10 @@ IsOver-append f o a b p q = record {
 }
 
 -- where the search passes over the whole history, it is over
-pub IsOver-passed : (f : Framing) → IsFraming f → (b : Option ℕ) (c : List ℕ)
-    → ((t : List ℕ) → f.search b (c ++ t) 0 ≡ f.search b (c ++ t) (length c)) → IsOver f b c
+pub IsOver-passed : (framing : Framing) → IsFraming framing → (before : Option ℕ) (octets : List ℕ)
+    → ((rest : List ℕ)
+    → framing.search before (octets ++ rest) 0 ≡ framing.search before (octets ++ rest) (length octets))
+    → IsOver framing before octets
 IsOver-passed f h b c passed = record {
   earlier = [];
   all_lost = tt;
@@ -92,9 +96,10 @@ unfolding loss
 loss-head f s o h = option_map-zero (least (f.is_lost s) (length s)) ∙ least_equals (f.is_lost s) (length s) o h
 
 -- an alignment at the head of the stream that is lost by the last octet
-pub IsOver-lost : (f : Framing) → IsFraming f → (b : Option ℕ) (c : List ℕ) (x : ℕ)
-    → ((t : List ℕ) → f.search b (c ++ t) 0 ≡ Some 0) → ((k : ℕ) → k < length c → f.is_lost c k ≡ false)
-    → f.is_lost (c ++ x ∷ []) (length c) ≡ true → IsOver f b (c ++ x ∷ [])
+pub IsOver-lost : (framing : Framing) → IsFraming framing → (before : Option ℕ) (octets : List ℕ) (octet : ℕ)
+    → ((rest : List ℕ) → framing.search before (octets ++ rest) 0 ≡ Some 0)
+    → ((position : ℕ) → position < length octets → framing.is_lost octets position ≡ false)
+    → framing.is_lost (octets ++ octet ∷ []) (length octets) ≡ true → IsOver framing before (octets ++ octet ∷ [])
 unfolding after_search after_loss
 IsOver-lost f h b c x found kept lost =
     let len : length (c ++ x ∷ []) ≡ suc (length c) = length-append c (x ∷ []) ∙ add-one (length c) in
@@ -116,9 +121,10 @@ IsOver-lost f h b c x found kept lost =
     }
 
 -- an alignment at the head of the stream that is not lost is the only one
-pub alignments-standing : (f : Framing) → IsFraming f → (b : Option ℕ) (c : List ℕ)
-    → ((t : List ℕ) → f.search b (c ++ t) 0 ≡ Some 0) → ((k : ℕ) → k < length c → f.is_lost c k ≡ false)
-    → alignments_from f b c 0 ≡ record { start = 0; lost = None } ∷ []
+pub alignments-standing : (framing : Framing) → IsFraming framing → (before : Option ℕ) (octets : List ℕ)
+    → ((rest : List ℕ) → framing.search before (octets ++ rest) 0 ≡ Some 0)
+    → ((position : ℕ) → position < length octets → framing.is_lost octets position ≡ false)
+    → alignments_from framing before octets 0 ≡ record { start = 0; lost = None } ∷ []
 unfolding after_search after_loss
 alignments-standing f h b c found kept =
     let is_found : f.search b c 0 ≡ Some 0 = ap (λ s. f.search b s 0) (sym (append-nil c)) ∙ found [] in

@@ -44,7 +44,8 @@ only_one passes limit (Some n) (Some m) h g = elim (cases_lt n m) [
 ]
 
 -- and nothing else is
-pub least_equals : (passes : ℕ → Bool) (limit : ℕ) (o : Option ℕ) → IsLeast passes limit o → least passes limit ≡ o
+pub least_equals : (passes : ℕ → Bool) (limit : ℕ) (found : Option ℕ) → IsLeast passes limit found
+    → least passes limit ≡ found
 least_equals passes limit o h = only_one passes limit (least passes limit) o (least-is passes limit) h
 
 -- what passes up to the least that does, that included; or everything below the limit
@@ -53,16 +54,17 @@ reach None limit = limit
 reach (Some least) limit = suc least
 
 -- two tests that agree as far as the least that passes have the same least
-pub least_alike : (passes others : ℕ → Bool) (limit : ℕ) (o : Option ℕ)
-    → ((k : ℕ) → k < reach o limit → passes k ≡ others k) → IsLeast passes limit o → IsLeast others limit o
+pub least_alike : (passes others : ℕ → Bool) (limit : ℕ) (found : Option ℕ)
+    → ((number : ℕ) → number < reach found limit → passes number ≡ others number) → IsLeast passes limit found
+    → IsLeast others limit found
 least_alike passes others limit None h l = λ k lt. sym (h k lt) ∙ l k lt
 least_alike passes others limit (Some n) h l =
     (l.0, sym (h n (omega arith)) ∙ l.1, λ k lt. sym (h k (omega arith)) ∙ l.2 k lt)
 
 -- the least that passes, counted from one further back, where the first number does not pass
-pub least-later : (passes others : ℕ → Bool) (n : ℕ) (o : Option ℕ) → others 0 ≡ false
-    → ((k : ℕ) → others (suc k) ≡ passes k)
-    → IsLeast passes n o → IsLeast others (suc n) (option_map suc o)
+pub least-later : (passes others : ℕ → Bool) (limit : ℕ) (found : Option ℕ) → others 0 ≡ false
+    → ((number : ℕ) → others (suc number) ≡ passes number) → IsLeast passes limit found
+    → IsLeast others (suc limit) (option_map suc found)
 least-later passes others n None first rest l = λ k lt. below k lt
   where
     below : (k : ℕ) → k < suc n → others k ≡ false

@@ -7,3 +7,4 @@ pub mod Settles
 pub mod Agrees
 pub mod Keeps
 pub mod Placings
+pub mod Standings

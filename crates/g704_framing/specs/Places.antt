@@ -1,7 +1,7 @@
 -- Where the octets of a stream stand, for each kind of alignment, and the laws of their places.
-use Rattle.std.specs.Prelude.{◌≡◌, ℕ, ◌+◌, ◌-◌, ◌%◌, ◌<◌, ◌≤◌, Bool, is_none, List, ◌++◌, length, All}
+use Rattle.std.specs.Prelude.{◌≡◌, ℕ, ◌+◌, ◌%◌, ◌<◌, ◌≤◌, Bool, is_none, List, ◌++◌, length, All}
 use Rattle.std.specs.Prelude.{slice_index, Option}
-use Rattle.g704_framing.specs.Alignment.{Framing, Alignment, alignments_of, search_ends_of}
+use Rattle.g704_framing.specs.Alignment.{Framing, Alignment, alignments_from, alignments_of, search_ends_of}
 use Rattle.g704_framing.specs.Age.{age_in}
 use Rattle.g704_framing.specs.Laws.{IsFraming, IsUpToLoss, IsRead}
 
@@ -20,6 +20,11 @@ pub record Placing (Place : Type 0) : Type 0 where
 -- the alignments of a stream
 abbrev pub alignments_in : {Place : Type 0} → Placing Place → List ℕ → List Alignment
 alignments_in p stream = alignments_of p.framing stream
+
+-- the place of the octet at a position, in octets that come after this one, if any
+unfoldable pub place_since : {Place : Type 0} → Placing Place → Option ℕ → List ℕ → ℕ → Place
+place_since p before octets position =
+    p.place_of (age_in p.placed_from (alignments_from p.framing before octets 0) position)
 
 -- The place of the octet at a position of the stream: in an alignment from the first that has a place on,
 -- before its loss. (Past the end of the stream this says what would follow without a loss.)

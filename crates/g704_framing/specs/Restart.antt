@@ -32,3 +32,11 @@ pub record IsOver (framing : Framing) (before : Option ℕ) (octets : List ℕ) 
   pub all_lost : AllLostBefore (length octets) earlier
   pub anew : (rest : List ℕ) → alignments_from framing before (octets ++ rest) 0
       ≡ earlier ++ map (moved (length octets)) (alignments_from framing (last_of before octets) rest 0)
+
+-- All began anew within a history, and this is so of the octets since, and of the octet before them, if any.
+pub record HoldsSince (framing : Framing) (holds : Option ℕ → List ℕ → Type 0) (history : List ℕ) : Type 0 where
+  pub earlier : List ℕ
+  pub since : List ℕ
+  pub whole : history ≡ earlier ++ since
+  pub over : IsOver framing None earlier
+  pub fields : holds (last_of None earlier) since

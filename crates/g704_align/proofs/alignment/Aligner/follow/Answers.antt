@@ -1,6 +1,8 @@
 use Rattle.std.proofs.Common.{None, ◌∙◌}
 use Rattle.g704_framing.specs.Restart.{last_of}
-use Rattle.g704_align.proofs.Standing.{place-history, stands-follows}
+use Rattle.g704_framing.proofs.Standings.{place-history}
+use Rattle.g704_align.specs.Placing.{frames}
+use Rattle.g704_align.proofs.Standing.{stands-follows}
 use Rattle.g704_align.proofs.alignment.Aligner.follow.Goals as goal
 
 pub returns-clause-placed : goal.returns-clause-placed
@@ -8,7 +10,7 @@ returns-clause-placed c history h =
     let before = last_of None h.earlier in
     c.place_between.ensures.placed before h.since c.args.octet h.fields
     (c.phase_after-self.ensures before h.since h.fields)
-    ∙ place-history history h.earlier h.since c.args.octet h.whole h.over
+    ∙ place-history frames history h.earlier h.since c.args.octet h.whole h.over
 
 pub returns-clause-stands : goal.returns-clause-stands
 returns-clause-stands c history h =

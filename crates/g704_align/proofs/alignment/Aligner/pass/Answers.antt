@@ -1,6 +1,9 @@
 use Rattle.std.proofs.Common.{◌≢◌, ◌%◌, ℕ, arith, None, ◌∙◌}
 use Rattle.g704_framing.specs.Restart.{last_of}
-use Rattle.g704_align.proofs.Standing.{place-aligned, place-history, stands-follows}
+use Rattle.g704_framing.proofs.Standings.{place-history, since-more}
+use Rattle.g704_align.specs.Loss.{frame_alignment}
+use Rattle.g704_align.specs.Placing.{frames}
+use Rattle.g704_align.proofs.Standing.{place-aligned}
 use Rattle.g704_align.proofs.Steps.{between-signals}
 use Rattle.g704_align.proofs.alignment.Aligner.pass.Goals as goal
 
@@ -15,10 +18,10 @@ returns-then-now-ne0-clause-placed c history octet h =
     (not_signal _ c.if-now-ne0.true) c.next_age.ensures in
     c.slot_at.ensures
     ∙ place-aligned (last_of None h.earlier) h.since octet _ _ _ _ _ _ fields more
-    ∙ place-history history h.earlier h.since octet h.whole h.over
+    ∙ place-history frames history h.earlier h.since octet h.whole h.over
 
 pub returns-then-now-ne0-clause-stands : goal.returns-then-now-ne0-clause-stands
 returns-then-now-ne0-clause-stands c history octet h =
-    stands-follows _ history h.earlier h.since octet h.whole h.over
+    since-more frame_alignment _ history h.earlier h.since octet h.whole h.over
     (between-signals h.since octet _ _ _ (rw c.in-Aligned.is at h.fields) _
     (not_signal _ c.if-now-ne0.true) c.next_age.ensures)
