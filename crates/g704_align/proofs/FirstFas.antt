@@ -3,9 +3,9 @@ use Rattle.std.proofs.Common.{◌≡◌, ℕ, zero, suc, ◌+◌, List, [], ◌�
 use Rattle.std.proofs.Common.{Option, Some, None, refl, sym, ap, ◌∙◌, arith, inl, inr}
 use Rattle.std.specs.Prelude.{nat_le, ◌&&◌, slice_index, slice_get, if◌then◌else◌}
 use Rattle.std.proofs.lemmas.Bool.{cases_Bool, le-leb, lt-leb, and_left, and_right}
-use Rattle.std.proofs.lemmas.Bool.Decides.{nat_tests}
-use Rattle.g704_framing.proofs.Leasts.{IsLeast, least_equals, least-later}
-use Rattle.g704_align.specs.Search.{is_fas, is_nfas, later, confirmed, search, after_fas, SearchMeetsLeast}
+use Rattle.g704_framing.specs.Alignment.{later}
+use Rattle.g704_framing.proofs.Leasts.{IsLeast, least_equals, le-suc, least-later}
+use Rattle.g704_align.specs.Search.{is_fas, is_nfas, confirmed, search, after_fas, SearchMeetsLeast}
 
 -- the first FAS octet from a position on
 abbrev first_fas : List ℕ → ℕ → Option ℕ
@@ -16,10 +16,6 @@ first_fas (x ∷ s) zero = if is_fas x then Some 0 else later (first_fas s 0)
 -- the search from a position on meets a FAS octet here
 abbrev meets : List ℕ → ℕ → ℕ → Bool
 meets s from k = nat_le from k && is_fas (slice_index s k)
-
--- comparing positions does not depend on where they are counted from
-le-suc : (m n : ℕ) → nat_le (suc m) (suc n) ≡ nat_le m n
-le-suc m n = grind (arith, nat_tests)
 
 -- it is the least
 first_fas-least : (s : List ℕ) (from : ℕ) → IsLeast (meets s from) (length s) (first_fas s from)

@@ -1,11 +1,13 @@
 -- Searches in a stream that goes on.
-use Rattle.std.proofs.Common.{◌≡◌, ℕ, zero, suc, ◌<◌, ◌≤◌, List, [], ◌∷◌, ◌++◌, length, true, false}
-use Rattle.std.proofs.Common.{Option, Some, None, refl, sym, ap, ◌∙◌, arith, get_or, inl, inr}
+use Rattle.std.proofs.Common.{◌≡◌, ℕ, zero, suc, ◌<◌, List, [], ◌∷◌, ◌++◌, length, true, false}
+use Rattle.std.proofs.Common.{Option, Some, None, refl, sym, ◌∙◌, arith, get_or, inl, inr}
 use Rattle.std.specs.Prelude.{slice_get}
 use Rattle.std.proofs.lemmas.Bool.{cases_Bool, cases_lt}
 use Rattle.std.proofs.lemmas.List.{append-nil}
-use Rattle.g704_framing.specs.Laws.{IsFraming, IsFoundAfter}
-use Rattle.g704_align.specs.Search.{search, later, confirmed, is_fas, is_nfas}
+use Rattle.g704_framing.specs.Alignment.{later}
+use Rattle.g704_framing.specs.Laws.{IsFraming}
+use Rattle.g704_framing.proofs.Searches.{StaysFound, later-found, FoundAfter, later-after, few-after}
+use Rattle.g704_align.specs.Search.{search, confirmed, is_fas, is_nfas}
 use Rattle.g704_align.specs.Loss.{frame_alignment}
 use Rattle.g704_align.proofs.Wrongs.{is_third_wrong-reads}
 
@@ -30,15 +32,6 @@ slice_get-at (x ∷ p) y ys = slice_get-at p y ys
 pub confirmed-refuted : (x : ℕ) (f o a b : Option ℕ) → is_nfas x ≡ false → confirmed f (Some x) o a b ≡ a
 confirmed-refuted x f None a b h = rw h refl
 confirmed-refuted x f (Some y) a b h = rw h refl
-
--- found in a stream, also when it goes on
-abbrev StaysFound : Option ℕ → Option ℕ → Type 0
-StaysFound o r = (p : ℕ) → o ≡ Some p → r ≡ Some p
-
--- also where positions are counted from one further back
-later-found : (o r : Option ℕ) → StaysFound o r → StaysFound (later o) (later r)
-later-found None r h p e = cc
-later-found (Some q) r h p e = ap later (h q refl) ∙ e
 
 -- also what is confirmed, or found past an octet that is wrong
 confirmed-found : (f o u o' u' a b a' b' : Option ℕ) → StaysFound o o' → StaysFound u u' → StaysFound a a'
@@ -73,24 +66,9 @@ search-append (x ∷ s) t zero p e = elim (cases_Bool (is_fas x)) [
       (later-found (search s 64) (search (s ++ t) 64) (search-append s t 64)) p (rw fas at e))
 ]
 
--- nothing found in a stream, and what is found when it goes on is found by a later octet
-abbrev FoundAfter : ℕ → Option ℕ → Option ℕ → Type 0
-FoundAfter count o r = o ≡ None → IsFoundAfter count 64 r
-
--- also where positions are counted from one further back
-later-after : (count : ℕ) (o r : Option ℕ) → FoundAfter count o r → FoundAfter (suc count) (later o) (later r)
-later-after count (Some p) r h e = cc
-later-after count None None h e = tt
-later-after count None (Some q) h e = let le = h refl in omega arith
-
--- in so few octets nothing can be found
-few-after : (count : ℕ) (r : Option ℕ) → count ≤ 64 → IsFoundAfter count 64 r
-few-after count None le = tt
-few-after count (Some p) le = omega arith
-
 -- also what is confirmed, or found past an octet that is wrong
-confirmed-after : (count p x y : ℕ) (a b a' b' : Option ℕ) → FoundAfter count a a' → FoundAfter count b b'
-    → FoundAfter count (confirmed (Some p) (Some x) (Some y) a b) (confirmed (Some p) (Some x) (Some y) a' b')
+confirmed-after : (count p x y : ℕ) (a b a' b' : Option ℕ) → FoundAfter 64 count a a' → FoundAfter 64 count b b'
+    → FoundAfter 64 count (confirmed (Some p) (Some x) (Some y) a b) (confirmed (Some p) (Some x) (Some y) a' b')
 confirmed-after count p x y a b a' b' ha hb e = elim (cases_Bool (is_nfas x)) [
   | inr wrong ↦ rw wrong (ha (rw wrong at e))
   | inl right ↦ elim (cases_Bool (is_fas y)) [
@@ -100,23 +78,23 @@ confirmed-after count p x y a b a' b' ha hb e = elim (cases_Bool (is_nfas x)) [
 ]
 
 -- later octets bring what they find themselves
-pub search-after : (s t : List ℕ) (from : ℕ) → FoundAfter (length s) (search s from) (search (s ++ t) from)
+pub search-after : (s t : List ℕ) (from : ℕ) → FoundAfter 64 (length s) (search s from) (search (s ++ t) from)
 unfolding search
-search-after [] t from e = few-after 0 (search t from) (omega arith)
+search-after [] t from e = few-after 64 0 (search t from) (omega arith)
 search-after (x ∷ s) t (suc from) e =
-    later-after (length s) (search s from) (search (s ++ t) from) (search-after s t from) e
+    later-after 64 (length s) (search s from) (search (s ++ t) from) (search-after s t from) e
 search-after (x ∷ s) t zero e = elim (cases_Bool (is_fas x)) [
-  | inr other ↦ rw other (later-after (length s) (search s 0) (search (s ++ t) 0) (search-after s t 0) (rw other at e))
+  | inr other ↦ rw other (later-after 64 (length s) (search s 0) (search (s ++ t) 0) (search-after s t 0) (rw other at e))
   | inl fas ↦ elim (cases_lt 63 (length s)) [
-    | inr few ↦ rw fas (few-after (suc (length s)) _ (omega arith))
+    | inr few ↦ rw fas (few-after 64 (suc (length s)) _ (omega arith))
     | inl many ↦
         let first = slice_get-within s [] 31 (omega arith) in
         let second = slice_get-within s [] 63 (omega arith) in
         rw (fas, slice_get-within s t 31 (omega arith), slice_get-within s t 63 many)
         (confirmed-after (suc (length s)) 0 (get_or s 31 0) (get_or s 63 0) (later (search s 32)) (later (search s 64))
         (later (search (s ++ t) 32)) (later (search (s ++ t) 64))
-        (later-after (length s) (search s 32) (search (s ++ t) 32) (search-after s t 32))
-        (later-after (length s) (search s 64) (search (s ++ t) 64) (search-after s t 64))
+        (later-after 64 (length s) (search s 32) (search (s ++ t) 32) (search-after s t 32))
+        (later-after 64 (length s) (search s 64) (search (s ++ t) 64) (search-after s t 64))
         (rw (fas, rw append-nil at first, rw append-nil at second) at e))
   ]
 ]

@@ -2,8 +2,9 @@
 -- 4.1.2).
 use Rattle.std.specs.Prelude.{◌≡◌, ℕ, zero, suc, ◌+◌, Bool, not, ◌&&◌, ◌==◌, nat_le, bit_and, if◌then◌else◌}
 use Rattle.std.specs.Prelude.{List, [], ◌∷◌, length, slice_index}
-use Rattle.std.specs.Prelude.{Option, Some, None, option_map, slice_get}
+use Rattle.std.specs.Prelude.{Option, Some, None, slice_get}
 use Rattle.g704_framing.specs.Least.{least}
+use Rattle.g704_framing.specs.Alignment.{later}
 
 -- right as a FAS octet: bits 2 to 8 are the frame alignment signal 0011011 (ITU-T G.704, 2.3.2)
 unfoldable pub is_fas : ℕ → Bool
@@ -12,10 +13,6 @@ is_fas octet = bit_and octet 0x7f == 0x1b
 -- right as an NFAS octet, which slot 0 has in the frames without the signal: bit 2 is 1 (ITU-T G.704, 2.3.2)
 unfoldable pub is_nfas : ℕ → Bool
 is_nfas octet = not (bit_and octet 0x40 == 0)
-
--- a position that is counted from the next octet on, counted from this one
-abbrev pub later : Option ℕ → Option ℕ
-later position = option_map suc position
 
 -- A FAS octet is found. By the octets 32 and 64 octets on, if the stream has them: it is what the search
 -- finds where the first is an NFAS octet and the second a FAS octet; else the search goes on past the first

@@ -3,8 +3,7 @@ use Rattle.std.proofs.Common.{◌≡◌, ℕ, zero, suc, ◌-◌, ◌<◌, List,
 use Rattle.std.proofs.Common.{Option, Some, None, refl, sym, ap, ◌∙◌, arith, get_or, inl, inr}
 use Rattle.std.specs.Prelude.{nat_le, nat_lt, ◌&&◌, slice_index}
 use Rattle.std.proofs.lemmas.Bool.{cases_Bool, le-leb, lt-leb, lt-ltb, le-ltb, and_left, and_right}
-use Rattle.std.proofs.lemmas.Bool.Decides.{nat_tests}
-use Rattle.g704_framing.proofs.Leasts.{IsLeast, least_equals, least_alike, least-later, reach}
+use Rattle.g704_framing.proofs.Leasts.{IsLeast, least_equals, least_alike, le-suc, least-later, reach}
 use Rattle.g704_cas.specs.Search.{is_mfas, is_not_zero, search, is_found_at, SearchIsLeast}
 
 -- the octet before a position, in octets that come after this one, if any
@@ -16,10 +15,6 @@ octet_before b (x ∷ s) (suc k) = octet_before (Some x) s k
 -- alignment is found at the position, if the search begins there or before
 abbrev finds : Option ℕ → List ℕ → ℕ → ℕ → Bool
 finds b s from k = nat_le from k && (is_mfas (slice_index s k) && is_not_zero (octet_before b s k))
-
--- comparing positions does not depend on where they are counted from
-le-suc : (m n : ℕ) → nat_le (suc m) (suc n) ≡ nat_le m n
-le-suc m n = grind (arith, nat_tests)
 
 -- a search finds the least position at which one that begins there can find
 search-least : (b : Option ℕ) (s : List ℕ) (from : ℕ) → IsLeast (finds b s from) (length s) (search b s from)

@@ -1,21 +1,13 @@
 -- Searches in octets that go on.
 use Rattle.std.proofs.Common.{◌≡◌, ℕ, zero, suc, ◌<◌, List, [], ◌∷◌, ◌++◌, length, true}
-use Rattle.std.proofs.Common.{Option, Some, None, refl, ap, ◌∙◌, arith, get_or, inl, inr}
+use Rattle.std.proofs.Common.{Option, Some, refl, arith, get_or, inl, inr}
 use Rattle.std.specs.Prelude.{◌&&◌}
 use Rattle.std.proofs.lemmas.Bool.{cases_Bool}
-use Rattle.g704_framing.specs.Laws.{IsFraming, IsFoundAfter}
-use Rattle.g704_cas.specs.Search.{search, later, is_mfas, is_not_zero}
+use Rattle.g704_framing.specs.Laws.{IsFraming}
+use Rattle.g704_framing.proofs.Searches.{StaysFound, later-found, FoundAfter, later-after, few-after}
+use Rattle.g704_cas.specs.Search.{search, is_mfas, is_not_zero}
 use Rattle.g704_cas.specs.Loss.{multiframe_alignment}
 use Rattle.g704_cas.proofs.Wrongs.{is_second_wrong-reads}
-
--- found in a list, also when it goes on
-abbrev StaysFound : Option ℕ → Option ℕ → Type 0
-StaysFound o r = (p : ℕ) → o ≡ Some p → r ≡ Some p
-
--- also where positions are counted from one further back
-later-found : (o r : Option ℕ) → StaysFound o r → StaysFound (later o) (later r)
-later-found None r h p e = cc
-later-found (Some q) r h p e = ap later (h q refl) ∙ e
 
 -- later octets change nothing that is found
 search-append : (b : Option ℕ) (s t : List ℕ) (from : ℕ) → StaysFound (search b s from) (search b (s ++ t) from)
@@ -30,32 +22,17 @@ search-append b (x ∷ s) t zero p e = elim (cases_Bool (is_mfas x && is_not_zer
       (rw passed at e))
 ]
 
--- nothing found in a list, and what is found when it goes on is found by a later octet
-abbrev FoundAfter : ℕ → Option ℕ → Option ℕ → Type 0
-FoundAfter count o r = o ≡ None → IsFoundAfter count 0 r
-
--- also where positions are counted from one further back
-later-after : (count : ℕ) (o r : Option ℕ) → FoundAfter count o r → FoundAfter (suc count) (later o) (later r)
-later-after count (Some p) r h e = cc
-later-after count None None h e = tt
-later-after count None (Some q) h e = let le = h refl in omega arith
-
--- in no octets nothing is found
-none-after : (r : Option ℕ) → IsFoundAfter 0 0 r
-none-after None = tt
-none-after (Some p) = omega arith
-
 -- later octets bring what they find themselves
 search-after : (b : Option ℕ) (s t : List ℕ) (from : ℕ)
-    → FoundAfter (length s) (search b s from) (search b (s ++ t) from)
+    → FoundAfter 0 (length s) (search b s from) (search b (s ++ t) from)
 unfolding search
-search-after b [] t from e = none-after (search b t from)
+search-after b [] t from e = few-after 0 0 (search b t from) (omega arith)
 search-after b (x ∷ s) t (suc from) e =
-    later-after (length s) (search (Some x) s from) (search (Some x) (s ++ t) from) (search-after (Some x) s t from) e
+    later-after 0 (length s) (search (Some x) s from) (search (Some x) (s ++ t) from) (search-after (Some x) s t from) e
 search-after b (x ∷ s) t zero e = elim (cases_Bool (is_mfas x && is_not_zero b)) [
   | inl found ↦ let n = rw found at e in cc
   | inr passed ↦
-      rw passed (later-after (length s) (search (Some x) s 0) (search (Some x) (s ++ t) 0) (search-after (Some x) s t 0)
+      rw passed (later-after 0 (length s) (search (Some x) s 0) (search (Some x) (s ++ t) 0) (search-after (Some x) s t 0)
       (rw passed at e))
 ]
 

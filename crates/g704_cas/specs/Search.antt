@@ -1,8 +1,8 @@
 -- Finding multiframe alignment in the octets of time slot 16 (ITU-T G.732, 5.2).
 use Rattle.std.specs.Prelude.{◌≡◌, ℕ, zero, suc, ◌-◌, Bool, false, not, ◌&&◌, ◌==◌, nat_lt, nat_le, bit_and}
 use Rattle.std.specs.Prelude.{if◌then◌else◌, List, [], ◌∷◌, length, slice_index, Option, Some, None}
-use Rattle.std.specs.Prelude.{option_map}
 use Rattle.g704_framing.specs.Least.{least}
+use Rattle.g704_framing.specs.Alignment.{later}
 
 -- right as the octet of frame 0: bits 1 to 4 are the multiframe alignment signal 0000 (ITU-T G.704,
 -- 5.1.3.2.2)
@@ -13,10 +13,6 @@ is_mfas octet = bit_and octet 0xf0 == 0
 abbrev pub is_not_zero : Option ℕ → Bool
 is_not_zero None = false
 is_not_zero (Some octet) = not (octet == 0)
-
--- a position that is counted from the next octet on, counted from this one
-abbrev pub later : Option ℕ → Option ℕ
-later position = option_map suc position
 
 -- The search from a position on, in octets that come after this one, if any: the first octet that is right,
 -- where the one before it is not 0. The octet before may be that by which an alignment was lost.

@@ -1,8 +1,9 @@
 -- The least number that passes.
 use Rattle.std.proofs.Common.{◌≡◌, ℕ, zero, suc, ◌<◌, Bool, true, false, cond, Option, Some, None}
 use Rattle.std.proofs.Common.{refl, sym, ap, ◌∙◌, arith, inl, inr}
-use Rattle.std.specs.Prelude.{option_map}
+use Rattle.std.specs.Prelude.{option_map, nat_le}
 use Rattle.std.proofs.lemmas.Bool.{cases_lt, false≢true}
+use Rattle.std.proofs.lemmas.Bool.Decides.{nat_tests}
 use Rattle.g704_framing.specs.Least.{least}
 
 -- what `least` says: the number, or that none passes
@@ -60,6 +61,10 @@ pub least_alike : (passes others : ℕ → Bool) (limit : ℕ) (found : Option �
 least_alike passes others limit None h l = λ k lt. sym (h k lt) ∙ l k lt
 least_alike passes others limit (Some n) h l =
     (l.0, sym (h n (omega arith)) ∙ l.1, λ k lt. sym (h k (omega arith)) ∙ l.2 k lt)
+
+-- comparing numbers does not depend on where they are counted from
+pub le-suc : (small large : ℕ) → nat_le (suc small) (suc large) ≡ nat_le small large
+le-suc m n = grind (arith, nat_tests)
 
 -- the least that passes, counted from one further back, where the first number does not pass
 pub least-later : (passes others : ℕ → Bool) (limit : ℕ) (found : Option ℕ) → others 0 ≡ false

@@ -8,3 +8,4 @@ pub mod Agrees
 pub mod Keeps
 pub mod Placings
 pub mod Standings
+pub mod Searches

@@ -27,9 +27,13 @@ loss framing stream start =
     option_map (λ place. start + place)
     (least (framing.is_lost (drop start stream)) (length (drop start stream)))
 
+-- a position that is counted from the next octet on, counted from this one
+abbrev pub later : Option ℕ → Option ℕ
+later position = option_map suc position
+
 -- an alignment, its positions counted from one octet further back
 abbrev pub later_alignment : Alignment → Alignment
-later_alignment alignment = record { start = suc alignment.start; lost = option_map suc alignment.lost }
+later_alignment alignment = record { start = suc alignment.start; lost = later alignment.lost }
 
 -- the alignments of a stream after this octet, if any: the first search is from this position on, each
 -- further one from the octet after a loss
