@@ -8,11 +8,11 @@ use Rattle.std.proofs.lemmas.Bool.{lt-ltb, le-ltb, eqb-true, not-true, not-false
 use Rattle.std.proofs.lemmas.Bool.{and_parts, or_cases, or_parts}
 use Rattle.std.proofs.lemmas.Bool.{cases_eq, cases_lt}
 use Rattle.g704_framing.specs.Restart.{IsOver}
-use Rattle.g704_framing.proofs.Ends.{IsOver-passed, IsOver-lost}
+use Rattle.g704_framing.proofs.Ends.{IsOver-passed, kept-more, IsOver-lost}
 use Rattle.g704_align.specs.Search.{is_fas, is_nfas, search}
 use Rattle.g704_align.specs.Loss.{is_wrong, is_third_wrong, frame_alignment}
 use Rattle.g704_align.specs.Aligner.{IsCandidate, IsAlignment, CountsWrong, wrong_before, count_after, is_refuted}
-use Rattle.g704_align.proofs.Wrongs.{is_wrong-append, is_third_wrong-append, is_wrong-fas, is_wrong-nfas}
+use Rattle.g704_align.proofs.Wrongs.{is_wrong-append, is_wrong-fas, is_wrong-nfas}
 use Rattle.g704_align.proofs.Wrongs.{is_wrong-early, is_wrong-other}
 use Rattle.g704_align.proofs.Searches.{frame_is_framing, slice_get-within, slice_get-at, confirmed-refuted}
 use Rattle.g704_align.proofs.Searches.{search-found}
@@ -220,16 +220,6 @@ module _ (c : List ℕ) (x rest count : ℕ) (found : 64 < length c) (h : Counts
 
 -- an alignment after one octet more
 module _ (c : List ℕ) (x age ws wd : ℕ) (h : IsAlignment age ws wd c) where
-  -- it was not lost so far
-  kept-more : is_third_wrong (c ++ x ∷ []) (length c) ≡ false → (k : ℕ) → k < length (c ++ x ∷ [])
-      → is_third_wrong (c ++ x ∷ []) k ≡ false
-  kept-more third k lt = elim (cases_eq k (length c)) [
-    | inl e ↦ rw e third
-    | inr ne ↦
-        let below : k < length c = (let l = length_push c x in omega arith) in
-        is_third_wrong-append c (x ∷ []) k below ∙ h.kept k below
-  ]
-
   -- its fields, where it is not lost by the octet
   alignment-more : (ws' wd' : ℕ) → is_third_wrong (c ++ x ∷ []) (length c) ≡ false → CountsWrong 0 ws' (c ++ x ∷ [])
       → CountsWrong 32 wd' (c ++ x ∷ []) → IsAlignment ((age + 1) % 64) ws' wd' (c ++ x ∷ [])
@@ -239,7 +229,7 @@ module _ (c : List ℕ) (x age ws wd : ℕ) (h : IsAlignment age ws wd c) where
     fas = rw (push_at c x 0 (omega arith)) h.fas;
     nfas = rw (push_at c x 32 (omega arith)) h.nfas;
     confirmed = rw (push_at c x 64 (omega arith)) h.confirmed;
-    kept = kept-more third;
+    kept = kept-more frame_alignment frame_is_framing c x h.kept third;
     fas_count = s;
     nfas_count = d;
   }

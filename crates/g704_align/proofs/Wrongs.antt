@@ -75,7 +75,3 @@ pub is_third_wrong-reads : (octets others : List ℕ) (k : ℕ)
     → is_third_wrong octets k ≡ is_third_wrong others k
 is_third_wrong-reads octets others k same =
     is_third_wrong-alike octets others k (λ j le late e. ap (is_expected j) (same j le e))
-
--- nor whether it is the third in a row
-pub is_third_wrong-append : (c t : List ℕ) (k : ℕ) → k < length c → is_third_wrong (c ++ t) k ≡ is_third_wrong c k
-is_third_wrong-append c t k h = is_third_wrong-reads (c ++ t) c k (λ j le e. get_or_append_left c t 0 j (omega arith))

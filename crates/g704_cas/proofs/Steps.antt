@@ -5,11 +5,11 @@ use Rattle.std.specs.Prelude.{◌≢◌, ◌&&◌}
 use Rattle.std.proofs.lemmas.List.{get_or_append_left, length_push}
 use Rattle.std.proofs.lemmas.Bool.{lt-ltb, le-ltb, ne_eqb, and_left, and_right, cases_eq, true≢false}
 use Rattle.g704_framing.specs.Restart.{IsOver, last_of}
-use Rattle.g704_framing.proofs.Ends.{IsOver-passed, IsOver-lost, last_of-push}
+use Rattle.g704_framing.proofs.Ends.{IsOver-passed, kept-more, IsOver-lost, last_of-push}
 use Rattle.g704_cas.specs.Search.{is_mfas, is_not_zero, search}
 use Rattle.g704_cas.specs.Loss.{is_wrong, is_second_wrong, multiframe_alignment}
 use Rattle.g704_cas.specs.Aligner.{IsAlignment}
-use Rattle.g704_cas.proofs.Wrongs.{is_wrong-append, is_second_wrong-append, is_wrong-other, is_wrong-first}
+use Rattle.g704_cas.proofs.Wrongs.{is_wrong-append, is_wrong-other, is_wrong-first}
 use Rattle.g704_cas.proofs.Wrongs.{is_wrong-last}
 use Rattle.g704_cas.proofs.Searches.{multiframe_is_framing, search-found}
 
@@ -41,16 +41,6 @@ not_zero-wrong b c x r = rw (last_of-push b c x) (elim (cases_eq x 0) [
 
 -- an alignment after one octet more
 module _ (b : Option ℕ) (c : List ℕ) (x frame : ℕ) (wrong : Bool) (h : IsAlignment b frame wrong c) where
-  -- it was not lost so far
-  kept-more : is_second_wrong (c ++ x ∷ []) (length c) ≡ false → (k : ℕ) → k < length (c ++ x ∷ [])
-      → is_second_wrong (c ++ x ∷ []) k ≡ false
-  kept-more now k lt = elim (cases_eq k (length c)) [
-    | inl e ↦ rw e now
-    | inr ne ↦
-        let below : k < length c = (let l = length_push c x in omega arith) in
-        is_second_wrong-append c (x ∷ []) k below ∙ h.kept k below
-  ]
-
   -- its fields, where it is not lost by the octet
   more : (frame' : ℕ) (wrong' : Bool) → frame' ≡ length (c ++ x ∷ []) % 16
       → is_second_wrong (c ++ x ∷ []) (length c) ≡ false
@@ -62,7 +52,7 @@ module _ (b : Option ℕ) (c : List ℕ) (x frame : ℕ) (wrong : Bool) (h : IsA
     begun = omega arith;
     first = rw (get_or_append_left c (x ∷ []) 0 0 s) h.first;
     counted = n;
-    kept = kept-more now;
+    kept = kept-more multiframe_alignment multiframe_is_framing c x h.kept now;
     last = l;
   }
 

@@ -51,7 +51,3 @@ is_second_wrong-reads octets others k same = is_second_wrong-alike octets others
 -- whether an octet is wrong does not depend on later ones
 pub is_wrong-append : (c t : List ℕ) (k : ℕ) → k < length c → is_wrong (c ++ t) k ≡ is_wrong c k
 is_wrong-append c t k h = is_wrong-alike (c ++ t) c k (λ e. ap is_mfas (get_or_append_left c t 0 k h))
-
--- nor whether it is the second in a row
-pub is_second_wrong-append : (c t : List ℕ) (k : ℕ) → k < length c → is_second_wrong (c ++ t) k ≡ is_second_wrong c k
-is_second_wrong-append c t k h = is_second_wrong-reads (c ++ t) c k (λ j le e. get_or_append_left c t 0 j (omega arith))

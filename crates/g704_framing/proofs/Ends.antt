@@ -1,8 +1,9 @@
 -- Histories after which all begins anew.
 use Rattle.std.proofs.Common.{◌≡◌, ℕ, suc, ◌+◌, ◌<◌, ◌≤◌, List, [], ◌∷◌, ◌++◌, length, map, true, false}
-use Rattle.std.proofs.Common.{Option, Some, None, refl, sym, ap, ◌∙◌, arith, add-one, append_assoc}
+use Rattle.std.proofs.Common.{Option, Some, None, refl, sym, ap, ◌∙◌, arith, add-one, append_assoc, inl, inr}
 use Rattle.std.specs.Prelude.{option_map}
-use Rattle.std.proofs.lemmas.List.{append-nil, length-append, map-append, get_or_append_left}
+use Rattle.std.proofs.lemmas.List.{append-nil, length-append, length_push, map-append, get_or_append_left}
+use Rattle.std.proofs.lemmas.Bool.{cases_eq}
 use Rattle.g704_framing.specs.Least.{least}
 use Rattle.g704_framing.specs.Alignment.{Framing, Alignment, loss, alignments_from}
 use Rattle.g704_framing.specs.Restart.{moved, IsLostBefore, AllLostBefore, IsOver, last_of}
@@ -89,6 +90,19 @@ IsOver-passed f h b c passed = record {
 pub is_lost-append : (f : Framing) → IsFraming f → (c t : List ℕ) (k : ℕ) → k < length c
     → f.is_lost (c ++ t) k ≡ f.is_lost c k
 is_lost-append f h c t k lt = h.reads (c ++ t) c k (λ j le e. get_or_append_left c t 0 j (omega arith))
+
+-- an alignment that was not lost so far, and is not by one octet more
+pub kept-more : (framing : Framing) → IsFraming framing → (octets : List ℕ) (octet : ℕ)
+    → ((position : ℕ) → position < length octets → framing.is_lost octets position ≡ false)
+    → framing.is_lost (octets ++ octet ∷ []) (length octets) ≡ false
+    → (position : ℕ) → position < length (octets ++ octet ∷ [])
+    → framing.is_lost (octets ++ octet ∷ []) position ≡ false
+kept-more f h c x kept now k lt = elim (cases_eq k (length c)) [
+  | inl e ↦ rw e now
+  | inr ne ↦
+      let below : k < length c = (let l = length_push c x in omega arith) in
+      is_lost-append f h c (x ∷ []) k below ∙ kept k below
+]
 
 -- the loss of an alignment at the head of the stream
 pub loss-head : (f : Framing) (s : List ℕ) (o : Option ℕ) → IsLeast (f.is_lost s) (length s) o → loss f s 0 ≡ o
