@@ -18,18 +18,16 @@ use Rattle.rtp_pack.proofs.WordsLeft.{words_from-first, number-back}
 pub reads_back : ReadsBack
 unfolding words_of octets_of
 reads_back k ws size payload =
-    let some : 0 < k = omega (arith, size) in
     let n = k * length ws / 8 in
-    let whole = payload.whole in
-    let eight : 8 * n ≡ k * length ws = omega (arith, whole) in
-    let len : length (bytes_low_first 0 n (payload_number k ws)) ≡ n = length-bytes_low_first 0 n (payload_number k ws) in
-    let room : 256 ^ n ≡ 2 ^ (k * length ws) = pow-octets n ∙ ap (λ (m : ℕ). 2 ^ m) eight in
-    let fits : payload_number k ws < 256 ^ n = rw room (number-lt k ws payload.each) in
     let octets = bytes_low_first 0 n (payload_number k ws) in
-    let back : little_number n octets ≡ payload_number k ws =
-    ap (little_number n) (sym (append-nil octets)) ∙ little_number-reads_back n (payload_number k ws) [] fits in
-    let count : 8 * n / k ≡ length ws = ap (λ (m : ℕ). m / k) eight ∙ mul-div_cancel_left (length ws) some in
-    rw (len, back, count) (number-back k ws payload.each)
+    let eight : 8 * n ≡ k * length ws = omega (arith, payload.whole) in
+    let fits : payload_number k ws < 256 ^ n
+    = rw (pow-octets n ∙ ap (λ (m : ℕ). 2 ^ m) eight) (number-lt k ws payload.each) in
+    let back : little_number n octets ≡ payload_number k ws
+    = ap (little_number n) (sym (append-nil octets)) ∙ little_number-reads_back n (payload_number k ws) [] fits in
+    let count : 8 * n / k ≡ length ws
+    = ap (λ (m : ℕ). m / k) eight ∙ mul-div_cancel_left (length ws) (omega (arith, size)) in
+    rw (length-bytes_low_first 0 n (payload_number k ws), back, count) (number-back k ws payload.each)
 
 -- so many words are so many
 length-words_from : (k i count n : ℕ) → length (words_from k i count n) ≡ count
