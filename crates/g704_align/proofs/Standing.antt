@@ -1,21 +1,23 @@
 -- What an aligner that stands answers, and how it goes on.
 use Rattle.std.proofs.Common.{◌≡◌, ℕ, ◌-◌, ◌≤◌, ◌%◌, ◌/◌, List, [], ◌∷◌, ◌++◌, length, Bool, true, false}
-use Rattle.std.proofs.Common.{Option, Some, None, refl, sym, ap, ◌∙◌, arith, ltb, eqb, inl, inr}
-use Rattle.std.specs.Prelude.{nat_lt, is_none}
-use Rattle.std.proofs.lemmas.List.{length_push}
-use Rattle.std.proofs.lemmas.Bool.{lt-ltb, le-ltb, eq-eqb, ne_eqb, cases_lt}
+use Rattle.std.proofs.Common.{Option, Some, None, refl, sym, ap, ◌∙◌, subst, arith, ltb, eqb, inl, inr}
+use Rattle.std.specs.Prelude.{nat_lt, is_none, ◌==◌}
+use Rattle.std.proofs.lemmas.List.{length_push, append_assoc}
+use Rattle.std.proofs.lemmas.Bool.{lt-ltb, le-ltb, eq-eqb, ne_eqb, cases_lt, cases_Bool}
 use Rattle.g704_framing.specs.Alignment.{alignments_from}
 use Rattle.g704_framing.specs.Age.{age_in}
 use Rattle.g704_framing.specs.Places.{place_since}
 use Rattle.g704_framing.specs.Restart.{IsOver, last_of}
-use Rattle.g704_framing.proofs.Ends.{alignments-standing}
+use Rattle.g704_framing.proofs.Ends.{alignments-standing, kept-more, IsOver-lost}
 use Rattle.g704_framing.proofs.Ages.{age-early, age-standing}
-use Rattle.g704_framing.proofs.Standings.{place-over, alarm-since, alarm-over, since-nothing, since-more, since-anew}
+use Rattle.g704_framing.proofs.Standings.{place-history, place-over, alarm-since, alarm-over}
+use Rattle.g704_framing.proofs.Standings.{since-nothing, since-more, since-anew}
+use Rattle.g704_align.specs.declared.alignment.Place.{Place}
 use Rattle.g704_align.specs.declared.alignment.Place.TheVariants.{Hunting, Slot}
 use Rattle.g704_align.specs.declared.alignment.Phase.{Phase}
 use Rattle.g704_align.specs.declared.alignment.Phase.TheVariants.{Searching, Candidate, Aligned}
-use Rattle.g704_align.specs.Loss.{frame_alignment}
-use Rattle.g704_align.specs.Placing.{place_of, frames, alarm_after}
+use Rattle.g704_align.specs.Loss.{frame_alignment, is_third_wrong}
+use Rattle.g704_align.specs.Placing.{place_of, number_of, frames, place, alarm_after}
 use Rattle.g704_align.specs.Aligner.{IsAlignment, Describes, Follows, Stands}
 use Rattle.g704_align.proofs.Searches.{frame_is_framing, search-found}
 
@@ -49,6 +51,32 @@ place-early : (b : Option ℕ) (c : List ℕ) (n : ℕ) → n ≤ 64 → Hunting
 unfolding place_since
 place-early b c n le = ap place_of (sym (age-early frame_alignment b c 65 n (omega arith)))
 
+-- an octet by which an alignment is not lost
+place-kept : (b : Option ℕ) (c : List ℕ) (x age ws wd : ℕ) → IsAlignment age ws wd c
+    → is_third_wrong (c ++ x ∷ []) (length c) ≡ false
+    → Slot (length c % 32) ((length c / 32) % 2 == 0) ≡ place_since frames b (c ++ x ∷ []) (length c)
+unfolding place_since
+place-kept b c x age ws wd h kept =
+    let found = h.found in
+    ap place_of (sym (age-standing 65 (length c) (alignments_from frame_alignment b (c ++ x ∷ []) 0)
+    (alignments-standing frame_alignment frame_is_framing b (c ++ x ∷ [])
+    (λ t. rw (append_assoc c (x ∷ []) t) (search-found c (x ∷ t) h.found h.fas h.nfas h.confirmed))
+    (kept-more frame_alignment frame_is_framing c x h.kept kept)) (omega arith)))
+
+abbrev IsNoSpeech : Place → Type 0
+IsNoSpeech p = number_of p % 16 ≡ 0
+
+-- half a frame from a signal there is no slot of speech, whether the alignment is lost or not
+pub place-signal : (b : Option ℕ) (c : List ℕ) (x age ws wd : ℕ) → IsAlignment age ws wd c → age % 16 ≡ 0
+    → number_of (place_since frames b (c ++ x ∷ []) (length c)) % 16 ≡ 0
+place-signal b c x age ws wd h e = elim (cases_Bool (is_third_wrong (c ++ x ∷ []) (length c))) [
+  | inl lost ↦ subst IsNoSpeech (place-over frames b c x (IsOver-lost frame_alignment frame_is_framing b c x
+      (λ t. search-found c t h.found h.fas h.nfas h.confirmed) h.kept lost)) refl
+  | inr kept ↦
+      let counted = h.counted in
+      subst IsNoSpeech (place-kept b c x age ws wd h kept) (omega arith)
+]
+
 -- where alignment does not stand after the octet, it has no place
 pub place-unless_after : (after : Phase) (b : Option ℕ) (c : List ℕ) (x : ℕ) → Follows after b (c ++ x ∷ [])
     → ((a s d : ℕ) → after ≡ Aligned a s d → ⊥) → Hunting ≡ place_since frames b (c ++ x ∷ []) (length c)
@@ -65,6 +93,18 @@ place-unless_before Searching b c x f unless = place-early b (c ++ x ∷ []) (le
 place-unless_before (Candidate age) b c x f unless =
     let a = f.counted in let y = f.young in place-early b (c ++ x ∷ []) (length c) (omega arith)
 place-unless_before (Aligned a s d) b c x f unless = absurd (unless a s d refl)
+
+-- nor is there one before alignment stands
+pub place-unless_aligned : (phase : Phase) (b : Option ℕ) (c : List ℕ) (x : ℕ) → Describes phase c
+    → ((a s d : ℕ) → phase ≡ Aligned a s d → ⊥) → IsNoSpeech (place_since frames b (c ++ x ∷ []) (length c))
+place-unless_aligned phase b c x f unless = subst IsNoSpeech (place-unless_before phase b c x f unless) refl
+
+-- the same in the whole history
+pub place-left : (phase : Phase) (history : List ℕ) (octet : ℕ) (h : Stands (record { phase = phase }) history)
+    → IsNoSpeech (place_since frames (last_of None h.earlier) (h.since ++ octet ∷ []) (length h.since))
+    → number_of (place (history ++ octet ∷ []) (length history)) % 16 ≡ 0
+place-left phase history octet h is =
+    subst IsNoSpeech (place-history frames history h.earlier h.since octet h.whole h.over) is
 
 -- the aligner stands after one octet more
 pub stands-follows : (phase : Phase) (history earlier since : List ℕ) (x : ℕ) → history ≡ earlier ++ since

@@ -94,8 +94,8 @@ impl Aligner {
     }
 
     /// Passes over the next octet unseen, where alignment stands and the octet is in another slot than 0 and
-    /// 16, and tells its place: it is what `octet` does with any octet there. Else nothing is changed, and
-    /// the octet is for `octet`. (Those of slot 16 are left to it too, since a caller has use for them.)
+    /// 16, and tells its place: it is what `octet` does with any octet there. In slots 0 and 16, and where
+    /// alignment is looked for, nothing is changed, and the octet is for `octet`.
     #[inline]
     pub fn pass(&mut self) -> Option<Place>
         ensures placed { (history : List ℕ) (octet : ℕ) → Stands self.old history
@@ -103,6 +103,8 @@ impl Aligner {
         ensures stands { (history : List ℕ) (octet : ℕ) → Stands self.old history
             → IfSome result (λ _. Stands self.new (history ++ octet ∷ [])) }
         ensures none { IfNone result (self.new ≡ self.old) }
+        ensures left { (history : List ℕ) (octet : ℕ) → Stands self.old history
+            → IfNone result (number_of (place (history ++ octet ∷ []) (length history)) % 16 ≡ 0) }
         ensures in_frame { IfSome result (λ p. number_of p < 32) }
         ensures speech { IfSome result (λ p. number_of p % 16 ≢ 0) }
     {
