@@ -84,7 +84,8 @@ search-after [] t from e = few-after 64 0 (search t from) (omega arith)
 search-after (x ∷ s) t (suc from) e =
     later-after 64 (length s) (search s from) (search (s ++ t) from) (search-after s t from) e
 search-after (x ∷ s) t zero e = elim (cases_Bool (is_fas x)) [
-  | inr other ↦ rw other (later-after 64 (length s) (search s 0) (search (s ++ t) 0) (search-after s t 0) (rw other at e))
+  | inr other ↦
+      rw other (later-after 64 (length s) (search s 0) (search (s ++ t) 0) (search-after s t 0) (rw other at e))
   | inl fas ↦ elim (cases_lt 63 (length s)) [
     | inr few ↦ rw fas (few-after 64 (suc (length s)) _ (omega arith))
     | inl many ↦

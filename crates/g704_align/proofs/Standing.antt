@@ -38,7 +38,8 @@ even_frame n = elim (cases_lt (n % 64) 32) [
 
 -- between two phases of an alignment
 pub place-aligned : (b : Option ℕ) (c : List ℕ) (x age ws wd age' ws' wd' : ℕ) → IsAlignment age ws wd c
-    → IsAlignment age' ws' wd' (c ++ x ∷ []) → Slot (age % 32) (nat_lt age 32) ≡ place_since frames b (c ++ x ∷ []) (length c)
+    → IsAlignment age' ws' wd' (c ++ x ∷ [])
+    → Slot (age % 32) (nat_lt age 32) ≡ place_since frames b (c ++ x ∷ []) (length c)
 unfolding place_since
 place-aligned b c x age ws wd age' ws' wd' h g =
     let a = h.counted in

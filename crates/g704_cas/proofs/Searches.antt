@@ -32,8 +32,8 @@ search-after b (x ∷ s) t (suc from) e =
 search-after b (x ∷ s) t zero e = elim (cases_Bool (is_mfas x && is_not_zero b)) [
   | inl found ↦ let n = rw found at e in cc
   | inr passed ↦
-      rw passed (later-after 0 (length s) (search (Some x) s 0) (search (Some x) (s ++ t) 0) (search-after (Some x) s t 0)
-      (rw passed at e))
+      rw passed (later-after 0 (length s) (search (Some x) s 0) (search (Some x) (s ++ t) 0)
+      (search-after (Some x) s t 0) (rw passed at e))
 ]
 
 -- multiframe alignment is an alignment of the kind that the laws speak of

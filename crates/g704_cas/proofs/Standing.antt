@@ -35,7 +35,8 @@ place-first b c x frame wrong after h g = rw (age-aligned b (c ++ x ∷ []) (len
 
 -- an octet in an alignment
 pub place-next : (b : Option ℕ) (c : List ℕ) (x frame frame' : ℕ) (wrong wrong' : Bool) → IsAlignment b frame wrong c
-    → IsAlignment b frame' wrong' (c ++ x ∷ []) → Frame (frame % 16) ≡ place_since multiframes b (c ++ x ∷ []) (length c)
+    → IsAlignment b frame' wrong' (c ++ x ∷ [])
+    → Frame (frame % 16) ≡ place_since multiframes b (c ++ x ∷ []) (length c)
 unfolding place_since
 place-next b c x frame frame' wrong wrong' h g =
     let a = h.counted in

@@ -34,7 +34,8 @@ pub record IsOver (framing : Framing) (before : Option ℕ) (octets : List ℕ) 
       ≡ earlier ++ map (moved (length octets)) (alignments_from framing (last_of before octets) rest 0)
 
 -- All began anew within a history, and this is so of the octets since, and of the octet before them, if any.
-pub record HoldsSince (framing : Framing) (holds : Option ℕ → List ℕ → Type 0) (history : List ℕ) : Type 0 where
+pub record HoldsSince (framing : Framing) (holds : Option ℕ → List ℕ → Type 0) (history : List ℕ)
+    : Type 0 where
   pub earlier : List ℕ
   pub since : List ℕ
   pub whole : history ≡ earlier ++ since

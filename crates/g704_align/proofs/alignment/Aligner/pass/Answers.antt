@@ -32,4 +32,5 @@ returns-else-now-ne0-clause-left c history octet h = place-left c.args.self.now.
 
 pub returns-in_default-clause-left : goal.returns-in_default-clause-left
 returns-in_default-clause-left c history octet h = place-left c.args.self.now.phase history octet h
-    (place-unless_aligned c.args.self.now.phase (last_of None h.earlier) h.since octet h.fields c.in_default.not-Aligned)
+    (place-unless_aligned c.args.self.now.phase (last_of None h.earlier) h.since octet h.fields
+    c.in_default.not-Aligned)
