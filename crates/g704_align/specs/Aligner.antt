@@ -21,16 +21,16 @@ pub record IsCandidate (age : ℕ) (octets : List ℕ) : Type 0 where
 abbrev pub is_refuted : ℕ → ℕ → Bool
 is_refuted age octet = ((age == 32) && not (is_nfas octet)) || ((age == 64) && not (is_fas octet))
 
--- how many of the two octets 64 and 128 places before a place are wrong, counted from the place back
+-- how many of the two octets 64 and 128 octets before one of this age are wrong, counted from it back
 abbrev pub wrong_before : List ℕ → ℕ → ℕ
-wrong_before octets place =
-    if is_wrong octets (place - 64) then (if is_wrong octets (place - 128) then 2 else 1) else 0
+wrong_before octets age =
+    if is_wrong octets (age - 64) then (if is_wrong octets (age - 128) then 2 else 1) else 0
 
--- it is that count at the next place that leaves this rest by 64
+-- it is that count at the next age that leaves this rest by 64
 abbrev pub CountsWrong : ℕ → ℕ → List ℕ → Type 0
 CountsWrong rest count octets =
-    (place : ℕ) → length octets ≤ place → place < length octets + 64 → place % 64 ≡ rest
-    → count ≡ wrong_before octets place
+    (next : ℕ) → length octets ≤ next → next < length octets + 64 → next % 64 ≡ rest
+    → count ≡ wrong_before octets next
 
 -- the count after one more octet of its kind, right or wrong; none where that is the third wrong one in a row
 abbrev pub count_after : ℕ → Bool → Option ℕ
@@ -43,7 +43,7 @@ pub record IsAlignment (age wrong_fas wrong_nfas : ℕ) (octets : List ℕ) : Ty
   pub fas : is_fas (slice_index octets 0) ≡ true
   pub nfas : is_nfas (slice_index octets 32) ≡ true
   pub confirmed : is_fas (slice_index octets 64) ≡ true
-  pub kept : (place : ℕ) → place < length octets → is_third_wrong octets place ≡ false
+  pub kept : (earlier : ℕ) → earlier < length octets → is_third_wrong octets earlier ≡ false
   pub fas_count : CountsWrong 0 wrong_fas octets
   pub nfas_count : CountsWrong 32 wrong_nfas octets
 

@@ -25,7 +25,7 @@ confirmed found (Some first) (Some second) past_first past_second =
 
 -- The search from a position on: the first FAS octet there that an NFAS octet 32 octets on and a FAS octet 64
 -- octets on confirm, where it goes on past each octet that is wrong. Nothing where the stream ends first.
--- (At which octet it goes on after a wrong one is this project's choice.)
+-- (At which octet it goes on after a wrong one is our choice.)
 unfoldable pub search : List ℕ → ℕ → Option ℕ
 search [] from = None
 search (octet ∷ stream) (suc from) = later (search stream from)

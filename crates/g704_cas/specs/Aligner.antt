@@ -15,10 +15,10 @@ pub record IsAlignment (before : Option ℕ) (frame : ℕ) (wrong : Bool) (octet
   pub begun : 0 < length octets
   pub first : is_mfas (slice_index octets 0) ≡ true
   pub counted : frame ≡ length octets % 16
-  pub kept : (place : ℕ) → place < length octets → is_second_wrong octets place ≡ false
+  pub kept : (earlier : ℕ) → earlier < length octets → is_second_wrong octets earlier ≡ false
   -- the octet of the frame 0 before the next one
-  pub last : (place : ℕ) → length octets ≤ place → place < length octets + 16 → place % 16 ≡ 0
-      → wrong ≡ is_wrong octets (place - 16)
+  pub last : (next : ℕ) → length octets ≤ next → next < length octets + 16 → next % 16 ≡ 0
+      → wrong ≡ is_wrong octets (next - 16)
 
 -- what the phase says of the octets since all began anew, and of the octet before them
 abbrev pub Describes : Phase → Option ℕ → List ℕ → Type 0

@@ -9,11 +9,11 @@ pub record Framing : Type 0 where
   -- where the alignment begins that is found in a stream from a position on; the octet before the stream, if
   -- any, may be looked at
   pub search : Option ℕ → List ℕ → ℕ → Option ℕ
-  -- of the octets of an alignment, its first one first: the place of the octet by which it is found
+  -- of the octets of an alignment, its first one first: the age of the octet by which it is found
   pub found_at : ℕ
   -- so many octets apart lie those that keep it
   pub period : ℕ
-  -- and it is lost by the octet at this place, if it was not before
+  -- and it is lost by the octet of this age, if it was not before
   pub is_lost : List ℕ → ℕ → Bool
 
 -- An alignment: where its first octet is, and the octet by which it is lost, if it is.
@@ -24,7 +24,7 @@ pub record Alignment : Type 0 where
 -- the position at which an alignment that begins at this one is lost
 unfoldable pub loss : Framing → List ℕ → ℕ → Option ℕ
 loss framing stream start =
-    option_map (λ place. start + place)
+    option_map (λ age. start + age)
     (least (framing.is_lost (drop start stream)) (length (drop start stream)))
 
 -- a position that is counted from the next octet on, counted from this one

@@ -26,10 +26,10 @@ pub record IsFraming (framing : Framing) : Type 0 where
       → framing.search before stream from ≡ None
       → IsFoundAfter (length stream) framing.found_at (framing.search before (stream ++ rest) from)
   -- the loss depends on the octets alone that lie whole periods from the first, up to its own
-  pub reads : (octets others : List ℕ) (place : ℕ)
-      → ((earlier : ℕ) → earlier ≤ place → earlier % framing.period ≡ 0
+  pub reads : (octets others : List ℕ) (age : ℕ)
+      → ((earlier : ℕ) → earlier ≤ age → earlier % framing.period ≡ 0
       → slice_index octets earlier ≡ slice_index others earlier)
-      → framing.is_lost octets place ≡ framing.is_lost others place
+      → framing.is_lost octets age ≡ framing.is_lost others age
   pub whole : framing.found_at % framing.period ≡ 0
 
 -- the alignments of a stream are what searches and losses in turn give, each over the whole stream
@@ -53,9 +53,9 @@ IsUpToLoss position (Some lost) = position ≤ lost
 
 -- up to the loss of an alignment of the first stream, that included, the two streams are lost alike
 abbrev pub IsLostAlike : Framing → List ℕ → List ℕ → Alignment → Type 0
-IsLostAlike framing stream other alignment = (place : ℕ) → alignment.start + place < length stream
-    → IsUpToLoss (alignment.start + place) alignment.lost
-    → framing.is_lost (drop alignment.start stream) place ≡ framing.is_lost (drop alignment.start other) place
+IsLostAlike framing stream other alignment = (age : ℕ) → alignment.start + age < length stream
+    → IsUpToLoss (alignment.start + age) alignment.lost
+    → framing.is_lost (drop alignment.start stream) age ≡ framing.is_lost (drop alignment.start other) age
 
 -- streams whose searches end alike, and which lose each alignment of the first one alike, have the same
 -- alignments
@@ -74,9 +74,9 @@ IsRead framing (Some age) = age % framing.period ≡ 0
 
 -- whole periods from the first octet of an alignment, up to its loss, two streams have the same octets
 abbrev pub AgreeAlong : Framing → List ℕ → List ℕ → Alignment → Type 0
-AgreeAlong framing stream other alignment = (place : ℕ) → place % framing.period ≡ 0
-    → alignment.start + place < length stream → IsUpToLoss (alignment.start + place) alignment.lost
-    → slice_index stream (alignment.start + place) ≡ slice_index other (alignment.start + place)
+AgreeAlong framing stream other alignment = (age : ℕ) → age % framing.period ≡ 0
+    → alignment.start + age < length stream → IsUpToLoss (alignment.start + age) alignment.lost
+    → slice_index stream (alignment.start + age) ≡ slice_index other (alignment.start + age)
 
 -- octets in an alignment that do not lie whole periods from its first one change no alignment
 abbrev pub OthersAreNotRead : Type 0

@@ -17,7 +17,7 @@ first_of_ten (pair ∷ pairs) =
     if nat_le 9 (prefix_len (λ other. other == pair) pairs) then Some pair else first_of_ten pairs
 
 -- The pair that is recognised after a list of known pairs: that of the last run of ten equal neighbours,
--- which is the first one from the end; none where there is no such run. (A choice: ten signals, one every 2
+-- which is the first one from the end; none where there is no such run. (Our choice: ten signals, one every 2
 -- ms, take 20 ms.)
 unfoldable pub recognised : List ℕ → Option ℕ
 recognised pairs = first_of_ten (reverse pairs)

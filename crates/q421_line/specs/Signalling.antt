@@ -66,7 +66,7 @@ abbrev pub after_item : Role → Signalling → Item → Signalling
 after_item role line (signal heard) = after_signal role line heard
 after_item role line (command asked) = after_outcome line (outcome role asked line.state)
 
--- a line has heard nothing at first, and begins in Fault (a choice: it takes no call before the other end is
+-- a line has heard nothing at first, and begins in Fault (our choice: it takes no call before the other end is
 -- heard)
 abbrev pub at_first : Signalling
 at_first = record { pairs = []; state = Fault; seized_for = 0 }

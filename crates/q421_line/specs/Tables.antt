@@ -8,7 +8,7 @@ use Rattle.q421_line.specs.declared.State.TheVariants.{Idle, Seized, Acked, Answ
 use Rattle.q421_line.specs.declared.State.TheVariants.{ClearedBack, Releasing, Blocked, Fault}
 
 -- The pair that a line sends in a state (ITU-T Q.421): an outgoing line idle or clear-forward 10, seizing 00;
--- an incoming one idle 10, seizing acknowledged, clear-back and blocking 11, answer 01. (A choice: an
+-- an incoming one idle 10, seizing acknowledged, clear-back and blocking 11, answer 01. (Our choice: an
 -- incoming line in fault sends blocking, so that it is not seized.)
 unfoldable pub sent_pair : Role → State → ℕ
 sent_pair Outgoing Idle = 0b10
@@ -39,7 +39,7 @@ row at_10 at_11 at_01 at_00 pair =
     if pair == 0b10 then at_10 else (if pair == 0b11 then at_11 else (if pair == 0b01 then at_01 else at_00))
 
 -- The next state of an outgoing line by the backward pair (ITU-T Q.421): 10 is idle; 11 blocking, seizing
--- acknowledged or clear-back; 01 answer; 00 nothing. (Choices: a pair that means nothing in a state is a
+-- acknowledged or clear-back; 01 answer; 00 nothing. (Our choices: a pair that means nothing in a state is a
 -- fault, which the next idle or blocking ends; a release waits for idle alone, since whatever else is heard
 -- belongs to the call that is cleared.)
 abbrev pub next_outgoing : State → ℕ → State
@@ -53,7 +53,7 @@ next_outgoing ClearedBack = row Fault ClearedBack Answered Fault
 next_outgoing Releasing = row Idle Releasing Releasing Releasing
 
 -- The next state of an incoming line by the forward pair (ITU-T Q.421): 10 is idle or clear-forward; 00
--- seizing; 11 and 01, with bit b set, are unexpected. (Choices: clear-forward is answered by idle
+-- seizing; 11 and 01, with bit b set, are unexpected. (Our choices: clear-forward is answered by idle
 -- at once, since nothing else is to be released; a failure is a fault, which idle ends; a block is lifted by
 -- the operator alone, so that a blocked line passes over all that it hears.)
 abbrev pub next_incoming : State → ℕ → State
