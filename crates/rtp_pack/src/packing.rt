@@ -4,7 +4,7 @@ ghost use Rattle.std.specs.Prelude.{◌≡◌, []};
 ghost use Rattle.rtp_pack.specs.Payload.{IsWordSize, IsPayload, octets_of};
 
 use crate::OCTET_BITS;
-use crate::waiting::Waiting;
+use crate::bit_buffer::BitBuffer;
 use arrayvec::ArrayVec;
 
 /// Makes `out` the payload of these words of `bits` bits (RFC 3551, 4.5.4). What `out` held before is gone.
@@ -31,7 +31,7 @@ fn pack_across(bits: u8, words: &[u8], out: &mut ArrayVec<u8, 240>)
     requires empty { out.old.items ≡ [] }
     ensures { out.new.items ≡ octets_of bits words.now }
 {
-    let mut waiting = Waiting::none();
+    let mut waiting = BitBuffer::none();
     for word in words {
         waiting.push(*word, bits);
         if waiting.count >= OCTET_BITS {

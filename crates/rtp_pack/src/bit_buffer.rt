@@ -5,19 +5,19 @@ ghost use Rattle.std.specs.Prelude.{◌≡◌, ◌+◌, ◌*◌, ◌/◌, ◌%�
 // Bits that were taken in and not yet given out: the number that they make, the first of them lowest, and how
 // many they are.
 #[derive(Clone, Copy, Debug)]
-pub(crate) struct Waiting {
+pub(crate) struct BitBuffer {
     pub(crate) number: u16,
     pub(crate) count: u8,
     ghost fits: { number < 2 ^ count },
 }
 
-impl Waiting {
+impl BitBuffer {
     // No bit waits.
     pub(crate) fn none() -> Self
         ensures number { result.number ≡ 0 }
         ensures count { result.count ≡ 0 }
     {
-        Waiting {
+        BitBuffer {
             number: 0,
             count: 0,
         }
