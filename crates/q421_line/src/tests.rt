@@ -82,17 +82,9 @@ fn incoming_block(rt: HostRuntime) {
     assert_eq!(rt; line.command(Seize), Err(LineFault::WrongRole));
 }
 
-// A state of a line, and where the tables say that it leads.
-#[derive(Clone, Copy)]
-struct Row {
-    state: State,
-    // The steps from a new line to it.
-    route: &'static [Step],
-    sends: u8,
-    // The next states, by the pairs 10, 11, 01 and 00 for an outgoing line, 10, 00, 01 and 11 for an incoming
-    // one.
-    next: [State; 4],
-}
+// A state of a line: the steps from a new line to it, the pair that it sends, and the next states, by the pairs
+// 10, 11, 01 and 00.
+type Row = (State, &'static [Step], u8, [State; 4]);
 
 const IDLE: Step = Heard(0b1001, 10);
 
@@ -102,114 +94,87 @@ const ACKNOWLEDGED: Step = Heard(0b1101, 10);
 
 const ANSWERED: Step = Heard(0b0101, 10);
 
+const CALLED: Step = Asked(Seize);
+
 const OUTGOING: [Row; 8] = [
-    Row {
-        state: Fault,
-        route: &[],
-        sends: 0b10,
-        next: [Idle, Blocked, Fault, Fault],
-    },
-    Row {
-        state: Idle,
-        route: &[IDLE],
-        sends: 0b10,
-        next: [Idle, Blocked, Fault, Fault],
-    },
-    Row {
-        state: Blocked,
-        route: &[ACKNOWLEDGED],
-        sends: 0b10,
-        next: [Idle, Blocked, Fault, Fault],
-    },
-    Row {
-        state: Seized,
-        route: &[IDLE, Asked(Seize)],
-        sends: 0b00,
-        next: [Seized, Acked, Fault, Fault],
-    },
-    Row {
-        state: Acked,
-        route: &[IDLE, Asked(Seize), ACKNOWLEDGED],
-        sends: 0b00,
-        next: [Fault, Acked, Answered, Fault],
-    },
-    Row {
-        state: Answered,
-        route: &[IDLE, Asked(Seize), ACKNOWLEDGED, ANSWERED],
-        sends: 0b00,
-        next: [Fault, ClearedBack, Answered, Fault],
-    },
-    Row {
-        state: ClearedBack,
-        route: &[IDLE, Asked(Seize), ACKNOWLEDGED, ANSWERED, ACKNOWLEDGED],
-        sends: 0b00,
-        next: [Fault, ClearedBack, Answered, Fault],
-    },
-    Row {
-        state: Releasing,
-        route: &[IDLE, Asked(Seize), ACKNOWLEDGED, ANSWERED, Asked(Clear)],
-        sends: 0b10,
-        next: [Idle, Releasing, Releasing, Releasing],
-    },
+    (Fault, &[], 0b10, [Idle, Blocked, Fault, Fault]),
+    (Idle, &[IDLE], 0b10, [Idle, Blocked, Fault, Fault]),
+    (
+        Blocked,
+        &[ACKNOWLEDGED],
+        0b10,
+        [Idle, Blocked, Fault, Fault],
+    ),
+    (Seized, &[IDLE, CALLED], 0b00, [Seized, Acked, Fault, Fault]),
+    (
+        Acked,
+        &[IDLE, CALLED, ACKNOWLEDGED],
+        0b00,
+        [Fault, Acked, Answered, Fault],
+    ),
+    (
+        Answered,
+        &[IDLE, CALLED, ACKNOWLEDGED, ANSWERED],
+        0b00,
+        [Fault, ClearedBack, Answered, Fault],
+    ),
+    (
+        ClearedBack,
+        &[IDLE, CALLED, ACKNOWLEDGED, ANSWERED, ACKNOWLEDGED],
+        0b00,
+        [Fault, ClearedBack, Answered, Fault],
+    ),
+    (
+        Releasing,
+        &[IDLE, CALLED, ACKNOWLEDGED, ANSWERED, Asked(Clear)],
+        0b10,
+        [Idle, Releasing, Releasing, Releasing],
+    ),
 ];
 
 const INCOMING: [Row; 6] = [
-    Row {
-        state: Fault,
-        route: &[],
-        sends: 0b11,
-        next: [Idle, Fault, Fault, Fault],
-    },
-    Row {
-        state: Idle,
-        route: &[IDLE],
-        sends: 0b10,
-        next: [Idle, Acked, Fault, Fault],
-    },
-    Row {
-        state: Blocked,
-        route: &[IDLE, Asked(Block)],
-        sends: 0b11,
-        next: [Blocked, Blocked, Blocked, Blocked],
-    },
-    Row {
-        state: Acked,
-        route: &[IDLE, SEIZING],
-        sends: 0b11,
-        next: [Idle, Acked, Fault, Fault],
-    },
-    Row {
-        state: Answered,
-        route: &[IDLE, SEIZING, Asked(Answer)],
-        sends: 0b01,
-        next: [Idle, Answered, Fault, Fault],
-    },
-    Row {
-        state: ClearedBack,
-        route: &[IDLE, SEIZING, Asked(Answer), Asked(ClearBack)],
-        sends: 0b11,
-        next: [Idle, ClearedBack, Fault, Fault],
-    },
+    (Fault, &[], 0b11, [Idle, Fault, Fault, Fault]),
+    (Idle, &[IDLE], 0b10, [Idle, Fault, Fault, Acked]),
+    (
+        Blocked,
+        &[IDLE, Asked(Block)],
+        0b11,
+        [Blocked, Blocked, Blocked, Blocked],
+    ),
+    (Acked, &[IDLE, SEIZING], 0b11, [Idle, Fault, Fault, Acked]),
+    (
+        Answered,
+        &[IDLE, SEIZING, Asked(Answer)],
+        0b01,
+        [Idle, Fault, Fault, Answered],
+    ),
+    (
+        ClearedBack,
+        &[IDLE, SEIZING, Asked(Answer), Asked(ClearBack)],
+        0b11,
+        [Idle, Fault, Fault, ClearedBack],
+    ),
 ];
 
 // A line of this role, led to the state of a row.
 fn led(rt: &impl Abort, role: Role, row: &Row) -> Line {
+    let (state, route, sends, _) = *row;
     let mut line = Line::new(role);
-    for step in row.route {
+    for step in route {
         let _sent = give(rt, &mut line, *step);
     }
-    assert_eq!(rt; line.state(), row.state);
-    assert_eq!(rt; line.sent().get(), row.sends);
+    assert_eq!(rt; line.state(), state);
+    assert_eq!(rt; line.sent().get(), sends);
     assert_eq!(rt;
         line.open(),
-        matches!(row.state, Acked | Answered | ClearedBack)
+        matches!(state, Acked | Answered | ClearedBack)
     );
     line
 }
 
-fn follow_signals(rt: &impl Abort, role: Role, rows: &[Row], nibbles: [u8; 4]) {
+fn follow_signals(rt: &impl Abort, role: Role, rows: &[Row]) {
     for row in rows {
-        for (bits, next) in nibbles.iter().zip(row.next.iter()) {
+        for (bits, next) in [0b1001, 0b1101, 0b0101, 0b0001].iter().zip(row.3.iter()) {
             let mut line = led(rt, role, row);
             let _sent = give(rt, &mut line, Heard(*bits, 10));
             assert_eq!(rt; line.state(), *next);
@@ -220,86 +185,53 @@ fn follow_signals(rt: &impl Abort, role: Role, rows: &[Row], nibbles: [u8; 4]) {
 
 #[test]
 fn states_by_recognised_pair(rt: HostRuntime) {
-    follow_signals(&rt, Outgoing, &OUTGOING, [0b1001, 0b1101, 0b0101, 0b0001]);
-    follow_signals(&rt, Incoming, &INCOMING, [0b1001, 0b0001, 0b0101, 0b1101]);
+    follow_signals(&rt, Outgoing, &OUTGOING);
+    follow_signals(&rt, Incoming, &INCOMING);
 }
 
 // A command: for which role, from which states it leads to which, and its fault in the others.
-#[derive(Clone, Copy)]
-struct Order {
-    asked: Cmd,
-    role: Role,
-    from: &'static [State],
-    to: State,
-    fault: LineFault,
-}
+type Order = (Cmd, Role, &'static [State], State, LineFault);
 
 const ORDERS: [Order; 6] = [
-    Order {
-        asked: Seize,
-        role: Outgoing,
-        from: &[Idle],
-        to: Seized,
-        fault: LineFault::NotIdle,
-    },
-    Order {
-        asked: Clear,
-        role: Outgoing,
-        from: &[Seized, Acked, Answered, ClearedBack],
-        to: Releasing,
-        fault: LineFault::NotInCall,
-    },
-    Order {
-        asked: Answer,
-        role: Incoming,
-        from: &[Acked, ClearedBack],
-        to: Answered,
-        fault: LineFault::NotSeized,
-    },
-    Order {
-        asked: ClearBack,
-        role: Incoming,
-        from: &[Answered],
-        to: ClearedBack,
-        fault: LineFault::NotInCall,
-    },
-    Order {
-        asked: Block,
-        role: Incoming,
-        from: &[Idle],
-        to: Blocked,
-        fault: LineFault::NotIdle,
-    },
-    Order {
-        asked: Unblock,
-        role: Incoming,
-        from: &[Blocked],
-        to: Idle,
-        fault: LineFault::NotBlocked,
-    },
+    (Seize, Outgoing, &[Idle], Seized, LineFault::NotIdle),
+    (
+        Clear,
+        Outgoing,
+        &[Seized, Acked, Answered, ClearedBack],
+        Releasing,
+        LineFault::NotInCall,
+    ),
+    (
+        Answer,
+        Incoming,
+        &[Acked, ClearedBack],
+        Answered,
+        LineFault::NotSeized,
+    ),
+    (
+        ClearBack,
+        Incoming,
+        &[Answered],
+        ClearedBack,
+        LineFault::NotInCall,
+    ),
+    (Block, Incoming, &[Idle], Blocked, LineFault::NotIdle),
+    (Unblock, Incoming, &[Blocked], Idle, LineFault::NotBlocked),
 ];
-
-// What the order is answered in a line of this role and state.
-fn answer_to(order: &Order, role: Role, state: State) -> Result<(), LineFault> {
-    if order.role != role {
-        Err(LineFault::WrongRole)
-    } else if order.from.contains(&state) {
-        Ok(())
-    } else {
-        Err(order.fault)
-    }
-}
 
 fn follow_commands(rt: &impl Abort, role: Role, rows: &[Row]) {
     for row in rows {
-        for order in &ORDERS {
+        for (asked, for_role, from, to, fault) in ORDERS {
             let mut line = led(rt, role, row);
-            let answer = line.command(order.asked);
-            assert_eq!(rt; answer, answer_to(order, role, row.state));
-            assert_eq!(rt;
-                line.state(),
-                if answer.is_ok() { order.to } else { row.state }
-            );
+            let (answer, state) = if for_role != role {
+                (Err(LineFault::WrongRole), row.0)
+            } else if from.contains(&row.0) {
+                (Ok(()), to)
+            } else {
+                (Err(fault), row.0)
+            };
+            assert_eq!(rt; line.command(asked), answer);
+            assert_eq!(rt; line.state(), state);
         }
     }
 }
