@@ -18,6 +18,14 @@ use Rattle.gw_session.specs.Outcome.{answer_of, Session, Ends, EndsAll, EndsUnti
 use Rattle.gw_session.specs.Reader.{held, Brings, RunsOut, FailsToRead}
 use Rattle.gw_session.proofs.Writes.{Gives-none, Gives-join, Gives-end}
 
+abbrev pub made : ℕ → ℕ → ℕ → ℕ → ℕ → Totals
+made a b c d e = record { records = a; octets = b; datagrams = c; dropped = d; port_faults = e }
+
+-- equal counts are equal totals
+pub five : {a a' b b' c c' d d' e e' : ℕ} → a ≡ a' → b ≡ b' → c ≡ c' → d ≡ d' → e ≡ e'
+    → made a b c d e ≡ made a' b' c' d' e'
+five p q r s t = cc
+
 -- a fault that goes up is the one that was met
 pub goes_up : {T E : Type 0} {e : E} (P : E → Type 0) (r : Result T E) (f : E) → IsErrAnd r (λ y. y ≡ e) → e ≡ f → P f
     → IfErr r P
