@@ -60,7 +60,8 @@ pub record EndsAll (kinds : Kinds) (source source' : SourceState) (sink sink' : 
   pub ended : IsAtEnd source'.to_come
   pub totals_are : totals ≡ ends.0.totals
 
--- A write failed: good records stand first in the octets that the source gave, and so much was done with them.
+-- A write failed: good records stand first in the octets that the source gave, and so much was done with
+-- them.
 pub record FailsToWrite (kinds : Kinds) (source source' : SourceState) (sink sink' : SinkState)
     (Begun : List Record → Type 0) : Type 0 where
   pub octets : List ℕ
@@ -72,8 +73,8 @@ pub record FailsToWrite (kinds : Kinds) (source source' : SourceState) (sink sin
   pub no_read : source'.failures ≡ source.failures
 
 -- How a session ends before the end of its source: with the fault of the record that is not good, cut only
--- where the source is at its end; by a read, which failed, or there were 2 ^ 62 of them, each of which gave an
--- octet; by a write; or for want of memory, with all as it was.
+-- where the source is at its end; by a read, which failed, or there were 2 ^ 62 of them, each of which gave
+-- an octet; by a write; or for want of memory, with all as it was.
 abbrev pub EndsUntil : Kinds → SourceState → SourceState → SinkState → SinkState
     → (Totals → List Record → Type 0) → (List Record → Type 0) → Type 0 → RunFault → Type 0
 EndsUntil kinds source source' sink sink' Done Begun kept faults.BadKind =
