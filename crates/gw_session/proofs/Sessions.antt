@@ -58,7 +58,7 @@ starts a c reader none left = record {
 }
 
 -- the first record is taken
-pub take_record : (kinds : Kinds) (octets held : List ℕ) (records : List Record) (f : First)
+take_record : (kinds : Kinds) (octets held : List ℕ) (records : List Record) (f : First)
     → octets ≡ flat_map spelled records ++ held → IsFirst kinds f held
     → octets ≡ flat_map spelled (records ++ record_at f held ∷ []) ++ drop f.len held
 take_record kinds octets held records f e first =
