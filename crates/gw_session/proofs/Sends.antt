@@ -1,9 +1,9 @@
 -- Octets that are heard and sent one after another.
-use Rattle.std.proofs.Common.{◌≡◌, ◌+◌, ◌-◌, ◌^◌, ◌<◌, ◌++◌, ◌∷◌, [], ℕ, Bool, min, List, length}
+use Rattle.std.proofs.Common.{◌≡◌, ◌++◌, ◌∷◌, [], ℕ, List, length}
 use Rattle.std.proofs.Common.{take, refl, sym, ap, ◌∙◌, subst, append_assoc, append-nil, length-append, arith}
 use Rattle.std.proofs.Math.Seq.{take-append_seam}
 use Rattle.std.specs.List.{flat_map}
-use Rattle.std.specs.Prelude.{map, Option, Some, None, Result, Ok, Err, OnOk, is_some, option_map}
+use Rattle.std.specs.Prelude.{map, Result, Ok, Err, OnOk}
 use Rattle.std.proofs.lemmas.List.{map-append}
 use Rattle.byteorder.specs.Endian.{big_bytes}
 use Rattle.gw_switch.specs.declared.GatewayConfig.{GatewayConfig}
@@ -22,7 +22,7 @@ use Rattle.gw_session.specs.Acting.{octets_for, packets_for, answer_to, with_dat
 use Rattle.gw_session.specs.Acting.{SendsBehind, SendsAll, Sends, StopsAt, StopsIn, Acts}
 use Rattle.gw_session.proofs.Writes.{Passes-none, Passes-join, Passes-same, AppendsPrefix-same, AppendsPrefix-more}
 use Rattle.gw_session.proofs.Writes.{AppendsPrefix-behind}
-use Rattle.gw_session.proofs.Taking.{more_octets}
+use Rattle.gw_session.proofs.Sessions.{more_octets}
 use Rattle.gw_session.proofs.Turns.{counted-more}
 use Rattle.gw_session.proofs.Replies.{octets_for-none, packets_for-none, octets_for-append, packets_for-append}
 use Rattle.gw_session.proofs.Replies.{octets_for-one, packets_for-one, written-append, trunk_answer, octets_for-length}

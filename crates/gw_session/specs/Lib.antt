@@ -1,13 +1,10 @@
 pub mod Streams
 pub mod Records
-pub mod Reading
 pub mod Reader
 pub mod Laws
+pub mod Outcome
 pub mod Encode
-pub mod Packets
 pub mod Decode
-pub mod Sessions
-pub mod Faults
 pub mod Answers
 pub mod Running
 pub mod Acting

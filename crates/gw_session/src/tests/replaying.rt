@@ -2,9 +2,9 @@
 ghost use Rattle.std.specs.Prelude.{◌≡◌, ◌<◌, ◌≤◌};
 
 use super::calls::{Session, Trunk, Written, take_apart};
+use super::done;
 use super::gateways::{neighbours, outgoing};
 use super::memory::{MemSink, MemSource};
-use crate::outcome::NO_TOTALS;
 use crate::{RunFault, Totals, run};
 use g704_cas::CircuitNo;
 use gw_circuit::Status;
@@ -94,15 +94,7 @@ fn sends_first_call(trunk: &[u8]) -> bool {
 #[test]
 fn first_call(rt: HostRuntime) -> Result<(), Fail> {
     let first = first_call_cut(rt.alloc(), 65_535, 131_078)?;
-    assert!(rt;
-        first.ended
-            == Ok(Totals {
-                records: 3,
-                octets: 15_906,
-                datagrams: 1,
-                ..NO_TOTALS
-            })
-    );
+    assert!(rt; first.ended == done(3, 15_906, 1, 0, 0));
     assert!(rt; sends_first_call(first.written.trunk.as_slice()));
     assert!(rt;
         first.written.answers.as_slice() == [0x52, 0x01, 0x00, 0x02, 0x43, 0x00].as_slice()
@@ -162,17 +154,10 @@ fn longest_record(rt: HostRuntime) -> Result<(), Fail> {
     let mut session = Session::new(rt.alloc());
     session.add_trunk(Trunk::Idle, 0, 65_535, 65_535)?;
     for most in [1, 131_078] {
-        let done = replay_first(rt.alloc(), &session, most)?;
-        assert!(rt;
-            done.ended
-                == Ok(Totals {
-                    records: 1,
-                    octets: 65_535,
-                    ..NO_TOTALS
-                })
-        );
-        assert!(rt; done.written.trunk.len() == 65_535);
-        assert!(rt; done.written.answers.is_empty() && done.written.datagrams.is_empty());
+        let longest = replay_first(rt.alloc(), &session, most)?;
+        assert!(rt; longest.ended == done(1, 65_535, 0, 0, 0));
+        assert!(rt; longest.written.trunk.len() == 65_535);
+        assert!(rt; longest.written.answers.is_empty() && longest.written.datagrams.is_empty());
     }
     Ok(())
 }
@@ -231,15 +216,7 @@ fn refusals_when_full(rt: HostRuntime) -> Result<(), Fail> {
         session.add_datagram(1, payload_type, timestamp, len)?;
     }
     let call = replay_first(rt.alloc(), &session, 131_078)?;
-    assert!(rt;
-        call.ended
-            == Ok(Totals {
-                records: 8,
-                octets: 10_801,
-                dropped: 3,
-                ..NO_TOTALS
-            })
-    );
+    assert!(rt; call.ended == done(8, 10_801, 0, 3, 0));
     let answers = call.written.answers.as_slice();
     assert!(rt; answers.len() == 36);
     for (place, code) in [(1, 0), (2, 0), (3, 16), (4, 15), (5, 11)] {

@@ -7,7 +7,8 @@ use Rattle.gw_switch.specs.Whole.{Reply}
 use Rattle.gw_session.specs.Answers.{code_of}
 use Rattle.gw_session.specs.Records.{Record}
 use Rattle.gw_session.specs.Acting.{Takes}
-use Rattle.gw_session.proofs.Acted.{five, trunk_totals, refused_once, answer_given}
+use Rattle.gw_session.proofs.Acted.{trunk_totals, refused_once, answer_given}
+use Rattle.gw_session.proofs.Sessions.{five}
 use Rattle.gw_session.proofs.Sends.{on_ok, ok_same}
 use Rattle.gw_session.proofs.sending.Underway.act.Goals as goal
 
