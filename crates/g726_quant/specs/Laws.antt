@@ -1,6 +1,5 @@
 -- Laws of the definitions of ITU-T G.726.
-use Rattle.std.specs.Prelude.{ℕ, ◌≡◌, ◌≢◌, ◌^◌, ◌<◌, ◌≤◌, ℤ, pos, negsuc, ◌+ℤ◌, ◌*ℤ◌, ◌≤ℤ◌, Bool}
-use Rattle.std.specs.Prelude.{IsTrue}
+use Rattle.std.specs.Prelude.{ℕ, ◌≡◌, ◌≢◌, ◌^◌, ◌<◌, ◌≤◌, ℤ, pos, negsuc, ◌+ℤ◌, ◌*ℤ◌, ◌≤ℤ◌, Bool, IsTrue}
 use Rattle.g726_quant.specs.Arithmetic.{wrap16, number_of_bits}
 use Rattle.g726_quant.specs.Tables.{RateTables, magnitudes, has_its_places}
 use Rattle.g726_quant.specs.Blocks.{log, subtb, quan_word, word_magnitude, quantised}
