@@ -19,8 +19,7 @@ text_of G40 = codes "g726-40"
 
 -- the name of this text, if it is one
 abbrev pub codec_named : List ℕ → Option CodecName
-codec_named text =
-    find (λ name. bytes_eq text (text_of name)) (Pcma ∷ Pcmu ∷ G16 ∷ G24 ∷ G32 ∷ G40 ∷ [])
+codec_named text = find (λ name. bytes_eq text (text_of name)) (Pcma ∷ Pcmu ∷ G16 ∷ G24 ∷ G32 ∷ G40 ∷ [])
 
 -- the name of a codec on a trunk of a law
 abbrev pub name_of : Law → CodecKind → CodecName
