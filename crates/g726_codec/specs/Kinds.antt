@@ -71,20 +71,10 @@ pub record CodecState : Type 0 where
 
 -- a codec whose encoder has given words, and one whose decoder has taken words
 abbrev pub after_encoding : CodecState → List ℕ → CodecState
-after_encoding c words = record {
-  law = c.law;
-  kind = c.kind;
-  encoder = after_by (tables_of c.kind) c.encoder words;
-  decoder = c.decoder;
-}
+after_encoding c words = record c { encoder = after_by (tables_of c.kind) c.encoder words }
 
 abbrev pub after_decoding : CodecState → List ℕ → CodecState
-after_decoding c words = record {
-  law = c.law;
-  kind = c.kind;
-  encoder = c.encoder;
-  decoder = after_by (tables_of c.kind) c.decoder words;
-}
+after_decoding c words = record c { decoder = after_by (tables_of c.kind) c.decoder words }
 
 -- a codec after these octets to encode and these words to decode, since its reset
 abbrev pub codec_after : Law → CodecKind → List ℕ → List ℕ → CodecState

@@ -7,21 +7,18 @@ use Rattle.g726_codec.specs.declared.CodecKind.TheVariants.{G711}
 
 -- a word for each octet, and an octet for each word
 abbrev pub WordsAreCounted : Type 0
-WordsAreCounted =
-    (law : Law) (kind : CodecKind)
+WordsAreCounted = (law : Law) (kind : CodecKind)
     → ((octets : List ℕ) → length (enc law kind octets) ≡ length octets)
     × ((words : List ℕ) → length (dec law kind words) ≡ length words)
 
 -- each word is below 2 ^ bits
 abbrev pub WordsFit : Type 0
-WordsFit =
-    (law : Law) (kind : CodecKind) (octets : List ℕ) → All (λ octet. octet < 256) octets
+WordsFit = (law : Law) (kind : CodecKind) (octets : List ℕ) → All (λ octet. octet < 256) octets
     → All (λ word. word < 2 ^ bits_of kind) (enc law kind octets)
 
 -- the words of a prefix are a prefix of the words
 abbrev pub PrefixesComeFirst : Type 0
-PrefixesComeFirst =
-    (law : Law) (kind : CodecKind)
+PrefixesComeFirst = (law : Law) (kind : CodecKind)
     → ((octets later : List ℕ) → take (length octets) (enc law kind (octets ++ later)) ≡ enc law kind octets)
     × ((words later : List ℕ) → take (length words) (dec law kind (words ++ later)) ≡ dec law kind words)
 
@@ -36,6 +33,5 @@ OctetsAreWords =
 
 -- a codec of G.711 keeps nothing of what it was given
 abbrev pub NothingIsKept : Type 0
-NothingIsKept =
-    (law : Law) (octets words : List ℕ)
+NothingIsKept = (law : Law) (octets words : List ℕ)
     → codec_after law G711 octets words ≡ codec_after law G711 [] []

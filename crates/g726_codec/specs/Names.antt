@@ -1,5 +1,5 @@
 -- The names of codecs, in configurations, listings and command lines (RFC 3551 has them in capitals).
-use Rattle.std.specs.Prelude.{ℕ, List, Option, Some, None, codes, if◌then◌else◌}
+use Rattle.std.specs.Prelude.{ℕ, List, [], ◌∷◌, Option, find, codes}
 use Rattle.std.specs.Str.{bytes_eq}
 use Rattle.e1_g711.specs.declared.Law.{Law}
 use Rattle.e1_g711.specs.declared.Law.TheVariants.{A, Mu}
@@ -19,14 +19,7 @@ text_of G40 = codes "g726-40"
 
 -- the name of this text, if it is one
 abbrev pub codec_named : List ℕ → Option CodecName
-codec_named text =
-    if bytes_eq text (text_of Pcma) then Some Pcma
-    else if bytes_eq text (text_of Pcmu) then Some Pcmu
-    else if bytes_eq text (text_of G16) then Some G16
-    else if bytes_eq text (text_of G24) then Some G24
-    else if bytes_eq text (text_of G32) then Some G32
-    else if bytes_eq text (text_of G40) then Some G40
-    else None
+codec_named text = find (λ name. bytes_eq text (text_of name)) (Pcma ∷ Pcmu ∷ G16 ∷ G24 ∷ G32 ∷ G40 ∷ [])
 
 -- the name of a codec on a trunk of a law
 abbrev pub name_of : Law → CodecKind → CodecName

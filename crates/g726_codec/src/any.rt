@@ -4,7 +4,7 @@ ghost use Rattle.std.specs.List.{All};
 ghost use Rattle.g726_codec.specs.Codec.{at_reset};
 ghost use Rattle.g726_codec.specs.Kinds.{bits_of, tables_of, word_by, octet_by, words_by, enc, dec};
 ghost use Rattle.g726_codec.specs.Kinds.{codec_after, after_encoding, after_decoding};
-ghost use Rattle.g726_codec.specs.Views.{kind_of, encoder_of, decoder_of, state_of};
+ghost use Rattle.g726_codec.specs.Views.{kind_of, state_of};
 
 use crate::{CodecKind, Decoder, Encoder};
 use e1_g711::Law;
@@ -50,7 +50,7 @@ impl Codec {
     #[inline(always)]
     fn encode(&mut self, law: Law, octet: u8) -> u8
         ensures bound { result < 2 ^ bits_of (kind_of self.old) }
-        ensures word { result ≡ word_by (tables_of (kind_of self.old)) law (encoder_of self.old) octet }
+        ensures word { result ≡ word_by (tables_of (kind_of self.old)) law (state_of law self.old).encoder octet }
         ensures state { state_of law self.new ≡ after_encoding (state_of law self.old) (result ∷ []) }
     {
         match self {
@@ -66,7 +66,7 @@ impl Codec {
         ensures len { length octets.new ≡ length octets.old }
         ensures fit { All (λ word. word < 2 ^ bits_of (kind_of self.old)) octets.new }
         ensures words { octets.new
-            ≡ words_by (tables_of (kind_of self.old)) law (encoder_of self.old) octets.old }
+            ≡ words_by (tables_of (kind_of self.old)) law (state_of law self.old).encoder octets.old }
         ensures state { state_of law self.new ≡ after_encoding (state_of law self.old) octets.new }
     {
         match self {
@@ -81,7 +81,7 @@ impl Codec {
     #[inline(always)]
     fn decode(&mut self, law: Law, word: u8) -> u8
         requires { word < 2 ^ bits_of (kind_of self.old) }
-        ensures octet { result ≡ octet_by (tables_of (kind_of self.old)) law (decoder_of self.old) word }
+        ensures octet { result ≡ octet_by (tables_of (kind_of self.old)) law (state_of law self.old).decoder word }
         ensures state { state_of law self.new ≡ after_decoding (state_of law self.old) (word ∷ []) }
     {
         match self {

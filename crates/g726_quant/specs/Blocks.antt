@@ -1,7 +1,6 @@
 -- The adaptive quantiser of ITU-T G.726 and its inverse, by the blocks of the Recommendation.
 use Rattle.std.specs.Prelude.{ℕ, ◌+◌, ◌-◌, ◌*◌, ◌/◌, ◌%◌, ◌^◌, ℤ, pos, ◌+ℤ◌, ◌-ℤ◌, Bool, ◌&&◌, ◌||◌, ◌==◌}
-use Rattle.std.specs.Prelude.{nat_le, nat_lt}
-use Rattle.std.specs.Prelude.{List, count_by, slice_index_or, unsigned_abs, if◌then◌else◌}
+use Rattle.std.specs.Prelude.{nat_le, nat_lt, List, count_by, slice_index_or, unsigned_abs, if◌then◌else◌}
 use Rattle.std.specs.Int.{int_rem_euclid, is_negative}
 use Rattle.std.specs.Int.RustNames.{int_le}
 use Rattle.g726_quant.specs.Arithmetic.{number_of_bits}

@@ -71,8 +71,7 @@ magnitudes bits = 2 ^ (bits - 1)
 
 -- a word has 2 to 5 bits, each table has a place for each magnitude, and thresholds lie between magnitudes
 abbrev pub has_its_places : RateTables → Bool
-has_its_places r =
-    nat_le 2 r.bits && nat_le r.bits 5 && (length r.thresholds + 1 == magnitudes r.bits)
+has_its_places r = nat_le 2 r.bits && nat_le r.bits 5 && (length r.thresholds + 1 == magnitudes r.bits)
     && (length r.log_levels == magnitudes r.bits) && (length r.multipliers == magnitudes r.bits)
     && (length r.speed_values == magnitudes r.bits)
 
@@ -90,8 +89,7 @@ abbrev pub is_within : ℤ → ℤ → ℤ → Bool
 is_within low high z = int_le low z && int_le z high
 
 abbrev pub is_in_range : RateTables → Bool
-is_in_range r =
-    list_all (is_within (negsuc 2047) (pos 2047)) r.thresholds
+is_in_range r = list_all (is_within (negsuc 2047) (pos 2047)) r.thresholds
     && list_all (is_within (negsuc 2047) (pos 566)) r.log_levels
     && list_all (is_within (negsuc 21) (pos 1122)) r.multipliers
     && list_all (λ f. nat_le f 7) r.speed_values

@@ -1,8 +1,7 @@
 //! Laws of the definitions, each proved by a function that does nothing.
 
 ghost use Rattle.g726_quant.specs.Laws.{WrapsTo16Bits, NumberOfBitsIsLeast, DlnHasTwelveBits};
-ghost use Rattle.g726_quant.specs.Laws.{AllZerosNeverSent};
-ghost use Rattle.g726_quant.specs.Laws.{MagnitudesComeBack};
+ghost use Rattle.g726_quant.specs.Laws.{AllZerosNeverSent, MagnitudesComeBack};
 
 /// `wrap16` gives a number of 16 bits that differs by a multiple of 65536.
 pub fn wraps_to_16_bits()

@@ -36,15 +36,13 @@ pub trait Rate: Copy {
     fn speed_values() -> &'static [u8]
         ensures { result.now ≡ tables.speed_values };
 
-    ghost bits_are: { BITS ≡ tables.bits };
-
-    ghost leak_is: { LEAK ≡ tables.leak };
-
-    ghost places: { IsTrue (has_its_places tables) };
-
-    ghost rising: { IsTrue (is_rising tables.thresholds) };
-
-    ghost ranges: { IsTrue (is_in_range tables) };
+    ghost laws: { record {
+      bits : BITS ≡ tables.bits;
+      leak : LEAK ≡ tables.leak;
+      places : IsTrue (has_its_places tables);
+      rising : IsTrue (is_rising tables.thresholds);
+      ranges : IsTrue (is_in_range tables);
+    } };
 }
 
 /// 16 kbit/s, two bits a word.
@@ -78,15 +76,7 @@ impl Rate for R16 {
         &[0, 7]
     }
 
-    ghost bits_are = { refl };
-
-    ghost leak_is = { refl };
-
-    ghost places = { refl };
-
-    ghost rising = { refl };
-
-    ghost ranges = { refl };
+    ghost laws = { record { bits = refl; leak = refl; places = refl; rising = refl; ranges = refl } };
 }
 
 /// 24 kbit/s, three bits a word.
@@ -120,15 +110,7 @@ impl Rate for R24 {
         &[0, 1, 2, 7]
     }
 
-    ghost bits_are = { refl };
-
-    ghost leak_is = { refl };
-
-    ghost places = { refl };
-
-    ghost rising = { refl };
-
-    ghost ranges = { refl };
+    ghost laws = { record { bits = refl; leak = refl; places = refl; rising = refl; ranges = refl } };
 }
 
 /// 32 kbit/s, four bits a word.
@@ -162,15 +144,7 @@ impl Rate for R32 {
         &[0, 0, 0, 1, 1, 1, 3, 7]
     }
 
-    ghost bits_are = { refl };
-
-    ghost leak_is = { refl };
-
-    ghost places = { refl };
-
-    ghost rising = { refl };
-
-    ghost ranges = { refl };
+    ghost laws = { record { bits = refl; leak = refl; places = refl; rising = refl; ranges = refl } };
 }
 
 /// 40 kbit/s, five bits a word.
@@ -210,15 +184,7 @@ impl Rate for R40 {
         &[0, 0, 0, 0, 0, 1, 1, 1, 1, 1, 2, 3, 4, 5, 6, 6]
     }
 
-    ghost bits_are = { refl };
-
-    ghost leak_is = { refl };
-
-    ghost places = { refl };
-
-    ghost rising = { refl };
-
-    ghost ranges = { refl };
+    ghost laws = { record { bits = refl; leak = refl; places = refl; rising = refl; ranges = refl } };
 }
 
 /// WI, the multiplier of the scale factor at a magnitude of the rate (ITU-T G.726, block FUNCTW).

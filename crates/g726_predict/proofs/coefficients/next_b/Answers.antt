@@ -1,4 +1,4 @@
-use Rattle.std.proofs.Common.{◌≡◌, ℕ, pos, length, rules, get_or, SFits, nat_le, ℤ, Bool, to_z, of_z, w16, w32}
+use Rattle.std.proofs.Common.{◌≡◌, ℕ, pos, rules, get_or, SFits, nat_le, ℤ, Bool, to_z, of_z, w16, w32}
 use Rattle.std.proofs.lemmas.Int.{to_z-of_z}
 use Rattle.g726_predict.specs.Coefficients.{updated_b}
 use Rattle.g726_predict.specs.Predictor.{trigb}
@@ -24,29 +24,19 @@ lane leak b magnitude negative minus tr h =
 
 pub update_b-requires-clause-fits : goal.update_b-requires-clause-fits
 update_b-requires-clause-fits g c =
-    let bs = c.args.coefficients in
-    let long : length bs ≡ 8 = search rules in
-    let fit = at_lane (SFits w16) (pos 0) bs long c.requires in
-    rw (eight (pos 0) bs long) (all_lanes (λ i h. in_fits (get_or bs i (pos 0)) (fit i h)))
+    let fit = at_lane (SFits w16) (pos 0) c.args.coefficients (search rules) c.requires in
+    rw (eight (pos 0) c.args.coefficients (search rules)) (all_lanes (λ i h. in_fits _ (fit i h)))
 
 pub overflow_cast-result : goal.overflow_cast-result
 overflow_cast-result g c =
-    let bs = c.args.coefficients in
-    let ws = c.args.words in
-    let long : length bs ≡ 8 = search rules in
-    let long_words : length ws ≡ 8 = search rules in
-    rw (c.update_b.ensures, eight (pos 0) bs long, eight 0 ws long_words)
+    rw (c.update_b.ensures, eight (pos 0) c.args.coefficients (search rules), eight 0 c.args.words (search rules))
     (all_lanes (λ i h. out_fits _ (updated_fits g.R.Rate.tables.leak
-    (to_z w32 (of_z w32 (to_z w16 (of_z w16 (get_or bs i (pos 0)))))) c.args.magnitude c.args.negative
-    (nat_le 1024 (get_or ws i 0)) c.args.tr)))
+    (to_z w32 (of_z w32 (to_z w16 (of_z w16 (get_or c.args.coefficients i (pos 0)))))) c.args.magnitude c.args.negative
+    (nat_le 1024 (get_or c.args.words i 0)) c.args.tr)))
 
 pub returns : goal.returns
 returns g c =
-    let bs = c.args.coefficients in
-    let ws = c.args.words in
-    let long : length bs ≡ 8 = search rules in
-    let long_words : length ws ≡ 8 = search rules in
-    let fit = at_lane (SFits w16) (pos 0) bs long c.requires in
-    rw (c.update_b.ensures, eight (pos 0) bs long, eight 0 ws long_words)
-    (same_lanes (λ i h. lane g.R.Rate.tables.leak (get_or bs i (pos 0)) c.args.magnitude c.args.negative
-    (nat_le 1024 (get_or ws i 0)) c.args.tr (fit i h)))
+    let fit = at_lane (SFits w16) (pos 0) c.args.coefficients (search rules) c.requires in
+    rw (c.update_b.ensures, eight (pos 0) c.args.coefficients (search rules), eight 0 c.args.words (search rules))
+    (same_lanes (λ i h. lane g.R.Rate.tables.leak _ c.args.magnitude c.args.negative
+    (nat_le 1024 (get_or c.args.words i 0)) c.args.tr (fit i h)))

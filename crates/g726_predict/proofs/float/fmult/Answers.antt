@@ -13,10 +13,8 @@ product_magnitudes-magnitudes-requires-clause-magnitudes c =
 
 pub returns : goal.returns
 returns c =
-    let xs = c.args.coefficients in
-    let ws = c.args.words in
-    let xs_fit = at_lane (λ x. x < 65536) 0 xs c.requires.eight c.requires.coefficients in
-    let ws_fit = at_lane (λ w. w < 2048) 0 ws c.requires.eight_words c.requires.words in
-    rw (c.product_magnitudes-magnitudes.ensures, c.coefficient_magnitudes.ensures, eight 0 xs c.requires.eight)
-    (rw (eight 0 ws c.requires.eight_words)
-    (same_lanes (λ i h. fmult_is (get_or xs i 0) (get_or ws i 0) (xs_fit i h) (ws_fit i h))))
+    let few = at_lane (λ x. x < 65536) 0 c.args.coefficients c.requires.eight c.requires.coefficients in
+    let words_few = at_lane (λ w. w < 2048) 0 c.args.words c.requires.eight_words c.requires.words in
+    rw (c.product_magnitudes-magnitudes.ensures, c.coefficient_magnitudes.ensures)
+    (rw (eight 0 c.args.coefficients c.requires.eight) (rw (eight 0 c.args.words c.requires.eight_words)
+    (same_lanes (λ i h. fmult_is _ _ (few i h) (words_few i h)))))

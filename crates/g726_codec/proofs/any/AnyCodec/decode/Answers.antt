@@ -1,4 +1,5 @@
-use Rattle.g726_codec.proofs.EachKind.{octets_of_one, next_octets_of, stands_after_words}
+use Rattle.std.proofs.Common.{◌∙◌}
+use Rattle.g726_codec.proofs.EachKind.{octets_of_one, after_words}
 use Rattle.g726_codec.proofs.any.AnyCodec.decode.Goals as goal
 
 pub returns-clause-octet : goal.returns-clause-octet
@@ -9,9 +10,10 @@ returns-clause-state c = rw (← c.self.view_is) c.decode.ensures.state
 
 pub returns-clause-octets : goal.returns-clause-octets
 returns-clause-octets c =
-    λ law kind octets words stands. next_octets_of law kind octets words _ _ _ stands
-    (octets_of_one c.args.self.now _ _ (returns-clause-octet c))
+    λ law kind octets words stands. (after_words law kind octets words _ _
+    (octets_of_one _ _ _ _ _ (rw stands at (returns-clause-octet c)))).0
 
 pub returns-clause-stands : goal.returns-clause-stands
 returns-clause-stands c =
-    λ law kind octets words stands. stands_after_words law kind octets words _ _ _ stands (returns-clause-state c)
+    λ law kind octets words stands. (rw stands at (returns-clause-state c))
+    ∙ (after_words law kind octets words _ _ (octets_of_one _ _ _ _ _ (rw stands at (returns-clause-octet c)))).1

@@ -1,4 +1,5 @@
-use Rattle.g726_codec.proofs.EachKind.{next_words_of, stands_after_octets}
+use Rattle.std.proofs.Common.{◌∙◌}
+use Rattle.g726_codec.proofs.EachKind.{after_octets}
 use Rattle.g726_codec.proofs.any.AnyCodec.encode_all.Goals as goal
 
 pub returns-clause-coded : goal.returns-clause-coded
@@ -9,9 +10,9 @@ returns-clause-state c = rw (← c.self.view_is) c.encode_all.ensures.state
 
 pub returns-clause-words : goal.returns-clause-words
 returns-clause-words c =
-    λ law kind given words stands. next_words_of law kind given words _ _ _ stands (returns-clause-coded c)
+    λ law kind given words stands. (after_octets law kind given words _ _ (rw stands at (returns-clause-coded c))).0
 
 pub returns-clause-stands : goal.returns-clause-stands
 returns-clause-stands c =
-    λ law kind given words stands. stands_after_octets law kind given words _ _ _ _ stands
-    (returns-clause-coded c) (returns-clause-state c)
+    λ law kind given words stands. (rw stands at (returns-clause-state c))
+    ∙ (after_octets law kind given words _ _ (rw stands at (returns-clause-coded c))).1

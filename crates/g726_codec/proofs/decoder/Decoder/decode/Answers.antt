@@ -1,4 +1,4 @@
-use Rattle.std.proofs.Common.{rules, w16, SFits, refl, ap, ℕ, Some, [], ◌∷◌}
+use Rattle.std.proofs.Common.{rules, ap, ℕ, Some, [], ◌∷◌}
 use Rattle.std.proofs.lemmas.Int.{to_z-of_z}
 use Rattle.g726_codec.specs.Codec.{sync, decoded, after_words}
 use Rattle.g726_codec.proofs.Histories.{next_octets, next_decoder}
@@ -7,15 +7,7 @@ use Rattle.g726_codec.proofs.decoder.Decoder.decode.Goals as goal
 pub returns-clause-octet : goal.returns-clause-octet
 unfolding sync
 returns-clause-octet g c =
-    let sr_fits : SFits w16 c.step-sr.result = search rules in
-    let signal = c.step-sr.ensures.signal in
-    let sp = simp to_z-of_z at c.compress-sp.ensures.value in
-    let id = c.order-id.ensures.value in
-    let im = c.order-im.ensures.value in
-    let word = c.word_of.ensures in
-    let estimate = c.forecast-forecast.ensures.estimate in
-    let scale = c.forecast-forecast.ensures.scale in
-    rw (c.adjusted.ensures, im, id, word, sp, signal, estimate, scale, ← c.self.view_is) refl
+    rw (← c.self.view_is) (search (rules, to_z-of_z))
 
 pub returns-clause-state : goal.returns-clause-state
 returns-clause-state g c = rw (← c.self.view_is) c.step-sr.ensures.state

@@ -1,13 +1,12 @@
-use Rattle.std.proofs.Common.{refl, ap, ℕ, Some, [], ◌∷◌}
+use Rattle.std.proofs.Common.{rules, ap, ℕ, Some, [], ◌∷◌}
+use Rattle.std.proofs.lemmas.Int.{to_z-of_z}
 use Rattle.g726_codec.specs.Codec.{encoded, after_words, after_octets}
 use Rattle.g726_codec.proofs.Histories.{next_words, next_encoder}
 use Rattle.g726_codec.proofs.encoder.Encoder.encode.Goals as goal
 
 pub returns-clause-word : goal.returns-clause-word
 returns-clause-word g c =
-    let estimate = c.forecast-forecast.ensures.estimate in
-    let scale = c.forecast-forecast.ensures.scale in
-    rw (c.word_of-word.ensures, estimate, scale, ← c.self.view_is) refl
+    rw (← c.self.view_is) (search (rules, to_z-of_z))
 
 pub returns-clause-state : goal.returns-clause-state
 returns-clause-state g c = rw (← c.self.view_is) c.step.ensures.state

@@ -17,5 +17,5 @@ returns-clause-state g c = (all_coded _ _ _ _ _ _ _ c.loop-octet.invariant (omeg
 
 pub returns-clause-fit : goal.returns-clause-fit
 returns-clause-fit g c =
-    let few = thresholds_fit g.R.Rate.tables g.met.R.Rate.places in
+    let few = thresholds_fit g.R.Rate.tables g.met.R.Rate.laws.places in
     rw (returns-clause-words g c) (words_fit g.R.Rate.tables c.args.law few _ _)
