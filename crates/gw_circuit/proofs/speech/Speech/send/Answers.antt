@@ -1,6 +1,6 @@
 use Rattle.std.proofs.Common.{◌≡◌, [], ◌∷◌, ◌++◌, ap, ◌∙◌, rules, arith}
 use Rattle.rtp_packet.specs.Rtp.{plain_datagram}
-use Rattle.rtp_playout.specs.Drawn.{drawn_words}
+use Rattle.rtp_playout.specs.Order.{drawn_words}
 use Rattle.gw_circuit.proofs.Hearing.{heard-full}
 use Rattle.gw_circuit.proofs.speech.Speech.send.Goals as goal
 
