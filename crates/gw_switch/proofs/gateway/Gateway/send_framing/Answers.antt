@@ -8,7 +8,7 @@ use Rattle.g704_cas.specs.Numbers.{frame_with}
 use Rattle.gw_switch.proofs.Rounds.{none_in_zero, none_in_first, frame_with-low, frame_with-high}
 use Rattle.gw_switch.proofs.Sendings.{sent_at, sends_frame, sends_multiframe}
 use Rattle.gw_switch.proofs.Sendings.{slot_of-not16, slot_of-not0, frame_with-not0}
-use Rattle.gw_switch.proofs.Views.{stay, octets-push_octet, sees_nothing, sees_abcd, sees_no_abcd, sees_some}
+use Rattle.gw_switch.proofs.Views.{stay, octets-append, sees_nothing, sees_abcd, sees_no_abcd, sees_some}
 use Rattle.gw_switch.proofs.gateway.Gateway.send_framing.Goals as goal
 
 -- slot 0
@@ -30,7 +30,7 @@ returns-then-slot-eq0-clause-stands c = λ config events o h divides.
     let s = octets events ++ o ∷ [] in
     let zero = sym (c.slot.ensures.value s n h.trunk) ∙ c.if-slot-eq0.true in
     record {
-      trunk = rw (octets-push_octet events o) (c.pass_turn.ensures s n h.trunk (none_in_zero n zero));
+      trunk = rw (octets-append events (Event.Octet o ∷ [])) (c.pass_turn.ensures s n h.trunk (none_in_zero n zero));
       circuits = stay config _ events (Event.Octet o) h.circuits (λ k low.
           sees_nothing k s n (λ e. slot_of-not0 k low (sym e ∙ zero)) (omega (arith, zero)));
     }
@@ -59,7 +59,7 @@ returns-then-frame-eq0-clause-stands c = λ config events o h divides.
     let sixteen : n % 32 ≡ 16 = omega (arith, slot, divides, c.if-slot-eq0.false) in
     let first : (n / 32) % 16 ≡ 0 = sym (c.frame-frame.ensures.value s n h.trunk) ∙ c.if-frame-eq0.true in
     record {
-      trunk = rw (octets-push_octet events o)
+      trunk = rw (octets-append events (Event.Octet o ∷ []))
           (c.pass_turn-then-frame-eq0.ensures s n h.trunk (none_in_first n sixteen first));
       circuits = stay config _ events (Event.Octet o) h.circuits (λ k low.
           sees_no_abcd k s n (λ e. slot_of-not16 k (sym e ∙ sixteen)) sixteen

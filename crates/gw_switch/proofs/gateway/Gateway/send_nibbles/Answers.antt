@@ -8,7 +8,7 @@ use Rattle.gw_switch.specs.Whole.{octet_reply, config_of}
 use Rattle.gw_switch.specs.Standing.{Stands}
 use Rattle.gw_switch.proofs.Rounds.{frame_with-low, frame_with-high}
 use Rattle.gw_switch.proofs.Sendings.{sent_at, sends_abcd, slot_of-not16, frame_with-only}
-use Rattle.gw_switch.proofs.Views.{CircuitsStand-push, both_go, octets-push_octet, sees_abcd, sees_no_abcd}
+use Rattle.gw_switch.proofs.Views.{CircuitsStand-push, both_go, octets-append, sees_abcd, sees_no_abcd}
 use Rattle.gw_switch.proofs.gateway.Gateway.send_nibbles.Goals as goal
 
 pub returns-clause-reply : goal.returns-clause-reply
@@ -63,7 +63,7 @@ returns-clause-stands c = λ config events o h sixteen frame.
     let was2 = c.send_nibble-low.ensures.stands config.law (config_of config k) (view k events)
     (λ d. rw (c.send_nibble-high.ensures.others (k - 1) d (omega arith)) (h.circuits k is2.0 is2.1 d)) in
     record {
-      trunk = rw (octets-push_octet events o) (heard.sent s n h.trunk sixteen frame);
+      trunk = rw (octets-append events (Event.Octet o ∷ [])) (heard.sent s n h.trunk sixteen frame);
       circuits = CircuitsStand-push config _ _ events (Event.Octet o) h.circuits (λ i low high.
           both_go config _ _ _ events (Event.Octet o) j k
           (Item.Signal (signalled j s n)) (Item.Signal (signalled k s n))

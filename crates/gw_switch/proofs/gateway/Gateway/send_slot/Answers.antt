@@ -7,7 +7,7 @@ use Rattle.gw_switch.specs.Events.{Event, octets, view}
 use Rattle.gw_switch.specs.Whole.{octet_reply, config_of, circuit_in, speech_out}
 use Rattle.gw_switch.specs.Standing.{Stands}
 use Rattle.gw_switch.proofs.Sendings.{sent_at, sends_speech, slot_of-turn, circuit_in-slot_of, not_zero, not_sixteen}
-use Rattle.gw_switch.proofs.Views.{CircuitsStand-push, goes_by, octets-push_octet, sees_slot, sees_nothing, sees_some}
+use Rattle.gw_switch.proofs.Views.{CircuitsStand-push, goes_by, octets-append, sees_slot, sees_nothing, sees_some}
 use Rattle.gw_switch.proofs.gateway.Gateway.send_slot.Goals as goal
 
 -- neither slot 0 nor slot 16 has the turn
@@ -53,7 +53,7 @@ returns-clause-stands c = λ config events o h.
     let place = slot_of-turn n _ k slot (not_sixteen _ speech) c.number_in.ensures.value in
     let was = c.send_speech.ensures.stands config.law (config_of config k) (view k events) (h.circuits k is.0 is.1) in
     record {
-      trunk = rw (octets-push_octet events o) (c.take_speech-heard.ensures.sent s n waits slot (not_sixteen _ speech));
+      trunk = rw (octets-append events (Event.Octet o ∷ [])) (c.take_speech-heard.ensures.sent s n waits slot (not_sixteen _ speech));
       circuits = CircuitsStand-push config _ _ events (Event.Octet o) h.circuits (λ i low high.
           goes_by config _ _ events (Event.Octet o) k (Item.Slot (heard k s n))
           (rw (sym (c.take_speech-heard.ensures.heard s n waits slot k is.0 is.1 place)) was)
