@@ -7,7 +7,7 @@ use Rattle.rtp_packet.specs.Read.{read_of, parts_of, header_of, marker_of, exten
 use Rattle.rtp_packet.specs.Rtp.{plain_datagram}
 use Rattle.rtp_pack.specs.Payload.{octets_of, words_of}
 use Rattle.rtp_playout.specs.Due.{due, offer_answer, take_answer}
-use Rattle.rtp_playout.specs.Drawn.{drawn_words}
+use Rattle.rtp_playout.specs.Order.{drawn_words}
 use Rattle.rtp_playout.specs.Order.{take_answers}
 use Rattle.q421_line.specs.declared.Role.TheVariants.{Incoming}
 use Rattle.q421_line.specs.Recognition.{recognised}

@@ -1,25 +1,22 @@
 -- One octet more is heard.
-use Rattle.std.proofs.Common.{◌≡◌, ℕ, suc, List, length, [], ◌∷◌, ◌++◌, refl, ◌∙◌, arith}
+use Rattle.std.proofs.Common.{◌≡◌, ◌≢◌, ℕ, suc, ◌+◌, ◌-◌, ◌%◌, ◌<◌, ◌≤◌, List, length, [], ◌∷◌, ◌++◌}
+use Rattle.std.proofs.Common.{Option, None, get_or, refl, ◌∙◌, arith}
 use Rattle.std.proofs.lemmas.List.{length_push}
 use Rattle.g704_align.specs.declared.alignment.Place.{Place}
 use Rattle.g704_align.specs.declared.alignment.Aligner.{Aligner}
 use Rattle.g704_align.specs.Placing.{place}
 use Rattle.g704_align.specs.Aligner as aligner
 use Rattle.gw_switch.specs.declared.trunk.Trunk.{Trunk}
-use Rattle.gw_switch.specs.Hearing.{slot16_octets}
-use Rattle.gw_switch.specs.Trunk.{HasHeard, AwaitsTurn, HearsAt}
+use Rattle.gw_switch.specs.Hearing.{latest, speech, abcd, slot16_octets}
+use Rattle.gw_switch.specs.Trunk.{since, nibble_turn, HasHeard, AwaitsTurn, HearsAt}
+use Rattle.gw_switch.proofs.Rounds.{next_in_round}
 use Rattle.gw_switch.proofs.HearingLemmas.{octet_mid, nibble_mid, slot16_octets_now}
 use Rattle.gw_switch.proofs.HearingLemmas.{remote_frame_stands, remote_multiframe_stands}
 
 -- the aligner told the place of an octet, and the octet was heard there
 pub hears_next : (old new : Trunk) (after : Aligner) (p : Place) (s : List ℕ) (o : ℕ) → HasHeard old s
     → p ≡ place (s ++ o ∷ []) (length s) → aligner.Stands after (s ++ o ∷ [])
-    → HearsAt (record {
-      aligner = after;
-      octets = old.octets;
-      signalling = old.signalling;
-      position = old.position;
-    }) new p o
+    → HearsAt (record old { aligner = after }) new p o
     → AwaitsTurn new (s ++ o ∷ []) (length s)
 hears_next old new after p s o h placed stands at =
     let z = slot16_octets s (length s) in
@@ -38,3 +35,25 @@ hears_next old new after p s o h placed stands at =
           remote_multiframe_stands s o _ _ _ _ placed refl h.remote_multiframe
           (at.signalling.remote_multiframe z h.multiframes);
     }
+
+-- a turn is over: what is kept of slots and nibbles is told, and all else is as it was
+pub turn_over : (t : Trunk) (s : List ℕ) (n : ℕ) (octets nibbles : List (Option ℕ)) → AwaitsTurn t s n
+    → ((k : ℕ) → k < 32 → k % 16 ≢ 0
+    → get_or octets k None ≡ latest (speech k s) (length s) (0 + since 32 k (length s)))
+    → ((c : ℕ) → 1 ≤ c → c ≤ 30
+    → get_or nibbles (c - 1) None ≡ latest (abcd c s) (length s) (0 + since 512 (nibble_turn c) (length s)))
+    → HasHeard (record t {
+      octets = octets;
+      signalling = record t.signalling { nibbles = nibbles };
+      position = (t.position + 1) % 65536;
+    }) s
+turn_over t s n octets nibbles h speaks signals = record {
+  position = next_in_round n (length s) _ (omega (arith, h.awaited)) h.position;
+  awaited = omega arith;
+  frames = h.frames;
+  multiframes = h.multiframes;
+  octets = speaks;
+  nibbles = signals;
+  remote_frame = h.remote_frame;
+  remote_multiframe = h.remote_multiframe;
+}

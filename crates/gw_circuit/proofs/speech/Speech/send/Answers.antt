@@ -1,34 +1,27 @@
-use Rattle.std.proofs.Common.{◌≡◌, [], ◌∷◌, ◌++◌, ap, ◌∙◌, rules, arith}
+use Rattle.std.proofs.Common.{◌≡◌, [], ap, ◌∙◌, rules, arith}
 use Rattle.rtp_packet.specs.Rtp.{plain_datagram}
-use Rattle.rtp_playout.specs.Drawn.{drawn_words}
 use Rattle.gw_circuit.proofs.Hearing.{heard-full}
 use Rattle.gw_circuit.proofs.speech.Speech.send.Goals as goal
 
 pub returns-clause-datagram : goal.returns-clause-datagram
-returns-clause-datagram c law coding size presend octets calls s =
-    let pushed : c.push.new.self.items ≡ c.args.self.now.packet.items ++ c.encode.result ∷ [] = search rules in
+returns-clause-datagram c law coding size prefill octets calls s =
     let full =
-    heard-full c.args.self.now law coding size presend octets calls c.args.octet c.encode.result
-    c.push.new.self.items c.words_are_counted.ensures s pushed
-    (c.encode.ensures.words law coding.kind octets (drawn_words presend calls) s.codec) (omega arith) in
+    heard-full c.args.self.now _ _ _ _ _ _ c.args.octet c.encode.result c.push.new.self.items
+    c.words_are_counted.ensures s (search rules) (c.encode.ensures.words law _ octets _ s.codec) (omega arith) in
     let wrote : c.write.new.out.items ≡ plain_datagram c.args.header.now c.pack.new.out.items = search rules in (
       full.0,
       wrote ∙ ap (plain_datagram c.args.header.now) (full.1 c.pack.new.out.items _ c.bits.ensures (search rules)),
     )
 
 pub returns-clause-speaks : goal.returns-clause-speaks
-returns-clause-speaks c law coding size presend octets calls s = record {
+returns-clause-speaks c law coding size prefill octets calls s = record {
   kind_is = s.kind_is;
   type_is = s.type_is;
   size_is = s.size_is;
-  codec = c.encode.ensures.stands law coding.kind octets (drawn_words presend calls) s.codec;
+  codec = c.encode.ensures.stands law _ octets _ s.codec;
   playout = s.playout;
   packet =
-      let pushed : c.push.new.self.items ≡ c.args.self.now.packet.items ++ c.encode.result ∷ [] = search rules in
-      let full =
-      heard-full c.args.self.now law coding size presend octets calls c.args.octet c.encode.result
-      c.push.new.self.items c.words_are_counted.ensures s pushed
-      (c.encode.ensures.words law coding.kind octets (drawn_words presend calls) s.codec) (omega arith) in
       let fresh : c.replace-words.new.dest.items ≡ [] = search rules in
-      fresh ∙ full.2;
+      fresh ∙ (heard-full c.args.self.now _ _ _ _ _ _ c.args.octet c.encode.result c.push.new.self.items
+      c.words_are_counted.ensures s (search rules) (c.encode.ensures.words law _ octets _ s.codec) (omega arith)).2;
 }

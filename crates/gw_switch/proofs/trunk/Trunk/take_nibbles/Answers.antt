@@ -1,7 +1,8 @@
-use Rattle.std.proofs.Common.{◌+◌, length, sym, ◌∙◌, arith}
+use Rattle.std.proofs.Common.{◌+◌, sym, ◌∙◌, arith}
 use Rattle.g704_cas.specs.Numbers.{frame_with}
 use Rattle.gw_switch.specs.Hearing.{signalled}
-use Rattle.gw_switch.proofs.Rounds.{frame_with-low, frame_with-high, frame_with-small, place_in_round, next_in_round}
+use Rattle.gw_switch.proofs.Rounds.{frame_with-low, frame_with-high, frame_with-small, place_in_round}
+use Rattle.gw_switch.proofs.Heard.{turn_over}
 use Rattle.gw_switch.proofs.HearingLemmas.{octet_kept, nibble_heard, nibble_taken}
 use Rattle.gw_switch.proofs.trunk.Trunk.take_nibbles.Goals as goal
 
@@ -27,16 +28,9 @@ returns-clause-low c = λ s n h sixteen at.
     (h.nibbles k (omega arith) (omega arith))
 
 pub returns-clause-sent : goal.returns-clause-sent
-returns-clause-sent c = λ s n h sixteen at. record {
-  position = next_in_round n (length s) _ (omega (arith, h.awaited)) h.position;
-  awaited = omega arith;
-  frames = h.frames;
-  multiframes = h.multiframes;
-  octets = λ k lt speech.
-      octet_kept s k n _ h.awaited lt (λ e. speech (omega (arith, e, sixteen))) (h.octets k lt speech);
-  nibbles = λ k low high.
-      nibble_taken s k n c.args.frame _ _ h.awaited high sixteen at (h.nibbles k low high)
-      (c.take_nibbles.ensures.each k low high);
-  remote_frame = h.remote_frame;
-  remote_multiframe = h.remote_multiframe;
-}
+returns-clause-sent c = λ s n h sixteen at.
+    turn_over c.args.self.now s n _ _ h
+    (λ k lt speech. octet_kept s k n _ h.awaited lt (λ e. speech (omega (arith, e, sixteen))) (h.octets k lt speech))
+    (λ k low high.
+    nibble_taken s k n c.args.frame _ _ h.awaited high sixteen at (h.nibbles k low high)
+    (c.take_nibbles.ensures.each k low high))

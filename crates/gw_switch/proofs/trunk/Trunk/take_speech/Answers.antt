@@ -1,7 +1,8 @@
-use Rattle.std.proofs.Common.{length, get_or, None, sym, ◌∙◌, ap, arith}
+use Rattle.std.proofs.Common.{get_or, None, sym, ◌∙◌, ap}
 use Rattle.g704_cas.specs.Numbers.{slot_of, frame_with}
 use Rattle.gw_switch.specs.Hearing.{heard}
-use Rattle.gw_switch.proofs.Rounds.{slot_of-small, slot_of-speech, frame_with-small, elsewhere, next_in_round}
+use Rattle.gw_switch.proofs.Rounds.{slot_of-small, slot_of-speech, frame_with-small, elsewhere}
+use Rattle.gw_switch.proofs.Heard.{turn_over}
 use Rattle.gw_switch.proofs.HearingLemmas.{octet_heard, octet_taken, nibble_kept}
 use Rattle.gw_switch.proofs.trunk.Trunk.take_speech.Goals as goal
 
@@ -14,16 +15,10 @@ returns-clause-heard c = λ s n h at k low high own.
     (h.octets (slot_of k) (slot_of-small k high) (slot_of-speech k low high))
 
 pub returns-clause-sent : goal.returns-clause-sent
-returns-clause-sent c = λ s n h at speech. record {
-  position = next_in_round n (length s) _ (omega (arith, h.awaited)) h.position;
-  awaited = omega arith;
-  frames = h.frames;
-  multiframes = h.multiframes;
-  octets = λ k lt own.
-      octet_taken s k c.args.slot n _ _ h.awaited lt at (h.octets k lt own) (c.take_octet-heard.ensures.each k lt);
-  nibbles = λ k low high.
-      nibble_kept s k n _ h.awaited high
-      (λ e. speech (at ∙ (elsewhere n (frame_with k) (frame_with-small k high) e).0)) (h.nibbles k low high);
-  remote_frame = h.remote_frame;
-  remote_multiframe = h.remote_multiframe;
-}
+returns-clause-sent c = λ s n h at speech.
+    turn_over c.args.self.now s n _ _ h
+    (λ k lt own.
+    octet_taken s k c.args.slot n _ _ h.awaited lt at (h.octets k lt own) (c.take_octet-heard.ensures.each k lt))
+    (λ k low high.
+    nibble_kept s k n _ h.awaited high
+    (λ e. speech (at ∙ (elsewhere n (frame_with k) (frame_with-small k high) e).0)) (h.nibbles k low high))
