@@ -5,7 +5,7 @@ use Rattle.q421_line.specs.declared.State.{State}
 use Rattle.q421_line.specs.declared.LineFault.{LineFault}
 use Rattle.q421_line.specs.Recognition.{recognised}
 use Rattle.q421_line.specs.Tables.{sent_pair}
-use Rattle.q421_line.specs.Commands.{outcome, answer_of}
+use Rattle.q421_line.specs.Commands.{command_outcome, answer_of}
 use Rattle.q421_line.specs.Signalling.{Signalling, signalling, command, after_outcome}
 use Rattle.q421_line.specs.Laws.{PairsAreRecognisedByTen, SeizuresAreReleased, RefusalsChangeNothing}
 use Rattle.q421_line.specs.Laws.{SentNibblesFit, IncomingIsNeverSeized}
@@ -33,7 +33,7 @@ outcome-refused line (Err other) fault refused = refl
 pub signalling-refused : RefusalsChangeNothing
 signalling-refused role items asked fault refused =
     signalling-push role items (command asked)
-    ∙ outcome-refused (signalling role items) (outcome role asked (signalling role items).state) fault refused
+    ∙ outcome-refused (signalling role items) (command_outcome role asked (signalling role items).state) fault refused
 
 -- a nibble that is sent is four bits
 pub sent_nibble-fits : SentNibblesFit

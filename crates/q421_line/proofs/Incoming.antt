@@ -10,7 +10,7 @@ use Rattle.q421_line.specs.declared.Cmd.TheVariants.{Seize, Clear, Answer, Clear
 use Rattle.q421_line.specs.declared.LineFault.{LineFault}
 use Rattle.q421_line.specs.Recognition.{recognised}
 use Rattle.q421_line.specs.Tables.{row, next_state, next_incoming}
-use Rattle.q421_line.specs.Commands.{outcome}
+use Rattle.q421_line.specs.Commands.{command_outcome}
 use Rattle.q421_line.specs.Signalling.{Item, signal, command, Signalling, signalling, at_first}
 use Rattle.q421_line.specs.Signalling.{after_item, after_outcome}
 use Rattle.q421_line.specs.Signalling.{with_heard, next_by, after_count}
@@ -62,8 +62,8 @@ count-of pairs Seized after seized_for b a = absurd b
 count-of pairs Releasing after seized_for b a = absurd b
 
 -- nor does a command
-outcome-of : (asked : Cmd) (state : State) → IfOk (outcome Incoming asked state) IsOfIncoming
-unfolding outcome
+outcome-of : (asked : Cmd) (state : State) → IfOk (command_outcome Incoming asked state) IsOfIncoming
+unfolding command_outcome
 outcome-of Seize state = tt
 outcome-of Clear state = tt
 outcome-of Answer Acked = tt
@@ -88,7 +88,8 @@ item-of : (line : Signalling) (item : Item) → IsOfIncoming line.state
 item-of line (signal heard) h =
     let pairs : List ℕ = with_heard line.pairs heard in
     count-of pairs line.state _ line.seized_for h (next_by-of line.state (recognised pairs) h)
-item-of line (command asked) h = after-of line (outcome Incoming asked line.state) h (outcome-of asked line.state)
+item-of line (command asked) h =
+    after-of line (command_outcome Incoming asked line.state) h (outcome-of asked line.state)
 
 -- nor do many
 items-of : (line : Signalling) (items : List Item) → IsOfIncoming line.state

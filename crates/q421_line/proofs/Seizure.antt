@@ -9,7 +9,7 @@ use Rattle.q421_line.specs.declared.State.TheVariants.{Idle, Seized, Acked, Answ
 use Rattle.q421_line.specs.declared.State.TheVariants.{ClearedBack, Releasing, Blocked, Fault}
 use Rattle.q421_line.specs.declared.LineFault.{LineFault}
 use Rattle.q421_line.specs.Recognition.{recognised}
-use Rattle.q421_line.specs.Commands.{outcome}
+use Rattle.q421_line.specs.Commands.{command_outcome}
 use Rattle.q421_line.specs.Signalling.{Item, signal, command, Signalling, signalling, at_first}
 use Rattle.q421_line.specs.Signalling.{after_item, after_outcome, with_heard, next_by, after_count, is_seized}
 use Rattle.q421_line.specs.Laws.{IsSeizedThrough, SeizuresAreReleased}
@@ -39,7 +39,7 @@ outcome-below line (Err fault) below = below
 item-below : (role : Role) (line : Signalling) (item : Item) → line.seized_for < 100
     → (after_item role line item).seized_for < 100
 item-below role line (signal heard) below = count-below (with_heard line.pairs heard) line.state _ line.seized_for
-item-below role line (command asked) below = outcome-below line (outcome role asked line.state) below
+item-below role line (command asked) below = outcome-below line (command_outcome role asked line.state) below
 
 -- and so do many
 items-below : (role : Role) (line : Signalling) (items : List Item) → line.seized_for < 100

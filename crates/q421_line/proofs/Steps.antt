@@ -11,7 +11,7 @@ use Rattle.q421_line.specs.declared.LineFault.{LineFault}
 use Rattle.q421_line.specs.declared.recognition.Recognition.{Recognition}
 use Rattle.q421_line.specs.declared.signalling.Line.{Line}
 use Rattle.q421_line.specs.Recognition.{recognised}
-use Rattle.q421_line.specs.Commands.{outcome}
+use Rattle.q421_line.specs.Commands.{command_outcome}
 use Rattle.q421_line.specs.Signalling.{Item, signal, command, Signalling, signalling, at_first}
 use Rattle.q421_line.specs.Signalling.{after_item, after_outcome}
 use Rattle.q421_line.specs.Signalling.{with_heard, next_by, after_count, is_seized}
@@ -71,13 +71,14 @@ stands-signal old role items heard recognition next state seized_for stands has_
 
 -- what a command leads to, by the fields
 outcome-is : (old : Line) (role : Role) (items : List Item) (asked : Cmd) → Stands old role items
-    → outcome role asked (signalling role items).state ≡ outcome old.role asked old.state
+    → command_outcome role asked (signalling role items).state ≡ command_outcome old.role asked old.state
 outcome-is old role items asked stands =
-    ap (λ s. outcome role asked s) (sym stands.state_is) ∙ ap (λ r. outcome r asked old.state) (sym stands.role_is)
+    ap (λ s. command_outcome role asked s) (sym stands.state_is)
+    ∙ ap (λ r. command_outcome r asked old.state) (sym stands.role_is)
 
 -- the line stands after a command that is obeyed
 pub stands-obeyed : (old : Line) (role : Role) (items : List Item) (asked : Cmd) (state : State) → Stands old role items
-    → Ok state ≡ outcome old.role asked old.state
+    → Ok state ≡ command_outcome old.role asked old.state
     → Stands (record { role = old.role; state = state; seized_for = 0; recognition = old.recognition }) role
     (items ++ command asked ∷ [])
 stands-obeyed old role items asked state stands is_outcome =
@@ -96,7 +97,7 @@ stands-obeyed old role items asked state stands is_outcome =
 -- the line stands after a command that is refused, as it was
 pub stands-refused : (old : Line) (role : Role) (items : List Item) (asked : Cmd) (fault : LineFault)
     → Stands old role items
-    → Err fault ≡ outcome old.role asked old.state → Stands old role (items ++ command asked ∷ [])
+    → Err fault ≡ command_outcome old.role asked old.state → Stands old role (items ++ command asked ∷ [])
 stands-refused old role items asked fault stands is_outcome =
     let before : Signalling = signalling role items in
     let whole : before ≡ signalling role (items ++ command asked ∷ [])

@@ -34,27 +34,28 @@ is_for Incoming asked = false
 
 -- the state that a command leads to in a line of its own role, or why it is refused (ITU-T Q.421 for the
 -- states in which each signal is sent; the faults are ours)
-abbrev pub own_outcome : Cmd → State → Result State LineFault
-own_outcome Seize Idle = Ok Seized
-own_outcome Seize state = Err NotIdle
-own_outcome Clear Seized = Ok Releasing
-own_outcome Clear Acked = Ok Releasing
-own_outcome Clear Answered = Ok Releasing
-own_outcome Clear ClearedBack = Ok Releasing
-own_outcome Clear state = Err NotInCall
-own_outcome Answer Acked = Ok Answered
-own_outcome Answer ClearedBack = Ok Answered
-own_outcome Answer state = Err NotSeized
-own_outcome ClearBack Answered = Ok ClearedBack
-own_outcome ClearBack state = Err NotInCall
-own_outcome Block Idle = Ok Blocked
-own_outcome Block state = Err NotIdle
-own_outcome Unblock Blocked = Ok Idle
-own_outcome Unblock state = Err NotBlocked
+abbrev pub own_command_outcome : Cmd → State → Result State LineFault
+own_command_outcome Seize Idle = Ok Seized
+own_command_outcome Seize state = Err NotIdle
+own_command_outcome Clear Seized = Ok Releasing
+own_command_outcome Clear Acked = Ok Releasing
+own_command_outcome Clear Answered = Ok Releasing
+own_command_outcome Clear ClearedBack = Ok Releasing
+own_command_outcome Clear state = Err NotInCall
+own_command_outcome Answer Acked = Ok Answered
+own_command_outcome Answer ClearedBack = Ok Answered
+own_command_outcome Answer state = Err NotSeized
+own_command_outcome ClearBack Answered = Ok ClearedBack
+own_command_outcome ClearBack state = Err NotInCall
+own_command_outcome Block Idle = Ok Blocked
+own_command_outcome Block state = Err NotIdle
+own_command_outcome Unblock Blocked = Ok Idle
+own_command_outcome Unblock state = Err NotBlocked
 
 -- the state that a command leads to, or why it is refused: a command for the other role in every state
-unfoldable pub outcome : Role → Cmd → State → Result State LineFault
-outcome role asked state = if is_for role asked then own_outcome asked state else Err WrongRole
+unfoldable pub command_outcome : Role → Cmd → State → Result State LineFault
+command_outcome role asked state =
+    if is_for role asked then own_command_outcome asked state else Err WrongRole
 
 -- what is answered to a command: whether it is refused, and why
 abbrev pub answer_of : Result State LineFault → Result (Unit {0}) LineFault

@@ -9,7 +9,7 @@ use Rattle.q421_line.specs.declared.Cmd.{Cmd}
 use Rattle.q421_line.specs.declared.LineFault.{LineFault}
 use Rattle.q421_line.specs.Recognition.{run_of, recognised}
 use Rattle.q421_line.specs.Tables.{sent_pair, sent_nibble}
-use Rattle.q421_line.specs.Commands.{outcome, answer_of}
+use Rattle.q421_line.specs.Commands.{command_outcome, answer_of}
 use Rattle.q421_line.specs.Signalling.{Item, signal, command, signalling}
 
 -- A pair is recognised when the last ten known pairs are it, and stays so until another one is. At first none
@@ -23,7 +23,7 @@ PairsAreRecognisedByTen = (recognised [] ≡ None)
 -- a command that is refused leaves a line's signalling as it was
 abbrev pub RefusalsChangeNothing : Type 0
 RefusalsChangeNothing = (role : Role) (items : List Item) (asked : Cmd) (fault : LineFault)
-    → answer_of (outcome role asked (signalling role items).state) ≡ Err fault
+    → answer_of (command_outcome role asked (signalling role items).state) ≡ Err fault
     → signalling role (items ++ command asked ∷ []) ≡ signalling role items
 
 -- the line is Seized after these items, and stays so with each of these signals

@@ -8,7 +8,7 @@ use Rattle.q421_line.specs.declared.Cmd.{Cmd}
 use Rattle.q421_line.specs.declared.LineFault.{LineFault}
 use Rattle.q421_line.specs.Recognition.{pair_of, recognised}
 use Rattle.q421_line.specs.Tables.{next_state}
-use Rattle.q421_line.specs.Commands.{outcome}
+use Rattle.q421_line.specs.Commands.{command_outcome}
 
 -- what a line is given: a turn to signal, with the nibble that was heard since the one before, if any; or a
 -- command
@@ -64,10 +64,10 @@ after_outcome line (Ok state) = record { pairs = line.pairs; state = state; seiz
 -- one item more
 abbrev pub after_item : Role → Signalling → Item → Signalling
 after_item role line (signal heard) = after_signal role line heard
-after_item role line (command asked) = after_outcome line (outcome role asked line.state)
+after_item role line (command asked) = after_outcome line (command_outcome role asked line.state)
 
--- a line has heard nothing at first, and begins in Fault (our choice: it takes no call before the other end is
--- heard)
+-- a line has heard nothing at first, and begins in Fault (our choice: it takes no call before the other end
+-- is heard)
 abbrev pub at_first : Signalling
 at_first = record { pairs = []; state = Fault; seized_for = 0 }
 

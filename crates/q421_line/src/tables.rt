@@ -2,7 +2,7 @@
 
 ghost use Rattle.std.specs.Prelude.{◌≡◌};
 ghost use Rattle.q421_line.specs.Tables.{sent_pair, is_open, next_state, next_outgoing, next_incoming};
-ghost use Rattle.q421_line.specs.Commands.{is_for, own_outcome, outcome};
+ghost use Rattle.q421_line.specs.Commands.{is_for, own_command_outcome, command_outcome};
 
 use crate::pairs::Pair;
 use crate::{Cmd, LineFault, Role, State};
@@ -126,14 +126,14 @@ fn next_incoming(state: State, forward: Pair) -> State
 }
 
 // The state that a command leads to, or why it is refused.
-#[tactic(auto, unfolding(crate::specs::Commands::outcome))]
-pub(crate) fn outcome(role: Role, asked: Cmd, state: State) -> Result<State, LineFault>
-    ensures { result ≡ outcome role asked state }
+#[tactic(auto, unfolding(crate::specs::Commands::command_outcome))]
+pub(crate) fn command_outcome(role: Role, asked: Cmd, state: State) -> Result<State, LineFault>
+    ensures { result ≡ command_outcome role asked state }
 {
     if !is_for(role, asked) {
         return Err(LineFault::WrongRole);
     }
-    own_outcome(asked, state)
+    own_command_outcome(asked, state)
 }
 
 // Whether a command is for lines of this role: outgoing ones send forward signals, incoming ones backward
@@ -151,8 +151,8 @@ fn is_for(role: Role, asked: Cmd) -> bool
 }
 
 // The same for a command that is for lines of this role.
-fn own_outcome(asked: Cmd, state: State) -> Result<State, LineFault>
-    ensures { result ≡ own_outcome asked state }
+fn own_command_outcome(asked: Cmd, state: State) -> Result<State, LineFault>
+    ensures { result ≡ own_command_outcome asked state }
 {
     use Cmd::*;
     use LineFault::*;

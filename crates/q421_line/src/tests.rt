@@ -82,8 +82,8 @@ fn incoming_block(rt: HostRuntime) {
     assert_eq!(rt; line.command(Seize), Err(LineFault::WrongRole));
 }
 
-// A state of a line: the steps from a new line to it, the pair that it sends, and the next states, by the pairs
-// 10, 11, 01 and 00.
+// A state of a line: the steps from a new line to it, the pair that it sends, and the next states, by the
+// pairs 10, 11, 01 and 00.
 type Row = (State, &'static [Step], u8, [State; 4]);
 
 const IDLE: Step = Heard(0b1001, 10);
