@@ -10,7 +10,7 @@ use Rattle.rtp_packet.specs.Read.{parts_of, unless_fault, read_of}
 use Rattle.rtp_packet.specs.Laws.{IsDatagramOf, FaultlessIsDatagram, DatagramIsFaultless, PartsAreUnique}
 use Rattle.rtp_packet.specs.Laws.{LeastFaultIsTold, ReadsParts, ReadsFault, PlainIsRead}
 use Rattle.rtp_packet.proofs.Between.{AreOctets, all-octets}
-use Rattle.rtp_packet.proofs.Joins.{told, joins}
+use Rattle.rtp_packet.proofs.Joins.{is_told, joins}
 use Rattle.rtp_packet.proofs.Least.{least}
 
 -- octets without fault are the join of some parts
@@ -19,12 +19,12 @@ faultless_is_datagram octets each none = joins octets (all-octets octets each) n
 
 -- the join of some parts has no fault
 pub datagram_is_faultless : DatagramIsFaultless
-datagram_is_faultless octets (parts, count, padding, d) = (told octets parts count padding d).faultless
+datagram_is_faultless octets (parts, count, padding, d) = (is_told octets parts count padding d).faultless
 
 -- octets are the join of at most one record of parts
 pub parts_are_unique : PartsAreUnique
 parts_are_unique octets parts others (count, padding, d) (number, filling, e) =
-    (told octets parts count padding d).parts ∙ sym (told octets others number filling e).parts
+    (is_told octets parts count padding d).parts ∙ sym (is_told octets others number filling e).parts
 
 -- the fault that is told holds, and has the least number of those that hold
 pub least_fault_is_told : LeastFaultIsTold
@@ -36,7 +36,7 @@ least_fault_is_told o =
 pub read_of-datagram : (octets : List ℕ) (parts : Parts) → IsDatagramOf parts octets → read_of octets ≡ Ok parts
 unfolding read_of
 read_of-datagram octets parts (count, padding, d) =
-    let t = told octets parts count padding d in
+    let t = is_told octets parts count padding d in
     rw (t.faultless, t.parts) refl
 
 -- parts are read where there is no fault, and are those that stand at their places
@@ -56,7 +56,7 @@ unfolding read_of
 read_of-ok octets parts each e =
     let t = unless_fault-ok (fault octets) (parts_of octets) parts e in
     let d = joins octets each t.0 in
-    rw (t.1) (rw (← (told octets d.0 d.1 d.2 d.3).parts) (d.1, d.2, d.3))
+    rw (t.1) (rw (← (is_told octets d.0 d.1 d.2 d.3).parts) (d.1, d.2, d.3))
 
 -- octets are refused with their first fault
 pub read_of-err : (octets : List ℕ) (f : RtpFault) → read_of octets ≡ Err f → fault octets ≡ Some f
