@@ -50,7 +50,8 @@ impl Codec {
     #[inline(always)]
     fn encode(&mut self, law: Law, octet: u8) -> u8
         ensures bound { result < 2 ^ bits_of (kind_of self.old) }
-        ensures word { result ≡ word_by (tables_of (kind_of self.old)) law (state_of law self.old).encoder octet }
+        ensures word { result
+            ≡ word_by (tables_of (kind_of self.old)) law (state_of law self.old).encoder octet }
         ensures state { state_of law self.new ≡ after_encoding (state_of law self.old) (result ∷ []) }
     {
         match self {
@@ -81,7 +82,8 @@ impl Codec {
     #[inline(always)]
     fn decode(&mut self, law: Law, word: u8) -> u8
         requires { word < 2 ^ bits_of (kind_of self.old) }
-        ensures octet { result ≡ octet_by (tables_of (kind_of self.old)) law (state_of law self.old).decoder word }
+        ensures octet { result
+            ≡ octet_by (tables_of (kind_of self.old)) law (state_of law self.old).decoder word }
         ensures state { state_of law self.new ≡ after_decoding (state_of law self.old) (word ∷ []) }
     {
         match self {

@@ -22,7 +22,8 @@ products c =
     let long : length c.args.coefficients ≡ 8 = search rules in
     let long_words : length c.args.words ≡ 8 = search rules in
     record {
-      made = rw (c.bits_of.ensures, products_are _ _ long long_words c.requires.coefficients) at c.fmult-products.ensures;
+      made = rw (c.bits_of.ensures, products_are _ _ long long_words c.requires.coefficients) at
+          c.fmult-products.ensures;
       fit = product_fits _ _ long long_words c.requires.coefficients c.requires.words;
     }
 
