@@ -1,6 +1,7 @@
 //! Streams of speech: `encode` and `decode`.
 
 ghost use Rattle.std.specs.Prelude.{◌-◌, ◌^◌, ◌<◌, IfOk, IfErr};
+ghost use Rattle.gw_session.specs.Streams.{CanBegin};
 ghost use Rattle.gateway_main.specs.Jobs.{Does, DoesUntil};
 
 use crate::command::Job;
@@ -14,9 +15,7 @@ pub fn do_job<S: Source, K: Sink>(
     source: &mut S,
     sink: &mut K,
 ) -> Result<Totals, RunFault>
-    requires reads { (S.tells source.old).failures < 2 ^ 64 - 1 }
-    requires turns { (S.tells source.old).reads < 2 ^ 63 }
-    requires writes { (K.tells sink.old).failures < 2 ^ 64 - 1 }
+    requires { CanBegin (S.tells source.old) (K.tells sink.old) }
     ensures ok { IfOk result (Does job.now
         (S.tells source.old) (S.tells source.new) (K.tells sink.old) (K.tells sink.new)) }
     ensures fault { IfErr result (DoesUntil job.now
