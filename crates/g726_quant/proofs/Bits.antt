@@ -23,12 +23,12 @@ halvings_least (suc most) (suc m) (suc k) h =
     omega (arith, halvings_least most (suc m / 2) k (omega (arith, pow-suc 2 k)))
 
 -- the number of bits is large enough
-pub number_of_bits_holds : (m : ℕ) → m < 2 ^ number_of_bits m
+pub number_of_bits_holds : (magnitude : ℕ) → magnitude < 2 ^ number_of_bits magnitude
 unfolding number_of_bits
 number_of_bits_holds m = halvings_hold m m (omega arith)
 
 -- and none less is
-pub number_of_bits_least : (m k : ℕ) → m < 2 ^ k → number_of_bits m ≤ k
+pub number_of_bits_least : (magnitude bits : ℕ) → magnitude < 2 ^ bits → number_of_bits magnitude ≤ bits
 unfolding number_of_bits
 number_of_bits_least m k h = halvings_least m m k h
 

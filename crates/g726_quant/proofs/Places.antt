@@ -26,6 +26,6 @@ thresholds_count r h =
     eqb-true _ _ (and_parts _ _ (and_parts _ _ (and_parts _ _ (and_parts _ _ h).0).0).0).1
 
 -- and less of them than there are words
-pub thresholds_fit : (r : RateTables) → IsTrue (has_its_places r) → length r.thresholds < 2 ^ r.bits
+pub thresholds_fit : (tables : RateTables) → IsTrue (has_its_places tables) → length tables.thresholds < 2 ^ tables.bits
 thresholds_fit r h =
     omega (arith, thresholds_count r h, pow_mono {i = r.bits - 1} {j = r.bits} (omega arith))
