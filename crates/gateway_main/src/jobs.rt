@@ -1,7 +1,7 @@
 //! Streams of speech: `encode` and `decode`.
 
 ghost use Rattle.std.specs.Prelude.{◌-◌, ◌^◌, ◌<◌, IfOk, IfErr};
-ghost use Rattle.gw_session.specs.Streams.{CanBegin};
+ghost use Rattle.gw_records.specs.Streams.{CanBegin};
 ghost use Rattle.gateway_main.specs.Jobs.{Does, DoesUntil};
 
 use crate::command::Job;

@@ -6,9 +6,9 @@ use Rattle.q421_line.specs.Commands.{fault_number}
 use Rattle.gw_circuit.specs.declared.Dropped.TheVariants as dropped
 use Rattle.gw_circuit.specs.declared.CodecFault.TheVariants as codec
 use Rattle.gw_switch.specs.Whole.{Reply}
-use Rattle.gw_session.specs.declared.records.Ending.TheVariants as endings
-use Rattle.gw_session.specs.Records.{Record, Reads, end_of, has_bad_kind, has_bad_circuit, has_bad_length, is_cut}
-use Rattle.gw_session.specs.Records.{has_bad_command}
+use Rattle.gw_records.specs.declared.records.Ending.TheVariants as endings
+use Rattle.gw_records.specs.Records.{Record, Reads, end_of, has_bad_kind, has_bad_circuit, has_bad_length, is_cut}
+use Rattle.gw_records.specs.Records.{has_bad_command}
 use Rattle.gw_session.specs.Answers.{render}
 use Rattle.gw_session.specs.Running.{all_kinds}
 

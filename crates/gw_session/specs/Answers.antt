@@ -11,7 +11,7 @@ use Rattle.g726_codec.specs.declared.CodecKind.TheVariants.{G711, G16, G24, G32,
 use Rattle.gw_switch.specs.Events.{Event}
 use Rattle.gw_circuit.specs.Faults as refusals
 use Rattle.gw_switch.specs.Whole.{Reply}
-use Rattle.gw_session.specs.Records.{Record, record_of}
+use Rattle.gw_records.specs.Records.{Record, record_of}
 
 -- the command of an octet from 1 to 6
 abbrev pub command_of : ℕ → Cmd
@@ -47,19 +47,23 @@ written_out (Written.Trunk octets) = record_of 0x54 0 octets
 written_out (Written.Datagram circuit octets) = record_of 0x44 circuit octets
 written_out (Written.Answered circuit kind code) = record_of 0x52 circuit (kind ∷ code ∷ [])
 
--- the datagram that is sent with an octet
-abbrev pub packet_of : Option (ℕ × List ℕ) → List Written
-packet_of (Some p) = Written.Datagram p.0 p.1 ∷ []
-packet_of None = []
+-- the packet that is sent with an octet, with its circuit
+abbrev pub packet_in : Option (ℕ × List ℕ) → List (ℕ × List ℕ)
+packet_in None = []
+packet_in (Some p) = p ∷ []
 
--- what a reply says of the trunk: the octet that is sent, and the datagram that goes with it
-abbrev pub octet_in : Reply → ℕ
-octet_in (Reply.Sent out) = out.octet
-octet_in _ = 0
-
-abbrev pub packets_in : Reply → List Written
-packets_in (Reply.Sent out) = packet_of out.packet
+-- what a reply says of the trunk: the packet that is sent with an octet, and the octet that is sent
+abbrev pub packets_in : Reply → List (ℕ × List ℕ)
+packets_in (Reply.Sent out) = packet_in out.packet
 packets_in _ = []
+
+abbrev pub octets_in : Reply → List ℕ
+octets_in (Reply.Sent out) = out.octet ∷ []
+octets_in _ = []
+
+-- a packet as a record that is written
+abbrev pub as_record : ℕ × List ℕ → Written
+as_record p = Written.Datagram p.0 p.1
 
 -- 0, or the number of the fault
 abbrev pub code_of : Reply → ℕ
@@ -72,7 +76,7 @@ code_of _ = 0
 -- record, and then a trunk record of equal length; one answer for any other.
 abbrev pub answers : Record → List Reply → List Written
 answers (Record.Trunk octets) replies =
-    flat_map packets_in replies ++ Written.Trunk (map octet_in replies) ∷ []
+    map as_record (flat_map packets_in replies) ++ Written.Trunk (flat_map octets_in replies) ∷ []
 answers (Record.Datagram circuit octets) replies =
     map (λ r. Written.Answered circuit 0x44 (code_of r)) replies
 answers (Record.Command circuit command) replies =

@@ -1,0 +1,186 @@
+-- The record that stands first.
+use Rattle.std.proofs.Common.{◌≡◌, ◌≢◌, ◌+◌, ◌*◌, ◌<◌, ◌≤◌, ◌^◌, ◌⊎◌, inl, inr, ℕ, suc, true, false, List, [], ◌∷◌}
+use Rattle.std.proofs.Common.{Bool, cond, Option, Some, None, nat_lt, ◌==◌}
+use Rattle.std.proofs.Common.{length, take, drop, get_or, refl, sym, subst, length-take-le, arith}
+use Rattle.std.specs.Prelude.{slice_index}
+use Rattle.std.proofs.lemmas.Bool.Decides.{nat_tests}
+use Rattle.std.proofs.lemmas.Grind.{common_steps}
+use Rattle.byteorder.specs.Endian.{big_bytes}
+use Rattle.gw_records.specs.declared.records.Kinds.{Kinds}
+use Rattle.gw_records.specs.declared.records.Head.{Head}
+use Rattle.gw_records.specs.declared.records.Head.TheVariants as heads
+use Rattle.gw_records.specs.Records.{spelled, IsGood, body_len, has_bad_kind, has_bad_circuit, has_bad_length}
+use Rattle.gw_records.specs.Records.{has_bad_command, is_cut, end_of}
+use Rattle.gw_records.specs.declared.records.Ending.{Ending}
+use Rattle.gw_records.specs.declared.records.Ending.TheVariants as endings
+use Rattle.gw_records.specs.Records.{IsFirst, head_of, named}
+
+-- what is known of the tests of end_of, by what they give
+abbrev pub Found : (none few kind circuit len cut command : Bool) → Option Ending → Type 0
+Found none few kind circuit len cut command None =
+    (few ≡ false) × (kind ≡ false) × (circuit ≡ false) × (len ≡ false) × (cut ≡ false) × (command ≡ false)
+Found none few kind circuit len cut command (Some endings.End) = none ≡ true
+Found none few kind circuit len cut command (Some endings.Truncated) = (few ≡ true) ⊎ (cut ≡ true)
+Found none few kind circuit len cut command (Some endings.BadCommand) =
+    (kind ≡ false) × ((len ≡ true) ⊎ (command ≡ true))
+Found none few kind circuit len cut command (Some _) = Unit {0}
+
+first_found : (none few kind circuit len cut command : Bool) → Found none few kind circuit len cut command
+    (cond none (Some endings.End) (cond few (Some endings.Truncated) (cond kind (Some endings.BadKind) (cond circuit
+    (Some endings.BadCircuit) (cond len (Some endings.BadCommand) (cond cut (Some endings.Truncated) (cond command
+    (Some endings.BadCommand) None)))))))
+first_found true few kind circuit len cut command = refl
+first_found false true kind circuit len cut command = inl refl
+first_found false false true circuit len cut command = tt
+first_found false false false true len cut command = tt
+first_found false false false false true cut command = (refl, inl refl)
+first_found false false false false false true command = inr refl
+first_found false false false false false false true = (refl, inr refl)
+first_found false false false false false false false = (refl, refl, refl, refl, refl, refl)
+
+-- .. of octets that end so
+pub found_in : (kinds : Kinds) (octets : List ℕ) (o : Option Ending) → end_of kinds octets ≡ o
+    → Found (length octets == 0) (nat_lt (length octets) 4) (has_bad_kind kinds octets) (has_bad_circuit octets)
+    (has_bad_length octets) (is_cut octets) (has_bad_command octets) o
+unfolding end_of
+found_in kinds octets o e =
+    let P : Option Ending → Type 0 = λ o. Found (length octets == 0) (nat_lt (length octets) 4)
+    (has_bad_kind kinds octets) (has_bad_circuit octets) (has_bad_length octets) (is_cut octets)
+    (has_bad_command octets) o in
+    subst P e (first_found (length octets == 0) (nat_lt (length octets) 4) (has_bad_kind kinds octets)
+    (has_bad_circuit octets) (has_bad_length octets) (is_cut octets) (has_bad_command octets))
+
+-- the kind of a record that is not of a bad kind
+pub kinds_are : (kinds : Kinds) (octets : List ℕ) → has_bad_kind kinds octets ≡ false
+    → ((slice_index octets 0 ≡ 84) × (kinds.trunk ≡ true)) ⊎ (((slice_index octets 0 ≡ 68)
+    × (kinds.datagrams ≡ true)) ⊎ (((slice_index octets 0 ≡ 67) × (kinds.commands ≡ true))
+    ⊎ ((slice_index octets 0 ≡ 75) × (kinds.codecs ≡ true))))
+unfolding has_bad_kind
+kinds_are kinds octets h = grind (arith, nat_tests)
+
+pub kind_left : (kinds : Kinds) (octets : List ℕ) → has_bad_kind kinds octets ≡ false → slice_index octets 0 ≢ 84
+    → slice_index octets 0 ≢ 68 → slice_index octets 0 ≢ 67 → slice_index octets 0 ≡ 75
+kind_left kinds octets h p q r = elim (kinds_are kinds octets h) [
+  | inl e ↦ absurd (p e.0)
+  | inr s ↦ elim s [ inl e ↦ absurd (q e.0) | inr t ↦ elim t [ inl e ↦ absurd (r e.0) | inr e ↦ e.0 ] ]
+]
+
+circuit_is : (octets : List ℕ) → has_bad_circuit octets ≡ false → slice_index octets 0 ≢ 84
+    → (1 ≤ slice_index octets 1) × (slice_index octets 1 ≤ 30)
+unfolding has_bad_circuit
+circuit_is octets h p = (grind (arith, nat_tests), grind (arith, nat_tests))
+
+circuit_none : (octets : List ℕ) → has_bad_circuit octets ≡ false → slice_index octets 0 ≡ 84 → slice_index octets 1 ≡ 0
+unfolding has_bad_circuit
+circuit_none octets h p = grind (arith, nat_tests)
+
+length_is : (octets : List ℕ) → has_bad_length octets ≡ false → slice_index octets 0 ≡ 67 → body_len octets ≡ 1
+unfolding has_bad_length
+length_is octets h p = grind (arith, nat_tests)
+
+two_long : (octets : List ℕ) → has_bad_length octets ≡ false → slice_index octets 0 ≡ 75 → body_len octets ≡ 2
+unfolding has_bad_length
+two_long octets h p = grind (arith, nat_tests)
+
+command_is : (octets : List ℕ) → has_bad_command octets ≡ false → slice_index octets 0 ≡ 67
+    → (1 ≤ slice_index octets 4) × (slice_index octets 4 ≤ 6)
+unfolding has_bad_command
+command_is octets h p = (grind (arith, nat_tests), grind (arith, nat_tests))
+
+codec_is : (octets : List ℕ) → has_bad_command octets ≡ false → slice_index octets 0 ≡ 75
+    → (1 ≤ slice_index octets 4) × (slice_index octets 4 ≤ 5) × (slice_index octets 5 ≤ 127)
+unfolding has_bad_command
+codec_is octets h p = (grind (arith, nat_tests), grind (arith, nat_tests), grind (arith, nat_tests))
+
+head_trunk : (octets : List ℕ) → slice_index octets 0 ≡ 84 → head_of octets ≡ heads.Trunk
+unfolding head_of
+head_trunk octets e = rw e refl
+
+head_datagram : (octets : List ℕ) → slice_index octets 0 ≡ 68 → head_of octets ≡ heads.Datagram (slice_index octets 1)
+unfolding head_of
+head_datagram octets e = rw e refl
+
+head_command : (octets : List ℕ) → slice_index octets 0 ≡ 67
+    → head_of octets ≡ heads.Command (slice_index octets 1) (slice_index octets 4)
+unfolding head_of
+head_command octets e = rw e refl
+
+head_codec : (octets : List ℕ) → slice_index octets 0 ≡ 75
+    → head_of octets ≡ heads.Codec (slice_index octets 1) (slice_index octets 4) (slice_index octets 5)
+unfolding head_of
+head_codec octets e = rw e refl
+
+-- two octets that spell a length
+spells : (h l n : ℕ) → h < 256 → l < 256 → n ≡ h * 256 + l → big_bytes 2 n ≡ h ∷ l ∷ []
+spells h l n p q e = rw e (grind (arith, common_steps))
+
+-- a head of four octets, and a body
+firstly : (kinds : Kinds) (head : Head) (k c h l : ℕ) (rest : List ℕ) → h * 256 + l ≤ length rest
+    → k ∷ c ∷ h ∷ l ∷ take (h * 256 + l) rest ≡ spelled (named head (take (h * 256 + l) rest))
+    → IsGood kinds (named head (take (h * 256 + l) rest))
+    → IsFirst kinds (record { head = head; len = 4 + (h * 256 + l) }) (k ∷ c ∷ h ∷ l ∷ rest)
+firstly kinds head k c h l rest fits whole good =
+    let e : 4 + (h * 256 + l) ≡ suc (suc (suc (suc (h * 256 + l)))) = omega arith in
+    let P : ℕ → Type 0 = λ len. (take len (k ∷ c ∷ h ∷ l ∷ rest) ≡ spelled (named head (drop 4 (take len
+    (k ∷ c ∷ h ∷ l ∷ rest)))))
+    × IsGood kinds (named head (drop 4 (take len (k ∷ c ∷ h ∷ l ∷ rest)))) in
+    let both : P (4 + (h * 256 + l)) = subst P (sym e) (whole, good) in
+    record { more = omega arith; fits = omega arith; whole = both.0; good = both.1 }
+
+one_octet : (n : ℕ) (rest : List ℕ) → n ≡ 1 → n ≤ length rest → take n rest ≡ get_or rest 0 0 ∷ []
+one_octet n [] e h = absurd (omega arith)
+one_octet n (x ∷ rest) e h = rw e refl
+
+two_octets : (n : ℕ) (rest : List ℕ) → n ≡ 2 → n ≤ length rest
+    → take n rest ≡ get_or rest 0 0 ∷ get_or rest 1 0 ∷ []
+two_octets n [] e h = absurd (omega arith)
+two_octets n (x ∷ []) e h = absurd (omega arith)
+two_octets n (x ∷ y ∷ rest) e h = rw e refl
+
+-- the record that stands first is good where nothing is wrong with it
+pub good_first : (kinds : Kinds) (octets : List ℕ) → ((i : ℕ) → slice_index octets i < 256) → 4 ≤ length octets
+    → has_bad_kind kinds octets ≡ false → has_bad_circuit octets ≡ false → has_bad_length octets ≡ false
+    → 4 + body_len octets ≤ length octets → has_bad_command octets ≡ false
+    → IsFirst kinds (record { head = head_of octets; len = 4 + body_len octets }) octets
+good_first kinds [] bytes len a b c d e = absurd (omega arith)
+good_first kinds (k ∷ []) bytes len a b c d e = absurd (omega arith)
+good_first kinds (k ∷ c ∷ []) bytes len a b cc' d e = absurd (omega arith)
+good_first kinds (k ∷ c ∷ h ∷ []) bytes len a b cc' d e = absurd (omega arith)
+good_first kinds (k ∷ c ∷ h ∷ l ∷ rest) bytes len kind circuit one whole command =
+    let octets = k ∷ c ∷ h ∷ l ∷ rest in
+    let n = h * 256 + l in
+    let body = take (h * 256 + l) rest in
+    let fits : h * 256 + l ≤ length rest = omega (arith, whole) in
+    let high : h < 256 = bytes 2 in
+    let low : l < 256 = bytes 3 in
+    let counted : length (take (h * 256 + l) rest) ≡ h * 256 + l = length-take-le (h * 256 + l) rest fits in
+    let short : length (take (h * 256 + l) rest) < 2 ^ 16 = omega arith in
+    let spelt : big_bytes 2 (length (take (h * 256 + l) rest)) ≡ h ∷ l ∷ [] = spells h l _ high low counted in
+    elim (kinds_are kinds octets kind) [
+      | inl t ↦
+          let zero : c ≡ 0 = circuit_none octets circuit t.0 in
+          rw (head_trunk octets t.0) (firstly kinds heads.Trunk k c h l rest fits (cc) (t.1, short))
+      | inr r ↦ elim r [
+        | inl t ↦
+            let in_range = circuit_is octets circuit (λ p. absurd (omega (arith, p, t.0))) in
+            rw (head_datagram octets t.0) (firstly kinds (heads.Datagram c) k c h l rest fits (cc)
+            (t.1, short, in_range))
+        | inr s ↦ elim s [
+          | inl t ↦
+              let in_range = circuit_is octets circuit (λ p. absurd (omega (arith, p, t.0))) in
+              let single : h * 256 + l ≡ 1 = length_is octets one t.0 in
+              let body_is : take (h * 256 + l) rest ≡ get_or rest 0 0 ∷ [] = one_octet (h * 256 + l) rest single fits in
+              let known = command_is octets command t.0 in
+              rw (head_command octets t.0) (firstly kinds (heads.Command c (get_or rest 0 0)) k c h l rest fits
+              (rw body_is (cc)) (t.1, in_range, known.0, known.1))
+          | inr t ↦
+              let in_range = circuit_is octets circuit (λ p. absurd (omega (arith, p, t.0))) in
+              let double : h * 256 + l ≡ 2 = two_long octets one t.0 in
+              let body_is : take (h * 256 + l) rest ≡ get_or rest 0 0 ∷ get_or rest 1 0 ∷ [] =
+              two_octets (h * 256 + l) rest double fits in
+              let known = codec_is octets command t.0 in
+              rw (head_codec octets t.0) (firstly kinds (heads.Codec c (get_or rest 0 0) (get_or rest 1 0)) k c h l rest
+              fits (rw body_is (cc)) (t.1, in_range, known.0, known.1, known.2))
+        ]
+      ]
+    ]

@@ -1,0 +1,6 @@
+pub mod Writes
+pub mod Buffers
+pub mod Firsts
+pub mod Readings
+pub mod Totality
+pub mod Sessions

@@ -1,0 +1,114 @@
+-- Octets are read in one way.
+use Rattle.std.proofs.Common.{◌≡◌, ◌+◌, ◌*◌, ◌/◌, ◌%◌, ◌<◌, ◌≤◌, ◌^◌, ℕ, true, List, [], ◌∷◌, ◌++◌, length, take, drop}
+use Rattle.std.proofs.Common.{refl, sym, ap, ◌∙◌, append_assoc, append-nil, length-append, arith}
+use Rattle.std.specs.Prelude.{Some, None}
+use Rattle.std.specs.List.{flat_map, AllByRecursion}
+use Rattle.std.proofs.Math.Seq.{take-append_seam, drop-append_seam}
+use Rattle.std.proofs.lemmas.Bool.Decides.{nat_tests}
+use Rattle.gw_records.specs.declared.records.Kinds.{Kinds}
+use Rattle.gw_records.specs.declared.records.Ending.{Ending}
+use Rattle.gw_records.specs.Records.{Record, spelled, IsGood, body_len, has_bad_kind, has_bad_circuit, has_bad_length}
+use Rattle.gw_records.specs.Records.{is_cut, has_bad_command, end_of}
+use Rattle.gw_records.specs.Records.{named, head_of}
+use Rattle.gw_records.specs.Laws.{AtMostOneReading, MoreKeepsRecords}
+
+-- the record that the first octets say
+abbrev said : List ℕ → Record
+said octets = named (head_of octets) (take (body_len octets) (drop 4 octets))
+
+abbrev after : List ℕ → List ℕ
+after octets = drop (body_len octets) (drop 4 octets)
+
+unspelled : (kinds : Kinds) (r : Record) (x : List ℕ) → IsGood kinds r
+    → (end_of kinds (spelled r ++ x) ≡ None) × (said (spelled r ++ x) ≡ r) × (after (spelled r ++ x) ≡ x)
+unfolding end_of has_bad_kind has_bad_circuit has_bad_length is_cut has_bad_command head_of
+unspelled kinds (Record.Trunk octets) x good =
+    let n = length octets in
+    let kind : kinds.trunk ≡ true = good.0 in
+    let fits : length octets < 2 ^ 16 = good.1 in
+    let len : length octets / 256 % 256 * 256 + length octets % 256 ≡ length octets = omega arith in
+    let long : length (octets ++ x) ≡ length octets + length x = length-append octets x in (
+      grind (arith, nat_tests),
+      ap (λ (k : ℕ). Record.Trunk (take k (octets ++ x))) len ∙ ap Record.Trunk (take-append_seam octets x),
+      ap (λ (k : ℕ). drop k (octets ++ x)) len ∙ drop-append_seam octets x,
+    )
+unspelled kinds (Record.Datagram circuit octets) x good =
+    let kind : kinds.datagrams ≡ true = good.0 in
+    let fits : length octets < 2 ^ 16 = good.1 in
+    let low : 1 ≤ circuit = good.2.0 in
+    let high : circuit ≤ 30 = good.2.1 in
+    let len : length octets / 256 % 256 * 256 + length octets % 256 ≡ length octets = omega arith in
+    let long : length (octets ++ x) ≡ length octets + length x = length-append octets x in (
+      grind (arith, nat_tests),
+      ap (λ (k : ℕ). Record.Datagram circuit (take k (octets ++ x))) len
+          ∙ ap (Record.Datagram circuit) (take-append_seam octets x),
+      ap (λ (k : ℕ). drop k (octets ++ x)) len ∙ drop-append_seam octets x,
+    )
+unspelled kinds (Record.Command circuit command) x good =
+    let kind : kinds.commands ≡ true = good.0 in
+    let low : 1 ≤ circuit = good.1.0 in
+    let high : circuit ≤ 30 = good.1.1 in
+    let first : 1 ≤ command = good.2 in
+    let last : command ≤ 6 = good.3 in
+    (grind (arith, nat_tests), refl, refl)
+unspelled kinds (Record.Codec circuit codec payload_type) x good =
+    let kind : kinds.codecs ≡ true = good.0 in
+    let low : 1 ≤ circuit = good.1.0 in
+    let high : circuit ≤ 30 = good.1.1 in
+    let first : 1 ≤ codec = good.2 in
+    let last : codec ≤ 5 = good.3 in
+    let most : payload_type ≤ 127 = good.4 in
+    (grind (arith, nat_tests), refl, refl)
+
+pub regroup : (r : Record) (rs : List Record) (rest : List ℕ)
+    → flat_map spelled (r ∷ rs) ++ rest ≡ spelled r ++ (flat_map spelled rs ++ rest)
+regroup r rs rest = append_assoc (spelled r) (flat_map spelled rs) rest
+
+-- a good record does not end octets
+no_end : (kinds : Kinds) (r : Record) (rs : List Record) (octets rest : List ℕ) (ending : Ending) → IsGood kinds r
+    → octets ≡ flat_map spelled (r ∷ rs) ++ rest → end_of kinds octets ≡ Some ending → ⊥
+no_end kinds r rs octets rest ending good e h =
+    let none = (unspelled kinds r (flat_map spelled rs ++ rest) good).0 in
+    let same : end_of kinds octets ≡ None = ap (end_of kinds) (e ∙ regroup r rs rest) ∙ none in
+    cc
+
+-- records that come first in octets come first in all that is read of them
+more_go : (kinds : Kinds) (rs rs' : List Record) (rest rest' : List ℕ) (ending' : Ending)
+    → flat_map spelled rs ++ rest ≡ flat_map spelled rs' ++ rest' → AllByRecursion (IsGood kinds) rs
+    → AllByRecursion (IsGood kinds) rs' → end_of kinds rest' ≡ Some ending'
+    → (others : List Record) × (rs' ≡ rs ++ others) × (rest ≡ flat_map spelled others ++ rest')
+    × AllByRecursion (IsGood kinds) others
+more_go kinds [] rs' rest rest' ending' e g g' h' = (rs', refl, e, g')
+more_go kinds (r ∷ rs) [] rest rest' ending' e g g' h' = absurd (no_end kinds r rs rest' rest ending' g.0 (sym e) h')
+more_go kinds (r ∷ rs) (r' ∷ rs') rest rest' ending' e g g' h' =
+    let f = sym (regroup r rs rest) ∙ e ∙ regroup r' rs' rest' in
+    let u = unspelled kinds r (flat_map spelled rs ++ rest) g.0 in
+    let u' = unspelled kinds r' (flat_map spelled rs' ++ rest') g'.0 in
+    let first : r ≡ r' = sym u.1 ∙ ap said f ∙ u'.1 in
+    let others : flat_map spelled rs ++ rest ≡ flat_map spelled rs' ++ rest' = sym u.2 ∙ ap after f ∙ u'.2 in
+    let all = more_go kinds rs rs' rest rest' ending' others g.1 g'.1 h' in
+    (all.0, let same : rs' ≡ rs ++ all.0 = all.1 in cc, all.2, all.3)
+
+-- .. and are all of it where they are followed by an end
+same_end : (kinds : Kinds) (rs others : List Record) (rest rest' : List ℕ) (ending ending' : Ending)
+    → rest ≡ flat_map spelled others ++ rest' → AllByRecursion (IsGood kinds) others
+    → end_of kinds rest ≡ Some ending → end_of kinds rest' ≡ Some ending' → (rs ≡ rs ++ others) × (ending ≡ ending')
+same_end kinds rs [] rest rest' ending ending' e g h h' = (
+  sym (append-nil rs),
+  let same : Some ending ≡ Some ending' = sym h ∙ ap (end_of kinds) e ∙ h' in cc,
+)
+same_end kinds rs (r ∷ others) rest rest' ending ending' e g h h' =
+    absurd (no_end kinds r others rest rest' ending g.0 e h)
+
+pub one_reading : AtMostOneReading
+one_reading kinds octets records records' ending ending' a b =
+    let more = more_go kinds records records' a.rest b.rest ending' (sym a.whole ∙ b.whole) a.good b.good b.ends in
+    let same = same_end kinds records more.0 a.rest b.rest ending ending' more.2 more.3 a.ends b.ends in
+    (same.0 ∙ sym more.1, same.1)
+
+pub more_keeps : MoreKeepsRecords
+more_keeps kinds octets more records records' ending ending' a b =
+    let all = more_go kinds records records' (a.rest ++ more) b.rest ending'
+    (sym (append_assoc (flat_map spelled records) a.rest more) ∙ ap (λ (xs : List ℕ). xs ++ more) (sym a.whole)
+    ∙ b.whole) a.good b.good b.ends in
+    (all.0, all.1)

@@ -1,0 +1,212 @@
+-- What sessions have in common that act on one record after another.
+use Rattle.std.proofs.Common.{◌≡◌, ◌+◌, ◌^◌, ◌<◌, ◌≤◌, inl, inr, ℕ, true, List, [], ◌∷◌, ◌++◌, length, drop}
+use Rattle.std.proofs.Common.{refl, sym, ap, ◌∙◌, subst, append_assoc, append-nil, length-append, arith}
+use Rattle.std.proofs.Common.{take-append-drop}
+use Rattle.std.specs.Prelude.{Some, Result, Ok, Err, IfOk, IfErr, IsErrAnd}
+use Rattle.std.specs.List.{flat_map, AllByRecursion}
+use Rattle.std.specs.Io.KnownBytes.{IsAtEnd}
+use Rattle.std.proofs.lemmas.List.Concat.{flat_map-append}
+use Rattle.gw_records.specs.declared.outcome.Totals.{Totals}
+use Rattle.gw_records.specs.declared.outcome.RunFault.{RunFault}
+use Rattle.gw_records.specs.declared.reader.Reader.{Reader}
+use Rattle.gw_records.specs.declared.records.Kinds.{Kinds}
+use Rattle.gw_records.specs.declared.records.First.{First}
+use Rattle.gw_records.specs.declared.records.Ending.{Ending}
+use Rattle.gw_records.specs.declared.records.Ending.TheVariants as endings
+use Rattle.gw_records.specs.Records.{Record, spelled, IsGood, IsFirst, record_at, end_of, is_open}
+use Rattle.gw_records.specs.Streams.{SourceState, SinkState, Gives, GivesUp}
+use Rattle.gw_records.specs.Outcome.{answer_of, Session, Ends, EndsAll, EndsUntil, FailsToWrite}
+use Rattle.gw_records.specs.Reader.{held, Brings, RunsOut, FailsToRead}
+use Rattle.gw_records.proofs.Writes.{Gives-none, Gives-join, Gives-end}
+
+abbrev pub made : ℕ → ℕ → ℕ → ℕ → ℕ → Totals
+made a b c d e = record { records = a; octets = b; datagrams = c; dropped = d; port_faults = e }
+
+-- equal counts are equal totals
+pub five : {a a' b b' c c' d d' e e' : ℕ} → a ≡ a' → b ≡ b' → c ≡ c' → d ≡ d' → e ≡ e'
+    → made a b c d e ≡ made a' b' c' d' e'
+five p q r s t = cc
+
+-- a fault that goes up is the one that was met
+pub goes_up : {T E : Type 0} {e : E} (P : E → Type 0) (r : Result T E) (f : E) → IsErrAnd r (λ y. y ≡ e) → e ≡ f → P f
+    → IfErr r P
+goes_up P (Ok x) f up met p = tt
+goes_up P (Err y) f up met p = subst P (sym (up ∙ met)) p
+
+-- where a session stands between two records: what it has read are good records, and what its reader holds
+pub record Stage (kinds : Kinds) (source source' : SourceState) (sink sink' : SinkState) (reader : Reader)
+    (octets : List ℕ) (records : List Record) : Type 0 where
+  pub gives : Gives source source' octets
+  pub whole : octets ≡ flat_map spelled records ++ held reader
+  pub good : AllByRecursion (IsGood kinds) records
+  pub no_read : source'.failures ≡ source.failures
+  pub no_write : sink'.failures ≡ sink.failures
+  pub turns : 2 ^ 62 ≤ reader.reads_left + length octets
+  pub calls : source'.reads + reader.reads_left ≡ source.reads + 2 ^ 62
+
+-- before the first record
+pub starts : {kinds : Kinds} (a : SourceState) (c : SinkState) (reader : Reader) → held reader ≡ []
+    → reader.reads_left ≡ 2 ^ 62 → Stage kinds a a c c reader [] []
+starts a c reader none left = record {
+  gives = Gives-none a;
+  whole = sym none;
+  good = tt;
+  no_read = refl;
+  no_write = refl;
+  turns = omega (arith, left);
+  calls = omega (arith, left);
+}
+
+-- the first record is taken
+take_record : (kinds : Kinds) (octets held : List ℕ) (records : List Record) (f : First)
+    → octets ≡ flat_map spelled records ++ held → IsFirst kinds f held
+    → octets ≡ flat_map spelled (records ++ record_at f held ∷ []) ++ drop f.len held
+take_record kinds octets held records f e first =
+    let r = record_at f held in
+    let split : held ≡ spelled (record_at f held) ++ drop f.len held =
+    sym (take-append-drop f.len held) ∙ ap (λ (xs : List ℕ). xs ++ drop f.len held) first.whole in
+    e ∙ ap (λ (xs : List ℕ). flat_map spelled records ++ xs) split
+    ∙ sym (append_assoc (flat_map spelled records) (spelled r) (drop f.len held))
+    ∙ ap (λ (xs : List ℕ). (flat_map spelled records ++ xs) ++ drop f.len held) (sym (append-nil (spelled r)))
+    ∙ ap (λ (xs : List ℕ). xs ++ drop f.len held) (sym (flat_map-append spelled records (r ∷ [])))
+
+-- one good record more
+good_more : {X : Type 0} (P : X → Type 0) (xs : List X) (x : X) → AllByRecursion P xs → P x
+    → AllByRecursion P (xs ++ x ∷ [])
+good_more P [] x all p = (p, tt)
+good_more P (y ∷ xs) x all p = (all.0, good_more P xs x all.1 p)
+
+-- .. of a slice that is held
+pub first_held : {kinds : Kinds} {slice held : List ℕ} (f : First) → slice ≡ held → IsFirst kinds f slice
+    → IsFirst kinds f held
+first_held {kinds} f e first = let P : List ℕ → Type 0 = λ xs. IsFirst kinds f xs in subst P e first
+
+-- a record was acted on and passed
+pub takes : {kinds : Kinds} {a b : SourceState} {c d d' : SinkState} {reader reader' : Reader} {octets : List ℕ}
+    {records : List Record} (f : First) → Stage kinds a b c d reader octets records → IsFirst kinds f (held reader)
+    → held reader' ≡ drop f.len (held reader) → reader'.reads_left ≡ reader.reads_left → d'.failures ≡ d.failures
+    → Stage kinds a b c d' reader' octets (records ++ record_at f (held reader) ∷ [])
+takes {kinds} {a} {b} {c} {d} {d'} {reader} {reader'} {octets} {records} f w first passed left kept =
+    let it = record_at f (held reader) in
+    record {
+      gives = w.gives;
+      whole = take_record kinds octets (held reader) records f w.whole first
+          ∙ ap (λ (xs : List ℕ). flat_map spelled (records ++ it ∷ []) ++ xs) (sym passed);
+      good = good_more (IsGood kinds) records it w.good first.good;
+      no_read = w.no_read;
+      no_write = kept ∙ w.no_write;
+      turns = omega (arith, w.turns, left);
+      calls = omega (arith, w.calls, left);
+    }
+
+-- a write failed in a record
+pub stops_in : {kinds : Kinds} {a b : SourceState} {c d e : SinkState} {reader : Reader} {octets : List ℕ}
+    {records : List Record} {Begun : List Record → Type 0} (f : First) → Stage kinds a b c d reader octets records
+    → IsFirst kinds f (held reader) → d.failures < e.failures
+    → Begun (records ++ record_at f (held reader) ∷ []) → FailsToWrite kinds a b c e Begun
+stops_in {kinds} {a} {b} {c} {d} {e} {reader} {octets} {records} f w first failed begun = record {
+  octets = octets;
+  gives = w.gives;
+  records = records ++ record_at f (held reader) ∷ [];
+  begins = record {
+    rest = drop f.len (held reader);
+    whole = take_record kinds octets (held reader) records f w.whole first;
+    good = good_more (IsGood kinds) records (record_at f (held reader)) w.good first.good;
+  };
+  begun = begun;
+  counted = omega (arith, w.no_write, failed);
+  no_read = w.no_read;
+}
+
+-- .. or behind the records
+pub stops_behind : {kinds : Kinds} {a b : SourceState} {c d e : SinkState} {reader : Reader} {octets : List ℕ}
+    {records : List Record} {Begun : List Record → Type 0} → Stage kinds a b c d reader octets records
+    → d.failures < e.failures → Begun records → FailsToWrite kinds a b c e Begun
+stops_behind {kinds} {a} {b} {c} {d} {e} {reader} {octets} {records} w failed begun = record {
+  octets = octets;
+  gives = w.gives;
+  records = records;
+  begins = record { rest = held reader; whole = w.whole; good = w.good };
+  begun = begun;
+  counted = omega (arith, w.no_write, failed);
+  no_read = w.no_read;
+}
+
+-- octets that came behind
+pub more_octets : (octets before held held' more : List ℕ) → octets ≡ before ++ held → held' ≡ held ++ more
+    → octets ++ more ≡ before ++ held'
+more_octets octets before held held' more e h = rw (e, h) (append_assoc before held more)
+
+-- the source gave more octets
+pub reads_more : {kinds : Kinds} {a b b' : SourceState} {c d d' : SinkState} {reader reader' : Reader}
+    {octets : List ℕ} {records : List Record} → Stage kinds a b c d reader octets records
+    → (r : Brings b b' reader reader') → a.reads < 2 ^ 63 → d'.failures ≡ d.failures
+    → Stage kinds a b' c d' reader' (octets ++ r.octets) records
+reads_more {kinds} {a} {b} {b'} {c} {d} {d'} {reader} {reader'} {octets} w r few kept = record {
+  gives = Gives-join _ _ _ octets r.octets w.gives r.gives;
+  whole = more_octets _ _ _ _ r.octets w.whole r.holds;
+  good = w.good;
+  no_read = r.same ∙ w.no_read;
+  no_write = kept ∙ w.no_write;
+  turns = omega (arith, w.turns, r.turns, length-append octets r.octets);
+  calls = omega (arith, w.calls, r.counted, r.turn, few);
+}
+
+-- what is held ends so, and nothing came behind it
+unfoldable session : {kinds : Kinds} {a b b' : SourceState} {c d d' : SinkState} {reader : Reader}
+    {octets slice : List ℕ} {records : List Record} {ending : Ending} {Done : Totals → List Record → Type 0}
+    (totals : Totals) → Stage kinds a b c d reader octets records → Gives b b' [] → slice ≡ held reader
+    → end_of kinds slice ≡ Some ending → d'.failures ≡ d.failures → Done totals records
+    → Session kinds a b' c d' Done ending
+session {kinds} {a} {b} {b'} {c} {d} {d'} {reader} {octets} {slice} {records} totals w gives same ends kept done =
+    record {
+      octets = octets;
+      gives = Gives-end _ _ _ _ [] refl w.gives gives;
+      records = records;
+      reads = record {
+        rest = held reader;
+        whole = w.whole;
+        good = w.good;
+        ends = ap (end_of kinds) (sym same) ∙ ends;
+      };
+      totals = totals;
+      done = done;
+      no_write = kept ∙ w.no_write;
+    }
+
+-- the records end so
+pub ended : {kinds : Kinds} {a b b' : SourceState} {c d d' : SinkState} {reader reader' : Reader}
+    {octets slice : List ℕ} {records : List Record} {ending : Ending} {Done : Totals → List Record → Type 0}
+    (totals : Totals) → Stage kinds a b c d reader octets records → RunsOut b b' reader reader' ending
+    → slice ≡ held reader → end_of kinds slice ≡ Some ending → d'.failures ≡ d.failures → Done totals records
+    → (e : Ends kinds a b' c d' Done ending) × (totals ≡ e.0.totals)
+unfolding session
+ended totals w r same ends kept done = ((session totals w r.gives same ends kept done, r.same ∙ w.no_read), refl)
+
+-- a read failed, or there were too many
+pub gives_up : {kinds : Kinds} {a b b' : SourceState} {c d d' : SinkState} {reader reader' : Reader}
+    {octets slice : List ℕ} {records : List Record} {ending : Ending} {Done : Totals → List Record → Type 0}
+    (totals : Totals) → Stage kinds a b c d reader octets records → FailsToRead b b' reader reader'
+    → slice ≡ held reader → end_of kinds slice ≡ Some ending → d'.failures ≡ d.failures → Done totals records
+    → (ending : Ending) × (s : Session kinds a b' c d' Done ending) × GivesUp a b' s.octets
+unfolding session
+gives_up totals w r same ends kept done = (
+  _,
+  session totals w r.gives same ends kept done,
+  elim r.cause [
+    | inl h ↦ inl (omega (arith, h, w.no_read))
+    | inr h ↦ inr (omega (arith, h, w.calls, r.uncounted), omega (arith, h, w.turns))
+  ],
+)
+
+-- a session ends where its records end so
+pub ends_so : {kinds : Kinds} {a b : SourceState} {c d : SinkState} {Done : Totals → List Record → Type 0}
+    (Begun : List Record → Type 0) (kept : Type 0) (ending : Ending) (totals : Totals) (result : Result Totals RunFault)
+    → (e : Ends kinds a b c d Done ending) → (is_open ending ≡ true → IsAtEnd b.to_come) → totals ≡ e.0.totals
+    → result ≡ answer_of ending totals
+    → (IfOk result (EndsAll kinds a b c d Done)) × (IfErr result (EndsUntil kinds a b c d Done Begun kept))
+ends_so Begun kept endings.End totals result e o t r = rw r (record { ends = e; ended = o refl; totals_are = t }, tt)
+ends_so Begun kept endings.BadKind totals result e o t r = rw r (tt, e)
+ends_so Begun kept endings.BadCircuit totals result e o t r = rw r (tt, e)
+ends_so Begun kept endings.BadCommand totals result e o t r = rw r (tt, e)
+ends_so Begun kept endings.Truncated totals result e o t r = rw r (tt, (e, o refl))

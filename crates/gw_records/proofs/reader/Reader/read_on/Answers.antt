@@ -1,0 +1,24 @@
+use Rattle.std.proofs.Common.{arith, sym, ◌∙◌}
+use Rattle.gw_records.proofs.Buffers.{open_is_short, held_fits}
+use Rattle.gw_records.proofs.reader.Reader.read_on.Goals as goal
+
+pub prove-unreachable-requires : goal.prove-unreachable-requires
+prove-unreachable-requires g c =
+    let short = open_is_short c.args.kinds.now c.held-held.result.now c.args.ending
+    (λ i. grind arith) (rw c.held-held.ensures c.requires.ends)
+    (sym c.is_open.ensures ∙ c.if-not-is_open.false) in
+    omega (arith, short)
+
+pub returns-in-Ok-clause-ok : goal.returns-in-Ok-clause-ok
+returns-in-Ok-clause-ok g c =
+    let came = c.in-Ok.ensures.gives in
+    record {
+      octets = came.octets;
+      gives = came.gives;
+      holds = came.holds;
+      turns = omega (arith, came.counted, c.in-Ok.ensures.turns);
+      nearer = omega (arith, held_fits c.refill.new.self, c.in-Ok.ensures.turns);
+      counted = c.in-Ok.ensures.reads;
+      turn = c.in-Ok.ensures.turns;
+      same = c.in-Ok.ensures.counts;
+    }

@@ -1,0 +1,44 @@
+use Rattle.std.proofs.Common.{◌≡◌, ◌≤◌, ◌++◌, ℕ, List, length, take, drop, ap, ◌∙◌, arith, refl}
+use Rattle.gw_records.specs.Reader.{held}
+use Rattle.std.proofs.lemmas.Result.{err_from_is_err_and}
+use Rattle.gw_records.proofs.Buffers.{kept, drop_behind}
+use Rattle.gw_records.proofs.reader.Reader.refill.Goals as goal
+
+pub returns-clause-gives : goal.returns-clause-gives
+unfolding held
+returns-clause-gives g c =
+    let s = c.make_room.new.self in
+    let r = c.in_ok-n.ensures.gives in
+    let items = c.as_mut_slice.result.now in
+    let here : held s ≡ held c.args.self.now = c.make_room.ensures.holds in
+    let same : drop s.start (take s.filled items) ≡ held s = rw c.as_mut_slice.ensures.value refl in
+    let whole = kept s.buffer.len c.read_behind.new.buffer (drop (length c.read_behind.new.buffer) s.buffer.items)
+    (omega (arith, s.buffer.ok.0, c.read_behind.ensures.len, ap length c.as_mut_slice.ensures.value)) in
+    let within : s.filled ≤ length items = omega (
+      arith,
+      s.within,
+      s.room,
+      s.buffer.ok.0,
+      ap length
+          c.as_mut_slice.ensures.value,
+    ) in
+    record {
+      octets = r.octets;
+      counted = r.counted;
+      holds = rw whole (ap (drop s.start) r.holds ∙ drop_behind s.start s.filled items r.octets s.order within
+          ∙ ap (λ (xs : List ℕ). xs ++ r.octets) (same ∙ here));
+      gives = r.gives;
+      ended = r.ended;
+    }
+
+pub returns-in_err-n-clause-kept : goal.returns-in_err-n-clause-kept
+unfolding held
+returns-in_err-n-clause-kept g c =
+    let p = err_from_is_err_and c.from_residual.result c.from_residual.ensures.1 in
+    rw (p.1) (let s = c.make_room.new.self in
+    let items = c.as_mut_slice.result.now in
+    let here : held s ≡ held c.args.self.now = c.make_room.ensures.holds in
+    let same : drop s.start (take s.filled items) ≡ held s = rw c.as_mut_slice.ensures.value refl in
+    let whole = kept s.buffer.len c.read_behind.new.buffer (drop (length c.read_behind.new.buffer) s.buffer.items)
+    (omega (arith, s.buffer.ok.0, c.read_behind.ensures.len, ap length c.as_mut_slice.ensures.value)) in
+    rw whole (ap (drop s.start) c.in_err-n.ensures.kept ∙ same ∙ here))

@@ -1,0 +1,5 @@
+pub mod Streams
+pub mod Records
+pub mod Reader
+pub mod Laws
+pub mod Outcome

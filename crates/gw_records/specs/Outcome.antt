@@ -1,0 +1,92 @@
+-- How a session ends, and what it has done by then (module `outcome`).
+use Rattle.std.specs.Prelude.{◌≡◌, ◌-◌, ◌^◌, ◌<◌, ℕ, min, List, Result, Ok, Err}
+use Rattle.std.specs.Io.KnownBytes.{IsAtEnd}
+use Rattle.gw_records.specs.declared.outcome.Totals.{Totals}
+use Rattle.gw_records.specs.declared.outcome.RunFault.{RunFault}
+use Rattle.gw_records.specs.declared.outcome.RunFault.TheVariants as faults
+use Rattle.gw_records.specs.declared.records.Kinds.{Kinds}
+use Rattle.gw_records.specs.declared.records.Ending.{Ending}
+use Rattle.gw_records.specs.declared.records.Ending.TheVariants as endings
+use Rattle.gw_records.specs.Records.{Record, Begins, Reads}
+use Rattle.gw_records.specs.Streams.{SourceState, SinkState, Gives, GivesUp}
+
+-- the number of a fault
+unfoldable pub fault_number : RunFault → ℕ
+fault_number faults.BadKind = 1
+fault_number faults.BadCircuit = 2
+fault_number faults.BadCommand = 3
+fault_number faults.Truncated = 4
+fault_number faults.Read = 5
+fault_number faults.Write = 6
+fault_number faults.OutOfMemory = 7
+
+-- the answer where the records end so
+abbrev pub answer_of : Ending → Totals → Result Totals RunFault
+answer_of endings.End totals = Ok totals
+answer_of endings.BadKind totals = Err faults.BadKind
+answer_of endings.BadCircuit totals = Err faults.BadCircuit
+answer_of endings.BadCommand totals = Err faults.BadCommand
+answer_of endings.Truncated totals = Err faults.Truncated
+
+abbrev pub nothing_counted : Totals
+nothing_counted = record { records = 0; octets = 0; datagrams = 0; dropped = 0; port_faults = 0 }
+
+-- a count, which stays at the greatest u64
+abbrev pub at_most : ℕ → ℕ
+at_most n = min n (2 ^ 64 - 1)
+
+-- The source gave octets, which are good records and then end so; this was done with the records, counted by
+-- these totals, and no write failed.
+pub record Session (kinds : Kinds) (source source' : SourceState) (sink sink' : SinkState)
+    (Done : Totals → List Record → Type 0) (ending : Ending) : Type 0 where
+  pub octets : List ℕ
+  pub gives : Gives source source' octets
+  pub records : List Record
+  pub reads : Reads kinds octets records ending
+  pub totals : Totals
+  pub done : Done totals records
+  pub no_write : sink'.failures ≡ sink.failures
+
+-- .. and no read failed
+abbrev pub Ends : Kinds → SourceState → SourceState → SinkState → SinkState → (Totals → List Record → Type 0)
+    → Ending → Type 0
+Ends kinds source source' sink sink' Done ending =
+    Session kinds source source' sink sink' Done ending × (source'.failures ≡ source.failures)
+
+-- .. up to the end of the source, and the totals are these
+pub record EndsAll (kinds : Kinds) (source source' : SourceState) (sink sink' : SinkState)
+    (Done : Totals → List Record → Type 0) (totals : Totals) : Type 0 where
+  pub ends : Ends kinds source source' sink sink' Done endings.End
+  pub ended : IsAtEnd source'.to_come
+  pub totals_are : totals ≡ ends.0.totals
+
+-- A write failed: good records stand first in the octets that the source gave, and so much was done with
+-- them.
+pub record FailsToWrite (kinds : Kinds) (source source' : SourceState) (sink sink' : SinkState)
+    (Begun : List Record → Type 0) : Type 0 where
+  pub octets : List ℕ
+  pub gives : Gives source source' octets
+  pub records : List Record
+  pub begins : Begins kinds octets records
+  pub begun : Begun records
+  pub counted : sink.failures < sink'.failures
+  pub no_read : source'.failures ≡ source.failures
+
+-- How a session ends before the end of its source: with the fault of the record that is not good, cut only
+-- where the source is at its end; by a read, which failed, or there were 2 ^ 62 of them, each of which gave
+-- an octet; by a write; or for want of memory, with all as it was.
+abbrev pub EndsUntil : Kinds → SourceState → SourceState → SinkState → SinkState
+    → (Totals → List Record → Type 0) → (List Record → Type 0) → Type 0 → RunFault → Type 0
+EndsUntil kinds source source' sink sink' Done Begun kept faults.BadKind =
+    Ends kinds source source' sink sink' Done endings.BadKind
+EndsUntil kinds source source' sink sink' Done Begun kept faults.BadCircuit =
+    Ends kinds source source' sink sink' Done endings.BadCircuit
+EndsUntil kinds source source' sink sink' Done Begun kept faults.BadCommand =
+    Ends kinds source source' sink sink' Done endings.BadCommand
+EndsUntil kinds source source' sink sink' Done Begun kept faults.Truncated =
+    Ends kinds source source' sink sink' Done endings.Truncated × IsAtEnd source'.to_come
+EndsUntil kinds source source' sink sink' Done Begun kept faults.Read = (ending : Ending)
+    × (s : Session kinds source source' sink sink' Done ending) × GivesUp source source' s.octets
+EndsUntil kinds source source' sink sink' Done Begun kept faults.Write =
+    FailsToWrite kinds source source' sink sink' Begun
+EndsUntil kinds source source' sink sink' Done Begun kept faults.OutOfMemory = kept

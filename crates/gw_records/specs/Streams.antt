@@ -1,0 +1,97 @@
+-- What sources and sinks tell of themselves, and what reads and writes change of it.
+use Rattle.std.specs.Prelude.{◌≡◌, ◌==◌, ◌⊎◌, ◌+◌, ◌-◌, ◌<◌, ◌≤◌, ◌^◌, ◌&&◌, if◌then◌else◌, ◌++◌}
+use Rattle.std.specs.Prelude.{ℕ, min, nat_lt, List, length, MatchResult, Option, Result}
+use Rattle.std.specs.Io.KnownBytes.{Appends, Consumes, IsAtEnd}
+use Rattle.gw_records.specs.declared.outcome.RunFault.{RunFault}
+use Rattle.gw_records.specs.declared.outcome.RunFault.TheVariants.{Write}
+
+-- a source: its reads that failed, its other reads and, where they are known, the octets that it gave and
+-- those to come
+pub record SourceState : Type 0 where
+  pub failures : ℕ
+  pub reads : ℕ
+  pub given : Option (List ℕ)
+  pub to_come : Option (List ℕ)
+
+-- a sink: its failures and, where they are known, the octets that it took
+pub record SinkState : Type 0 where
+  pub failures : ℕ
+  pub taken : Option (List ℕ)
+
+-- one failure more, where the count stays at the greatest u64
+abbrev pub one_more : ℕ → ℕ
+one_more failures = min (failures + 1) (2 ^ 64 - 1)
+
+-- a count of failures that can still go up
+abbrev pub CanCount : ℕ → Type 0
+CanCount failures = failures < 2 ^ 64 - 1
+
+-- a session can begin on a source and a sink: it can count their failures, and the reads of a session
+pub record CanBegin (source : SourceState) (sink : SinkState) : Type 0 where
+  pub reads : CanCount source.failures
+  pub turns : source.reads < 2 ^ 63
+  pub writes : CanCount sink.failures
+
+-- a read counts a failure exactly where it failed
+abbrev pub CountsRead : {E : Type 0} → ℕ → ℕ → Result ℕ E → Type 0
+CountsRead old new r = MatchResult r (λ _. new ≡ old) (λ _. new ≡ one_more old)
+
+-- a read that did not fail is counted
+abbrev pub CountsTurn : {E : Type 0} → ℕ → ℕ → Result ℕ E → Type 0
+CountsTurn old new r = MatchResult r (λ _. new ≡ one_more old) (λ _. new ≡ old)
+
+-- a write counts a failure where it failed, and where it took none of a nonempty piece
+abbrev pub CountsWrite : {E : Type 0} → ℕ → ℕ → Result ℕ E → List ℕ → Type 0
+CountsWrite old new r octets =
+    MatchResult r (λ n. new ≡ (if n == 0 && nat_lt 0 (length octets) then one_more old else old))
+    (λ _. new ≡ one_more old)
+
+-- the source gave these octets, where it tells them
+pub record Gives (old new : SourceState) (octets : List ℕ) : Type 0 where
+  pub gave : Appends old.given new.given octets
+  pub consumed : Consumes old.to_come new.to_come octets
+
+-- why no more is read: a read failed, or there were 2 ^ 62 others, each of which gave an octet
+abbrev pub GivesUp : SourceState → SourceState → List ℕ → Type 0
+GivesUp source source' octets =
+    (source.failures < source'.failures) ⊎ ((source.reads + 2 ^ 62 ≤ source'.reads)
+    × (2 ^ 62 ≤ length octets))
+
+-- the source gave n octets, which came behind those that were held; none only at its end
+pub record Refills (old new : List ℕ) (source source' : SourceState) (n : ℕ) : Type 0 where
+  pub octets : List ℕ
+  pub counted : length octets ≡ n
+  pub holds : new ≡ old ++ octets
+  pub gives : Gives source source' octets
+  pub ended : n ≡ 0 → IsAtEnd source'.to_come
+
+-- known octets grew by a prefix of these
+pub record AppendsPrefix (old new : Option (List ℕ)) (octets : List ℕ) : Type 0 where
+  pub written : List ℕ
+  pub rest : List ℕ
+  pub whole : octets ≡ written ++ rest
+  pub appended : Appends old new written
+
+-- of these octets the last ones wait, and the sink took those before
+pub record Passes (old new : Option (List ℕ)) (waiting octets : List ℕ) : Type 0 where
+  pub written : List ℕ
+  pub whole : octets ≡ written ++ waiting
+  pub appended : Appends old new written
+
+-- a write failed and was counted, when a prefix of these octets had been taken
+pub record Breaks (old new : SinkState) (octets : List ℕ) : Type 0 where
+  pub counted : old.failures < new.failures
+  pub took : AppendsPrefix old.taken new.taken octets
+
+-- these octets pass, and no write failed; or Write, where one failed when a prefix of them had been taken
+abbrev pub Puts : {T : Type 0} → SinkState → SinkState → List ℕ → List ℕ → Result T RunFault → Type 0
+Puts old new waiting octets r = MatchResult r
+    (λ _. Passes old.taken new.taken waiting octets × (new.failures ≡ old.failures))
+    (λ e. (e ≡ Write) × Breaks old new octets)
+
+-- these octets were taken, and no write failed; or Write, where one failed when a prefix of them had been
+-- taken
+abbrev pub Writes : {T : Type 0} → SinkState → SinkState → List ℕ → Result T RunFault → Type 0
+Writes old new octets r = MatchResult r
+    (λ _. Appends old.taken new.taken octets × (new.failures ≡ old.failures))
+    (λ e. (e ≡ Write) × Breaks old new octets)

@@ -1,0 +1,17 @@
+//! Laws of records, proved by functions that do nothing.
+ghost use Rattle.gw_records.specs.Laws.{AtMostOneReading, MoreKeepsRecords, EachIsRead};
+
+/// Octets are read as records in one way: the same whole records and the same end.
+pub fn at_most_one_reading()
+    ensures { AtMostOneReading }
+{}
+
+/// Octets that come later keep the whole records that are there.
+pub fn more_keeps_records()
+    ensures { MoreKeepsRecords }
+{}
+
+/// Any octets are read as whole records and an end.
+pub fn each_is_read()
+    ensures { EachIsRead }
+{}

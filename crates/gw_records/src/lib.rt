@@ -1,0 +1,18 @@
+//! Records in octets that come and go: what sessions of any kind have in common.
+#![tactic(auto)]
+
+pub mod laws;
+mod outcome;
+mod reader;
+mod records;
+mod streams;
+mod writing;
+
+pub use outcome::{NO_TOTALS, RunFault, Totals, answer};
+pub use reader::{MAX_READS, Reader, read_behind};
+pub use records::{
+    CODEC, COMMAND, DATAGRAM, Ending, FRONT_LEN, First, Head, Kinds, TRUNK, datagram_record,
+    first_record,
+};
+pub use streams::{FromRead, Sink, SinkFault, Source, SourceFault, ToWrite};
+pub use writing::{OutputBuffer, TrunkRecord, flush, put, write_all};

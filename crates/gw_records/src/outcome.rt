@@ -1,0 +1,87 @@
+//! How a session ends, and what it has done by then.
+ghost use Rattle.std.specs.Prelude.{◌≡◌};
+ghost use Rattle.gw_records.specs.Outcome.{fault_number, answer_of};
+
+use crate::records::Ending;
+use thiserror::Error;
+
+/// What a session has done. Each count stays at the greatest u64 once it is there.
+#[derive(Clone, Copy, Debug, PartialEq, Eq)]
+pub struct Totals {
+    /// Records that were read whole.
+    pub records: u64,
+    /// Octets of trunk records.
+    pub octets: u64,
+    /// Datagrams that were written or sent.
+    pub datagrams: u64,
+    /// Datagrams that were refused or passed over.
+    pub dropped: u64,
+    /// Faults of ports.
+    pub port_faults: u64,
+}
+
+/// The totals before anything is done.
+pub const NO_TOTALS: Totals = Totals {
+    records: 0,
+    octets: 0,
+    datagrams: 0,
+    dropped: 0,
+    port_faults: 0,
+};
+
+/// Why a session ended before the end of its source. The printed form is the program's line for it.
+#[derive(Clone, Copy, Debug, PartialEq, Eq, Error)]
+pub enum RunFault {
+    /// A record of a kind that this session does not read.
+    #[error("fault 1 BadKind")]
+    BadKind,
+    /// A circuit that a record of this kind can't have.
+    #[error("fault 2 BadCircuit")]
+    BadCircuit,
+    /// A command or codec record of another length than theirs, or one that says what is none.
+    #[error("fault 3 BadCommand")]
+    BadCommand,
+    /// The source ended inside a record.
+    #[error("fault 4 Truncated")]
+    Truncated,
+    /// The source failed, or there were 2^62 reads.
+    #[error("fault 5 Read")]
+    Read,
+    /// The sink failed, or took none of a nonempty piece.
+    #[error("fault 6 Write")]
+    Write,
+    /// Memory was refused, before the first octet was read.
+    #[error("out of memory")]
+    OutOfMemory,
+}
+
+impl RunFault {
+    /// The fault's number, 1 to 7 in the order of the variants.
+    #[tactic(auto, unfolding(crate::specs::Outcome::fault_number))]
+    pub fn number(self) -> u8
+        ensures { result ≡ fault_number self }
+    {
+        match self {
+            RunFault::BadKind => 1,
+            RunFault::BadCircuit => 2,
+            RunFault::BadCommand => 3,
+            RunFault::Truncated => 4,
+            RunFault::Read => 5,
+            RunFault::Write => 6,
+            RunFault::OutOfMemory => 7,
+        }
+    }
+}
+
+/// What a session returns whose records end so.
+pub fn answer(ending: Ending, totals: Totals) -> Result<Totals, RunFault>
+    ensures { result ≡ answer_of ending totals }
+{
+    match ending {
+        Ending::End => Ok(totals),
+        Ending::BadKind => Err(RunFault::BadKind),
+        Ending::BadCircuit => Err(RunFault::BadCircuit),
+        Ending::BadCommand => Err(RunFault::BadCommand),
+        Ending::Truncated => Err(RunFault::Truncated),
+    }
+}

@@ -1,0 +1,176 @@
+//! The buffer of octets that were read, from whose front records are taken in place.
+ghost use Rattle.std.specs.Prelude.{◌≡◌, ◌+◌, ◌<◌, ◌≤◌, [], vec_len, length, take, IfOk, OnErr};
+ghost use Rattle.gw_records.specs.Streams.{CountsRead, CountsTurn, Refills, Gives};
+ghost use Rattle.gw_records.specs.Records.{is_open};
+
+use crate::outcome::RunFault;
+use crate::records::{Ending, Kinds};
+use crate::streams::{Source, SourceFault};
+use std::alloc::{AllocError, Global};
+
+// The octets of the longest record.
+const RECORD_LEN: usize = 65_539;
+
+const BUFFER_LEN: usize = 2 * RECORD_LEN;
+
+/// A session gives up after so many reads.
+pub const MAX_READS: u64 = 1 << 62;
+
+/// The octets that were read and not yet passed.
+#[derive(Drop)]
+pub struct Reader {
+    buffer: Vec<u8>,
+    start: usize,
+    filled: usize,
+    reads_left: u64,
+    ghost room: { vec_len buffer ≡ 131078 },
+    ghost order: { start ≤ filled },
+    ghost within: { filled ≤ 131078 },
+}
+
+// Whether more octets may change how octets end.
+fn is_open(ending: Ending) -> bool
+    ensures { result ≡ is_open ending }
+{
+    matches!(ending, Ending::End | Ending::Truncated)
+}
+
+/// Reads octets behind the first ones of a buffer, and returns how many.
+pub fn read_behind<S: Source>(
+    source: &mut S,
+    buffer: &mut [u8],
+    filled: usize,
+) -> Result<usize, SourceFault>
+    requires { filled < length buffer.old }
+    ensures fits { IfOk result (λ n. filled + n ≤ length buffer.new) }
+    ensures gives { IfOk result (λ n. Refills (take filled buffer.old) (take (filled + n) buffer.new)
+        (S.tells source.old) (S.tells source.new) n) }
+    ensures kept { OnErr result (take filled buffer.new ≡ take filled buffer.old) }
+    ensures none { OnErr result (Gives (S.tells source.old) (S.tells source.new) []) }
+    ensures counts { CountsRead (S.tells source.old).failures (S.tells source.new).failures result }
+    ensures turns { CountsTurn (S.tells source.old).reads (S.tells source.new).reads result }
+    ensures len { length buffer.new ≡ length buffer.old }
+{
+    let n = source.read(&mut buffer[filled..])?;
+    Ok(n)
+}
+
+impl Reader {
+    ghost use Rattle.std.specs.Prelude.{◌≡◌, ◌+◌, ◌-◌, ◌^◌, ◌<◌, ◌≤◌};
+    ghost use Rattle.std.specs.Prelude.{[], length, drop, Some, IfOk, IfErr, OnErr};
+    ghost use Rattle.gw_records.specs.Streams.{CanCount, CountsRead, CountsTurn, Refills, Gives};
+    ghost use Rattle.gw_records.specs.Records.{end_of};
+    ghost use Rattle.gw_records.specs.Reader.{held, ReadsOn, FailsToRead};
+
+    /// A reader that holds nothing.
+    #[tactic(auto, unfolding(crate::specs::Reader::held))]
+    pub fn new(alloc: Global) -> Result<Reader, AllocError>
+        ensures holds { IfOk result (λ r. held r ≡ []) }
+        ensures turns { IfOk result (λ r. r.reads_left ≡ 2 ^ 62) }
+    {
+        Ok(Reader {
+            buffer: vec![in alloc; 0u8; BUFFER_LEN]?,
+            start: 0,
+            filled: 0,
+            reads_left: MAX_READS,
+        })
+    }
+
+    /// What is held.
+    #[tactic(auto, unfolding(crate::specs::Reader::held))]
+    pub fn held(&self) -> &[u8]
+        ensures { result.now ≡ held self.now }
+    {
+        &self.buffer[self.start..self.filled]
+    }
+
+    /// Passes octets, which are then held no longer.
+    #[tactic(auto, unfolding(crate::specs::Reader::held))]
+    pub fn pass(&mut self, len: usize)
+        requires { len ≤ length (held self.old) }
+        ensures holds { held self.new ≡ drop len (held self.old) }
+        ensures turns { self.new.reads_left ≡ self.old.reads_left }
+    {
+        self.start += len;
+    }
+
+    // Moves what is held to the front of the buffer.
+    #[tactic(auto, unfolding(crate::specs::Reader::held))]
+    fn compact(&mut self)
+        ensures holds { held self.new ≡ held self.old }
+        ensures front { self.new.start ≡ 0 }
+        ensures filled { self.new.filled ≡ length (held self.old) }
+        ensures turns { self.new.reads_left ≡ self.old.reads_left }
+    {
+        self.buffer.copy_within(self.start..self.filled, 0);
+        self.filled -= self.start;
+        self.start = 0;
+    }
+
+    // Makes room behind what is held. Octets are moved only when the room is used up: where more octets are
+    // wanted, at most half of the buffer is held, so that no move copies more octets than were read since the
+    // last one.
+    #[tactic(auto, unfolding(crate::specs::Reader::held))]
+    fn make_room(&mut self)
+        requires { length (held self.old) < 131078 }
+        ensures holds { held self.new ≡ held self.old }
+        ensures room { self.new.filled < 131078 }
+        ensures turns { self.new.reads_left ≡ self.old.reads_left }
+    {
+        if self.start == self.filled {
+            self.start = 0;
+            self.filled = 0;
+        } else if self.filled == BUFFER_LEN {
+            self.compact();
+        }
+    }
+
+    // Reads octets behind those that are held, and returns how many.
+    fn refill<S: Source>(&mut self, source: &mut S) -> Result<usize, SourceFault>
+        requires room { length (held self.old) < 131078 }
+        requires turn { 0 < self.old.reads_left }
+        ensures gives { IfOk result (λ n. Refills (held self.old) (held self.new)
+            (S.tells source.old) (S.tells source.new) n) }
+        ensures kept { OnErr result (held self.new ≡ held self.old) }
+        ensures none { OnErr result (Gives (S.tells source.old) (S.tells source.new) []) }
+        ensures counts { CountsRead (S.tells source.old).failures (S.tells source.new).failures result }
+        ensures reads { CountsTurn (S.tells source.old).reads (S.tells source.new).reads result }
+        ensures turns { self.new.reads_left + 1 ≡ self.old.reads_left }
+    {
+        self.make_room();
+        self.reads_left -= 1;
+        let n = read_behind(source, self.buffer.as_mut_slice(), self.filled)?;
+        self.filled += n;
+        Ok(n)
+    }
+
+    /// Reads on where more octets may change how those that are held end, and returns whether octets came.
+    /// There is no read while a whole record, or one that can't be good any more, stands first.
+    pub fn read_on<S: Source>(
+        &mut self,
+        kinds: &Kinds,
+        ending: Ending,
+        source: &mut S,
+    ) -> Result<bool, RunFault>
+        requires ends { end_of kinds.now (held self.old) ≡ Some ending }
+        requires reads { CanCount (S.tells source.old).failures }
+        ensures ok { IfOk result (λ came. ReadsOn (S.tells source.old) (S.tells source.new)
+            self.old self.new ending came) }
+        ensures fault { IfErr result (λ e. (e ≡ RunFault.Read)
+            × FailsToRead (S.tells source.old) (S.tells source.new) self.old self.new) }
+    {
+        if !is_open(ending) {
+            return Ok(false);
+        }
+        let held = self.held();
+        prove!(held.len() <= RECORD_LEN);
+        if self.reads_left == 0 {
+            return Err(RunFault::Read);
+        }
+        match self.refill(source) {
+            Ok(0) => Ok(false),
+            Ok(_) => Ok(true),
+            Err(_) => Err(RunFault::Read),
+        }
+    }
+}

@@ -1,0 +1,183 @@
+//! Records, and what stands first in octets.
+ghost use Rattle.std.specs.Prelude.{◌≡◌, ◌≢◌, ◌+◌, ◌<◌, ◌≤◌, ◌^◌};
+ghost use Rattle.std.specs.Prelude.{false, length, slice_index, Some, IfOk, IfErr};
+ghost use Rattle.gw_records.specs.Records.{IsFirst, head_of, end_of, body_len, record_of};
+ghost use Rattle.gw_records.specs.Records.{has_bad_kind, has_bad_circuit, has_bad_length, has_bad_command};
+
+use arrayvec::ArrayVec;
+use byteorder::{BigEndian, ByteOrder};
+
+/// How many octets stand before the body of a record.
+pub const FRONT_LEN: usize = 4;
+
+/// Octets of the trunk.
+pub const TRUNK: u8 = 0x54;
+/// A datagram of a circuit.
+pub const DATAGRAM: u8 = 0x44;
+/// A command for a circuit.
+pub const COMMAND: u8 = 0x43;
+/// A codec for a circuit.
+pub const CODEC: u8 = 0x4B;
+
+/// Which kinds of record are read.
+#[derive(Clone, Copy, Debug, PartialEq, Eq)]
+pub struct Kinds {
+    pub trunk: bool,
+    pub datagrams: bool,
+    pub commands: bool,
+    pub codecs: bool,
+}
+
+/// How records end.
+#[derive(Clone, Copy, Debug, PartialEq, Eq)]
+pub enum Ending {
+    End,
+    BadKind,
+    BadCircuit,
+    BadCommand,
+    Truncated,
+}
+
+/// What a record is, but for the octets of its body.
+#[derive(Clone, Copy, Debug, PartialEq, Eq)]
+pub enum Head {
+    Trunk,
+    Datagram(u8),
+    Command(u8, u8),
+    Codec(u8, u8, u8),
+}
+
+/// A whole record that stands first, and its length.
+#[derive(Clone, Copy, Debug, PartialEq, Eq)]
+pub struct First {
+    pub head: Head,
+    pub len: usize,
+}
+
+// The length of the body.
+fn body_len(held: &[u8]) -> usize
+    requires { 4 ≤ length held.now }
+    ensures value { result ≡ body_len held.now }
+    ensures bound { result < 2 ^ 16 }
+{
+    usize::from(BigEndian::read_u16(&held[2..]))
+}
+
+#[tactic(auto, unfolding(crate::specs::Records::has_bad_kind))]
+fn has_bad_kind(kinds: &Kinds, held: &[u8]) -> bool
+    requires { 4 ≤ length held.now }
+    ensures { result ≡ has_bad_kind kinds.now held.now }
+{
+    match held[0] {
+        TRUNK => !kinds.trunk,
+        DATAGRAM => !kinds.datagrams,
+        COMMAND => !kinds.commands,
+        CODEC => !kinds.codecs,
+        _ => true,
+    }
+}
+
+#[tactic(auto, unfolding(crate::specs::Records::has_bad_circuit))]
+fn has_bad_circuit(held: &[u8]) -> bool
+    requires { 4 ≤ length held.now }
+    ensures { result ≡ has_bad_circuit held.now }
+{
+    let circuit = held[1];
+    if held[0] == TRUNK {
+        circuit != 0
+    } else {
+        circuit < 1 || circuit > 30
+    }
+}
+
+#[tactic(auto, unfolding(crate::specs::Records::has_bad_length))]
+fn has_bad_length(held: &[u8]) -> bool
+    requires { 4 ≤ length held.now }
+    ensures { result ≡ has_bad_length held.now }
+{
+    match held[0] {
+        COMMAND => body_len(held) != 1,
+        CODEC => body_len(held) != 2,
+        _ => false,
+    }
+}
+
+#[tactic(auto, unfolding(crate::specs::Records::has_bad_command, crate::specs::Records::has_bad_length))]
+fn has_bad_command(held: &[u8]) -> bool
+    requires len { 4 ≤ length held.now }
+    requires one { has_bad_length held.now ≡ false }
+    requires whole { 4 + body_len held.now ≤ length held.now }
+    ensures { result ≡ has_bad_command held.now }
+{
+    match held[0] {
+        COMMAND => held[4] < 1 || held[4] > 6,
+        CODEC => held[4] < 1 || held[4] > 5 || held[5] > 127,
+        _ => false,
+    }
+}
+
+#[tactic(auto, unfolding(crate::specs::Records::head_of, crate::specs::Records::has_bad_length))]
+fn head_of(held: &[u8]) -> Head
+    requires len { 4 ≤ length held.now }
+    requires one { has_bad_length held.now ≡ false }
+    requires whole { 4 + body_len held.now ≤ length held.now }
+    requires kind { slice_index held.now 0 ≢ 0x54 → slice_index held.now 0 ≢ 0x44
+        → slice_index held.now 0 ≢ 0x43 → slice_index held.now 0 ≡ 0x4B }
+    ensures { result ≡ head_of held.now }
+{
+    match held[0] {
+        TRUNK => Head::Trunk,
+        DATAGRAM => Head::Datagram(held[1]),
+        COMMAND => Head::Command(held[1], held[4]),
+        _ => Head::Codec(held[1], held[4], held[5]),
+    }
+}
+
+/// The good record that stands first, whole, or how the octets end. It is inlined, so that a session that
+/// reads one kind tests for no other.
+#[inline(always)]
+#[tactic(auto, unfolding(crate::specs::Records::end_of, crate::specs::Records::is_cut))]
+pub fn first_record(kinds: &Kinds, held: &[u8]) -> Result<First, Ending>
+    ensures good { IfOk result (λ f. IsFirst kinds.now f held.now) }
+    ensures end { IfErr result (λ e. end_of kinds.now held.now ≡ Some e) }
+{
+    if held.is_empty() {
+        return Err(Ending::End);
+    }
+    if held.len() < 4 {
+        return Err(Ending::Truncated);
+    }
+    if has_bad_kind(kinds, held) {
+        return Err(Ending::BadKind);
+    }
+    if has_bad_circuit(held) {
+        return Err(Ending::BadCircuit);
+    }
+    if has_bad_length(held) {
+        return Err(Ending::BadCommand);
+    }
+    let len = 4 + body_len(held);
+    if held.len() < len {
+        return Err(Ending::Truncated);
+    }
+    if has_bad_command(held) {
+        return Err(Ending::BadCommand);
+    }
+    Ok(First {
+        head: head_of(held),
+        len,
+    })
+}
+
+/// The record of a datagram that is sent.
+pub fn datagram_record(circuit: u8, datagram: &[u8]) -> ArrayVec<u8, 256>
+    requires { length datagram.now ≤ 252 }
+    ensures { result.items ≡ record_of 0x44 circuit datagram.now }
+{
+    let mut front = [DATAGRAM, circuit, 0, 0];
+    BigEndian::write_u16(&mut front[2..4], datagram.len() as u16);
+    let mut record: ArrayVec<u8, 256> = ArrayVec::new();
+    let _ = record.try_extend_from_slice(&front);
+    let _ = record.try_extend_from_slice(datagram);
+    record
+}

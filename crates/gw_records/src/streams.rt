@@ -1,0 +1,124 @@
+//! Where octets come from, and where they go.
+ghost use Rattle.std.specs.Prelude.{◌≡◌, ◌<◌, ◌≤◌, length, IfOk, None};
+ghost use Rattle.std.specs.Io.KnownBytes.{ReadConsumes, WriteAppends};
+ghost use Rattle.gw_records.specs.Streams.{SourceState, SinkState, CountsRead, CountsTurn, CountsWrite};
+
+use std::io::{Read, Write};
+use thiserror::Error;
+
+/// A read failed.
+#[derive(Clone, Copy, Debug, PartialEq, Eq, Error)]
+#[error("a read failed")]
+pub struct SourceFault;
+
+/// A write failed.
+#[derive(Clone, Copy, Debug, PartialEq, Eq, Error)]
+#[error("a write failed")]
+pub struct SinkFault;
+
+/// Gives octets.
+pub trait Source {
+    /// What the source tells of itself: how many of its reads have failed and how many have not, each up to
+    /// the greatest u64, and, where they are known, the octets that it gave and those to come.
+    ghost tells: { Self → SourceState };
+
+    /// Reads octets to the front of `buf`, and returns how many. It returns 0 for a nonempty slice only where
+    /// no octet is to come.
+    fn read(&mut self, buf: &mut [u8]) -> Result<usize, SourceFault>
+        ensures bound { IfOk result (λ n. n ≤ length buf.new) }
+        ensures gives { WriteAppends (tells self.old).given (tells self.new).given result buf.new }
+        ensures consumes { ReadConsumes (tells self.old).to_come (tells self.new).to_come result buf.new }
+        ensures counts { CountsRead (tells self.old).failures (tells self.new).failures result }
+        ensures turns { CountsTurn (tells self.old).reads (tells self.new).reads result };
+}
+
+/// Takes octets.
+pub trait Sink {
+    /// What the sink tells of itself: how many of its writes have failed, up to the greatest u64, one that
+    /// took none of a nonempty piece among them, and, where they are known, the octets that it took.
+    ghost tells: { Self → SinkState };
+
+    /// Takes octets from the front of `octets`, and returns how many.
+    fn write(&mut self, octets: &[u8]) -> Result<usize, SinkFault>
+        ensures bound { IfOk result (λ n. n ≤ length octets.now) }
+        ensures takes { WriteAppends (tells self.old).taken (tells self.new).taken result octets.now }
+        ensures counts { CountsWrite (tells self.old).failures (tells self.new).failures result octets.now };
+}
+
+/// A reader of std as a source. Each error of the reader is a failure, an interruption too.
+#[derive(Drop)]
+pub struct FromRead<R> {
+    reader: R,
+    failed: u64,
+    reads: u64,
+}
+
+impl<R: Read> FromRead<R> {
+    /// The source of what the reader gives, with no read yet.
+    pub fn new(reader: R) -> Self
+        ensures { result ≡ record { reader = reader; failed = 0; reads = 0 } }
+    {
+        FromRead {
+            reader,
+            failed: 0,
+            reads: 0,
+        }
+    }
+}
+
+impl<R: Read> Source for FromRead<R> {
+    ghost tells = { λ s. record {
+      failures = s.failed;
+      reads = s.reads;
+      given = None;
+      to_come = R.remaining s.reader;
+    } };
+
+    fn read(&mut self, buf: &mut [u8]) -> Result<usize, SourceFault> {
+        match self.reader.read(buf) {
+            Ok(n) => {
+                self.reads = self.reads.saturating_add(1);
+                Ok(n)
+            }
+            Err(_) => {
+                self.failed = self.failed.saturating_add(1);
+                Err(SourceFault)
+            }
+        }
+    }
+}
+
+/// A writer of std as a sink. Each error of the writer is a failure, and so is a write that took nothing.
+#[derive(Drop)]
+pub struct ToWrite<W> {
+    writer: W,
+    failed: u64,
+}
+
+impl<W: Write> ToWrite<W> {
+    /// The sink that hands its octets to the writer, with no failure yet.
+    pub fn new(writer: W) -> Self
+        ensures { result ≡ record { writer = writer; failed = 0 } }
+    {
+        ToWrite { writer, failed: 0 }
+    }
+}
+
+impl<W: Write> Sink for ToWrite<W> {
+    ghost tells = { λ s. record { failures = s.failed; taken = W.contents s.writer } };
+
+    fn write(&mut self, octets: &[u8]) -> Result<usize, SinkFault> {
+        match self.writer.write(octets) {
+            Ok(n) => {
+                if n == 0 && !octets.is_empty() {
+                    self.failed = self.failed.saturating_add(1);
+                }
+                Ok(n)
+            }
+            Err(_) => {
+                self.failed = self.failed.saturating_add(1);
+                Err(SinkFault)
+            }
+        }
+    }
+}

@@ -1,0 +1,64 @@
+-- Ends of sessions, by what is known of them.
+use Rattle.std.specs.Prelude.{List, Result, Ok, Err, IfOk, IfErr}
+use Rattle.gw_records.specs.declared.outcome.Totals.{Totals}
+use Rattle.gw_records.specs.declared.outcome.RunFault.{RunFault}
+use Rattle.gw_records.specs.declared.outcome.RunFault.TheVariants as faults
+use Rattle.gw_records.specs.declared.records.Kinds.{Kinds}
+use Rattle.gw_records.specs.declared.records.Ending.{Ending}
+use Rattle.gw_records.specs.Records.{Record}
+use Rattle.gw_records.specs.Streams.{SourceState, SinkState}
+use Rattle.gw_records.specs.Outcome.{Session, Ends, EndsAll, EndsUntil}
+
+session_as : {kinds : Kinds} {a b : SourceState} {c d : SinkState} {P Q : Totals → List Record → Type 0}
+    {ending : Ending} → ((t : Totals) (rs : List Record) → P t rs → Q t rs) → Session kinds a b c d P ending
+    → Session kinds a b c d Q ending
+session_as {kinds} {a} {b} {c} {d} {P} {Q} f s = record {
+  octets = s.octets;
+  gives = s.gives;
+  records = s.records;
+  reads = s.reads;
+  totals = s.totals;
+  done = f s.totals s.records s.done;
+  no_write = s.no_write;
+}
+
+ends_as : {kinds : Kinds} {a b : SourceState} {c d : SinkState} {P Q : Totals → List Record → Type 0}
+    {ending : Ending} → ((t : Totals) (rs : List Record) → P t rs → Q t rs) → Ends kinds a b c d P ending
+    → Ends kinds a b c d Q ending
+ends_as f e = (session_as f e.0, e.1)
+
+-- a session that ended well
+pub all_as : (kinds : Kinds) (a b : SourceState) (c d : SinkState) {P Q : Totals → List Record → Type 0}
+    (result : Result Totals RunFault) → ((t : Totals) (rs : List Record) → P t rs → Q t rs)
+    → IfOk result (EndsAll kinds a b c d P) → IfOk result (EndsAll kinds a b c d Q)
+unfolding session_as ends_as
+all_as kinds a b c d (Ok t) f e = record { ends = ends_as f e.ends; ended = e.ended; totals_are = e.totals_are }
+all_as kinds a b c d (Err x) f e = tt
+
+fault_as : (kinds : Kinds) (a b : SourceState) (c d : SinkState) {P Q : Totals → List Record → Type 0}
+    {B C : List Record → Type 0} (kept : Type 0) (e : RunFault) → ((t : Totals) (rs : List Record) → P t rs → Q t rs)
+    → ((rs : List Record) → B rs → C rs) → EndsUntil kinds a b c d P B ⊥ e → EndsUntil kinds a b c d Q C kept e
+unfolding session_as
+fault_as kinds a b c d kept faults.BadKind f begun e = ends_as f e
+fault_as kinds a b c d kept faults.BadCircuit f begun e = ends_as f e
+fault_as kinds a b c d kept faults.BadCommand f begun e = ends_as f e
+fault_as kinds a b c d kept faults.Truncated f begun e = (ends_as f e.0, e.1)
+fault_as kinds a b c d kept faults.Read f begun e = (e.0, session_as f e.1, e.2)
+fault_as kinds a b c d kept faults.Write f begun e = record {
+  octets = e.octets;
+  gives = e.gives;
+  records = e.records;
+  begins = e.begins;
+  begun = begun e.records e.begun;
+  counted = e.counted;
+  no_read = e.no_read;
+}
+fault_as kinds a b c d kept faults.OutOfMemory f begun e = absurd e
+
+-- .. or before its end
+pub until_as : (kinds : Kinds) (a b : SourceState) (c d : SinkState) {P Q : Totals → List Record → Type 0}
+    {B C : List Record → Type 0} (kept : Type 0) (result : Result Totals RunFault)
+    → ((t : Totals) (rs : List Record) → P t rs → Q t rs) → ((rs : List Record) → B rs → C rs)
+    → IfErr result (EndsUntil kinds a b c d P B ⊥) → IfErr result (EndsUntil kinds a b c d Q C kept)
+until_as kinds a b c d kept (Ok t) f begun e = tt
+until_as kinds a b c d kept (Err x) f begun e = fault_as kinds a b c d kept x f begun e

@@ -1,0 +1,23 @@
+use Rattle.std.proofs.Common.{◌≡◌, ◌≤◌, List, ℕ, length}
+use Rattle.std.specs.Prelude.{vec_len}
+use Rattle.gw_records.specs.Reader.{work_left}
+use Rattle.gw_records.specs.Records.{Record}
+use Rattle.gw_records.specs.Streams.{Passes}
+use Rattle.gw_records.proofs.Sessions.{Stage}
+use Rattle.gw_session.specs.Exchange.{Through}
+use Rattle.gw_session.proofs.attend.attend.Given as goal
+
+abbrev pub invariant-attending : goal.invariant-attending
+invariant-attending g l = (octets : List ℕ) × (records : List Record) × record {
+  stage : Stage l.kinds (g.S.Source.tells l.initial.source) (g.S.Source.tells l.source)
+      (g.K.Sink.tells l.initial.sink) (g.K.Sink.tells l.sink) l.reader octets records;
+  through : Through g.O.Outlet.spells (g.O.Outlet.tells l.initial.outlet) (g.O.Outlet.tells l.outlet)
+      l.initial.gateway l.gateway
+      (λ xs. Passes (g.K.Sink.tells l.initial.sink).taken (g.K.Sink.tells l.sink).taken l.session.waiting.items xs)
+      l.session.totals records;
+  none_waits : length records ≡ 0 → length l.session.waiting.items ≡ 0;
+  room : g.O.Outlet.place ≤ vec_len l.session.room;
+}
+
+abbrev pub decreases-attending : goal.decreases-attending
+decreases-attending g l = work_left l.reader

@@ -1,0 +1,34 @@
+-- Where packets of a session go (module `outlet`).
+use Rattle.std.specs.Prelude.{◌≡◌, ℕ, Bool, true, false, List, [], ◌∷◌, Some, None}
+use Rattle.gw_records.specs.Streams.{one_more}
+use Rattle.gw_records.specs.Records.{record_of}
+use Rattle.gw_session.specs.Ports.{PortsState, Grows}
+
+-- the octets that a packet of a circuit puts in front of the answer
+abbrev pub Spells : Type 0
+Spells = ℕ × List ℕ → List ℕ
+
+-- none, where packets go to ports
+abbrev pub silent : Spells
+silent p = []
+
+-- its record, where they go to the sink
+abbrev pub in_record : Spells
+in_record p = record_of 0x44 p.0 p.1
+
+-- ports at which nothing waits and nothing fails
+abbrev pub no_ports : PortsState
+no_ports = record {
+  receive_failures = 0;
+  send_failures = 0;
+  waiting = Some (λ circuit. []);
+  given = None;
+  taken = None;
+}
+
+-- a packet went out, or its send failed
+abbrev pub Went : PortsState → PortsState → ℕ → Bool → List ℕ → Type 0
+Went old new circuit true packet =
+    Grows old.taken new.taken ((circuit, packet) ∷ []) × (new.send_failures ≡ old.send_failures)
+Went old new circuit false packet =
+    (new.taken ≡ old.taken) × (new.send_failures ≡ one_more old.send_failures)

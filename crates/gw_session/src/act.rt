@@ -1,0 +1,214 @@
+//! Records that a gateway acts on, and what is written for them.
+ghost use Rattle.std.specs.Prelude.{◌≡◌, ◌^◌, ◌<◌, ◌∷◌, ◌++◌};
+ghost use Rattle.byteorder.specs.Endian.{big_bytes};
+ghost use Rattle.gw_switch.specs.Events.{Event};
+ghost use Rattle.gw_switch.specs.Whole.{Reply};
+ghost use Rattle.gw_records.specs.Streams.{CanCount, Puts};
+ghost use Rattle.gw_records.specs.Records.{IsCircuit};
+ghost use Rattle.gw_session.specs.Answers.{command_of, codec_of, code_of};
+ghost use Rattle.gw_session.specs.Exchange.{Takes};
+
+use crate::exchange::{Session, give};
+use crate::outlet::Outlet;
+use byteorder::{BigEndian, ByteOrder};
+use g704_cas::CircuitNo;
+use g726_codec::CodecKind;
+use gw_circuit::CodecFault;
+use gw_records::{CODEC, COMMAND, DATAGRAM, Head, OutputBuffer, RunFault, Sink, TRUNK, flush, put};
+use gw_switch::Gateway;
+use q421_line::{Cmd, LineFault};
+
+// An answer to a record.
+const ANSWER: u8 = 0x52;
+
+// The number of a circuit.
+fn circuit_no(circuit: u8) -> CircuitNo
+    requires { IsCircuit circuit }
+    ensures { result ≡ circuit }
+{
+    CircuitNo::new(circuit).unwrap()
+}
+
+// The command of an octet from 1 to 6.
+fn command_of(octet: u8) -> Cmd
+    ensures { result ≡ command_of octet }
+{
+    match octet {
+        1 => Cmd::Seize,
+        2 => Cmd::Clear,
+        3 => Cmd::Answer,
+        4 => Cmd::ClearBack,
+        5 => Cmd::Block,
+        _ => Cmd::Unblock,
+    }
+}
+
+// The codec of an octet from 1 to 5.
+fn codec_of(octet: u8) -> CodecKind
+    ensures { result ≡ codec_of octet }
+{
+    match octet {
+        1 => CodecKind::G711,
+        2 => CodecKind::G16,
+        3 => CodecKind::G24,
+        4 => CodecKind::G32,
+        _ => CodecKind::G40,
+    }
+}
+
+// 0, or the number of a fault of the line.
+fn line_code(answer: Result<(), LineFault>) -> u8
+    ensures { result ≡ code_of (Reply.Obeyed answer) }
+{
+    match answer {
+        Ok(()) => 0,
+        Err(fault) => fault.number(),
+    }
+}
+
+// 0, or the number of a fault of the codec.
+fn codec_code(answer: Result<(), CodecFault>) -> u8
+    ensures { result ≡ code_of (Reply.Changed answer) }
+{
+    match answer {
+        Ok(()) => 0,
+        Err(fault) => fault.number(),
+    }
+}
+
+// Gives a command to its circuit, and returns 0 or the number of the refusal.
+fn give_command(gateway: &mut Gateway, circuit: u8, command: u8) -> u8
+    requires { IsCircuit circuit }
+    ensures { Takes gateway.old gateway.new (Event.Command circuit (command_of command)) result }
+{
+    line_code(gateway.command(circuit_no(circuit), command_of(command)))
+}
+
+// Gives a codec to its circuit, and returns 0 or the number of the refusal.
+fn give_codec(gateway: &mut Gateway, circuit: u8, codec: u8, payload_type: u8) -> u8
+    requires { IsCircuit circuit }
+    ensures { Takes gateway.old gateway.new (Event.Codec circuit (codec_of codec) payload_type) result }
+{
+    codec_code(gateway.codec(circuit_no(circuit), codec_of(codec), payload_type))
+}
+
+// The front of a record of the trunk.
+fn trunk_front(len: usize) -> [u8; 4]
+    requires { len < 2 ^ 16 }
+    ensures { result ≡ 0x54 ∷ 0 ∷ big_bytes 2 len }
+{
+    let mut front = [TRUNK, 0, 0, 0];
+    BigEndian::write_u16(&mut front[2..4], len as u16);
+    front
+}
+
+// Puts octets behind those that wait, and writes all of them where none is to wait.
+fn put_out<K: Sink>(
+    octets: &[u8],
+    waiting: &mut OutputBuffer,
+    at_once: bool,
+    sink: &mut K,
+) -> Result<(), RunFault>
+    requires { CanCount (K.tells sink.old).failures }
+    ensures { Puts (K.tells sink.old) (K.tells sink.new) waiting.new.items
+        (waiting.old.items ++ octets.now) result }
+{
+    put(sink, waiting, octets)?;
+    if at_once {
+        flush(sink, waiting)?;
+    }
+    Ok(())
+}
+
+impl Session {
+    ghost use Rattle.std.specs.Prelude.{◌≡◌, ◌^◌, ◌<◌, ◌≤◌, ◌++◌, length, vec_len};
+    ghost use Rattle.gw_records.specs.Records.{Record, IsGood, named};
+    ghost use Rattle.gw_records.specs.Streams.{CanCount, Puts, one_more};
+    ghost use Rattle.gw_session.specs.Answers.{written_out};
+    ghost use Rattle.gw_session.specs.Answers.Written.{Answered};
+    ghost use Rattle.gw_session.specs.Running.{all_kinds};
+    ghost use Rattle.gw_session.specs.Exchange.{Acts};
+
+    // Hears the octets of a trunk record, and puts the record that answers it.
+    fn act_on_trunk<O: Outlet, K: Sink>(
+        &mut self,
+        gateway: &mut Gateway,
+        outlet: &mut O,
+        body: &[u8],
+        sink: &mut K,
+    ) -> Result<(), RunFault>
+        requires short { length body.now < 2 ^ 16 }
+        requires room { O.place ≤ vec_len self.old.room }
+        requires writes { CanCount (K.tells sink.old).failures }
+        ensures acts { Acts O.spells (O.tells outlet.old) (O.tells outlet.new) gateway.old gateway.new
+            self.old.totals self.new.totals (K.tells sink.old) (K.tells sink.new)
+            self.old.waiting.items self.new.waiting.items (Record.Trunk body.now) result }
+        ensures room { vec_len self.new.room ≡ vec_len self.old.room }
+    {
+        self.totals.records = self.totals.records.saturating_add(1);
+        self.totals.octets = self.totals.octets.saturating_add(body.len() as u64);
+        self.answer.clear();
+        let _ = self.answer.try_extend_from_slice(&trunk_front(body.len()));
+        self.exchange_all(gateway, outlet, body, sink)?;
+        put_out(
+            self.answer.as_slice(),
+            &mut self.waiting,
+            self.at_once,
+            sink,
+        )
+    }
+
+    // Counts a record, and puts the answer of a circuit to it.
+    fn put_answer<K: Sink>(
+        &mut self,
+        circuit: u8,
+        kind: u8,
+        code: u8,
+        sink: &mut K,
+    ) -> Result<(), RunFault>
+        requires writes { CanCount (K.tells sink.old).failures }
+        ensures puts { Puts (K.tells sink.old) (K.tells sink.new) self.new.waiting.items
+            (self.old.waiting.items ++ written_out (Answered circuit kind code)) result }
+        ensures counts { self.new.totals
+            ≡ record self.old.totals { records = one_more self.old.totals.records } }
+        ensures room { vec_len self.new.room ≡ vec_len self.old.room }
+    {
+        self.totals.records = self.totals.records.saturating_add(1);
+        let octets = [ANSWER, circuit, 0, 2, kind, code];
+        put_out(&octets, &mut self.waiting, self.at_once, sink)
+    }
+
+    /// Acts on a record, and puts what answers it behind the octets that wait.
+    pub fn act<O: Outlet, K: Sink>(
+        &mut self,
+        gateway: &mut Gateway,
+        outlet: &mut O,
+        head: Head,
+        body: &[u8],
+        sink: &mut K,
+    ) -> Result<(), RunFault>
+        requires good { IsGood all_kinds (named head body.now) }
+        requires room { O.place ≤ vec_len self.old.room }
+        requires writes { CanCount (K.tells sink.old).failures }
+        ensures acts { Acts O.spells (O.tells outlet.old) (O.tells outlet.new) gateway.old gateway.new
+            self.old.totals self.new.totals (K.tells sink.old) (K.tells sink.new)
+            self.old.waiting.items self.new.waiting.items (named head body.now) result }
+        ensures room { vec_len self.new.room ≡ vec_len self.old.room }
+    {
+        match head {
+            Head::Trunk => self.act_on_trunk(gateway, outlet, body, sink),
+            Head::Datagram(circuit) => {
+                let code = give(gateway, circuit_no(circuit), body, &mut self.totals);
+                self.put_answer(circuit, DATAGRAM, code, sink)
+            }
+            Head::Command(circuit, command) => {
+                let code = give_command(gateway, circuit, command);
+                self.put_answer(circuit, COMMAND, code, sink)
+            }
+            Head::Codec(circuit, codec, payload_type) => {
+                let code = give_codec(gateway, circuit, codec, payload_type);
+                self.put_answer(circuit, CODEC, code, sink)
+            }
+        }
+    }
+}

@@ -1,0 +1,60 @@
+//! A session: records of a source, acted on one after another.
+ghost use Rattle.std.specs.Prelude.{◌≡◌, ◌^◌, ◌≤◌, [], vec_len, IfOk, IfErr};
+ghost use Rattle.std.specs.Io.KnownBytes.{Appends};
+ghost use Rattle.gw_records.specs.Streams.{CanBegin};
+ghost use Rattle.gw_records.specs.Reader.{held};
+ghost use Rattle.gw_records.specs.Outcome.{nothing_counted, EndsAll, EndsUntil};
+ghost use Rattle.gw_session.specs.Exchange.{Through, Begun};
+
+use crate::exchange::Session;
+use crate::outlet::Outlet;
+use gw_records::{
+    FRONT_LEN, Kinds, Reader, RunFault, Sink, Source, Totals, answer, first_record, flush,
+};
+use gw_switch::Gateway;
+
+/// Acts on the records of the source, of these kinds, by a gateway. It is inlined, so that a session tests for
+/// no other kinds than its own.
+#[inline(always)]
+pub fn attend<O: Outlet, S: Source, K: Sink>(
+    kinds: &Kinds,
+    reader: &mut Reader,
+    session: &mut Session,
+    gateway: &mut Gateway,
+    outlet: &mut O,
+    source: &mut S,
+    sink: &mut K,
+) -> Result<Totals, RunFault>
+    requires begins { CanBegin (S.tells source.old) (K.tells sink.old) }
+    requires holds { held reader.old ≡ [] }
+    requires turns { reader.old.reads_left ≡ 2 ^ 62 }
+    requires totals { session.old.totals ≡ nothing_counted }
+    requires waiting { session.old.waiting.items ≡ [] }
+    requires room { O.place ≤ vec_len session.old.room }
+    ensures ok { IfOk result (EndsAll kinds.now
+        (S.tells source.old) (S.tells source.new) (K.tells sink.old) (K.tells sink.new)
+        (Through O.spells (O.tells outlet.old) (O.tells outlet.new) gateway.old gateway.new
+        (Appends (K.tells sink.old).taken (K.tells sink.new).taken))) }
+    ensures fault { IfErr result (EndsUntil kinds.now
+        (S.tells source.old) (S.tells source.new) (K.tells sink.old) (K.tells sink.new)
+        (Through O.spells (O.tells outlet.old) (O.tells outlet.new) gateway.old gateway.new
+        (Appends (K.tells sink.old).taken (K.tells sink.new).taken))
+        (Begun O.spells (O.tells outlet.old) (O.tells outlet.new) gateway.old gateway.new
+        (K.tells sink.old) (K.tells sink.new)) ⊥) }
+{
+    'attending: loop {
+        match first_record(kinds, reader.held()) {
+            Ok(first) => {
+                let body = &reader.held()[FRONT_LEN..first.len];
+                session.act(gateway, outlet, first.head, body, sink)?;
+                reader.pass(first.len);
+            }
+            Err(ending) => {
+                flush(sink, &mut session.waiting)?;
+                if !reader.read_on(kinds, ending, source)? {
+                    return answer(ending, session.totals);
+                }
+            }
+        }
+    }
+}

@@ -1,0 +1,214 @@
+//! Octets of the trunk, and the datagrams that come and go with them.
+ghost use Rattle.std.specs.Prelude.{◌≡◌, ◌≤◌, ◌∷◌, List, [], length, Some};
+ghost use Rattle.gw_switch.specs.declared.GatewayConfig.{GatewayConfig};
+ghost use Rattle.gw_switch.specs.Events.{Event, octets};
+ghost use Rattle.gw_switch.specs.Whole.{next_circuit, reply_to};
+ghost use Rattle.gw_switch.specs.Standing.{Stands};
+ghost use Rattle.gw_session.specs.Answers.{code_of};
+ghost use Rattle.gw_session.specs.Exchange.{IsGiven, Comes};
+
+use crate::outlet::Outlet;
+use g704_cas::CircuitNo;
+use gw_circuit::Datagram;
+use gw_records::{NO_TOTALS, OutputBuffer, RunFault, Sink, Totals, TrunkRecord};
+use gw_switch::Gateway;
+
+// How many datagrams are received before one octet.
+const MOST_DATAGRAMS: usize = 4;
+
+/// Gives a datagram to its circuit, counts it where it is refused, and returns 0 or the number of the refusal.
+pub fn give(gateway: &mut Gateway, circuit: CircuitNo, octets: &[u8], totals: &mut Totals) -> u8
+    ensures given { IsGiven gateway.old gateway.new totals.old totals.new ((circuit, octets.now) ∷ []) }
+    ensures others { totals.new ≡ record totals.old { dropped = totals.new.dropped } }
+    ensures code { (config : GatewayConfig) (before : List Event) → Stands config gateway.old before
+        → result ≡ code_of (reply_to config before (Event.Datagram circuit octets.now)) }
+{
+    match gateway.datagram(circuit, octets) {
+        Ok(()) => 0,
+        Err(dropped) => {
+            totals.dropped = totals.dropped.saturating_add(1);
+            dropped.code()
+        }
+    }
+}
+
+// Receives the datagrams that wait at a circuit, four at most, and gives them to the gateway.
+#[inline]
+fn receive_some<O: Outlet>(
+    gateway: &mut Gateway,
+    outlet: &mut O,
+    circuit: CircuitNo,
+    room: &mut [u8],
+    totals: &mut Totals,
+)
+    requires room { O.place ≤ length room.old }
+    ensures comes { Comes (O.tells outlet.old) (O.tells outlet.new) gateway.old gateway.new
+        totals.old totals.new (Some circuit) }
+{
+    'receiving: for _turn in 0..MOST_DATAGRAMS {
+        match outlet.arrives(circuit, room) {
+            Ok(Some(n)) => {
+                let _ = give(gateway, circuit, &room[..n], totals);
+            }
+            Ok(None) => return,
+            Err(_) => {
+                totals.port_faults = totals.port_faults.saturating_add(1);
+                return;
+            }
+        }
+    }
+}
+
+// Receives datagrams for the circuit whose slot the next octet sends, and returns that circuit.
+#[inline]
+fn receive_next<O: Outlet>(
+    gateway: &mut Gateway,
+    outlet: &mut O,
+    room: &mut [u8],
+    totals: &mut Totals,
+) -> Option<CircuitNo>
+    requires room { O.place ≤ length room.old }
+    ensures comes { Comes (O.tells outlet.old) (O.tells outlet.new) gateway.old gateway.new
+        totals.old totals.new result }
+    ensures in_turn { (config : GatewayConfig) (before : List Event) → Stands config gateway.old before
+        → result ≡ next_circuit (length (octets before)) }
+{
+    let next = gateway.next_slot();
+    if let Some(circuit) = next {
+        receive_some(gateway, outlet, circuit, room, totals);
+    }
+    next
+}
+
+/// What a session has done, what it is to write, and where it receives and makes what it sends.
+#[derive(Drop)]
+pub struct Session {
+    pub totals: Totals,
+    pub waiting: OutputBuffer,
+    pub answer: TrunkRecord,
+    pub at_once: bool,
+    datagram: Datagram,
+    room: Vec<u8>,
+}
+
+impl Session {
+    ghost use Rattle.std.specs.Prelude.{◌≡◌, ◌+◌, ◌<◌, ◌≤◌, ◌++◌, [], length, vec_len, OnOk, OnErr};
+    ghost use Rattle.gw_records.specs.Outcome.{nothing_counted};
+    ghost use Rattle.gw_records.specs.Streams.{CanCount, Puts};
+    ghost use Rattle.gw_session.specs.Exchange.{SendsPacket, Hearing, Exchanging, ExchangingAll};
+
+    /// Before the first record; a session that answers `at_once` lets nothing wait behind a record.
+    pub fn new(room: Vec<u8>, at_once: bool) -> Session
+        ensures totals { result.totals ≡ nothing_counted }
+        ensures waiting { result.waiting.items ≡ [] }
+        ensures room { vec_len result.room ≡ vec_len room }
+    {
+        Session {
+            totals: NO_TOTALS,
+            waiting: OutputBuffer::new(),
+            answer: TrunkRecord::new(),
+            at_once,
+            datagram: Datagram::new(),
+            room,
+        }
+    }
+
+    // Sends the packet of a circuit, and counts it, or that it did not go out.
+    #[inline(never)]
+    fn send_packet<O: Outlet, K: Sink>(
+        &mut self,
+        circuit: CircuitNo,
+        outlet: &mut O,
+        sink: &mut K,
+    ) -> Result<(), RunFault>
+        requires writes { CanCount (K.tells sink.old).failures }
+        ensures sends { OnOk result (SendsPacket (O.tells outlet.old) (O.tells outlet.new)
+            self.old.totals self.new.totals (Some (circuit, self.old.datagram.items))) }
+        ensures puts { Puts (K.tells sink.old) (K.tells sink.new) self.new.waiting.items
+            (self.old.waiting.items ++ O.spells (circuit, self.old.datagram.items)) result }
+        ensures kept { OnErr result (O.tells outlet.new ≡ O.tells outlet.old) }
+        ensures some { OnErr result (0 < length (O.spells (circuit, self.old.datagram.items))) }
+        ensures others { self.new
+            ≡ record self.old { totals = self.new.totals; waiting = self.new.waiting } }
+    {
+        if outlet.deliver(circuit, self.datagram.as_slice(), &mut self.waiting, sink)? {
+            self.totals.datagrams = self.totals.datagrams.saturating_add(1);
+        } else {
+            self.totals.port_faults = self.totals.port_faults.saturating_add(1);
+        }
+        Ok(())
+    }
+
+    // Hears an octet, sends the packet that goes with it, and returns the octet to send.
+    #[inline]
+    fn hear<O: Outlet, K: Sink>(
+        &mut self,
+        gateway: &mut Gateway,
+        outlet: &mut O,
+        octet: u8,
+        sink: &mut K,
+    ) -> Result<u8, RunFault>
+        requires writes { CanCount (K.tells sink.old).failures }
+        ensures hears { Hearing O.spells (O.tells outlet.old) (O.tells outlet.new) gateway.old gateway.new
+            self.old.totals self.new.totals (K.tells sink.old) (K.tells sink.new)
+            self.old.waiting.items self.new.waiting.items octet result }
+        ensures others { self.new ≡ record self.old {
+          totals = self.new.totals;
+          waiting = self.new.waiting;
+          datagram = self.new.datagram;
+        } }
+    {
+        let out = gateway.octet_into(octet, &mut self.datagram);
+        if let Some(circuit) = out.circuit {
+            self.send_packet(circuit, outlet, sink)?;
+        }
+        Ok(out.octet)
+    }
+
+    // Hears an octet after the datagrams that wait at the circuit whose slot is sent with it, and returns the
+    // octet to send.
+    #[inline]
+    fn exchange<O: Outlet, K: Sink>(
+        &mut self,
+        gateway: &mut Gateway,
+        outlet: &mut O,
+        octet: u8,
+        sink: &mut K,
+    ) -> Result<u8, RunFault>
+        requires room { O.place ≤ vec_len self.old.room }
+        requires writes { CanCount (K.tells sink.old).failures }
+        ensures exchanges { Exchanging O.spells (O.tells outlet.old) (O.tells outlet.new)
+            gateway.old gateway.new self.old.totals self.new.totals (K.tells sink.old) (K.tells sink.new)
+            self.old.waiting.items self.new.waiting.items octet result }
+        ensures answer { self.new.answer ≡ self.old.answer }
+        ensures room { vec_len self.new.room ≡ vec_len self.old.room }
+    {
+        let _ = receive_next(gateway, outlet, self.room.as_mut_slice(), &mut self.totals);
+        self.hear(gateway, outlet, octet, sink)
+    }
+
+    /// Hears octets, each after the datagrams that wait at the circuit whose slot is sent with it, and puts
+    /// the octets to send behind those of the answer.
+    pub fn exchange_all<O: Outlet, K: Sink>(
+        &mut self,
+        gateway: &mut Gateway,
+        outlet: &mut O,
+        octets: &[u8],
+        sink: &mut K,
+    ) -> Result<(), RunFault>
+        requires fits { length self.old.answer.items + length octets.now ≤ 65539 }
+        requires room { O.place ≤ vec_len self.old.room }
+        requires writes { CanCount (K.tells sink.old).failures }
+        ensures exchanges { ExchangingAll O.spells (O.tells outlet.old) (O.tells outlet.new)
+            gateway.old gateway.new self.old.totals self.new.totals (K.tells sink.old) (K.tells sink.new)
+            self.old.waiting.items self.new.waiting.items octets.now
+            self.old.answer.items self.new.answer.items result }
+        ensures room { vec_len self.new.room ≡ vec_len self.old.room }
+    {
+        for octet in octets {
+            let sent = self.exchange(gateway, outlet, *octet, sink)?;
+            self.answer.push(sent);
+        }
+        Ok(())
+    }
+}

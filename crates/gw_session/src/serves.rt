@@ -1,0 +1,74 @@
+//! Sessions of a gateway whose datagrams come and go through ports.
+ghost use Rattle.std.specs.Prelude.{IfOk, IfErr};
+ghost use Rattle.gw_records.specs.Streams.{CanBegin};
+ghost use Rattle.gw_session.specs.Serve.{ServesAll, ServesUntil};
+
+use crate::attend::attend;
+use crate::exchange::Session;
+use crate::ports::Ports;
+use gw_records::{Kinds, Reader, RunFault, Sink, Source, Totals};
+use gw_switch::Gateway;
+use std::alloc::Global;
+
+// The octets that any datagram has place in.
+const ROOM_LEN: usize = 65_536;
+
+// The trunk, commands and codecs are read.
+const SERVED: Kinds = Kinds {
+    trunk: true,
+    datagrams: false,
+    commands: true,
+    codecs: true,
+};
+
+/// Acts on the T, C and K records of the source by a gateway, and writes the T and R records that answer
+/// them, each before the next record is looked at. Before each octet whose sent slot is a circuit's, the
+/// datagrams that wait at the ports of that circuit are given to the gateway, four at most; a packet that the
+/// gateway sends with an octet goes to the ports at once. Memory is taken before the first read.
+///
+/// # Example
+///
+/// ```text
+/// let mut gateway = Gateway::open(alloc, &config)?;
+/// let mut source = FromRead::new(rt.stdin());
+/// let mut sink = ToWrite::new(rt.stdout());
+/// // `ports` is the caller's own type that implements `Ports`, over sockets or over memory
+/// let totals = serve(alloc, &mut gateway, &mut ports, &mut source, &mut sink)?;
+/// ```
+///
+/// # Errors
+///
+/// The first of [`RunFault::BadKind`], [`RunFault::BadCircuit`], [`RunFault::BadCommand`] and
+/// [`RunFault::Truncated`] that holds of the records; [`RunFault::Read`] where the source failed, or after
+/// 2^62 reads; [`RunFault::Write`] where the sink failed; [`RunFault::OutOfMemory`] where memory was refused:
+/// nothing is read, written, received or sent. A fault of the ports is counted, and ends nothing.
+pub fn serve<S: Source, P: Ports, K: Sink>(
+    alloc: Global,
+    gateway: &mut Gateway,
+    ports: &mut P,
+    source: &mut S,
+    sink: &mut K,
+) -> Result<Totals, RunFault>
+    requires { CanBegin (S.tells source.old) (K.tells sink.old) }
+    ensures ok { IfOk result (ServesAll (S.tells source.old) (S.tells source.new) (K.tells sink.old)
+        (K.tells sink.new) (P.tells ports.old) (P.tells ports.new) gateway.old gateway.new) }
+    ensures fault { IfErr result (ServesUntil (S.tells source.old) (S.tells source.new) (K.tells sink.old)
+        (K.tells sink.new) (P.tells ports.old) (P.tells ports.new) gateway.old gateway.new) }
+{
+    let Ok(mut reader) = Reader::new(alloc) else {
+        return Err(RunFault::OutOfMemory);
+    };
+    let Ok(room) = vec![in alloc; 0u8; ROOM_LEN] else {
+        return Err(RunFault::OutOfMemory);
+    };
+    let mut session = Session::new(room, true);
+    attend(
+        &SERVED,
+        &mut reader,
+        &mut session,
+        gateway,
+        ports,
+        source,
+        sink,
+    )
+}

@@ -1,0 +1,4 @@
+pub mod InPlace
+pub mod PacketLemmas
+pub mod Speech
+pub mod Taking

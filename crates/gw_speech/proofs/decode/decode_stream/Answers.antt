@@ -1,0 +1,102 @@
+use Rattle.std.proofs.Common.{◌-◌, ◌++◌, [], ◌∷◌, ap, sym, ◌∙◌, refl, take, drop, List, ℕ}
+use Rattle.std.specs.Prelude.{Option, is_some}
+use Rattle.gw_records.specs.declared.outcome.RunFault.TheVariants as faults
+use Rattle.gw_records.specs.Records.{record_at}
+use Rattle.gw_records.specs.Reader.{held}
+use Rattle.gw_speech.specs.Decode.{words_in}
+use Rattle.gw_records.proofs.Writes.{Passes-start, Passes-empty, Passes-same, Passes-appended, Breaks-waiting}
+use Rattle.gw_speech.proofs.Speech.{speech_at_reset}
+use Rattle.gw_records.proofs.Sessions.{goes_up, starts, first_held, takes, stops_in, stops_behind, reads_more, ended}
+use Rattle.gw_records.proofs.Sessions.{gives_up}
+use Rattle.gw_speech.proofs.Taking.{words_at, stands_more, record_passes, record_breaks, totals_more, decode_ends}
+use Rattle.gw_speech.proofs.decode.decode_stream.Goals as goal
+
+pub decoding-init : goal.decoding-init
+decoding-init g c = (
+  [],
+  [],
+  record {
+    stage = starts _ _ _ c.in-Ok.ensures.holds c.in-Ok.ensures.turns;
+    passes = Passes-same _ _ _ _ _ (sym (speech_at_reset c.args.spec.now c.words_are_counted.ensures))
+        (Passes-start _ c.new-waiting.result.items c.new-waiting.ensures);
+    stands = c.new-codec.ensures;
+    totals_are = refl;
+  },
+)
+
+pub returns-in_err-is_decoded-in-Ok-first_record-clause-fault :
+    goal.returns-in_err-is_decoded-in-Ok-first_record-clause-fault
+returns-in_err-is_decoded-in-Ok-first_record-clause-fault g c =
+    let s = c.args.spec.now in
+    let w = c.decoding.invariant in
+    let f = c.in-Ok-first_record.first in
+    let found = first_held f c.held.ensures c.in-Ok-first_record.ensures.good in
+    let words = words_at s f (held c.decoding.reader) _ found (ap (λ (xs : List ℕ). take (f.len - 4) (drop 4 xs))
+    c.held-in-Ok-first_record.ensures) in
+    let put = c.in_err-is_decoded-in-Ok-first_record.ensures.puts (words_in s w.1) w.2.stands in
+    goes_up _ _ faults.Write c.from_residual.ensures.1 put.0 (stops_in f w.2.stage found put.1.counted
+    (record_breaks s _ _ _ _ w.1 _ _ words c.prefixes_come_first.ensures w.2.passes w.2.stage.no_write put.1).took)
+
+pub decoding-preserved-in-Ok-first_record : goal.decoding-preserved-in-Ok-first_record
+decoding-preserved-in-Ok-first_record g c =
+    let s = c.args.spec.now in
+    let w = c.decoding.invariant in
+    let f = c.in-Ok-first_record.first in
+    let found = first_held f c.held.ensures c.in-Ok-first_record.ensures.good in
+    let it = record_at f (held c.decoding.reader) in
+    let words = words_at s f (held c.decoding.reader) _ found (ap (λ (xs : List ℕ). take (f.len - 4) (drop 4 xs))
+    c.held-in-Ok-first_record.ensures) in
+    let done = c.in_ok-is_decoded-in-Ok-first_record.ensures in
+    let put = done.puts (words_in s w.1) w.2.stands in (
+      w.0,
+      w.1 ++ it ∷ [],
+      record {
+        stage = takes f w.2.stage found c.pass.ensures.holds c.pass.ensures.turns put.1;
+        passes = record_passes s _ _ _ _ _ w.1 it _ words c.prefixes_come_first.ensures w.2.passes put.0;
+        stands = stands_more s _ w.1 it _ words (done.stands (words_in s w.1) w.2.stands);
+        totals_are = c.count_record-totals.ensures ∙ totals_more s c.decoding.totals w.1 it
+            c.in_ok-is_decoded-in-Ok-first_record.is_decoded w.2.totals_are
+            (done.answer ∙ ap (λ (o : Option (List ℕ)). is_some o) (sym words));
+      },
+    )
+
+pub returns-in_err-flush-in-Err-clause-fault : goal.returns-in_err-flush-in-Err-clause-fault
+returns-in_err-flush-in-Err-clause-fault g c =
+    let w = c.decoding.invariant in
+    let fault = c.in_err-flush-in-Err.ensures.writes in
+    goes_up _ _ faults.Write c.from_residual-in_err-flush-in-Err.ensures.1 fault.0 (stops_behind w.2.stage
+    fault.1.counted (Breaks-waiting _ _ _ _ _ w.2.passes w.2.stage.no_write fault.1).took)
+
+pub decoding-preserved : goal.decoding-preserved
+decoding-preserved g c =
+    let w = c.decoding.invariant in
+    let r = rw c.if-not-branch.false at c.in_ok-read_on-in-Err.ensures.ok in (
+      w.0 ++ r.octets,
+      w.1,
+      record {
+        stage = reads_more w.2.stage r c.requires.turns c.in_ok-flush-in-Err.ensures.writes.1;
+        passes = Passes-empty _ _ _ c.in_ok-flush-in-Err.ensures.empty
+            (Passes-appended _ _ _ _ _ w.2.passes c.in_ok-flush-in-Err.ensures.writes.0);
+        stands = w.2.stands;
+        totals_are = w.2.totals_are;
+      },
+    )
+
+pub returns-then-not-branch : goal.returns-then-not-branch
+returns-then-not-branch g c =
+    let w = c.decoding.invariant in
+    let r = rw c.if-not-branch.true at c.in_ok-read_on-in-Err.ensures.ok in
+    let e = ended c.decoding.totals w.2.stage r c.held.ensures c.in-Err.ensures.end
+    c.in_ok-flush-in-Err.ensures.writes.1
+    (Passes-appended _ _ _ _ _ w.2.passes c.in_ok-flush-in-Err.ensures.writes.0, w.2.totals_are) in
+    let both = decode_ends c.args.spec.now _ _ _ e.0 r.ended e.1 c.answer.ensures in
+    record { ok = both.0; fault = both.1 }
+
+pub returns-in_err-read_on-in-Err-clause-fault : goal.returns-in_err-read_on-in-Err-clause-fault
+returns-in_err-read_on-in-Err-clause-fault g c =
+    let w = c.decoding.invariant in
+    let fault = c.in_err-read_on-in-Err.ensures.fault in
+    goes_up _ _ faults.Read c.from_residual-in_err-read_on-in-Err.ensures.1 fault.0
+    (gives_up c.decoding.totals w.2.stage fault.1 c.held.ensures c.in-Err.ensures.end
+    c.in_ok-flush-in-Err.ensures.writes.1
+    (Passes-appended _ _ _ _ _ w.2.passes c.in_ok-flush-in-Err.ensures.writes.0, w.2.totals_are))

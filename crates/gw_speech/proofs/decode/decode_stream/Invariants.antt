@@ -1,0 +1,20 @@
+use Rattle.std.proofs.Common.{◌≡◌, List, ℕ}
+use Rattle.gw_records.specs.Streams.{Passes}
+use Rattle.gw_records.specs.Reader.{work_left}
+use Rattle.gw_records.specs.Records.{Record}
+use Rattle.gw_speech.specs.Decode.{HasDecoded, words_in, speech_in, only_datagrams, decode_totals}
+use Rattle.gw_records.proofs.Sessions.{Stage}
+use Rattle.gw_speech.proofs.decode.decode_stream.Given as goal
+
+abbrev pub invariant-decoding : goal.invariant-decoding
+invariant-decoding g l = (octets : List ℕ) × (records : List Record) × record {
+  stage : Stage only_datagrams (g.S.Source.tells l.initial.source) (g.S.Source.tells l.source)
+      (g.K.Sink.tells l.initial.sink) (g.K.Sink.tells l.sink) l.reader octets records;
+  passes : Passes (g.K.Sink.tells l.initial.sink).taken (g.K.Sink.tells l.sink).taken l.waiting.items
+      (speech_in l.spec records);
+  stands : HasDecoded l.spec l.codec (words_in l.spec records);
+  totals_are : l.totals ≡ decode_totals l.spec records;
+}
+
+abbrev pub decreases-decoding : goal.decreases-decoding
+decreases-decoding g l = work_left l.reader

@@ -1,0 +1,218 @@
+//! Records of datagrams to their speech.
+ghost use Rattle.std.specs.Prelude.{◌≡◌, ◌-◌, ◌^◌, ◌<◌, ◌∷◌, ◌++◌, ℕ, List, []};
+ghost use Rattle.std.specs.Prelude.{Some, None, MatchOption, OnOk, IfOk, IfErr, is_some, unwrap_or};
+ghost use Rattle.std.specs.List.{All};
+ghost use Rattle.rtp_pack.specs.Payload.{words_of};
+ghost use Rattle.gw_records.specs.Streams.{CanBegin, CanCount, Puts};
+ghost use Rattle.gw_speech.specs.Encode.{word_bits};
+ghost use Rattle.gw_speech.specs.Decode.{HasDecoded, datagram_words, speech_behind, count_record};
+ghost use Rattle.gw_speech.specs.Decode.{DecodesAll, DecodesUntil};
+
+use crate::coding::word_bits;
+use crate::spec::StreamSpec;
+use g726_codec::{AnyCodec, CodecKind};
+use gw_records::{
+    FRONT_LEN, Kinds, NO_TOTALS, OutputBuffer, Reader, RunFault, Sink, Source, Totals, answer,
+    first_record, flush, put,
+};
+use rtp_pack::Words;
+use std::alloc::Global;
+
+// Datagrams alone are read.
+const DATAGRAMS: Kinds = Kinds {
+    trunk: false,
+    datagrams: true,
+    commands: false,
+    codecs: false,
+};
+
+// The payload of a datagram, if it is one of the stream.
+#[tactic(auto, unfolding(crate::specs::Decode::datagram_words))]
+fn stream_payload<'a>(spec: &StreamSpec, octets: &'a [u8]) -> Option<&'a [u8]>
+    ensures { MatchOption result (datagram_words spec.now octets.now ≡ None)
+        (λ p. datagram_words spec.now octets.now ≡ Some (words_of (word_bits spec.now) p.now)) }
+{
+    match rtp_packet::parse(octets) {
+        Ok(view) if view.payload_type() == spec.payload_type => Some(view.payload()),
+        _ => None,
+    }
+}
+
+// Puts an octet behind those that wait, which are written first where there is no room for it.
+#[inline]
+fn put_octet<K: Sink>(sink: &mut K, waiting: &mut OutputBuffer, octet: u8) -> Result<(), RunFault>
+    requires { CanCount (K.tells sink.old).failures }
+    ensures { Puts (K.tells sink.old) (K.tells sink.new) waiting.new.items
+        (waiting.old.items ++ octet ∷ []) result }
+{
+    if waiting.is_full() {
+        flush(sink, waiting)?;
+    }
+    waiting.push(octet);
+    Ok(())
+}
+
+// Puts the speech of words behind the octets that wait, an octet after another.
+fn put_each<K: Sink>(
+    spec: &StreamSpec,
+    codec: &mut AnyCodec,
+    words: Words<'_>,
+    waiting: &mut OutputBuffer,
+    sink: &mut K,
+) -> Result<(), RunFault>
+    requires kind { codec.old.kind ≡ spec.now.codec }
+    requires fit { All (λ w. w < 2 ^ word_bits spec.now) words }
+    requires writes { CanCount (K.tells sink.old).failures }
+    ensures kind { codec.new.kind ≡ spec.now.codec }
+    ensures puts { (before : List ℕ) → HasDecoded spec.now codec.old before
+        → Puts (K.tells sink.old) (K.tells sink.new) waiting.new.items
+        (waiting.old.items ++ speech_behind spec.now before words.entry) result }
+    ensures stands { (before : List ℕ) → HasDecoded spec.now codec.old before
+        → OnOk result (HasDecoded spec.now codec.new (before ++ words.entry)) }
+{
+    g726_codec::laws::words_are_counted();
+    g726_codec::laws::prefixes_come_first();
+    for word in words {
+        put_octet(sink, waiting, codec.decode(word))?;
+    }
+    Ok(())
+}
+
+// Puts the speech of a payload behind the octets that wait.
+fn put_payload<K: Sink>(
+    spec: &StreamSpec,
+    codec: &mut AnyCodec,
+    payload: &[u8],
+    waiting: &mut OutputBuffer,
+    sink: &mut K,
+) -> Result<(), RunFault>
+    requires kind { codec.old.kind ≡ spec.now.codec }
+    requires writes { CanCount (K.tells sink.old).failures }
+    ensures kind { codec.new.kind ≡ spec.now.codec }
+    ensures puts { let words = words_of (word_bits spec.now) payload.now in
+        (before : List ℕ) → HasDecoded spec.now codec.old before
+        → Puts (K.tells sink.old) (K.tells sink.new) waiting.new.items
+        (waiting.old.items ++ speech_behind spec.now before words) result }
+    ensures stands { let words = words_of (word_bits spec.now) payload.now in
+        (before : List ℕ) → HasDecoded spec.now codec.old before
+        → OnOk result (HasDecoded spec.now codec.new (before ++ words)) }
+{
+    if spec.codec == CodecKind::G711 {
+        g726_codec::laws::octets_are_words();
+        rtp_pack::laws::octets_are_words();
+        return put(sink, waiting, payload);
+    }
+    rtp_pack::laws::words_fit();
+    put_each(
+        spec,
+        codec,
+        rtp_pack::words(word_bits(spec), payload),
+        waiting,
+        sink,
+    )
+}
+
+// Puts the speech of a datagram behind the octets that wait, and returns whether it is one of the stream. It
+// is a call of its own, so that the codec takes no registers from the loop that reads.
+#[inline(never)]
+fn put_datagram<K: Sink>(
+    spec: &StreamSpec,
+    codec: &mut AnyCodec,
+    octets: &[u8],
+    waiting: &mut OutputBuffer,
+    sink: &mut K,
+) -> Result<bool, RunFault>
+    requires kind { codec.old.kind ≡ spec.now.codec }
+    requires writes { CanCount (K.tells sink.old).failures }
+    ensures kind { codec.new.kind ≡ spec.now.codec }
+    ensures puts { let words = unwrap_or (datagram_words spec.now octets.now) [] in
+        (before : List ℕ) → HasDecoded spec.now codec.old before
+        → Puts (K.tells sink.old) (K.tells sink.new) waiting.new.items
+        (waiting.old.items ++ speech_behind spec.now before words) result }
+    ensures stands { let words = unwrap_or (datagram_words spec.now octets.now) [] in
+        (before : List ℕ) → HasDecoded spec.now codec.old before
+        → OnOk result (HasDecoded spec.now codec.new (before ++ words)) }
+    ensures answer { IfOk result (λ b. b ≡ is_some (datagram_words spec.now octets.now)) }
+{
+    g726_codec::laws::words_are_counted();
+    match stream_payload(spec, octets) {
+        Some(payload) => {
+            put_payload(spec, codec, payload, waiting, sink)?;
+            Ok(true)
+        }
+        None => Ok(false),
+    }
+}
+
+// The totals with one record more.
+fn count_record(totals: Totals, is_decoded: bool) -> Totals
+    ensures { result ≡ count_record totals is_decoded }
+{
+    Totals {
+        records: totals.records.saturating_add(1),
+        dropped: if is_decoded {
+            totals.dropped
+        } else {
+            totals.dropped.saturating_add(1)
+        },
+        ..totals
+    }
+}
+
+/// Writes the speech in the D records of the source, of any circuits: the code words of one datagram after
+/// another, decoded by one decoder from reset, as octets in the law of `spec`.
+///
+/// Bits behind the last whole word of a datagram are ignored. A datagram that `rtp_packet::parse` refuses, or
+/// of another payload type than that of `spec`, is counted in `dropped` and passed over. What is complete is
+/// written before the source is read again. Memory is taken once, before the first read.
+///
+/// ```text
+/// let spec = StreamSpec::new(Law::A, CodecKind::G711, 8, 0, 0, 0, 20).ok_or(..)?;
+/// let mut source = FromRead::new(rt.stdin());
+/// let totals = decode_stream(rt.alloc(), &spec, &mut source, &mut ToWrite::new(rt.stdout()))?;
+/// ```
+///
+/// # Errors
+///
+/// The first of [`RunFault::BadKind`], [`RunFault::BadCircuit`] and [`RunFault::Truncated`] that holds of the
+/// records, [`RunFault::Read`] where the source failed, or after 2^62 reads: the speech of all whole records
+/// before it is written. [`RunFault::Write`] where the sink failed: it has a prefix of that speech.
+/// [`RunFault::OutOfMemory`] where memory was refused: nothing is read or written.
+#[inline(never)]
+pub fn decode_stream<S: Source, K: Sink>(
+    alloc: Global,
+    spec: &StreamSpec,
+    source: &mut S,
+    sink: &mut K,
+) -> Result<Totals, RunFault>
+    requires { CanBegin (S.tells source.old) (K.tells sink.old) }
+    ensures ok { IfOk result (DecodesAll spec.now
+        (S.tells source.old) (S.tells source.new) (K.tells sink.old) (K.tells sink.new)) }
+    ensures fault { IfErr result (DecodesUntil spec.now
+        (S.tells source.old) (S.tells source.new) (K.tells sink.old) (K.tells sink.new)) }
+{
+    let Ok(mut reader) = Reader::new(alloc) else {
+        return Err(RunFault::OutOfMemory);
+    };
+    g726_codec::laws::words_are_counted();
+    g726_codec::laws::prefixes_come_first();
+    let mut codec = AnyCodec::new(spec.law, spec.codec);
+    let mut waiting = OutputBuffer::new();
+    let mut totals = NO_TOTALS;
+    'decoding: loop {
+        match first_record(&DATAGRAMS, reader.held()) {
+            Ok(first) => {
+                let octets = &reader.held()[FRONT_LEN..first.len];
+                let is_decoded = put_datagram(spec, &mut codec, octets, &mut waiting, sink)?;
+                totals = count_record(totals, is_decoded);
+                reader.pass(first.len);
+            }
+            Err(ending) => {
+                flush(sink, &mut waiting)?;
+                if !reader.read_on(&DATAGRAMS, ending, source)? {
+                    return answer(ending, totals);
+                }
+            }
+        }
+    }
+}

@@ -1,0 +1,230 @@
+//! Speech to the records of its datagrams.
+ghost use Rattle.std.specs.Prelude.{◌≡◌, ◌+◌, ◌-◌, ◌*◌, ◌^◌, ◌<◌, ◌≤◌, ◌++◌};
+ghost use Rattle.std.specs.Prelude.{ℕ, List, [], length, take, IfOk, OnOk, IfErr};
+ghost use Rattle.std.specs.List.{All};
+ghost use Rattle.rtp_pack.specs.Payload.{IsPayload};
+ghost use Rattle.gw_records.specs.Streams.{CanBegin, CanCount, Puts, Writes};
+ghost use Rattle.gw_speech.specs.Encode.{packet_len, word_bits, header_at, packet_record};
+ghost use Rattle.gw_speech.specs.Encode.{records_from, full_packets, filled, Encodes, EncodesUntil};
+ghost use Rattle.gw_speech.specs.Encode.{header_with, IsPacket, IsUnderWay};
+ghost use Rattle.gw_speech.specs.declared.spec.StreamSpec.{StreamSpec};
+
+use crate::coding::{encode_all, word_bits};
+use crate::spec::StreamSpec;
+use arrayvec::ArrayVec;
+use e1_g711::idle;
+use g726_codec::AnyCodec;
+use gw_records::{
+    MAX_READS, NO_TOTALS, OutputBuffer, RunFault, Sink, Source, Totals, datagram_record, flush,
+    put, read_behind,
+};
+use rtp_packet::Header;
+
+// Room for 32 KiB in each read behind a packet that is not full, which has fewer than 240 octets.
+const SPEECH_LEN: usize = 33_008;
+
+const SAMPLES_IN_MS: usize = 8;
+
+const CIRCUIT: u8 = 1;
+
+// What changes from one packet to the next, and how many packets came before, up to the greatest u64.
+#[derive(Clone, Copy, Debug, PartialEq, Eq)]
+struct Progress {
+    sequence: u16,
+    timestamp: u32,
+    datagrams: u64,
+}
+
+// How many samples a packet has.
+fn packet_len(spec: &StreamSpec) -> usize
+    ensures value { result ≡ packet_len spec.now }
+    ensures least { 0 < result }
+    ensures most { result ≤ 240 }
+{
+    usize::from(spec.ptime) * SAMPLES_IN_MS
+}
+
+// Before the first packet.
+fn first_packet(sequence: u16, timestamp: u32) -> Progress
+    ensures { (s : StreamSpec) → s.sequence ≡ sequence → s.timestamp ≡ timestamp → IsPacket s result 0 }
+{
+    Progress {
+        sequence,
+        timestamp,
+        datagrams: 0,
+    }
+}
+
+// One packet on.
+#[tactic(auto, unfolding(crate::specs::Encode::header_at))]
+fn next_packet(spec: &StreamSpec, progress: &Progress) -> Progress
+    ensures { (k : ℕ) → IsPacket spec.now progress.now k → IsPacket spec.now result (k + 1) }
+{
+    Progress {
+        sequence: progress.sequence.wrapping_add(1),
+        timestamp: progress.timestamp.wrapping_add(packet_len(spec) as u32),
+        datagrams: progress.datagrams.saturating_add(1),
+    }
+}
+
+// The record of the datagram of a packet.
+#[tactic(auto, unfolding(crate::specs::Encode::packet_record))]
+fn packet_record(spec: &StreamSpec, progress: &Progress, words: &[u8]) -> ArrayVec<u8, 256>
+    requires { IsPayload (word_bits spec.now) words.now }
+    ensures { result.items ≡ packet_record spec.now (header_with spec.now progress.now) words.now }
+{
+    let header = Header {
+        payload_type: spec.payload_type,
+        sequence: progress.sequence,
+        timestamp: progress.timestamp,
+        ssrc: spec.ssrc,
+    };
+    let mut payload: ArrayVec<u8, 240> = ArrayVec::new();
+    rtp_pack::pack(word_bits(spec), words, &mut payload);
+    let mut datagram: ArrayVec<u8, 252> = ArrayVec::new();
+    let _ = rtp_packet::write(&header, payload.as_slice(), &mut datagram);
+    datagram_record(CIRCUIT, datagram.as_slice())
+}
+
+// Puts the record of a packet behind the octets that wait.
+fn put_packet<K: Sink>(
+    spec: &StreamSpec,
+    progress: &Progress,
+    words: &[u8],
+    waiting: &mut OutputBuffer,
+    sink: &mut K,
+) -> Result<(), RunFault>
+    requires len { length words.now ≡ packet_len spec.now }
+    requires fit { All (λ w. w < 2 ^ word_bits spec.now) words.now }
+    requires writes { CanCount (K.tells sink.old).failures }
+    ensures { Puts (K.tells sink.old) (K.tells sink.new) waiting.new.items
+        (waiting.old.items ++ packet_record spec.now (header_with spec.now progress.now) words.now) result }
+{
+    put(
+        sink,
+        waiting,
+        packet_record(spec, progress, words).as_slice(),
+    )
+}
+
+// Writes the records of the full packets of these words, and returns how many words are left.
+fn write_packets<K: Sink>(
+    spec: &StreamSpec,
+    progress: &mut Progress,
+    words: &[u8],
+    waiting: &mut OutputBuffer,
+    sink: &mut K,
+) -> Result<usize, RunFault>
+    requires fit { All (λ w. w < 2 ^ word_bits spec.now) words.now }
+    requires empty { waiting.old.items ≡ [] }
+    requires writes { CanCount (K.tells sink.old).failures }
+    ensures left { IfOk result (λ left. (left < packet_len spec.now)
+        × (length words.now ≡ packet_len spec.now * full_packets spec.now words.now + left)) }
+    ensures writes { (k : ℕ) → IsPacket spec.now progress.old k
+        → Writes (K.tells sink.old) (K.tells sink.new)
+        (records_from spec.now k words.now (full_packets spec.now words.now)) result }
+    ensures next { (k : ℕ) → IsPacket spec.now progress.old k
+        → OnOk result (IsPacket spec.now progress.new (k + full_packets spec.now words.now)) }
+    ensures empty { OnOk result (waiting.new.items ≡ []) }
+{
+    let len = packet_len(spec);
+    let mut rest = words;
+    'packets: while rest.len() >= len {
+        let (packet, others) = rest.split_at(len);
+        put_packet(spec, progress, packet, waiting, sink)?;
+        *progress = next_packet(spec, progress);
+        rest = others;
+    }
+    flush(sink, waiting)?;
+    Ok(rest.len())
+}
+
+// How many words are held once the last packet is filled: none where none were held, else a packet of them.
+fn filled_len(spec: &StreamSpec, held: usize) -> usize
+    requires open { held < packet_len spec.now }
+    ensures none { held ≡ 0 → result ≡ 0 }
+    ensures one { 0 < held → result ≡ packet_len spec.now }
+    ensures least { held ≤ result }
+    ensures most { result ≤ 240 }
+{
+    if held == 0 { 0 } else { packet_len(spec) }
+}
+
+// Fills the last packet with idle octets, coded behind the words that are held, and returns how many words
+// are held now.
+fn fill_last(spec: &StreamSpec, codec: &mut AnyCodec, speech: &mut [u8], held: usize) -> usize
+    requires kind { codec.old.kind ≡ spec.now.codec }
+    requires open { held < packet_len spec.now }
+    requires room { 240 ≤ length speech.old }
+    requires fit { All (λ w. w < 2 ^ word_bits spec.now) (take held speech.old) }
+    ensures within { result ≤ length speech.new }
+    ensures fit { All (λ w. w < 2 ^ word_bits spec.now) (take result speech.new) }
+    ensures filled { (given sent : List ℕ) (count : ℕ)
+        → IsUnderWay spec.now codec.old given sent count (take held speech.old)
+        → IsUnderWay spec.now codec.new (filled spec.now given) sent count (take result speech.new) }
+{
+    g726_codec::laws::words_are_counted();
+    let end = filled_len(spec, held);
+    speech[held..end].fill(idle(spec.law));
+    encode_all(spec, codec, &mut speech[held..end]);
+    end
+}
+
+/// Writes speech as RTP datagrams, each in a D record of circuit 1: the octets of the source, in the law of
+/// `spec`, are coded by one encoder from reset, and go out as packets of `spec.ptime` ms, whose sequence
+/// numbers and timestamps go on from those of `spec`.
+///
+/// A last packet that is not full is filled with idle octets, which are coded too. All packets that are full
+/// are written before the source is read again. No memory is taken.
+///
+/// ```text
+/// let spec = StreamSpec::new(Law::A, CodecKind::G711, 8, ssrc, sequence, timestamp, 20).ok_or(..)?;
+/// let totals = encode_stream(&spec, &mut FromRead::new(rt.stdin()), &mut ToWrite::new(rt.stdout()))?;
+/// ```
+///
+/// With SSRC 7, sequence number 65535 and timestamp 4294967200, 320 octets 0xD5 give two records of 176
+/// octets; the first begins with 44 01 00 AC 80 08 FF FF FF FF FF A0 00 00 00 07.
+///
+/// # Errors
+///
+/// [`RunFault::Read`] where the source failed, or after 2^62 reads: the full packets of the octets that it
+/// gave are written. [`RunFault::Write`] where the sink failed: it has a prefix of what would be written.
+pub fn encode_stream<S: Source, K: Sink>(
+    spec: &StreamSpec,
+    source: &mut S,
+    sink: &mut K,
+) -> Result<Totals, RunFault>
+    requires { CanBegin (S.tells source.old) (K.tells sink.old) }
+    ensures ok { IfOk result (Encodes spec.now
+        (S.tells source.old) (S.tells source.new) (K.tells sink.old) (K.tells sink.new)) }
+    ensures fault { IfErr result (EncodesUntil spec.now
+        (S.tells source.old) (S.tells source.new) (K.tells sink.old) (K.tells sink.new)) }
+{
+    g726_codec::laws::words_are_counted();
+    g726_codec::laws::prefixes_come_first();
+    let mut codec = AnyCodec::new(spec.law, spec.codec);
+    let mut speech = [0u8; SPEECH_LEN];
+    let mut held = 0usize;
+    let mut progress = first_packet(spec.sequence, spec.timestamp);
+    let mut waiting = OutputBuffer::new();
+    'reading: for turn in 0..MAX_READS {
+        prove!(turn < MAX_READS);
+        let Ok(n) = read_behind(source, &mut speech, held) else {
+            return Err(RunFault::Read);
+        };
+        if n == 0 {
+            let end = fill_last(spec, &mut codec, &mut speech, held);
+            write_packets(spec, &mut progress, &speech[..end], &mut waiting, sink)?;
+            return Ok(Totals {
+                datagrams: progress.datagrams,
+                ..NO_TOTALS
+            });
+        }
+        let end = held + n;
+        encode_all(spec, &mut codec, &mut speech[held..end]);
+        let left = write_packets(spec, &mut progress, &speech[..end], &mut waiting, sink)?;
+        speech.copy_within(end - left..end, 0);
+        held = left;
+    }
+    Err(RunFault::Read)
+}

@@ -1,0 +1,11 @@
+//! Speech as records of datagrams, and back.
+#![tactic(auto)]
+
+mod coding;
+mod decode;
+mod encode;
+mod spec;
+
+pub use decode::decode_stream;
+pub use encode::encode_stream;
+pub use spec::StreamSpec;
