@@ -14,7 +14,8 @@ import sys
 HERE = os.path.dirname(os.path.abspath(__file__))
 sys.path.insert(0, os.path.join(HERE, '..', '..', 'scripts'))
 from exchange import (ACKNOWLEDGED, ANSWERED, IDLE, SEIZED, Exchange, Serve,  # noqa: E402
-                      decibels, delay, record, records, samples)
+                      decibels, delay, samples)
+from e1gw.session import Kind, records_in  # noqa: E402
 
 CIRCUIT = 1
 PATIENCE = 500      # multiframes, 1 s
@@ -48,7 +49,7 @@ class End:
         """The session so far; with datagrams, each stands before the trunk record that was to read it."""
         out, turn = [], 0
         for given in self.serve.given:
-            if given[:1] == b'T':
+            if given[0] == Kind.TRUNK:
                 if datagrams and turn >= later:
                     out += datagrams[turn - later]
                 turn += 1
@@ -66,10 +67,10 @@ class End:
     def datagrams(self):
         """For each trunk record the datagrams that the gateway sent, as `e1gw replay` tells them."""
         sent = [[]]
-        for kind, circuit, body in records(self.run('replay', self.session())):
-            if kind == b'D':
-                sent[-1].append(record(b'D', circuit, body))
-            elif kind == b'T':
+        for record in records_in(self.run('replay', self.session())):
+            if record.kind is Kind.DATAGRAM:
+                sent[-1].append(record.spelled())
+            elif record.kind is Kind.TRUNK:
                 sent.append([])
         return sent
 
@@ -159,14 +160,19 @@ def came_through(name, sentence, octets):
     return ratio
 
 
+def trunk_octets(session):
+    """The octets of the trunk in a session."""
+    return b''.join(record.body for record in records_in(session) if record.kind is Kind.TRUNK)
+
+
 def replayed(west, east):
     """Gives both sessions, with the datagrams between them, to `e1gw replay`; prints the listing of both ends."""
     of_west, of_east = west.datagrams(), east.datagrams()
     same = True
     # In each turn the west is first, so it reads what the east sent the turn before.
     for end, session in ((west, west.session(of_east, 1)), (east, east.session(of_west, 0))):
-        trunk = b''.join(body for kind, _, body in records(end.run('replay', session)) if kind == b'T')
-        served = b''.join(body for kind, _, body in records(b''.join(end.serve.answered)) if kind == b'T')
+        trunk = trunk_octets(end.run('replay', session))
+        served = trunk_octets(b''.join(end.serve.answered))
         same = same and trunk == served
         print(f'{end.name}: {end.listed(session)}')
     print('the recorded sessions, replayed with these datagrams, give ' + ('the same' if same else 'OTHER')

@@ -61,7 +61,8 @@ class Words(unittest.TestCase):
         write(self.top, 'crates/other/specs/Sums.antt', 'unfoldable pub total : ℕ → ℕ\ntotal n = 0\n')
         self.assertFalse([line for line in self.found() if line.startswith('total')])
         write(self.top, 'crates/third/specs/Uses.antt', 'use Rattle.other.specs.Sums.{total}\n')
-        self.assertIn('total: crates/low/specs/Sums.antt:1, crates/other/specs/Sums.antt:1; read in third', self.found())
+        places = 'crates/low/specs/Sums.antt:1, crates/other/specs/Sums.antt:1'
+        self.assertIn(f'total: {places}; read in third', self.found())
 
 
 if __name__ == '__main__':
