@@ -32,7 +32,7 @@ MOST_LINE = 4096
 MOST_PEERS = 64
 
 COMMANDS = {command.word: command for command in Command}
-CODECS = {codec.word(law): codec for law in ('A', 'mu') for codec in Codec}
+CODECS = {'pcma': Codec.G711, 'pcmu': Codec.G711} | {codec.word('A'): codec for codec in Codec}
 Say = Callable[[str], None]
 
 
@@ -100,16 +100,16 @@ class Peer:
 
 
 class Typed:
-    """Splits octets into lines, and gives one at a time to be answered."""
+    """Splits octets into lines, and gives one at a time to be answered, each in a turn of the loop of its own."""
 
-    def __init__(self, obey: Callable[[str, Say], None], say: Say) -> None:
-        self._obey, self._say = obey, say
+    def __init__(self, loop: Loop, obey: Callable[[str, Say], None], say: Say) -> None:
+        self._loop, self._obey, self._say = loop, obey, say
         self._rest, self._lines, self._busy = b'', deque[str](), False
 
     def took(self, octets: bytes) -> bool:
         """Takes octets; returns whether that is bearable: no line has an end that is too far."""
         *lines, self._rest = (self._rest + octets).split(b'\n')
-        self._lines.extend(line.decode(errors='replace').strip() for line in lines)
+        self._lines.extend(text for line in lines if (text := line.decode(errors='replace').strip()))
         self._next()
         return len(self._rest) <= MOST_LINE and len(self._lines) <= MOST_LINE
 
@@ -117,12 +117,21 @@ class Typed:
         """There are no more; a last line needs no end."""
         self.took(b'\n')
 
+    def drop(self) -> None:
+        """Forgets the lines that were not answered."""
+        self._lines.clear()
+        self._rest = b''
+
     def _next(self) -> None:
-        while self._lines and not self._busy:
-            line = self._lines.popleft()
-            if line:
-                self._busy = True
-                self._obey(line, self._answered)
+        if self._lines and not self._busy:
+            self._busy = True
+            self._loop.soon(self._give)
+
+    def _give(self) -> None:
+        if self._lines:
+            self._obey(self._lines.popleft(), self._answered)
+        else:
+            self._busy = False
 
     def _answered(self, text: str) -> None:
         self._busy = False
@@ -136,8 +145,12 @@ class Client(Peer):
     def __init__(self, driver: Driver, line: socket.socket) -> None:
         self.driver = driver
         self.follows = False
-        self._typed = Typed(self._obey, lambda text: self.send(f'{text}\n\n'.encode()))
-        Peer.__init__(self, driver.loop, line, lambda _: driver.left(self))
+        self._typed = Typed(driver.loop, self._obey, lambda text: self.send(f'{text}\n\n'.encode()))
+        Peer.__init__(self, driver.loop, line, lambda _: self._left())
+
+    def _left(self) -> None:
+        self._typed.drop()
+        self.driver.left(self)
 
     def took(self, octets: bytes) -> None:
         if not self._typed.took(octets):
@@ -158,7 +171,7 @@ class Console:
 
     def __init__(self, driver: Driver, say: Say) -> None:
         self.driver = driver
-        self._typed = Typed(self._obey, say)
+        self._typed = Typed(driver.loop, self._obey, say)
         driver.loop.watch(0, READ, lambda _: self._ready())
 
     def _obey(self, line: str, say: Say) -> None:

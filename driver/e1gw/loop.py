@@ -5,6 +5,7 @@ import os
 import select
 import signal
 import time
+from collections import deque
 from dataclasses import dataclass
 from typing import Callable
 
@@ -29,6 +30,7 @@ class Loop:
         self._calls: dict[int, Call] = {}
         self._always: dict[int, Call] = {}          # files, which are always ready
         self._timers: list[Timer] = []
+        self._soon: deque[Callable[[], None]] = deque()
         self._wake_of, self._wake = os.pipe()
         for end in (self._wake_of, self._wake):
             os.set_blocking(end, False)
@@ -61,6 +63,10 @@ class Loop:
         self._timers.append(timer)
         return timer
 
+    def soon(self, call: Callable[[], None]) -> None:
+        """Calls it in a later turn, one such call a turn: what much is asked of waits behind the trunk."""
+        self._soon.append(call)
+
     def wake(self) -> None:
         """Ends the waiting of `turn`; from any thread, and from a signal."""
         try:
@@ -86,7 +92,7 @@ class Loop:
         due = min((timer.due for timer in self._timers), default=now + 1)
         if deadline is not None:
             due = min(due, deadline)
-        wait = 0.0 if self._always else max(0.0, due - now)
+        wait = 0.0 if self._always or self._soon else max(0.0, due - now)
         for file, events in self._epoll.poll(wait):
             call = self._calls.get(file)
             if call is not None:
@@ -94,6 +100,8 @@ class Loop:
         for file, call in list(self._always.items()):
             if file in self._always:
                 call(READ)
+        if self._soon:
+            self._soon.popleft()()
         self._run_timers()
 
     def _run_timers(self) -> None:

@@ -20,16 +20,12 @@ SEQUENCES = 1 << 16
 
 class Fault(IntEnum):
     """Why a datagram is no packet, in the order in which the faults are looked for."""
-    SHORT = 1           # fewer octets than the headers have
-    NO_RTP = 2          # no fixed RTP header where there is to be one
-    NO_CONTROL = 3      # the first four bits of the control word are not zero
-    FRAGMENT = 4        # FRG is not zero
-    OTHER_LENGTH = 5    # LEN is neither zero nor the number of octets
-    OTHER_SIZE = 6      # not as many octets of the trunk as the circuit's packets have
-
-    @property
-    def words(self) -> str:
-        return self.name.lower().replace('_', ' ')
+    SHORT = 1               # fewer octets than the headers have
+    NO_RTP_HEADER = 2       # no fixed RTP header where there is to be one
+    NO_CONTROL_WORD = 3     # the first four bits of the control word are not zero
+    FRAGMENT = 4            # FRG is not zero
+    OTHER_LENGTH = 5        # LEN is neither zero nor the number of octets
+    OTHER_SIZE = 6          # not as many octets of the trunk as the circuit's packets have
 
 
 class Packet(NamedTuple):
@@ -46,10 +42,10 @@ def parse(datagram: bytes, rtp: bool) -> Packet | Fault:
     if len(datagram) < at + CONTROL:
         return Fault.SHORT
     if rtp and datagram[0] != RTP_FIRST:
-        return Fault.NO_RTP
+        return Fault.NO_RTP_HEADER
     flags, length, sequence = struct.unpack_from('>BBH', datagram, at)
     if flags >> 4:
-        return Fault.NO_CONTROL
+        return Fault.NO_CONTROL_WORD
     if length & FRAGMENT:
         return Fault.FRAGMENT
     if length & LENGTH and length & LENGTH != len(datagram):

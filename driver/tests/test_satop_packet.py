@@ -20,8 +20,9 @@ class Reading(unittest.TestCase):
         for octets, rtp, fault in (
                 ('', False, Fault.SHORT), ('000000', False, Fault.SHORT),
                 ('80' + '00' * 14, True, Fault.SHORT),
-                ('00' * 16, True, Fault.NO_RTP), ('90' + '00' * 15, True, Fault.NO_RTP),
-                ('10000000', False, Fault.NO_CONTROL), ('80' + '00' * 11 + '10000000', True, Fault.NO_CONTROL),
+                ('00' * 16, True, Fault.NO_RTP_HEADER), ('90' + '00' * 15, True, Fault.NO_RTP_HEADER),
+                ('10000000', False, Fault.NO_CONTROL_WORD),
+                ('80' + '00' * 11 + '10000000', True, Fault.NO_CONTROL_WORD),
                 ('00400000', False, Fault.FRAGMENT), ('00800000', False, Fault.FRAGMENT),
                 ('00030000', False, Fault.OTHER_LENGTH), ('00050000', False, Fault.OTHER_LENGTH)):
             with self.subTest(octets=octets):
@@ -29,9 +30,9 @@ class Reading(unittest.TestCase):
 
     def test_faults_are_looked_for_in_order(self) -> None:
         self.assertEqual([int(each) for each in Fault], [1, 2, 3, 4, 5, 6])
-        self.assertEqual(parse(bytes.fromhex('10430000'), False), Fault.NO_CONTROL)
+        self.assertEqual(parse(bytes.fromhex('10430000'), False), Fault.NO_CONTROL_WORD)
         self.assertEqual(parse(bytes.fromhex('00430000'), False), Fault.FRAGMENT)
-        self.assertEqual(parse(bytes.fromhex('00' * 12 + '10430000'), True), Fault.NO_RTP)
+        self.assertEqual(parse(bytes.fromhex('00' * 12 + '10430000'), True), Fault.NO_RTP_HEADER)
 
     def test_length_counts_the_rtp_header(self) -> None:
         packet = Packet(False, False, 3, bytes(32))
