@@ -1,7 +1,7 @@
 //! Recordings of `serve`: where they are written, and how they end.
 
 use crate::trouble::Trouble;
-use gw_session::{Recorder, ToWrite};
+use gw_session::{Recorder, ToWrite, TrunkRecord};
 use std::fs::{self, File, OpenOptions};
 use std::io;
 
@@ -53,10 +53,15 @@ fn open(rt: &HostRuntime, recording: Recording<'_>) -> Result<File, Trouble> {
 
 /// Begins a recording, where one is asked for.
 pub fn begin(rt: &HostRuntime, recording: Option<Recording<'_>>) -> Result<Tape, Trouble> {
-    match recording {
-        Some(recording) => Ok(Some(Recorder::new(ToWrite::new(open(rt, recording)?)))),
-        None => Ok(None),
-    }
+    let Some(recording) = recording else {
+        return Ok(None);
+    };
+    // (It is on the heap, since the frames of a session are large.)
+    let Ok(room) = Box::new(rt.alloc(), TrunkRecord::new()) else {
+        return Err(Trouble::OutOfMemory);
+    };
+    let file = open(rt, recording)?;
+    Ok(Some(Recorder::new(ToWrite::new(file), room)))
 }
 
 /// Says on standard error that a recording has ended before its session, if it has.

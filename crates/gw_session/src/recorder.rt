@@ -38,21 +38,21 @@ fn spell(room: &mut TrunkRecord, head: Head, body: &[u8])
 #[derive(Drop)]
 pub struct Recorder<K: Sink> {
     sink: K,
-    room: TrunkRecord,
+    room: Box<TrunkRecord>,
     ended: bool,
     ghost counts: { ended ≡ false → (K.tells sink).failures < 2 ^ 64 - 1 },
 }
 
 impl<K: Sink> Recorder<K> {
-    /// A recorder that has recorded nothing.
-    pub fn new(sink: K) -> Self
+    /// A recorder that has recorded nothing, with room for a record.
+    pub fn new(sink: K, room: Box<TrunkRecord>) -> Self
         requires { (K.tells sink).failures < 2 ^ 64 - 1 }
         ensures ended { result.ended ≡ false }
         ensures sink { result.sink ≡ sink }
     {
         Recorder {
             sink,
-            room: TrunkRecord::new(),
+            room,
             ended: false,
         }
     }

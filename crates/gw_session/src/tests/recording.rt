@@ -6,8 +6,17 @@ use super::memory::{MemSink, MemSource};
 use super::ports::MemPorts;
 use super::running::{trunk_answer, trunk_record};
 use super::{done, has_first};
-use crate::{Recorder, RunFault, Totals, run, serve_recorded};
+use crate::{Recorder, RunFault, Totals, TrunkRecord, run, serve_recorded};
 use std::test::Fail;
+
+// A recorder that writes to this sink.
+fn recorder_to(rt: &HostRuntime, sink: MemSink) -> Result<Recorder<MemSink>, Fail>
+    requires { sink.failed ≡ 0 }
+    ensures { IfOk result (λ r. r.ended ≡ false) }
+{
+    let room = Box::new(rt.alloc(), TrunkRecord::new())?;
+    Ok(Recorder::new(sink, room))
+}
 
 // Five datagrams of one octet 00 wait at circuit 1. Serves one trunk record, and records.
 fn serve_five(
@@ -49,7 +58,7 @@ fn recording() -> [u8; 101] {
 
 #[test]
 fn cut_where_datagrams_came(rt: HostRuntime) -> Result<(), Fail> {
-    let mut recorder = Recorder::new(MemSink::new(4096, None));
+    let mut recorder = recorder_to(&rt, MemSink::new(4096, None))?;
     let mut sink = MemSink::new(4096, None);
     let ended = serve_five(&rt, &mut sink, &mut recorder)?;
     assert!(rt; ended == done(1, 64, 0, 5, 0));
@@ -62,7 +71,7 @@ fn cut_where_datagrams_came(rt: HostRuntime) -> Result<(), Fail> {
 #[test]
 fn each_octet_of_it_fails_once(rt: HostRuntime) -> Result<(), Fail> {
     for call in 0..101u64 {
-        let mut recorder = Recorder::new(MemSink::new(1, Some(call)));
+        let mut recorder = recorder_to(&rt, MemSink::new(1, Some(call)))?;
         let mut sink = MemSink::new(4096, None);
         let ended = serve_five(&rt, &mut sink, &mut recorder)?;
         assert!(rt; ended == done(1, 64, 0, 5, 0), "at {call}");
