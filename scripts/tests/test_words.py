@@ -57,6 +57,11 @@ class Words(unittest.TestCase):
               'use Rattle.low.proofs.Lemmas.{twice}\n\n-- more\nrow : (n : ℕ) → n ≡ n\nrow n = twice n\n')
         self.assertNotIn('crates/low/proofs/Lemmas.antt:8: twice', self.found()[:-1])
 
+    def test_a_twin(self) -> None:
+        write(self.top, 'crates/high/proofs/More.antt',
+              '-- the same of another number\nrow : (m : ℕ) → total m ≡ m\nrow m = refl\n')
+        self.assertIn('crates/low/proofs/Lemmas.antt:5: once = crates/high/proofs/More.antt:2: row', self.found())
+
     def test_a_word_of_two_crates_that_a_third_reads(self) -> None:
         write(self.top, 'crates/other/specs/Sums.antt', 'unfoldable pub total : ℕ → ℕ\ntotal n = 0\n')
         self.assertFalse([line for line in self.found() if line.startswith('total')])
