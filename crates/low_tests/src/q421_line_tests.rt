@@ -1,4 +1,4 @@
-use super::*;
+use q421_line::{Cmd, Line, LineFault, Role, State};
 use Cmd::*;
 use Role::*;
 use State::*;
