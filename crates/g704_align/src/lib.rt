@@ -5,6 +5,3 @@ mod alignment;
 pub mod laws;
 
 pub use alignment::{Aligner, Place};
-
-#[cfg(test)]
-mod tests;

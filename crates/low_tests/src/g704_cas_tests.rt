@@ -1,4 +1,4 @@
-use super::*;
+use g704_cas::{MfAligner, MfPlace};
 
 #[test]
 fn multiframe_found_and_lost(rt: HostRuntime) {

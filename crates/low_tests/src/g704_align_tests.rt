@@ -1,4 +1,4 @@
-use super::*;
+use g704_align::{Aligner, Place};
 use std::process::Abort;
 
 // The first octets of a stream must all be hunted over.

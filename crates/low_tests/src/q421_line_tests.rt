@@ -1,8 +1,8 @@
-use super::*;
 use Cmd::*;
 use Role::*;
 use State::*;
 use g704_cas::Nibble;
+use q421_line::{Cmd, Line, LineFault, Role, State};
 use std::process::Abort;
 
 // What a line is given in a test.
