@@ -95,9 +95,10 @@ class Call:
         """What the circuit played since the calls are up: the octets beside idle ones."""
         return bytes(octet for octet in self.exchange.heard[circuit] if octet != IDLE)
 
-    def end(self, sent):
-        """Ends the session, in which so many packets were sent. Yields what is wrong with its end."""
-        wanted = (f'records {len(self.serve.given)}\noctets {self.octets}\ndatagrams {sent}\n'
+    def end(self, sent, first=''):
+        """Ends the session, in which so many packets were sent. Yields what is wrong with its end, whose totals stand
+        behind these lines."""
+        wanted = (f'{first}records {len(self.serve.given)}\noctets {self.octets}\ndatagrams {sent}\n'
                   'dropped 0\nport_faults 0\n')
         self.serve.process.stdin.close()
         said = self.serve.process.stderr.read().decode(errors='replace')

@@ -1,0 +1,247 @@
+"""Looks at the recordings of the built program: what scripts/look runs beside its tables.
+
+What `serve --record` wrote is replayed: the same octets of the trunk, the same packets of each circuit and the same
+answers to commands must come, as e1gw(1) says. A recording that can't go on (a full device, a limit, a reader that goes)
+changes nothing of its session. Each look is a function of the program and a folder to work in; it yields what is wrong.
+"""
+import contextlib
+import os
+import random
+import subprocess
+import threading
+
+# (wire's exchange makes the driver's modules known)
+from wire import CIRCUITS, PACKET, SECONDS, Call, bound, packets, speech
+from e1gw.session import Codec, Kind, codec_record, records_in
+
+ENDED = 'recording ended: a write failed\n'
+ROUNDS = 12                 # of datagrams and multiframes in a live session
+LIMIT = 20_480              # octets of a file, where there is a limit
+
+
+def path_in(room, name='recording'):
+    """The path of a new recording."""
+    path = os.path.join(room, name)
+    with contextlib.suppress(FileNotFoundError):
+        os.unlink(path)
+    return path
+
+
+def live(call, seed=7):
+    """A live session: datagrams good and hostile, commands that are done and refused, another codec. Yields what is
+    wrong, and leaves in `call.packets` what each peer got."""
+    call.packets = {c: [] for c in call.circuits}
+    yield from call.up()
+    dice = random.Random(seed)
+    with bound(call.host) as sender:
+        for turn in range(ROUNDS):
+            for c in call.circuits:
+                sender.sendto(speech(0x40 + c, at=turn * PACKET), (call.host, call.locals[c]))
+                for _ in range(dice.randrange(3)):
+                    sender.sendto(hostile(dice), (call.host, call.locals[c]))
+            call.multiframes(dice.randrange(1, 8))
+            call.serve.command(dice.choice(call.circuits), dice.choice(('seize', 'answer', 'unblock')))
+            for c, peer in call.peers.items():
+                call.packets[c] += [packet for packet, _ in packets(peer)]
+        call.serve._give(codec_record(1, Codec.G726_32, 96))
+        call.serve._answer()
+        call.multiframes(8)
+    for c, peer in call.peers.items():
+        call.packets[c] += [packet for packet, _ in packets(peer)]
+
+
+def hostile(dice):
+    """A datagram that is none of a call."""
+    return dice.choice((b'', bytes(12), dice.randbytes(172), b'\x80\x08' + bytes(170), dice.randbytes(1400)))
+
+
+def replay(program, room, recording):
+    """What replay writes of a recording: octets of the trunk, packets by circuit, answers to commands; and its line."""
+    with open(recording, 'rb') as given:
+        done = subprocess.run([program, 'replay', '--config', os.path.join(room, 'wire.toml')], stdin=given,
+                              capture_output=True, timeout=SECONDS, check=False)
+    trunk, sent, answers = bytearray(), {}, []
+    for each in records_in(done.stdout):
+        if each.kind is Kind.TRUNK:
+            trunk += each.body
+        elif each.kind is Kind.DATAGRAM:
+            sent.setdefault(each.circuit, []).append(each.body)
+        elif each.body[:1] != b'D':
+            answers.append((each.circuit, each.body))
+    return bytes(trunk), sent, answers, done.stderr.decode()
+
+
+def answered(call):
+    """What the live session answered: octets of the trunk, and answers to commands."""
+    told = list(records_in(b''.join(call.serve.answered)))
+    return (b''.join(each.body for each in told if each.kind is Kind.TRUNK),
+            [(each.circuit, each.body) for each in told if each.kind is Kind.ANSWER])
+
+
+def compare(call, program, room, recording, whole=True):
+    """Replays a recording of a live session. Yields what differs; of one that is not whole the first part is
+    compared."""
+    trunk, sent, answers, said = replay(program, room, recording)
+    live_trunk, live_answers = answered(call)
+    got = {c: call.packets[c] for c in call.circuits if call.packets[c]}
+    if not whole:
+        live_trunk, live_answers = live_trunk[:len(trunk)], live_answers[:len(answers)]
+        got = {c: got[c][:len(sent[c])] for c in sent}
+    if (trunk, answers) != (live_trunk, live_answers):
+        yield f'replay: {len(trunk)} octets and {len(answers)} answers that are not those of the session'
+    if sent != got:
+        yield f'replay: packets {({c: len(p) for c, p in sent.items()})}, not those of the session'
+    if said != '' and (whole or said != 'fault 4 Truncated\n'):
+        yield f'replay: {said!r}'
+
+
+def replayed(program, room):
+    """A session with five circuits, hostile datagrams among the others: its replay gives the same."""
+    recording = path_in(room)
+    with Call(program, room, CIRCUITS, '127.0.0.1', '--record', recording) as call:
+        yield from live(call)
+        call.serve.process.stdin.close()
+        call.serve.process.wait()
+        yield from compare(call, program, room, recording)
+
+
+def ends_alone(program, room, recording, read=None):
+    """A recording that ends before its session: nothing of the session changes, and a line says it."""
+    with Call(program, room, (1,), '127.0.0.1', '--record', recording) as call:
+        if read:
+            read()
+        yield from call.up()
+        call.peers[1].sendto(speech(0x61), ('127.0.0.1', call.locals[1]))
+        call.multiframes(60)
+        if call.played(1) != b'\x61' * PACKET:
+            yield f'played {len(call.played(1))} octets'
+        yield from call.end(len(list(packets(call.peers[1]))), ENDED)
+
+
+def full_device(program, room):
+    """A device without room."""
+    yield from ends_alone(program, room, '/dev/full')
+
+
+def limited(program, room):
+    """A file at a limit of size, where the signal of the limit is ignored."""
+    recording, wrapper = path_in(room), path_in(room, 'limited')
+    with open(wrapper, 'w', encoding='ascii') as text:
+        text.write(f'#!/bin/sh\ntrap "" XFSZ\nulimit -f {LIMIT // 512}\nexec {program} "$@"\n')
+    os.chmod(wrapper, 0o755)
+    yield from ends_alone(wrapper, room, recording)
+    if os.path.getsize(recording) != LIMIT:
+        yield f'{os.path.getsize(recording)} octets recorded'
+
+
+def full_file_system(program, room):
+    """A file system that is full. Where none can be mounted there is nothing to look at."""
+    folder = os.path.join(room, 'full')
+    os.makedirs(folder, exist_ok=True)
+    if subprocess.run(['mount', '-t', 'tmpfs', '-o', 'size=16k', 'none', folder], capture_output=True).returncode:
+        print('not looked at: a full file system, which takes root')
+        return
+    try:
+        yield from ends_alone(program, room, os.path.join(folder, 'recording'))
+    finally:
+        subprocess.run(['umount', folder], check=False)
+
+
+def reader_goes(program, room):
+    """A FIFO whose reader goes after a thousand octets."""
+    fifo = path_in(room, 'fifo')
+    os.mkfifo(fifo)
+
+    def read():
+        with open(fifo, 'rb', buffering=0) as pipe:
+            pipe.read(1000)
+    reader = threading.Thread(target=read)
+    reader.start()
+    try:
+        yield from ends_alone(program, room, fifo)
+    finally:
+        reader.join()
+
+
+def killed(program, room):
+    """The program is killed: the recording has all that was answered."""
+    recording = path_in(room)
+    with Call(program, room, CIRCUITS, '127.0.0.1', '--record', recording) as call:
+        yield from live(call)
+        call.serve.process.kill()
+        call.serve.process.wait()
+        trunk, _, answers, _ = replay(program, room, recording)
+        live_trunk, live_answers = answered(call)
+        if not trunk.startswith(live_trunk) or answers[:len(live_answers)] != live_answers:
+            yield f'{len(trunk)} octets of {len(live_trunk)}, {len(answers)} answers of {len(live_answers)}'
+
+
+def asked(program, room, *options, given=b'', **streams):
+    """Runs serve with these options on a configuration without ports, and returns status and line."""
+    path = os.path.join(room, 'plain.toml')
+    with open(path, 'w', encoding='ascii') as text:
+        text.write('law = "A"\n')
+    done = subprocess.run([program, 'serve', '--config', path, *options], input=given, capture_output=True,
+                          timeout=SECONDS, check=False, **streams)
+    return done.returncode, done.stderr.decode()
+
+
+FRAME = bytes([0x54, 0, 0, 32]) + bytes(32)
+
+
+def old_file(program, room):
+    """An old file is refused and stays as it is, and is written over where that is asked for."""
+    recording = path_in(room)
+    with open(recording, 'wb') as old:
+        old.write(b'an old recording')
+    refused = (2, 'the recording is there already: name a new file, or give --record-over\n')
+    if asked(program, room, '--record', recording, given=FRAME) != refused:
+        yield 'an old file is not refused'
+    if open(recording, 'rb').read() != b'an old recording':
+        yield 'a refused file is changed'
+    if asked(program, room, '--record', recording, '--record-over', given=FRAME) != (0, ''):
+        yield 'an old file is not written over'
+    if open(recording, 'rb').read() != FRAME:
+        yield f'recorded {open(recording, "rb").read()[:40].hex(" ")}'
+
+
+def no_file(program, room):
+    """A file that can't be opened is told before the sockets are opened."""
+    with bound('127.0.0.1') as taken:
+        path = os.path.join(room, 'taken.toml')
+        with open(path, 'w', encoding='ascii') as text:
+            text.write('law = "A"\nhost = "127.0.0.1"\n[[circuit]]\nnumber = 1\npeer_host = "127.0.0.1"\n'
+                       f'local_port = {taken.getsockname()[1]}\npeer_port = 9\n')
+        done = subprocess.run([program, 'serve', '--config', path, '--record', os.path.join(room, 'none', 'recording')],
+                              stdin=subprocess.DEVNULL, capture_output=True, timeout=SECONDS, check=False)
+    if (done.returncode, done.stdout, done.stderr) != (2, b'', b'cannot open the recording\n'):
+        yield f'status {done.returncode}, {done.stderr!r}'
+
+
+def open_file(program, room):
+    """An open file of the process, a pipe: the recording goes there."""
+    read, write = os.pipe()
+    try:
+        status = asked(program, room, '--record', f'/dev/fd/{write}', given=FRAME, pass_fds=(write,))
+        os.close(write)
+        write = None
+        got = os.read(read, 65536)
+    finally:
+        os.close(read)
+        if write is not None:
+            os.close(write)
+    if (status, got) != ((0, ''), FRAME):
+        yield f'{status}, {got[:40].hex(" ")}'
+
+
+def recording_looks():
+    """The looks: a name, and what yields what is wrong, given the program and a folder to work in."""
+    yield 'a recording, replayed', replayed
+    yield 'a recording on a full device', full_device
+    yield 'a recording at a limit of size', limited
+    yield 'a recording in a full file system', full_file_system
+    yield 'a recording whose reader goes', reader_goes
+    yield 'a recording of a session that is killed', killed
+    yield 'a recording over an old file', old_file
+    yield 'a recording that cannot be opened', no_file
+    yield 'a recording to an open file', open_file
