@@ -103,15 +103,16 @@ trunk_acts spells a b g g' t t' tape tape' r o s s' s'' w w' w'' body front answ
           (same ∙ x.2) config before h) (Passes-join _ _ _ _ _ _ _ (p.passes config before h) puts.0));
       no_failure = puts.1 ∙ p.no_failure;
     }
-trunk_acts spells a b g g' t t' tape tape' r o s s' s'' w w' w'' body front answer out (Err e) x fronts same counts trunk
-    fits puts =
+trunk_acts spells a b g g' t t' tape tape' r o s s' s'' w w' w'' body front answer out (Err e) x fronts same counts
+    trunk fits puts =
     let p = x.1 in
     let on = trunk_on spells a b g g' t t' tape tape' r o s s' w w' body x.0 p x.3 counts trunk fits in (
       puts.0,
       inl (record {
         acts = on.0;
         took = λ config before h.
-            rw (on.1) (AppendsPrefix-same _ _ _ _ (trunk_put spells a b g g' t t' r o s s' w w' body front x.0 out p fronts
+            rw (on.1) (AppendsPrefix-same _ _ _ _ (trunk_put spells a b g g' t t' r o s s' w w' body front x.0 out p
+            fronts
             (same ∙ x.2) config before h) (AppendsPrefix-behind _ _ _ _ _ _ (p.passes config before h) puts.1.took));
         failed = omega (arith, p.no_failure, puts.1.counted);
       }),
@@ -170,8 +171,8 @@ one_written spells g g' act event circuit kind code w one packets answer takes c
 
 -- .. and that was put
 pub one_acts : (spells : Spells) (p : PortsState) (g g' : Gateway) (t t' : Totals) (tape tape' : TapeState)
-    (s s' : SinkState) (w w' : List ℕ) (act : Act) (event : Event) (circuit kind code : ℕ) (result : Result (Unit {0}) RunFault)
-    → turns_of act ≡ [] → events_of act ≡ event ∷ []
+    (s s' : SinkState) (w w' : List ℕ) (act : Act) (event : Event) (circuit kind code : ℕ)
+    (result : Result (Unit {0}) RunFault) → turns_of act ≡ [] → events_of act ≡ event ∷ []
     → ((config : GatewayConfig) (before : List Event) → packets_for config before (event ∷ []) ≡ [])
     → ((config : GatewayConfig) (before : List Event) → answer_to config before act
     ≡ flat_map (λ r. record_of 82 circuit (kind ∷ code_of r ∷ [])) (whole_from config before (events_of act)))
@@ -182,8 +183,8 @@ pub one_acts : (spells : Spells) (p : PortsState) (g g' : Gateway) (t t' : Total
     → Puts s s' w' (w ++ written_out (Written.Answered circuit kind code)) result
     → Recorded tape tape' (events_of act)
     → Acts spells p p g g' t t' tape tape' s s' w w' (told act) result
-one_acts spells p g g' t t' tape tape' s s' w w' act event circuit kind code (Ok u) none one packets answer takes dropped
-    same puts recorded =
+one_acts spells p g g' t t' tape tape' s s' w w' act event circuit kind code (Ok u) none one packets answer takes
+    dropped same puts recorded =
     let on = one_on p g g' t t' tape tape' act event code none one packets takes dropped same recorded in
     record {
       acts = on.0;
@@ -191,14 +192,15 @@ one_acts spells p g g' t t' tape tape' s s' w w' act event circuit kind code (Ok
           (one_written spells g g' act event circuit kind code w one packets answer takes config before h) puts.0);
       no_failure = puts.1;
     }
-one_acts spells p g g' t t' tape tape' s s' w w' act event circuit kind code (Err e) none one packets answer takes dropped
-    same puts recorded =
+one_acts spells p g g' t t' tape tape' s s' w w' act event circuit kind code (Err e) none one packets answer takes
+    dropped same puts recorded =
     let on = one_on p g g' t t' tape tape' act event code none one packets takes dropped same recorded in (
       puts.0,
       inl (record {
         acts = on.0;
         took = λ config before h. rw (on.1) (AppendsPrefix-same _ _ _ _
-            (one_written spells g g' act event circuit kind code w one packets answer takes config before h) puts.1.took);
+            (one_written spells g g' act event circuit kind code w one packets answer takes config before h)
+            puts.1.took);
         failed = puts.1.counted;
       }),
     )

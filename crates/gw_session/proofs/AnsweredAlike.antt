@@ -8,7 +8,8 @@ use Rattle.gw_switch.specs.declared.GatewayConfig.{GatewayConfig}
 use Rattle.gw_switch.specs.Events.{Event}
 use Rattle.gw_switch.specs.Whole.{Reply, reply_to, whole_from}
 use Rattle.gw_records.specs.Records.{Record, record_of}
-use Rattle.gw_session.specs.Answers.{Written, written_out, answers, answered, trunk_in, datagrams_in, code_of, as_record}
+use Rattle.gw_session.specs.Answers.{Written, written_out, answers, answered, trunk_in, datagrams_in, code_of}
+use Rattle.gw_session.specs.Answers.{as_record}
 use Rattle.gw_session.specs.Answers.{octets_in, packets_in}
 use Rattle.gw_session.specs.Answers as records_of
 use Rattle.gw_session.specs.Running.{replies_to}
@@ -73,7 +74,8 @@ later : (config : GatewayConfig) (before : List Event) (x : Event) (xs ys : List
     → obeyed config (before ++ x ∷ []) (xs ++ ys)
     ≡ obeyed config (before ++ x ∷ []) xs ++ obeyed config (before ++ x ∷ xs) ys
 later config before x xs ys e =
-    e ∙ ap (λ (b : List Event). obeyed config (before ++ x ∷ []) xs ++ obeyed config b ys) (append_assoc before (x ∷ []) xs)
+    e ∙ ap (λ (b : List Event). obeyed config (before ++ x ∷ []) xs ++ obeyed config b ys)
+    (append_assoc before (x ∷ []) xs)
 
 obeyed-append : (config : GatewayConfig) (before xs ys : List Event)
     → obeyed config before (xs ++ ys) ≡ obeyed config before xs ++ obeyed config (before ++ xs) ys
@@ -85,8 +87,8 @@ obeyed-append config before (Event.Datagram circuit octets ∷ xs) ys =
     later config before (Event.Datagram circuit octets) xs ys
     (obeyed-append config (before ++ Event.Datagram circuit octets ∷ []) xs ys)
 obeyed-append config before (Event.Command circuit command ∷ xs) ys =
-    ap (λ (rs : List (ℕ × ℕ × ℕ)). (circuit, 0x43, code_of (reply_to config before (Event.Command circuit command))) ∷ rs)
-    (later config before (Event.Command circuit command) xs ys
+    ap (λ (rs : List (ℕ × ℕ × ℕ)). (circuit, 0x43, code_of (reply_to config before (Event.Command circuit command)))
+    ∷ rs) (later config before (Event.Command circuit command) xs ys
     (obeyed-append config (before ++ Event.Command circuit command ∷ []) xs ys))
 obeyed-append config before (Event.Codec circuit kind payload_type ∷ xs) ys =
     ap (λ (rs : List (ℕ × ℕ × ℕ)).

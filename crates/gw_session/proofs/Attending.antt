@@ -1,6 +1,7 @@
 -- Acts one after another.
 use Rattle.std.proofs.Common.{◌≡◌, ◌⊎◌, inl, inr, ◌+◌, ◌-◌, ◌<◌, ◌≤◌, ℕ, zero, suc, true, List, [], ◌∷◌, ◌++◌, length}
-use Rattle.std.proofs.Common.{take, drop, refl, sym, ap, ◌∙◌, subst, append_assoc, append-nil, length-append, arith, Option}
+use Rattle.std.proofs.Common.{take, drop, refl, sym, ap, ◌∙◌, subst, append_assoc, append-nil, length-append, arith}
+use Rattle.std.proofs.Common.{Option}
 use Rattle.std.specs.Prelude.{map}
 use Rattle.std.specs.List.{flat_map}
 use Rattle.std.specs.Io.KnownBytes.{Appends}
@@ -104,7 +105,12 @@ through_none spells a g tape o w t none nothing =
       acts = [];
       recorded = recorded_none tape;
       told_are = refl;
-      does = subst P (sym nothing) (record { goes = Goes-none a g nothing_counted; records = refl; trunk_octets = refl });
+      does = subst P (sym nothing) (record {
+        goes = Goes-none a g nothing_counted;
+        records = refl;
+        trunk_octets
+            = refl;
+      });
       took = λ config before at. Passes-start o w none;
     }
 

@@ -36,7 +36,8 @@ all_as kinds a b c d (Ok t) f e = record { ends = ends_as f e.ends; ended = e.en
 all_as kinds a b c d (Err x) f e = tt
 
 fault_as : (kinds : Kinds) (a b : SourceState) (c d : SinkState) {P Q : Totals → List Record → Type 0}
-    {B C : List Record → Type 0} {K L : Type 0} (e : RunFault) → (K → L) → ((t : Totals) (rs : List Record) → P t rs → Q t rs)
+    {B C : List Record → Type 0} {K L : Type 0} (e : RunFault) → (K → L)
+    → ((t : Totals) (rs : List Record) → P t rs → Q t rs)
     → ((rs : List Record) → B rs → C rs) → EndsUntil kinds a b c d P B K e → EndsUntil kinds a b c d Q C L e
 unfolding session_as
 fault_as kinds a b c d faults.BadKind k f begun e = ends_as f e

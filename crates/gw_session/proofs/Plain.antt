@@ -127,7 +127,8 @@ act_written config before (Act.Trunk ts) p =
     ap (λ (es : List Event). flat_map in_record (flat_map packets_in (whole_from config before es))
     ++ record_of 0x54 0 (flat_map octets_in (whole_from config before es))) (turns_events ts p)
     ∙ ap (λ (xs : List ℕ). xs ++ record_of 0x54 0 sent) (packets_put packets)
-    ∙ ap (λ (xs : List ℕ). flat_map written_out (map as_record packets) ++ xs) (sym (append-nil (record_of 0x54 0 sent)))
+    ∙ ap (λ (xs : List ℕ). flat_map written_out (map as_record packets) ++ xs)
+    (sym (append-nil (record_of 0x54 0 sent)))
     ∙ sym (flat_map-append written_out (map as_record packets) (answers.Written.Trunk sent ∷ []))
 act_written config before (Act.Datagram circuit octets) p = refl
 act_written config before (Act.Command circuit command) p = refl

@@ -46,7 +46,8 @@ read_back tape tape' happened octets records ending p none known reads =
     let longer : flat_map spelled p.records ≡ octets ++ p.took.rest =
     p.took.whole ∙ ap (λ (xs : List ℕ). xs ++ p.took.rest) (sym octets_are) in
     let R : List ℕ → Type 0 = λ xs. Reads all_kinds xs p.records endings.End in
-    let more = more_keeps all_kinds octets p.took.rest records p.records ending endings.End reads (subst R longer all) in
+    let more = more_keeps all_kinds octets p.took.rest records p.records ending endings.End reads (subst R longer all)
+    in
     record {
       lost = events more.0 ++ p.lost;
       first = p.events_are ∙ ap (λ (rs : List Record). events rs ++ p.lost) more.1

@@ -137,8 +137,8 @@ joined a b c es fs false e p q =
       records = p.records ++ q.records;
       good = All-join (IsGood all_kinds) p.records q.records p.good q.good;
       lost = q.lost;
-      events_are = ap (λ (xs : List Event). xs ++ fs) here ∙ ap (λ (xs : List Event). events p.records ++ xs) q.events_are
-          ∙ sym (append_assoc (events p.records) (events q.records) q.lost)
+      events_are = ap (λ (xs : List Event). xs ++ fs) here ∙ ap (λ (xs : List Event). events p.records ++ xs)
+          q.events_are ∙ sym (append_assoc (events p.records) (events q.records) q.lost)
           ∙ ap (λ (xs : List Event). xs ++ q.lost) (sym (flat_map-append events_of p.records q.records));
       took = AppendsPrefix-join a.taken b.taken c.taken (flat_map spelled p.records) (flat_map spelled q.records)
           (flat_map spelled (p.records ++ q.records)) w.1 q.took octets;
@@ -215,7 +215,8 @@ written_cut a sink sink' r octets (Ok x) failed fault good going count at e f up
 written_cut a sink sink' r octets (Err x) failed fault good going count at e f up p =
     let A : Option (List ℕ) → Type 0 = λ o. AppendsPrefix o sink'.taken (spelled r) in
     recorded_cut a (record { ended = true; failures = sink'.failures; taken = sink'.taken }) r good going refl
-    (omega (arith, count, p.1.counted)) (subst A (sym at) (AppendsPrefix-same sink.taken sink'.taken octets (spelled r) e p.1.took))
+    (omega (arith, count, p.1.counted)) (subst A (sym at) (AppendsPrefix-same sink.taken sink'.taken octets (spelled r)
+    e p.1.took))
 
 -- no datagram came yet
 pub behind_none : (a : TapeState) (heard : List ℕ) (recorded : ℕ) → recorded ≤ length heard

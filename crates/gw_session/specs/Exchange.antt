@@ -1,5 +1,6 @@
 -- What the parts of a session do, for the private functions of modules `exchange`, `act` and `attend`.
-use Rattle.std.specs.Prelude.{◌≡◌, ◌⊎◌, ◌+◌, ◌<◌, ◌≤◌, ◌++◌, ℕ, List, [], ◌∷◌, length, map, drop, Option, Some}
+use Rattle.std.specs.Prelude.{◌≡◌, ◌⊎◌, ◌+◌, ◌<◌, ◌≤◌, ◌++◌, ℕ, List, [], ◌∷◌, length, map, drop, Option}
+use Rattle.std.specs.Prelude.{Some}
 use Rattle.std.specs.Prelude.{Result, MatchResult}
 use Rattle.std.specs.List.{flat_map}
 use Rattle.gw_switch.specs.declared.GatewayConfig.{GatewayConfig}
@@ -81,8 +82,8 @@ pub record RecordsBehind (tape tape' : TapeState) (heard : List ℕ) (recorded r
   pub but : RecordedBut tape tape' (map Event.Octet (drop recorded heard) ++ happened) (drop recorded' heard)
 
 -- datagrams of a circuit came, and were recorded behind octets that were heard
-abbrev pub ComesRecorded : PortsState → PortsState → Gateway → Gateway → Totals → Totals → Option ℕ → TapeState
-    → TapeState → List ℕ → ℕ → ℕ → Type 0
+abbrev pub ComesRecorded : PortsState → PortsState → Gateway → Gateway → Totals → Totals → Option ℕ
+    → TapeState → TapeState → List ℕ → ℕ → ℕ → Type 0
 ComesRecorded ports ports' gateway gateway' totals totals' circuit tape tape' heard recorded recorded' =
     (c : Comes ports ports' gateway gateway' totals totals' circuit)
     × RecordsBehind tape tape' heard recorded recorded' (coming (of_circuit circuit c.came))
@@ -110,18 +111,19 @@ pub record SendsPacket (ports ports' : PortsState) (totals totals' : Totals) (pa
   pub dropped : totals'.dropped ≡ totals.dropped
   pub kept : KeepsRecords totals totals'
 
--- the gateway heard an octet and sends this one, the packet that it sends with it went to the outlet, and what
--- that puts passes
+-- the gateway heard an octet and sends this one, the packet that it sends with it went to the outlet, and
+-- what that puts passes
 pub record Answers (spells : Spells) (ports ports' : PortsState) (gateway gateway' : Gateway)
-    (totals totals' : Totals) (sink sink' : SinkState) (waiting waiting' : List ℕ) (octet sent : ℕ) : Type 0 where
-  pub packet : Option (ℕ × List ℕ)
-  pub sends : SendsPacket ports ports' totals totals' packet
-  pub hears : (config : GatewayConfig) (before : List Event) → Stands config gateway before
-      → (Stands config gateway' (before ++ Event.Octet octet ∷ []))
-      × (packets_for config before (Event.Octet octet ∷ []) ≡ packet_in packet)
-      × (octets_for config before (Event.Octet octet ∷ []) ≡ sent ∷ [])
-  pub passes : Passes sink.taken sink'.taken waiting' (waiting ++ flat_map spells (packet_in packet))
-  pub no_failure : sink'.failures ≡ sink.failures
+    (totals totals' : Totals) (sink sink' : SinkState) (waiting waiting' : List ℕ) (octet sent : ℕ) : Type 0
+  where
+    pub packet : Option (ℕ × List ℕ)
+    pub sends : SendsPacket ports ports' totals totals' packet
+    pub hears : (config : GatewayConfig) (before : List Event) → Stands config gateway before
+        → (Stands config gateway' (before ++ Event.Octet octet ∷ []))
+        × (packets_for config before (Event.Octet octet ∷ []) ≡ packet_in packet)
+        × (octets_for config before (Event.Octet octet ∷ []) ≡ sent ∷ [])
+    pub passes : Passes sink.taken sink'.taken waiting' (waiting ++ flat_map spells (packet_in packet))
+    pub no_failure : sink'.failures ≡ sink.failures
 
 -- the gateway heard an octet, and a write of what its packet puts failed
 pub record Misses (spells : Spells) (ports ports' : PortsState) (gateway gateway' : Gateway)
@@ -138,11 +140,12 @@ abbrev pub Hearing : Spells → PortsState → PortsState → Gateway → Gatewa
     → SinkState → List ℕ → List ℕ → ℕ → Result ℕ RunFault → Type 0
 Hearing spells ports ports' gateway gateway' totals totals' sink sink' waiting waiting' octet result =
     MatchResult result
-    (λ sent. Answers spells ports ports' gateway gateway' totals totals' sink sink' waiting waiting' octet sent)
+    (λ sent. Answers spells ports ports' gateway gateway' totals totals' sink sink' waiting waiting' octet
+    sent)
     (λ e. (e ≡ Write) × Misses spells ports ports' gateway gateway' totals totals' sink sink' waiting octet)
 
--- The gateway heard octets, each after the datagrams that came before it, these were sent, and what the packets
--- put passes.
+-- The gateway heard octets, each after the datagrams that came before it, these were sent, and what the
+-- packets put passes.
 pub record Exchanges (spells : Spells) (ports ports' : PortsState) (gateway gateway' : Gateway)
     (totals totals' : Totals) (sink sink' : SinkState) (waiting waiting' octets sent : List ℕ) : Type 0 where
   pub turns : List Turn
@@ -157,8 +160,8 @@ pub record Exchanges (spells : Spells) (ports ports' : PortsState) (gateway gate
       (waiting ++ spelled_for spells config before (events_of_turns turns))
   pub no_failure : sink'.failures ≡ sink.failures
 
--- A write of what a packet puts failed when the gateway had heard the first octets, and a prefix of what waited
--- and of what their packets put was taken.
+-- A write of what a packet puts failed when the gateway had heard the first octets, and a prefix of what
+-- waited and of what their packets put was taken.
 pub record StopsAt (spells : Spells) (ports ports' : PortsState) (gateway gateway' : Gateway)
     (sink sink' : SinkState) (waiting octets : List ℕ) : Type 0 where
   pub turns : List Turn
@@ -177,8 +180,8 @@ pub record StopsAt (spells : Spells) (ports ports' : PortsState) (gateway gatewa
 -- one octet, which with the datagrams before it was recorded but for the last octets
 abbrev pub Exchanging : Spells → PortsState → PortsState → Gateway → Gateway → Totals → Totals → SinkState
     → SinkState → List ℕ → List ℕ → ℕ → TapeState → TapeState → List ℕ → ℕ → ℕ → Result ℕ RunFault → Type 0
-Exchanging spells ports ports' gateway gateway' totals totals' sink sink' waiting waiting' octet tape tape' heard
-    recorded recorded' result = MatchResult result
+Exchanging spells ports ports' gateway gateway' totals totals' sink sink' waiting waiting' octet tape tape'
+    heard recorded recorded' result = MatchResult result
     (λ sent. (x : Exchanges spells ports ports' gateway gateway' totals totals' sink sink' waiting waiting'
     (octet ∷ []) (sent ∷ []))
     × (recorded' ≤ length heard) × RecordedBut tape tape'
@@ -187,13 +190,13 @@ Exchanging spells ports ports' gateway gateway' totals totals' sink sink' waitin
 
 -- octets, those to send behind those of the answer; they and the datagrams that came were recorded
 abbrev pub ExchangingAll : Spells → PortsState → PortsState → Gateway → Gateway → Totals → Totals → SinkState
-    → SinkState → List ℕ → List ℕ → List ℕ → List ℕ → List ℕ → TapeState → TapeState → Result (Unit {0}) RunFault
-    → Type 0
-ExchangingAll spells ports ports' gateway gateway' totals totals' sink sink' waiting waiting' octets answer answer'
-    tape tape' result = MatchResult result
+    → SinkState → List ℕ → List ℕ → List ℕ → List ℕ → List ℕ → TapeState → TapeState → Result (Unit {0})
+    RunFault → Type 0
+ExchangingAll spells ports ports' gateway gateway' totals totals' sink sink' waiting waiting' octets answer
+    answer' tape tape' result = MatchResult result
     (λ _. (sent : List ℕ)
-    × (x : Exchanges spells ports ports' gateway gateway' totals totals' sink sink' waiting waiting' octets sent)
-    × (answer' ≡ answer ++ sent) × Recorded tape tape' (events_of_turns x.turns))
+    × (x : Exchanges spells ports ports' gateway gateway' totals totals' sink sink' waiting waiting' octets
+    sent) × (answer' ≡ answer ++ sent) × Recorded tape tape' (events_of_turns x.turns))
     (λ e. (e ≡ Write) × StopsAt spells ports ports' gateway gateway' sink sink' waiting octets)
 
 -- datagrams came so far, with no failed receive
@@ -207,7 +210,8 @@ pub record Receiving (ports ports' : PortsState) (gateway gateway' : Gateway) (t
   pub given : IsGiven gateway gateway' totals totals' (of_circuit (Some circuit) came)
 
 -- .. and were recorded behind octets that were heard
-pub record ReceivingRecorded (ports ports' : PortsState) (gateway gateway' : Gateway) (totals totals' : Totals)
+pub record ReceivingRecorded (ports ports' : PortsState) (gateway gateway' : Gateway)
+    (totals totals' : Totals)
     (circuit : ℕ) (came : List (List ℕ)) (tape tape' : TapeState) (heard : List ℕ) (recorded recorded' : ℕ)
     : Type 0 where
   pub receiving : Receiving ports ports' gateway gateway' totals totals' circuit came
@@ -235,8 +239,8 @@ pub record Finishes (spells : Spells) (ports ports' : PortsState) (gateway gatew
 
 -- .. or a write failed when it was done, and a prefix of that was taken
 pub record Unwritten (spells : Spells) (ports ports' : PortsState) (gateway gateway' : Gateway)
-    (totals totals' : Totals) (tape tape' : TapeState) (sink sink' : SinkState) (waiting : List ℕ) (r : Record)
-    : Type 0 where
+    (totals totals' : Totals) (tape tape' : TapeState) (sink sink' : SinkState) (waiting : List ℕ)
+    (r : Record) : Type 0 where
   pub acts : ActsOn ports ports' gateway gateway' totals totals' tape tape' r
   pub took : (config : GatewayConfig) (before : List Event) → Stands config gateway before
       → AppendsPrefix sink.taken sink'.taken (waiting ++ written_for spells config before acts.act)
@@ -250,17 +254,17 @@ pub record Cut (spells : Spells) (ports ports' : PortsState) (gateway gateway' :
   pub stops : StopsAt spells ports ports' gateway gateway' sink sink' waiting octets
 
 -- a record was acted on, or a write failed in it
-abbrev pub Acts : Spells → PortsState → PortsState → Gateway → Gateway → Totals → Totals → TapeState → TapeState
-    → SinkState → SinkState → List ℕ → List ℕ → Record → Result (Unit {0}) RunFault → Type 0
+abbrev pub Acts : Spells → PortsState → PortsState → Gateway → Gateway → Totals → Totals → TapeState
+    → TapeState → SinkState → SinkState → List ℕ → List ℕ → Record → Result (Unit {0}) RunFault → Type 0
 Acts spells ports ports' gateway gateway' totals totals' tape tape' sink sink' waiting waiting' r result =
     MatchResult result
-    (λ _. Finishes spells ports ports' gateway gateway' totals totals' tape tape' sink sink' waiting waiting' r)
-    (λ e. (e ≡ Write)
+    (λ _. Finishes spells ports ports' gateway gateway' totals totals' tape tape' sink sink' waiting waiting'
+    r) (λ e. (e ≡ Write)
     × (Unwritten spells ports ports' gateway gateway' totals totals' tape tape' sink sink' waiting r
     ⊎ Cut spells ports ports' gateway gateway' sink sink' waiting r))
 
--- the ports and the gateway went through the acts of records, which were recorded, and this is known of all that
--- is put for them
+-- the ports and the gateway went through the acts of records, which were recorded, and this is known of all
+-- that is put for them
 pub record Through (spells : Spells) (ports ports' : PortsState) (gateway gateway' : Gateway)
     (tape tape' : TapeState) (Took : List ℕ → Type 0) (totals : Totals) (records : List Record) : Type 0 where
   pub acts : List Act
@@ -299,5 +303,5 @@ abbrev pub Begun : Spells → PortsState → PortsState → Gateway → Gateway 
     → SinkState → List Record → Type 0
 Begun spells ports ports' gateway gateway' tape tape' sink sink' records =
     ((totals : Totals) × (0 < length records)
-    × Through spells ports ports' gateway gateway' tape tape' (AppendsPrefix sink.taken sink'.taken) totals records)
-    ⊎ CutThrough spells ports ports' gateway gateway' sink sink' records
+    × Through spells ports ports' gateway gateway' tape tape' (AppendsPrefix sink.taken sink'.taken) totals
+    records) ⊎ CutThrough spells ports ports' gateway gateway' sink sink' records

@@ -15,7 +15,8 @@ use Rattle.gw_session.specs.Tape.{TapeState, Recorded}
 abbrev pub ServesRecorded : PortsState → PortsState → Gateway → Gateway → TapeState → TapeState
     → (List ℕ → Type 0) → Totals → List Record → Type 0
 ServesRecorded ports ports' gateway gateway' tape tape' Took totals records =
-    (s : ServesThrough ports ports' gateway gateway' Took totals records) × Recorded tape tape' (events s.acts)
+    (s : ServesThrough ports ports' gateway gateway' Took totals records) × Recorded tape tape'
+    (events s.acts)
 
 -- a session up to the end of its source, which took all of the answers
 abbrev pub RecordsAll : SourceState → SourceState → SinkState → SinkState → PortsState → PortsState → Gateway
@@ -25,11 +26,11 @@ RecordsAll source source' sink sink' ports ports' gateway gateway' tape tape' =
     (ServesRecorded ports ports' gateway gateway' tape tape' (Appends sink.taken sink'.taken))
 
 -- .. or before it, where a write failed with a prefix of the answers
-abbrev pub RecordsUntil : SourceState → SourceState → SinkState → SinkState → PortsState → PortsState → Gateway
-    → Gateway → TapeState → TapeState → RunFault → Type 0
+abbrev pub RecordsUntil : SourceState → SourceState → SinkState → SinkState → PortsState → PortsState
+    → Gateway → Gateway → TapeState → TapeState → RunFault → Type 0
 RecordsUntil source source' sink sink' ports ports' gateway gateway' tape tape' =
     EndsUntil served_kinds source source' sink sink'
     (ServesRecorded ports ports' gateway gateway' tape tape' (Appends sink.taken sink'.taken))
     (λ records. (totals : Totals)
-    × ServesRecorded ports ports' gateway gateway' tape tape' (AppendsPrefix sink.taken sink'.taken) totals records)
-    ((source' ≡ source) × (sink' ≡ sink) × (ports' ≡ ports) × (gateway' ≡ gateway) × (tape' ≡ tape))
+    × ServesRecorded ports ports' gateway gateway' tape tape' (AppendsPrefix sink.taken sink'.taken) totals
+    records) ((source' ≡ source) × (sink' ≡ sink) × (ports' ≡ ports) × (gateway' ≡ gateway) × (tape' ≡ tape))

@@ -10,11 +10,12 @@ use Rattle.gw_records.specs.Records.{Record, Reads}
 use Rattle.gw_session.specs.Answers.{Written, written_out, answers, answered, trunk_in, datagrams_in}
 use Rattle.gw_session.specs.Answers as records_of
 use Rattle.gw_session.specs.Running.{all_kinds, replies_to}
-use Rattle.gw_session.specs.Serve.{Act, told, events, events_of, events_of_turns, octets_for, packets_for, written}
+use Rattle.gw_session.specs.Serve.{Act, told, events, events_of, events_of_turns, octets_for, packets_for}
+use Rattle.gw_session.specs.Serve.{written}
 use Rattle.gw_session.specs.Tape.{TapeState, Recorded}
 
--- What was recorded is read as records whose events are the first of those that happened; where the tape has not
--- ended, the octets end with a whole record, and these are all events.
+-- What was recorded is read as records whose events are the first of those that happened; where the tape has
+-- not ended, the octets end with a whole record, and these are all events.
 pub record ReadsBack (tape' : TapeState) (happened : List Event) (records : List Record) (ending : Ending)
     : Type 0 where
   pub lost : List Event
@@ -23,7 +24,8 @@ pub record ReadsBack (tape' : TapeState) (happened : List Event) (records : List
 
 -- a recording that was begun empty is read back
 abbrev pub RecordingsAreReadBack : Type 0
-RecordingsAreReadBack = (tape tape' : TapeState) (happened : List Event) (octets : List ℕ) (records : List Record)
+RecordingsAreReadBack = (tape tape' : TapeState) (happened : List Event) (octets : List ℕ)
+    (records : List Record)
     (ending : Ending) → Recorded tape tape' happened → tape.taken ≡ Some [] → tape'.taken ≡ Some octets
     → Reads all_kinds octets records ending → ReadsBack tape' happened records ending
 
@@ -55,5 +57,5 @@ pub record AnswersAs (config : GatewayConfig) (before : List Event) (acts : List
 
 -- records of the same events answer as the acts did
 abbrev pub RecordingsAnswerAlike : Type 0
-RecordingsAnswerAlike = (config : GatewayConfig) (before : List Event) (acts : List Act) (records : List Record)
-    → records_of.events records ≡ events acts → AnswersAs config before acts records
+RecordingsAnswerAlike = (config : GatewayConfig) (before : List Event) (acts : List Act)
+    (records : List Record) → records_of.events records ≡ events acts → AnswersAs config before acts records

@@ -1,5 +1,6 @@
 -- What tapes tell of themselves, and how events are recorded on them.
-use Rattle.std.specs.Prelude.{◌≡◌, ◌⊎◌, ◌^◌, ◌<◌, ◌≤◌, ◌∷◌, ◌++◌, Bool, true, false, List, [], ℕ, Option, None, Some}
+use Rattle.std.specs.Prelude.{◌≡◌, ◌⊎◌, ◌^◌, ◌<◌, ◌≤◌, ◌∷◌, ◌++◌, Bool, true, false, List, [], ℕ, Option}
+use Rattle.std.specs.Prelude.{None, Some}
 use Rattle.std.specs.Prelude.{length, map}
 use Rattle.std.specs.List.{flat_map, AllByRecursion}
 use Rattle.std.specs.Io.KnownBytes.{Appends}
@@ -29,10 +30,10 @@ pub record HasLong (es : List Event) : Type 0 where
   pub events_are : es ≡ before ++ Event.Datagram circuit bytes ∷ after
   pub long : 2 ^ 16 ≤ length bytes
 
--- Events were recorded: the tape took the octets of good records, or a prefix of them, and the events of these
--- records are the first of the events that happened. As long as the tape has not ended, they are all of them, and
--- it took the octets whole and no write failed. It ends only where a write failed, or at a datagram that no record
--- can say, and one that had ended stays as it was.
+-- Events were recorded: the tape took the octets of good records, or a prefix of them, and the events of
+-- these records are the first of the events that happened. As long as the tape has not ended, they are all of
+-- them, and it took the octets whole and no write failed. It ends only where a write failed, or at a datagram
+-- that no record can say, and one that had ended stays as it was.
 pub record Recorded (tape tape' : TapeState) (happened : List Event) : Type 0 where
   pub records : List Record
   pub good : AllByRecursion (IsGood all_kinds) records

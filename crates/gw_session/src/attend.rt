@@ -14,8 +14,8 @@ use gw_records::{
 };
 use gw_switch::Gateway;
 
-/// Acts on the records of the source, of these kinds, by a gateway, and records on a tape what it takes. It is inlined, so that a session tests for
-/// no other kinds than its own.
+/// Acts on the records of the source, of these kinds, by a gateway, and records on a tape what it takes. It
+/// is inlined, so that a session tests for no other kinds than its own.
 #[inline(always)]
 pub fn attend<O: Outlet, S: Source, K: Sink, T: Tape>(
     kinds: &Kinds,

@@ -17,7 +17,8 @@ use gw_switch::Gateway;
 // How many datagrams are received before one octet.
 const MOST_DATAGRAMS: usize = 4;
 
-/// Gives a datagram to its circuit, counts it where it is refused, and returns 0 or the number of the refusal.
+/// Gives a datagram to its circuit, counts it where it is refused, and returns 0 or the number of the
+/// refusal.
 pub fn give(gateway: &mut Gateway, circuit: CircuitNo, octets: &[u8], totals: &mut Totals) -> u8
     ensures given { IsGiven gateway.old gateway.new totals.old totals.new ((circuit, octets.now) ∷ []) }
     ensures others { totals.new ≡ record totals.old { dropped = totals.new.dropped } }

@@ -26,8 +26,8 @@ pub trait Outlet {
             result }
         ensures sends_stay { KeepsSends (tells self.old) (tells self.new) };
 
-    /// Sends a packet of a circuit, and returns whether it went out. What it puts comes behind the octets that
-    /// wait.
+    /// Sends a packet of a circuit, and returns whether it went out. What it puts comes behind the octets
+    /// that wait.
     fn deliver<K: Sink>(
         &mut self,
         circuit: CircuitNo,

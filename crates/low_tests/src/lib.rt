@@ -1,5 +1,5 @@
-//! The worked figures of the laws, of G.726, of frame and multiframe alignment, of line signalling and of RTP:
-//! the tests of the crates below `gw_circuit`, in one crate, since a crate with tests is proved twice.
+//! The worked figures of the laws, of G.726, of frame and multiframe alignment, of line signalling and of
+//! RTP: the tests of the crates below `gw_circuit`, in one crate, since a crate with tests is proved twice.
 #![tactic(auto)]
 
 #[cfg(test)]

@@ -6,7 +6,15 @@ use Rattle.gw_session.proofs.Taping.{behind_none, behind_more}
 use Rattle.gw_session.proofs.exchange.receive_some.Goals as goal
 
 pub receiving-init : goal.receiving-init
-receiving-init g c = ([], refl, record { receiving = receiving_none _ _ _ _; records = behind_none _ _ _ c.requires.within })
+receiving-init g c = (
+  [],
+  refl,
+  record {
+    receiving = receiving_none _ _ _ _;
+    records = behind_none _ _ _
+        c.requires.within;
+  },
+)
 
 pub receiving-preserved : goal.receiving-preserved
 receiving-preserved g c =
