@@ -478,7 +478,7 @@ class Driver:
         """Of each circuit's socket: octets that wait, and datagrams for which the kernel had no room."""
         ports = {line.port: n for n, line in self.lines.lines.items() if line.port}
         found: dict[int, dict[str, int]] = {}
-        for name in ('/proc/net/udp', '/proc/net/udp6') if ports else ():
+        for name in ('/proc/self/net/udp', '/proc/self/net/udp6') if ports else ():
             try:
                 with open(name, encoding='ascii') as file:
                     rows = file.readlines()[1:]

@@ -17,6 +17,8 @@ import subprocess
 import sys
 from typing import Callable, NoReturn
 
+from . import satop
+from .clear import Clear
 from .control import DoorTaken
 from .driver import Driver, Options
 from .gateway import ConfigRefused, check_config
@@ -61,17 +63,16 @@ def trunk_of(asked: argparse.Namespace) -> Callable[[], Trunk]:
         opens = lambda: open_files(asked.input, asked.out)          # noqa: E731
     if not asked.clear:
         return opens
-    from .clear import Clear
     return lambda: Clear(opens())
 
 
 def _satop_of(asked: argparse.Namespace) -> Callable[[], Trunk]:
-    from .satop import open_satop
     local, comma, peer = asked.satop.partition(',')
     if not comma:
         raise Usage('--satop wants LOCAL:PORT,PEER:PORT')
     host_and_port(local), host_and_port(peer)
-    return lambda: open_satop(asked.satop)
+    circuit = satop.circuit_of(asked)
+    return lambda: satop.open_satop(asked.satop, circuit)
 
 
 def _number(least: float, most: float, kind: type = int) -> Callable[[str], float]:
@@ -93,6 +94,7 @@ def parser() -> argparse.ArgumentParser:
     words.add_argument('--program', metavar='E1GW', help='the program [default: that of this repository, or e1gw]')
     words.add_argument('--totals', action='store_true', help='tells at the end what the gateway has counted')
     _add_trunk(words.add_argument_group('the trunk'))
+    satop.add_arguments(words)
     _add_control(words.add_argument_group('control and what is told'))
     _add_calls(words.add_argument_group('sessions and calls'))
     return words
