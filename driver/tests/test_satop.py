@@ -297,6 +297,47 @@ class OwnClock(Timed):
         self.assertAlmostEqual(status['sent'] + status['unsent'], 500, delta=1)
 
 
+class BackToBack(unittest.TestCase):
+    """Two ends at one another, without anything between."""
+
+    def octets(self, *circuits: Circuit, seconds: float) -> list[int]:
+        """How many octets each end gives in so long, by a clock that goes on by steps of 1 ms."""
+        now = 50.0
+        lines = [socket.socket(socket.AF_INET, socket.SOCK_DGRAM) for _ in circuits]
+        for line in lines:
+            line.bind(('127.0.0.1', 0))
+            self.addCleanup(line.close)
+        lines[0].connect(lines[1].getsockname())
+        lines[1].connect(lines[0].getsockname())
+        ends = [Satop(line, circuit, lambda: now) for line, circuit in zip(lines, circuits)]
+        given = [0, 0]
+        for _ in range(round(seconds * 1000)):
+            now += .001
+            more = True
+            while more:
+                more = False
+                for at, end in enumerate(ends):
+                    octets = end.read(256)
+                    end.write(octets)
+                    given[at] += len(octets)
+                    more = more or bool(octets)
+        self.states = [end.status() for end in ends]
+        return given
+
+    def test_one_gives_the_clock(self) -> None:
+        for given in self.octets(Circuit(own_clock=True), Circuit(), seconds=3):
+            self.assertAlmostEqual(given / 256, 3000, delta=110)
+        self.assertEqual([state['fast'] for state in self.states], [0, 0])
+        self.assertEqual([state['silent'] for state in self.states], [0, 0])
+
+    def test_none_gives_the_clock(self) -> None:
+        # what 1 s may be ahead by, a thousandth above the rate, and each end's silence at the begin
+        for given in self.octets(Circuit(), Circuit(), seconds=3):
+            self.assertLess(given / 256, 3000 * 1.001 + 1000 + 210)
+            self.assertGreater(given / 256, 3000)
+        self.assertIn(1, [state['fast'] for state in self.states])
+
+
 class Rtp(Case):
     circuit = Circuit(rtp=97)
 
