@@ -204,7 +204,8 @@ class BesideTheProgram(unittest.TestCase):
         for name in TROUBLES:
             with self.subTest(name):
                 given, answers, path = played(name)
-                kinds = [each.kind for each in findings(read(io.BytesIO(given), io.BytesIO(answers), read_config(path)))]
+                facts = read(io.BytesIO(given), io.BytesIO(answers), read_config(path))
+                kinds = [each.kind for each in findings(facts)]
                 if name == 'sound':
                     self.assertEqual(kinds, [])
                 else:

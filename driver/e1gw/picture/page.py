@@ -2,6 +2,7 @@
 from __future__ import annotations
 
 import html
+import re
 import time
 from collections.abc import Iterable
 
@@ -70,8 +71,9 @@ def found_list(found: list[Finding], shown: set[int]) -> str:
                                      if len(others) > 1 else '')
         if 1 < len(others) <= 4:
             seen = '; '.join(f'{each.circuit}: {escape(each.seen)}' for each in group)
+        seen, hint = (re.sub('`(.*?)`', r'<code>\1</code>', words) for words in (seen, escape(first.hint)))
         items.append(f'<li class="{"alert" if first.bad else "plain"}"><b>{who}</b>{seen}'
-                     f'<span class="hint"> &rarr; {escape(first.hint)}</span></li>')
+                     f'<span class="hint"> &rarr; {hint}</span></li>')
     return f'<ul class="found">{"".join(items)}</ul>' if items else '<p>Nothing.</p>'
 
 
@@ -103,9 +105,9 @@ class Page:
         if facts.begin is not None:
             first = facts.begin + facts.start / SECOND
             when = time.strftime('%Y-%m-%d %H:%M:%S UTC, ', time.gmtime(first))
+        calls, answers = (sum(whole.counts.get(name, 0) for whole in wholes) for name in ('calls', 'answers'))
         parts = [f'{when}{duration(facts.place - facts.start)} of the trunk',
-                 f'{sum(w.counts.get("calls", 0) for w in wholes)} calls, '
-                 f'{sum(w.counts.get("answers", 0) for w in wholes)} answered',
+                 f'{calls} call{"s" * (calls != 1)}, {answers} answered',
                  f'datagrams: {sum(w.sent for w in wholes)} sent, {sum(w.admitted for w in wholes)} admitted, '
                  f'{refused} refused{"" if facts.told == "e1gw" else " (" + facts.told + ")"}']
         return ' &middot; '.join(escape(part) for part in parts)
@@ -148,7 +150,7 @@ class Page:
                          f'{row.codec} {row.payload}', row.local, row.peer))
         return table('Each circuit: counts, and how many ms before their turn datagrams came', (
             'circuit', 'role', 'at the end', 'calls', 'answered', 'open, s', 'sent', 'admitted', 'refused', 'causes',
-            'lost', 'least / mean / most', 'codec, type', 'receives at', 'sends to'), rows)
+            'lost', 'least / mean / most ms', 'codec, type', 'receives at', 'sends to'), rows)
 
     def states(self) -> str:
         rows: list[tuple[object, ...]] = []
@@ -212,7 +214,8 @@ def key() -> str:
         out.append((f'<rect y="{2 + 3.4 * n}" width="26" height="{2.2 + (n == 2)}" class="d-{kind}"/>', words))
     out.append(('<path d="M13 11l5 -8h-10z" class="c-done"/>', 'command done'))
     out.append(('<path d="M9 3l8 8m0 -8l-8 8" class="c-refused"/>', 'command refused'))
-    spans = ''.join(f'<span><svg viewBox="0 0 26 13" aria-hidden="true">{box}</svg>{words}</span>' for box, words in out)
+    spans = ''.join(f'<span><svg viewBox="0 0 26 13" aria-hidden="true">{box}</svg>{words}</span>'
+                    for box, words in out)
     return f'<div class="key">{spans}</div>'
 
 
