@@ -257,7 +257,7 @@ class Lines(unittest.IsolatedAsyncioTestCase):
         await self.until(self.at(3, State.ANSWERED, State.ANSWERED))
         self.west.send(3, IDLE)
         await self.until(self.at(3, State.IDLE, State.IDLE))
-        self.assertIn('on-loss clear 0.3', self.west.asked)
+        self.assertIn('on-loss block 0.3', self.west.asked)
         self.assertNotIn('seize 3', self.west.asked)
 
     async def test_blocked(self) -> None:
