@@ -300,8 +300,6 @@ class Driver:
         """Why no seizure can reach the other end, or None."""
         if self.trunk is None:
             return 'no trunk'
-        if self.clock.stalled:
-            return 'the trunk stands still'
         if self.lines.alarm():
             return 'no alignment'
         return 'the other end has no alignment' if any(self.lines.remote.values()) else None
@@ -407,7 +405,7 @@ class Driver:
             self.renew(late, 'octets had waited')
 
     def _look_at_dark(self, now: float) -> None:
-        if self.dark_words() is None:
+        if self.dark_words() is None and not self.clock.stalled:
             self._dark_since, self._dark_cleared = None, False
             return
         if self._dark_since is None:
