@@ -2,7 +2,7 @@
 
 _e1gw_trunk() {
   local cur=${COMP_WORDS[COMP_CWORD]} prev=${COMP_WORDS[COMP_CWORD - 1]}
-  local options='--config --name --program --totals --in --out --unix --tcp --satop --clear --most --reopen
+  local options='--config --name --program --senders --totals --in --out --unix --tcp --satop --clear --most --reopen
     --satop-size --satop-jitter --satop-rtp --satop-fill --satop-clock --control --control-mode --control-group
     --on-loss --http --metrics --json --watch --top --no-counts --session --keep --gap --dark --help'
   COMPREPLY=()
@@ -12,6 +12,7 @@ _e1gw_trunk() {
       mapfile -t COMPREPLY < <(compgen -f -- "$cur") ;;
     --satop-fill) mapfile -t COMPREPLY < <(compgen -W 'again ones' -- "$cur") ;;
     --satop-clock) mapfile -t COMPREPLY < <(compgen -W 'packets own' -- "$cur") ;;
+    --senders) mapfile -t COMPREPLY < <(compgen -W 'any host peer' -- "$cur") ;;
     --on-loss) mapfile -t COMPREPLY < <(compgen -W 'keep clear' -- "$cur") ;;
     --control-group) mapfile -t COMPREPLY < <(compgen -g -- "$cur") ;;
     --name | --tcp | --satop | --most | --satop-size | --satop-jitter | --satop-rtp | --control-mode | --http | \

@@ -92,6 +92,7 @@ def parser() -> argparse.ArgumentParser:
     words.add_argument('--config', metavar='FILE', required=True, help='the configuration, e1gw.toml(5)')
     words.add_argument('--name', help='the name of the trunk in metrics and files [default: that of FILE]')
     words.add_argument('--program', metavar='E1GW', help='the program [default: that of this repository, or e1gw]')
+    words.add_argument('--senders', choices=('any', 'host', 'peer'), help='whose datagrams are received, e1gw(1)')
     words.add_argument('--totals', action='store_true', help='tells at the end what the gateway has counted')
     _add_trunk(words.add_argument_group('the trunk'))
     satop.add_arguments(words)
@@ -153,10 +154,15 @@ def options_of(words: list[str]) -> Options:
     name = asked.name or os.path.splitext(os.path.basename(asked.config))[0]
     return Options(
         config=asked.config, program=program_of(asked.program), name=name, open_trunk=opens, most=asked.most,
-        totals=asked.totals, reopen=asked.reopen, watch=asked.watch, top=asked.top, control=asked.control,
+        serve=_serve_words(asked), reopen=asked.reopen, watch=asked.watch, top=asked.top, control=asked.control,
         control_mode=asked.control_mode, control_group=asked.control_group, http=http, metrics=asked.metrics,
         json=asked.json, session=asked.session, keep=keep, gap=asked.gap / 1000, dark=asked.dark, on_loss=on_loss,
         counts=asked.counts)
+
+
+def _serve_words(asked: argparse.Namespace) -> list[str]:
+    """The options that the gateway gets as they are."""
+    return ['--totals'] * asked.totals + (['--senders', asked.senders] if asked.senders else [])
 
 
 def _serve(options: Options, journal: Journal) -> int:
