@@ -78,7 +78,8 @@ class Flag:
 
 class Satop(Trunk):
     """One end of an emulated circuit, at a connected UDP socket. `tell` is called with each change, if it is set:
-    {'event': 'satop', 'what': 'packets' or 'far end fault' or 'far end misses packets' or 'bit offset', 'on': ..}."""
+    {'event': 'satop', 'what': .., 'on': true or false} of 'packets missing', 'far end fault' and 'far end misses
+    packets', and {'event': 'satop', 'what': 'bit offset', 'bits': 0 to 7}."""
 
     tell: Tell | None = None
 
@@ -170,7 +171,7 @@ class Satop(Trunk):
         self._heard = now
         if self.silent:
             self.silent = False
-            self._say('packets', True)
+            self._say('packets missing', on=False)
         if not self._circuit.own_clock:
             self._reached = now
             self._play_due()
@@ -179,16 +180,16 @@ class Satop(Trunk):
         """Takes the bits L and R."""
         self.counts['faulty'] += packet.lost
         if packet.lost and self._fault.seen(now):
-            self._say('far end fault', True)
+            self._say('far end fault', on=True)
         if packet.remote and self._remote.seen(now):
-            self._say('far end misses packets', True)
+            self._say('far end misses packets', on=True)
 
     def _keep_time(self, now: float) -> None:
         """Gives what is due by this machine's clock."""
         if not self.silent and now - self._heard > GONE - CLOSE:
             self.silent = True
             self.counts['silences'] += 1
-            self._say('packets', False)
+            self._say('packets missing', on=True)
         if not (self.silent or self._circuit.own_clock):
             return
         seconds = self._circuit.seconds
@@ -226,18 +227,18 @@ class Satop(Trunk):
 
     # ---- what is told ----
 
-    def _say(self, what: str, on: bool | int | None) -> None:
+    def _say(self, what: str, **more: object) -> None:
         if self.tell:
-            self.tell({'event': 'satop', 'what': what, 'on': on})
+            self.tell({'event': 'satop', 'what': what, **more})
 
     def _tell_changes(self, now: float) -> None:
         if self._fault.gone(now):
-            self._say('far end fault', False)
+            self._say('far end fault', on=False)
         if self._remote.gone(now):
-            self._say('far end misses packets', False)
+            self._say('far end misses packets', on=False)
         if self._bits.offset != self._offset:
             self._offset = self._bits.offset
-            self._say('bit offset', self._offset)
+            self._say('bit offset', bits=self._offset)
 
     def status(self) -> dict[str, Any]:
         causes = {f'malformed_{fault.name.lower()}': self.malformed[fault] for fault in Fault}

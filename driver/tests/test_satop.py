@@ -145,7 +145,7 @@ class Packets(Case):
             whole = b''.join(map(piece, range(96)))
             self.assertEqual(out[256 + begins:], whole[256:len(whole) - begins])
             self.told(offset=bits, searches=1, alignment_lost=0)
-            self.assertIn({'event': 'satop', 'what': 'bit offset', 'on': bits}, self.events)
+            self.assertIn({'event': 'satop', 'what': 'bit offset', 'bits': bits}, self.events)
 
 
 class Flags(Case):
@@ -212,8 +212,8 @@ class Silence(Timed):
         self.assertTrue(out.endswith(b''.join(map(piece, range(1030, 1216)))))
         self.told(silent=False, silences=1, late=0, resyncs=0)
         self.assertFalse(any(packet.remote for packet in self.sent()))
-        told = [event['on'] for event in self.events if event['what'] == 'packets']
-        self.assertEqual(told, [False, True])
+        told = [event['on'] for event in self.events if event['what'] == 'packets missing']
+        self.assertEqual(told, [True, False])
 
     def test_what_was_held_back_does_not_count_twice(self) -> None:
         self.numbers(*range(20))
