@@ -79,7 +79,7 @@ class Flag:
 class Satop(Trunk):
     """One end of an emulated circuit, at a connected UDP socket. `tell` is called with each change, if it is set:
     {'event': 'satop', 'what': .., 'on': true or false} of 'packets missing', 'far end fault' and 'far end misses
-    packets', and {'event': 'satop', 'what': 'bit offset', 'bits': 0 to 7}."""
+    packets', and {'event': 'satop', 'what': 'bit offset 3', 'bits': 3}."""
 
     tell: Tell | None = None
 
@@ -96,7 +96,8 @@ class Satop(Trunk):
         self._allowed, self._counted = MOST_BEHIND / circuit.seconds, self._heard   # packets, and when they were
         self.silent = False
         self._remote, self._fault = Flag(), Flag()
-        self._offset: int | None = None
+        self._offset: int | None = None         # the one that was told
+        self._found, self._since = 0, 0.0       # alignments, and when the last one was
         self.counts = dict.fromkeys(('received', 'sent', 'unsent', 'faulty', 'ticks', 'silences'), 0)
         self.malformed: Counter[Fault] = Counter()
         self._plan()
@@ -236,9 +237,13 @@ class Satop(Trunk):
             self._say('far end fault', on=False)
         if self._remote.gone(now):
             self._say('far end misses packets', on=False)
-        if self._bits.offset != self._offset:
+        if self._bits.found != self._found:
+            self._found, self._since = self._bits.found, now
+        # In noise alignment is found and lost many times a second.
+        stands = self._bits.aligned and now - self._since >= GONE
+        if stands and self._bits.offset != self._offset:
             self._offset = self._bits.offset
-            self._say('bit offset', bits=self._offset)
+            self._say(f'bit offset {self._offset}', bits=self._offset)
 
     def status(self) -> dict[str, Any]:
         causes = {f'malformed_{fault.name.lower()}': self.malformed[fault] for fault in Fault}

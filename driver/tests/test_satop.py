@@ -135,17 +135,27 @@ class Packets(Case):
     def test_bits_that_come_late(self) -> None:
         for bits in range(8):
             self.setUp()
-            line = int.from_bytes(b'\xff' + b''.join(map(piece, range(100))), 'big') >> bits
-            octets = line.to_bytes(256 * 100 + 1, 'big')[1:]
+            line = int.from_bytes(b'\xff' + b''.join(map(piece, range(150))), 'big') >> bits
+            octets = line.to_bytes(256 * 150 + 1, 'big')[1:]
             out = b''
-            for number in range(100):
+            for number in range(150):
+                self.now += .001
                 self.send(spell(Packet(False, False, number, octets[number * 256:][:256])))
                 out += self.trunk.read(1000)
             begins = 1 if bits else 0
-            whole = b''.join(map(piece, range(96)))
+            whole = b''.join(map(piece, range(146)))
             self.assertEqual(out[256 + begins:], whole[256:len(whole) - begins])
             self.told(offset=bits, searches=1, alignment_lost=0)
-            self.assertIn({'event': 'satop', 'what': 'bit offset', 'bits': bits}, self.events)
+            self.assertEqual(self.events, [{'event': 'satop', 'what': f'bit offset {bits}', 'bits': bits}])
+
+    def test_noise_tells_nothing(self) -> None:
+        chance = random.Random(9)
+        for number in range(1000):
+            self.now += .001
+            self.send(spell(Packet(False, False, number, chance.randbytes(256))))
+            self.trunk.read(1000)
+        self.assertGreater(self.trunk.status()['searches'], 10)
+        self.assertEqual(self.events, [])
 
 
 class Flags(Case):
@@ -165,7 +175,7 @@ class Flags(Case):
         self.told(remote_fault=True, remote_lost=True)
         self.numbers(*range(115, 125))
         self.told(remote_fault=False, remote_lost=False)
-        told = [(event['what'], event['on']) for event in self.events if event['what'] != 'bit offset']
+        told = [(event['what'], event['on']) for event in self.events if 'on' in event]
         self.assertEqual(told, [('far end fault', True), ('far end misses packets', True),
                                 ('far end fault', False), ('far end misses packets', False)])
 
