@@ -75,7 +75,8 @@ class Bench:
 
     def start_tie(self, site: str) -> None:
         first = self.options.port
-        ends = ['--listen', f'127.0.0.1:{first + TIE}'] if site == 'west' else ['--connect', f'127.0.0.1:{first + WIRE}']
+        ends = ('--listen', f'127.0.0.1:{first + TIE}') if site == 'west' else \
+            ('--connect', f'127.0.0.1:{first + WIRE}')
         words = [self.options.tie, '--control', self.path(f'{site}.ctl'), '--hold', str(HOLD), *ends,
                  '--state', self.path(f'{site}.kept')]
         if self.certificates:
@@ -84,8 +85,8 @@ class Bench:
         self.ties[site] = self.start(f'{site}.tie', words)
 
     def start_wire(self) -> None:
-        words = [sys.executable, '-B', os.path.join(HERE, 'wire.py'), *(str(self.options.port + n) for n in (WIRE, TIE))]
-        self.wire = self.start('wire', words, subprocess.PIPE)
+        ports = [str(self.options.port + n) for n in (WIRE, TIE)]
+        self.wire = self.start('wire', [sys.executable, '-B', os.path.join(HERE, 'wire.py'), *ports], subprocess.PIPE)
 
     def tell_wire(self, word: str) -> None:
         assert self.wire and self.wire.stdin
@@ -266,7 +267,8 @@ def speech(bench: Bench) -> None:
     bench.world.late = max(late, bench.world.late)
     heard = {(player, n): bytes(other.exchange.heard[n][base[other][n]:]) for player, other in players
              for n in CIRCUITS}
-    arrived = {player: [(at - began, count - base[other][1]) for at, count in other.arrived] for player, other in players}
+    arrived = {player: [(at - began, count - base[other][1]) for at, count in other.arrived]
+               for player, other in players}
     load = os.getloadavg()[0]
     bench.later.append(lambda: look_at_speech(bench, spoken, heard, arrived, load))
 
@@ -283,8 +285,8 @@ def look_at_speech(bench: Bench, spoken: dict[Any, bytes], heard: dict[Any, byte
     print(f'of the speech, at a load of {load:.1f}:')
     bench.times('mouth to ear', ears, 45, 60)
     noise.sort()
-    bench.row('signal to noise, 60 directions, least / median', f'{noise[0]:.1f} / {noise[30]:.1f} dB', 'at least 19 dB',
-              noise[0] >= 19)
+    bench.row('signal to noise, 60 directions, least / median', f'{noise[0]:.1f} / {noise[30]:.1f} dB',
+              'at least 19 dB', noise[0] >= 19)
 
 
 def processor(bench: Bench) -> dict[str, float]:
