@@ -11,9 +11,9 @@ import subprocess
 import tempfile
 import unittest
 
-from support import TOP, program, run
+from .support import TOP, program, run
 
-from picture_made import TROUBLES, Made, Sender, answered
+from .picture_made import TROUBLES, Made, Sender, answered, recorded
 
 from e1gw.picture.capture import reckoned
 from e1gw.picture.packets import BadCapture, datagrams
@@ -191,9 +191,8 @@ class WithProgram(Folder):
 
     def test_replayed(self) -> None:
         path = program()
-        made = TROUBLES['stranger']()
-        config = self.file('trunk.toml', made.config())
-        page, said = self.drawn('--program', path, '--config', config, '-', given=b''.join(made.given()))
+        text, given = recorded('stranger')
+        page, said = self.drawn('--program', path, '--config', self.file('trunk.toml', text), '-', given=given)
         self.assertEqual(said, '')
         self.assertIn('WrongSource', page)
 
@@ -209,9 +208,8 @@ class WithProgram(Folder):
         self.assertEqual({name for name, _, _ in quotes}, set(TROUBLES) - {'sound'})
         for name, who, words in quotes:
             with self.subTest(name):
-                made = TROUBLES[name]()
-                config = self.file('trunk.toml', made.config())
-                page, _ = self.drawn('--program', path, '--config', config, '-', given=b''.join(made.given()))
+                config, given = recorded(name)
+                page, _ = self.drawn('--program', path, '--config', self.file('trunk.toml', config), '-', given=given)
                 entries = [re.sub('<.*?>', '', entry) for entry in re.findall('<li.*?</li>', page, re.S)]
                 wanted = who + words.replace("'", '&#x27;')
                 self.assertTrue(any(entry.startswith(wanted) for entry in entries), (wanted, entries))
@@ -239,9 +237,8 @@ class Captured(Folder):
 
     def split(self, name: str) -> tuple[str, bytes, bytes, bytes]:
         """A session with a trouble, its octets and commands alone, and a capture of its datagrams both ways."""
-        made = TROUBLES[name]()
-        config = self.file('trunk.toml', made.config())
-        given = b''.join(made.given())
+        text, given = recorded(name)
+        config = self.file('trunk.toml', text)
         packets, bare, place = [], [], 0
         for record in records_in(given):
             if record.kind is Kind.DATAGRAM:
