@@ -17,10 +17,12 @@ sys.dont_write_bytecode = True
 HERE = os.path.dirname(os.path.abspath(__file__))
 TOP = os.path.dirname(HERE)
 sys.path[:0] = [HERE, os.path.join(TOP, 'driver'), os.path.join(TOP, 'scripts')]
+from e1gw.clear import Clear  # noqa: E402
 from e1gw.lines import Alignment, Lines  # noqa: E402
 from e1gw.satop import Circuit, Satop, connected  # noqa: E402
 from e1gw.satop_playout import Fill  # noqa: E402
 from e1gw.session import Command  # noqa: E402
+from e1gw.trunks import Trunk  # noqa: E402
 from exchange import ACKNOWLEDGED, ANSWERED, SEIZED, Serve  # noqa: E402
 from satop_far import Multiplexer, Network  # noqa: E402
 from satop_real import real_time  # noqa: E402
@@ -146,6 +148,51 @@ class Lock:
         self.far.socket.close()
 
 
+class Slots(Trunk):
+    """A device that has time slots 1 to 31: what a card makes of the exchange's frames."""
+
+    def __init__(self) -> None:
+        self.given, self.taken = bytearray(), bytearray()
+
+    def fileno(self) -> int:
+        return -1
+
+    def close(self) -> None:
+        pass
+
+    def read(self, most: int) -> bytes:
+        octets = bytes(self.given[:most])
+        del self.given[:most]
+        return octets
+
+    def write(self, octets: bytes) -> None:
+        self.taken += octets
+
+
+class ClearLock(Lock):
+    """The same with such a device in the place of SAToP."""
+
+    def __init__(self, program: str, folder: str) -> None:
+        super().__init__(program, folder, Trial('a device without slot 0 (--clear)'))
+        self.slots, self.places = Slots(), 0
+        self.clear = Clear(self.slots)
+
+    def step(self, paused: bool = False) -> None:
+        octets = self.exchange.multiframe()
+        for at in range(0, len(octets), 32):
+            self.slots.given += octets[at + 1:at + 32]
+        while piece := self.clear.read(256):
+            sent = self.serve.trunk(piece)
+            self.lines.trunk(piece, sent)
+            self.clear.write(sent)
+        while len(self.slots.taken) >= 31:
+            slot_0 = b'\xdf' if self.places % 2 else b'\x9b'
+            self.exchange.hear(slot_0 + self.slots.taken[:31])
+            del self.slots.taken[:31]
+            self.places += 1
+        self.alarms += self.exchange.remote_alarms
+
+
 class Bars:
     """Prints what was seen beside what has to be, and counts what is not."""
 
@@ -219,6 +266,20 @@ def ones(program: str, folder: str, bars: Bars) -> None:
     print(f'{trial.name}:')
     bars.look('packets lost, and alignment lost', f'{lost}, {lock.lines.losses[Alignment.FRAME]}',
               0 < lock.lines.losses['frame'] <= lost, 'told, to compare')
+    lock.end()
+
+
+def clear_slots(program: str, folder: str, bars: Bars) -> None:
+    """A call through a device that keeps slot 0."""
+    lock = ClearLock(program, folder)
+    lock.set_up()
+    lock.alarms = 0
+    print(f'{lock.trial.name}:')
+    wrong = speak(lock, 2.0)
+    bars.look('octets of speech that are others', wrong, wrong == 0, '0')
+    bars.look('alignment lost, alarms', f'{sum(lock.lines.losses.values())}, {lock.alarms}',
+              not (lock.alarms or any(lock.lines.losses.values())), '0, 0')
+    bars.look('states', ' '.join(lock.states()), lock.states() == ['answered'] * 2, 'answered answered')
     lock.end()
 
 
@@ -303,6 +364,7 @@ def main() -> int:
             ones(program, folder, bars)
             silence(program, folder, bars, False)
             silence(program, folder, bars, True)
+            clear_slots(program, folder, bars)
             dissected(packets['3 bits late'], folder, bars)
         if options.only != 'lock':
             on_time = real_time(program, folder, options.seconds, options.nice, bars.look)

@@ -76,9 +76,11 @@ class Called:
 
     def step(self, signals: dict[int, int], pairs: dict[int, int]) -> None:
         for n in OUTGOING:
-            if signals.get(n) == SEIZED and pairs[n] != ANSWERED:
+            if signals.get(n) == SEIZED:
                 age = self.ages[n] = self.ages.get(n, 0) + 1
                 pairs[n] = ANSWERED if age > 100 else ACKNOWLEDGED if age > 10 else IDLE
+            elif self.ages.pop(n, None):
+                pairs[n] = IDLE
 
 
 class World:
@@ -107,7 +109,7 @@ class World:
         self.changes += self.exchange.signals != self._before
         self._before = dict(self.exchange.signals)
         self.steps += 1
-        for voice in self.voices if self.speaking else ():
+        for voice in self.voices if self.speaking else []:
             voice.speak(self.exchange.speech)
             if self.steps % 100 == voice.circuit:
                 voice.hear(self.exchange.heard)
@@ -165,9 +167,13 @@ def set_up(world: World, control: Control) -> None:
     for n in INCOMING:
         exchange.pairs[n] = SEIZED
     world.until('acknowledged', lambda: all(exchange.signals[n] == ACKNOWLEDGED for n in INCOMING))
-    answers = control.ask(*(f'answer {n}' for n in INCOMING), *(f'seize {n}' for n in OUTGOING))
-    if any(not answer.endswith('done') for answer in answers):
-        raise SystemExit(f'real time: a command is refused: {answers}')
+    control.ask(*(f'answer {n}' for n in INCOMING))
+    for _ in range(PATIENCE):
+        # On a busy machine an acknowledgement can come after 200 ms; what was released is then seized again.
+        control.ask(*(f'seize {n}' for n in OUTGOING if exchange.signals[n] == exchange.pairs[n] == IDLE))
+        world.run(1)
+        if all(exchange.pairs[n] == ANSWERED for n in OUTGOING):
+            break
     world.until('answered', lambda: all(exchange.pairs[n] == ANSWERED for n in OUTGOING)
                 and all(exchange.signals[n] == ANSWERED for n in INCOMING))
     world.run(.2)
@@ -208,7 +214,7 @@ def measure(world: World, control: Control, seconds: float, look: Look) -> None:
 def hurry() -> None:
     """The far end is to be on time beside other work, where this user may ask for that."""
     try:
-        os.setpriority(os.PRIO_PROCESS, 0, -15)
+        os.sched_setscheduler(0, os.SCHED_RR, os.sched_param(1))
     except PermissionError:
         pass
 

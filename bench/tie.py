@@ -25,8 +25,8 @@ from exchange import ACKNOWLEDGED, a_law, decibels, delay, samples  # noqa: E402
 
 BLOCKED = CLEARED_BACK = ACKNOWLEDGED       # the same two bits
 SITES = ('west', 'east')
-PORTS = {'west': 30000, 'east': 31000}
-TIE, WIRE = 27301, 27302                    # where the tie of the west listens, and the wire before it
+PORTS = {'west': 0, 'east': 100}            # of circuit 0, from the first port on
+TIE, WIRE = 200, 201                        # where the tie of the west listens, and the wire before it
 HOLD = 2.0
 SPOKEN = 16000                              # samples, 2 s
 LAGS = 1200                                 # samples of delay that are looked through
@@ -74,7 +74,9 @@ class Bench:
         self.drivers[site] = self.start(f'{site}.driver', words + self.options.more)
 
     def start_tie(self, site: str) -> None:
-        ends = ['--listen', f'127.0.0.1:{TIE}'] if site == 'west' else ['--connect', f'127.0.0.1:{WIRE}']
+        first = self.options.port
+        ends = ('--listen', f'127.0.0.1:{first + TIE}') if site == 'west' else \
+            ('--connect', f'127.0.0.1:{first + WIRE}')
         words = [self.options.tie, '--control', self.path(f'{site}.ctl'), '--hold', str(HOLD), *ends,
                  '--state', self.path(f'{site}.kept')]
         if self.certificates:
@@ -83,8 +85,8 @@ class Bench:
         self.ties[site] = self.start(f'{site}.tie', words)
 
     def start_wire(self) -> None:
-        words = [sys.executable, '-B', os.path.join(HERE, 'wire.py'), str(WIRE), str(TIE)]
-        self.wire = self.start('wire', words, subprocess.PIPE)
+        ports = [str(self.options.port + n) for n in (WIRE, TIE)]
+        self.wire = self.start('wire', [sys.executable, '-B', os.path.join(HERE, 'wire.py'), *ports], subprocess.PIPE)
 
     def tell_wire(self, word: str) -> None:
         assert self.wire and self.wire.stdin
@@ -182,13 +184,14 @@ def certificates(folder: str) -> str:
 
 def write_configurations(bench: Bench, prefill: int) -> None:
     for site, other in (SITES, SITES[::-1]):
+        here, there = (bench.options.port + PORTS[each] for each in (site, other))
         with open(bench.path(f'{site}.toml'), 'w', encoding='ascii') as file:
             file.write('law = "A"\n')
             for n in CIRCUITS:
                 role = 'incoming' if (site == 'west') == bool(n % 2) else 'outgoing'
                 file.write(f'[[circuit]]\nnumber = {n}\nrole = "{role}"\ncodec = "g726-32"\npayload = 96\n'
-                           f'prefill = {prefill}\nlocal_port = {PORTS[site] + 2 * n}\n'
-                           f'peer_port = {PORTS[other] + 2 * n}\nssrc = {PORTS[site] + n}\n')
+                           f'prefill = {prefill}\nlocal_port = {here + 2 * n}\npeer_port = {there + 2 * n}\n'
+                           f'ssrc = {here + n}\n')
 
 
 def begin(bench: Bench) -> None:
@@ -198,7 +201,7 @@ def begin(bench: Bench) -> None:
     bench.world.begin()
     light = bench.world.run(20, lambda: all(player.exchange.aligned and not player.exchange.remote_alarms
                                             for player in (bench.west, bench.east)))
-    if not light:
+    if not light or not bench.world.run(2, bench.idle):
         raise SystemExit('bench/tie: the trunks have not come up')
     bench.start_wire()
     bench.start_tie('west')
@@ -264,7 +267,8 @@ def speech(bench: Bench) -> None:
     bench.world.late = max(late, bench.world.late)
     heard = {(player, n): bytes(other.exchange.heard[n][base[other][n]:]) for player, other in players
              for n in CIRCUITS}
-    arrived = {player: [(at - began, count - base[other][1]) for at, count in other.arrived] for player, other in players}
+    arrived = {player: [(at - began, count - base[other][1]) for at, count in other.arrived]
+               for player, other in players}
     load = os.getloadavg()[0]
     bench.later.append(lambda: look_at_speech(bench, spoken, heard, arrived, load))
 
@@ -281,8 +285,8 @@ def look_at_speech(bench: Bench, spoken: dict[Any, bytes], heard: dict[Any, byte
     print(f'of the speech, at a load of {load:.1f}:')
     bench.times('mouth to ear', ears, 45, 60)
     noise.sort()
-    bench.row('signal to noise, 60 directions, least / median', f'{noise[0]:.1f} / {noise[30]:.1f} dB', 'at least 19 dB',
-              noise[0] >= 19)
+    bench.row('signal to noise, 60 directions, least / median', f'{noise[0]:.1f} / {noise[30]:.1f} dB',
+              'at least 19 dB', noise[0] >= 19)
 
 
 def processor(bench: Bench) -> dict[str, float]:
@@ -505,6 +509,7 @@ def parser() -> argparse.ArgumentParser:
     made.add_argument('--only', action='append', help='one part alone, besides the beginning')
     made.add_argument('--plain', action='store_true', help='without TLS')
     made.add_argument('--folder', help='where configurations and what is told are kept [default: nowhere]')
+    made.add_argument('--port', type=int, default=30000, help='the first of 202 ports of 127.0.0.1 [default: 30000]')
     made.add_argument('--prefill', type=int, default=160, help='samples [default: 160, 20 ms]')
     made.add_argument('--more', action='append', default=[], help='an option more for the drivers')
     return made

@@ -6,6 +6,7 @@ _e1gw_values() {
     --law) echo 'a mu' ;;
     --codec) echo 'g711 g726-16 g726-24 g726-32 g726-40' ;;
     --ptime) echo '10 20 30' ;;
+    --senders) echo 'any host peer' ;;
   esac
 }
 
@@ -14,7 +15,7 @@ _e1gw_options() {
   case $1 in
     encode | decode) echo '--law --codec --payload --ptime --ssrc --sequence --timestamp --totals --help' ;;
     replay | check) echo '--config --totals --help' ;;
-    serve) echo '--config --record --record-over --totals --help' ;;
+    serve) echo '--config --record --record-over --senders --totals --help' ;;
     '') echo '--help --version' ;;
   esac
 }
@@ -31,7 +32,7 @@ _e1gw() {
   fi
   COMPREPLY=()
   case $prev in
-    --law | --codec | --ptime)
+    --law | --codec | --ptime | --senders)
       mapfile -t COMPREPLY < <(compgen -W "$(_e1gw_values "$prev")" -- "$cur")
       return ;;
     --payload | --ssrc | --sequence | --timestamp)

@@ -6,6 +6,7 @@ import math
 import os
 import subprocess
 import sys
+from typing import Any, Sequence
 
 sys.dont_write_bytecode = True
 sys.path.insert(0, os.path.join(os.path.dirname(os.path.dirname(os.path.abspath(__file__))), 'driver'))
@@ -25,13 +26,13 @@ COMMANDS = {command.word: command for command in Command}
 class Serve:
     """A running `e1gw serve`. What it was given and what it answered is kept, record by record."""
 
-    def __init__(self, program, config, *options, **streams):
+    def __init__(self, program: str, config: str, *options: str, **streams: Any) -> None:
         self.process = subprocess.Popen([program, 'serve', '--config', config, *options],
                                         stdin=subprocess.PIPE, stdout=subprocess.PIPE, **streams)
-        self.given = []
-        self.answered = []
+        self.given: list[bytes] = []
+        self.answered: list[bytes] = []
 
-    def _give(self, given):
+    def _give(self, given: bytes) -> None:
         self.given.append(given)
         try:
             self.process.stdin.write(given)
@@ -39,7 +40,7 @@ class Serve:
         except BrokenPipeError:
             self._gone()
 
-    def _answer(self):
+    def _answer(self) -> bytes:
         head = self.process.stdout.read(4)
         if len(head) < 4:
             self._gone()
@@ -47,20 +48,20 @@ class Serve:
         self.answered.append(head + body)
         return body
 
-    def _gone(self):
+    def _gone(self) -> None:
         raise SystemExit(f'e1gw serve has ended with status {self.process.wait()}')
 
-    def trunk(self, octets):
+    def trunk(self, octets: bytes) -> bytes:
         """Gives it octets of the trunk; returns as many that it sends."""
         self._give(trunk_record(octets))
         return self._answer()
 
-    def command(self, circuit, name):
+    def command(self, circuit: int, name: str) -> int:
         """An operator's command; returns 0, or the number of the fault."""
         self._give(command_record(circuit, COMMANDS[name]))
         return self._answer()[1]
 
-    def end(self):
+    def end(self) -> int:
         """Ends its input and returns its status."""
         self.process.stdin.close()
         return self.process.wait()
@@ -69,17 +70,17 @@ class Serve:
 class Exchange:
     """The exchange at the other end of a trunk: it sends multiframes, and reads those that come back."""
 
-    def __init__(self, law='A'):
+    def __init__(self, law: str = 'A') -> None:
         self.silence = bytes([IDLE_OCTET[law]])
         self.pairs = {circuit: IDLE for circuit in range(1, 31)}     # the line signals that it sends
-        self.speech = {}            # by circuit: octets that wait to be sent
-        self.heard = {}             # by circuit: octets received since the first multiframe
-        self.signals = {}           # by circuit: the pair of the last multiframe
+        self.speech: dict[int, bytearray] = {}      # by circuit: octets that wait to be sent
+        self.heard: dict[int, bytearray] = {}       # by circuit: octets received since the first multiframe
+        self.signals: dict[int, int] = {}           # by circuit: the pair of the last multiframe
         self.aligned = False        # a multiframe was found in what is received
         self.remote_alarms = True   # the other end has no frame alignment, or no multiframe alignment
         self.received = bytearray()
 
-    def multiframe(self):
+    def multiframe(self) -> bytes:
         """The next 16 frames."""
         out = bytearray(self.silence) * MULTIFRAME
         out[0::2 * FRAME] = bytes([FAS]) * 8
@@ -94,7 +95,7 @@ class Exchange:
             out[slot_of(circuit)::FRAME] = piece.ljust(16, self.silence)
         return bytes(out)
 
-    def hear(self, octets):
+    def hear(self, octets: bytes) -> None:
         """Takes what the gateway sent: finds its frames and multiframes once, then reads each multiframe."""
         self.received += octets
         if not self.aligned:
@@ -107,7 +108,7 @@ class Exchange:
             self._read(bytes(self.received[:MULTIFRAME]))
             del self.received[:MULTIFRAME]
 
-    def _read(self, multiframe):
+    def _read(self, multiframe: bytes) -> None:
         if not is_multiframe(multiframe, 0):
             raise SystemExit('the exchange has lost the alignment of what the gateway sends')
         self.remote_alarms = bool(multiframe[FRAME] & REMOTE_ALARM or multiframe[16] & MULTIFRAME_ALARM)
@@ -117,12 +118,12 @@ class Exchange:
             self.signals[circuit] = (signals >> 4 if circuit < 16 else signals & 15) >> 2
 
 
-def slot_of(circuit):
+def slot_of(circuit: int) -> int:
     """The time slot of a circuit: slots 0 and 16 are not for speech."""
     return circuit if circuit < 16 else circuit + 1
 
 
-def is_multiframe(octets, at):
+def is_multiframe(octets: bytes | bytearray, at: int) -> bool:
     """A multiframe begins there: eight frame alignment signals (ITU-T G.704, 2.3), and the multiframe's own."""
     slots = octets[at:at + MULTIFRAME:FRAME]
     signalling = octets[at + 16:at + MULTIFRAME:FRAME]
@@ -131,7 +132,7 @@ def is_multiframe(octets, at):
             and signalling[0] & 0xF0 == 0 and all(octet & 0xF0 for octet in signalling[1:]))
 
 
-def first_multiframe(octets):
+def first_multiframe(octets: bytes | bytearray) -> int | None:
     """Where the first multiframe begins, or None. A seized circuit's 0001 is no multiframe signal, 0000 is."""
     for at in range(len(octets) - MULTIFRAME + 1):
         if octets[at] & 0x7F == FAS & 0x7F and is_multiframe(octets, at):
@@ -139,7 +140,7 @@ def first_multiframe(octets):
     return None
 
 
-def a_law(octet):
+def a_law(octet: int) -> int:
     """The value of an octet of A-law, from -4032 to 4032 (ITU-T G.711, Table 1)."""
     t = octet ^ 0x55
     segment, step = t >> 4 & 7, t & 15
@@ -147,7 +148,7 @@ def a_law(octet):
     return size if t & 0x80 else -size
 
 
-def mu_law(octet):
+def mu_law(octet: int) -> int:
     """The value of an octet of mu-law, from -8031 to 8031 (ITU-T G.711, Table 2)."""
     t = octet ^ 0xFF
     size = ((2 * (t & 15) + 33) << (t >> 4 & 7)) - 33
@@ -157,25 +158,25 @@ def mu_law(octet):
 VALUES = {'A': [a_law(octet) for octet in range(256)], 'mu': [mu_law(octet) for octet in range(256)]}
 
 
-def samples(octets, law='A'):
+def samples(octets: bytes | bytearray, law: str = 'A') -> list[int]:
     """The values of octets of G.711."""
     return [VALUES[law][octet] for octet in octets]
 
 
-def loudest(spoken, length):
+def loudest(spoken: Sequence[int], length: int) -> int:
     """Where the loudest stretch of that length begins, in steps of a tenth."""
     step = max(1, length // 10)
     starts = range(0, max(1, len(spoken) - length), step)
     return max(starts, key=lambda at: sum(abs(x) for x in spoken[at:at + length]))
 
 
-def delay(spoken, heard, longest):
+def delay(spoken: Sequence[int], heard: Sequence[int], longest: int) -> int:
     """By how many samples heard comes after spoken: where the correlation of a loud stretch is greatest."""
     length = min(1600, len(spoken))
     at = loudest(spoken, length)
     part = spoken[at:at + length]
 
-    def correlation(lag):
+    def correlation(lag: int) -> float:
         other = heard[at + lag:at + lag + length]
         energy = math.sqrt(sum(x * x for x in other)) or 1
         return sum(x * y for x, y in zip(part, other)) / energy
@@ -183,7 +184,7 @@ def delay(spoken, heard, longest):
     return max(range(0, longest), key=correlation)
 
 
-def decibels(spoken, heard):
+def decibels(spoken: Sequence[int], heard: Sequence[int]) -> float:
     """Signal to noise: how far the difference of the two lies below what was spoken."""
     noise = sum((x - y) ** 2 for x, y in zip(spoken, heard))
     signal = sum(x * x for x in spoken)

@@ -114,6 +114,17 @@ def compare_values(option, lines):
                run('encode', given=SPEECH))
 
 
+def compare_senders(folder):
+    """The senders of the page are those that serve and the completion have."""
+    listed = values(described(page('e1gw.1'))['senders'])
+    expect('completion of --senders', completed('serve', '--senders', ''), listed)
+    config = os.path.join(folder, 'senders.toml')
+    with open(config, 'w', encoding='utf-8') as file:
+        file.write('law = "A"\n')
+    for who, status in [*((who, 0) for who in sorted(listed)), ('none', 2)]:
+        expect(f'serve --senders {who}', run('serve', '--config', config, '--senders', who)[0], status)
+
+
 def compare_payloads():
     """The payload types that the page says are the defaults."""
     for words, payload in [([], 8), (['--law', 'mu'], 0), (['--codec', 'g726-16'], 96),
@@ -234,12 +245,13 @@ def main():
     lines = page('e1gw.1')
     compare_options(lines)
     for option, about in described(lines).items():
-        if option not in {'config', 'record', 'record-over', 'totals', 'help', 'version'}:
+        if option not in {'config', 'record', 'record-over', 'senders', 'totals', 'help', 'version'}:
             compare_values(option, about)
     compare_payloads()
     compare_options_passed_over(lines)
     with tempfile.TemporaryDirectory() as folder:
         try_examples(folder)
+        compare_senders(folder)
         compare_totals(lines, folder)
         compare_faults(folder)
     with open(os.path.join(TOP, 'VERSION'), encoding='utf-8') as file:

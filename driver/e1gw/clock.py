@@ -23,7 +23,8 @@ NOTED = 0.01                # seconds of displacement from which places are kept
 
 @dataclass(frozen=True)
 class Finding:
-    """What was found: `stalled`, `flows`, `gap`, `ahead` (each with seconds) or `rate` (with parts in a million)."""
+    """What was found: `stalled` and `flows` (with the seconds without octets), `gap` and `ahead` (with those that octets
+    were displaced by) or `rate` (with parts in a million)."""
 
     what: str
     value: float
@@ -40,7 +41,7 @@ class Clock:
         self.stalled = False
         self.ppm: float | None = None
         self.off_rate = False
-        self._began = self._last = now
+        self._began = self._last = self._stood = now
         self._low: float | None = None      # the least that octets were behind since the last look
         self._lows: deque[float] = deque(maxlen=WINDOW)
         self._base: float | None = None     # what octets are behind by as a rule
@@ -92,7 +93,7 @@ class Clock:
             quiet = now - self._last
             if quiet <= self.gap or self.stalled or not self.octets:
                 return []
-            self.stalled = True
+            self.stalled, self._stood = True, self._last
             self.stalls += 1
             self._lows.clear()
             return [Finding('stalled', quiet)]
@@ -101,7 +102,7 @@ class Clock:
         if not self.stalled:
             return []
         self.stalled = False
-        return [Finding('flows', now - self._began - self.octets / OCTETS_A_SECOND - (self._base or 0.0))]
+        return [Finding('flows', self._last - self._stood)]
 
     def _step(self, displaced: float) -> Finding:
         self._base = (self._base or 0.0) + displaced

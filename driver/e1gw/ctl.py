@@ -1,6 +1,6 @@
 """Gives a command to a trunk in service: e1gw-ctl PATH COMMAND..
 
-PATH is the socket of e1gw-trunk's --control, or the name of a trunk, whose socket is /run/e1gw/NAME.control. COMMAND is
+PATH is the socket of e1gw-trunk's --control, or the name of a trunk, whose socket is /run/e1gw/NAME/control. COMMAND is
 one of e1gw-trunk(1): seize N, clear N, answer N, clear-back N, block N, unblock N, codec N CODEC TYPE, status, status
 json, events, on-loss, quit, help. Without a command, commands are read from standard input, a line each.
 
@@ -22,7 +22,7 @@ def path_of(word: str) -> str:
     """The socket that a path or the name of a trunk means."""
     if '/' in word or os.path.exists(word):
         return word
-    return f'{FOLDER}/{word}.control'
+    return f'{FOLDER}/{word}/control'
 
 
 def answer_of(stream: BinaryIO) -> list[str]:

@@ -8,7 +8,7 @@ import socket
 import threading
 import time
 from collections import deque
-from dataclasses import dataclass
+from dataclasses import dataclass, field
 from typing import Any, Callable
 
 from .clock import TICK, Clock, Finding
@@ -29,8 +29,8 @@ from .web import Visitor
 BESIDE = ('shadow', 'recording', 'session', 'json', 'metrics')     # what may end without the calls
 REOPEN_MOST = 30.0              # seconds between two tries to open the trunk
 DISPLACED = 0.02                # seconds by which a call's first datagram may be displaced
-WARNED = frozenset(('lost', 'gap', 'ahead', 'stalled', 'ended', 'trunk lost', 'dark', 'cleared'))
-NOTICED = frozenset(('aligned', 'alarm', 'remote alarm', 'flows', 'rate', 'renewed', 'trunk'))
+WARNED = frozenset(('lost', 'gap', 'ahead', 'stalled', 'ended', 'trunk lost', 'cleared'))
+NOTICED = frozenset(('aligned', 'alarm', 'remote alarm', 'flows', 'rate', 'renewed', 'satop', 'trunk'))
 
 
 @dataclass
@@ -42,7 +42,7 @@ class Options:
     name: str
     open_trunk: Callable[[], Trunk]
     most: int = 256
-    totals: bool = False
+    serve: list[str] = field(default_factory=list)      # further options of e1gw serve
     reopen: bool = False
     watch: bool = False
     top: bool = False
@@ -60,21 +60,31 @@ class Options:
     counts: bool = True
 
 
+_WORDS: dict[str, Callable[[Event], str]] = {
+    'state': lambda e: f'{e["circuit"]}: {e["state"]}, was {e["was"]}',
+    'alarm': lambda e: f'alarm: no {e["what"]} alignment' if e['on'] else f'alarm over: {e["what"]} alignment',
+    'remote alarm': lambda e: f'remote alarm{"" if e["on"] else " over"}: {e["what"]} alignment',
+    'aligned': lambda e: f'{e["what"]} alignment found',
+    'lost': lambda e: f'{e["what"]} alignment lost',
+    'codec': lambda e: f'{e["circuit"]}: codec {e["codec"]}, payload type {e["payload"]}',
+    'command': lambda e: f'{e["circuit"]}: {e["command"]}: {e["answer"]}',
+    'renewed': lambda e: f'playout begun anew, {e["why"]}: circuits {", ".join(map(str, e["circuits"]))}',
+    'cleared': lambda e: f'calls cleared, {e["why"]}: circuits {", ".join(map(str, e["circuits"]))}',
+    'stalled': lambda e: f'no octets for {e["seconds"]} s',
+    'flows': lambda e: f'octets again after {e["seconds"]} s',
+    'gap': lambda e: f'gap: octets of {e["seconds"]} s were lost',
+    'ahead': lambda e: f'octets of {e["seconds"]} s came too early',
+    'rate': lambda e: f'rate: {e["ppm"]:+} ppm beside this machine\'s clock',
+    'ended': lambda e: f'{e["what"]} ended, the calls go on: {e["why"]}',
+    'trunk': lambda e: f'trunk open: {e.get("trunk", "")}',
+    'trunk lost': lambda e: f'trunk lost: {e["why"]}',
+    'satop': lambda e: f'satop: {e["what"]}{"" if e.get("on", True) else " over"}',
+}
+
+
 def words_of(event: Event) -> str:
     """An event in words."""
-    about = {key: value for key, value in event.items() if key != 'event'}
-    name, what = str(event['event']), about.get('what', '')
-    if name == 'state':
-        return f'{about["circuit"]}: {about["state"]}, was {about["was"]}'
-    if name in ('alarm', 'remote alarm'):
-        return f'{name}: ' + (f'no {what} alignment' if about['on'] else f'{what} alignment again')
-    if name in ('aligned', 'lost'):
-        return f'{what} alignment ' + ('found' if name == 'aligned' else 'lost')
-    if name == 'codec':
-        return f'{about["circuit"]}: codec {about["codec"]}, payload type {about["payload"]}'
-    if name == 'command':
-        return f'{about["circuit"]}: {about["command"]}: {about["answer"]}'
-    return name + ''.join(f', {key} {value}' for key, value in about.items() if key != 'place')
+    return _WORDS[event['event']](event)
 
 
 class Driver:
@@ -108,7 +118,7 @@ class Driver:
         self._session, self._ring = self._open_session()
         self._prom = Outlet('metrics', self._put_metrics, self._note) if options.metrics else None
         self.gateway = Gateway(loop, options.program, options.config, self._taped, self._said, self._resume,
-                               self._gateway_ended, options.totals)
+                               self._gateway_ended, options.serve)
         self.shadow = Shadow(loop, options.program, options.config, self.counts.answered,
                              functools.partial(self._end_beside, 'shadow')) if options.counts else None
         if not options.counts:
@@ -176,6 +186,7 @@ class Driver:
             found = self._opened.popleft()
             if isinstance(found, Trunk):
                 self.trunk, self._paused, self._reopen_after = found, True, 1.0
+                found.tell = self.tell
                 self.tell({'event': 'trunk', **found.status()})
                 self._resume()
             else:
@@ -300,8 +311,6 @@ class Driver:
         """Why no seizure can reach the other end, or None."""
         if self.trunk is None:
             return 'no trunk'
-        if self.clock.stalled:
-            return 'the trunk stands still'
         if self.lines.alarm():
             return 'no alignment'
         return 'the other end has no alignment' if any(self.lines.remote.values()) else None
@@ -407,7 +416,7 @@ class Driver:
             self.renew(late, 'octets had waited')
 
     def _look_at_dark(self, now: float) -> None:
-        if self.dark_words() is None:
+        if self.dark_words() is None and not self.clock.stalled:
             self._dark_since, self._dark_cleared = None, False
             return
         if self._dark_since is None:
@@ -478,7 +487,7 @@ class Driver:
         """Of each circuit's socket: octets that wait, and datagrams for which the kernel had no room."""
         ports = {line.port: n for n, line in self.lines.lines.items() if line.port}
         found: dict[int, dict[str, int]] = {}
-        for name in ('/proc/net/udp', '/proc/net/udp6') if ports else ():
+        for name in ('/proc/self/net/udp', '/proc/self/net/udp6') if ports else ():
             try:
                 with open(name, encoding='ascii') as file:
                     rows = file.readlines()[1:]

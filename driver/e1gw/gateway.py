@@ -93,13 +93,13 @@ class _Writer:
 
 class Gateway:
     """An `e1gw serve`. `taped` is given its recording and `told` the lines that it prints; `idle` is called when all is
-    answered, `ended` where it has ended by itself."""
+    answered, `ended` where it has ended by itself. `words` are further options of serve."""
 
     def __init__(self, loop: Loop, program: str, config: str, taped: Callable[[bytes], None],
-                 told: Callable[[str], None], idle: Callable[[], None], ended: Ended, totals: bool = False) -> None:
+                 told: Callable[[str], None], idle: Callable[[], None], ended: Ended, words: list[str]) -> None:
         self.loop, self.taped, self.told, self.idle, self._ended = loop, taped, told, idle, ended
         self.tape, tape = _pipe_ends()
-        words = [program, 'serve', '--config', config, '--record', f'/dev/fd/{tape}', *['--totals'] * totals]
+        words = [program, 'serve', '--config', config, '--record', f'/dev/fd/{tape}', *words]
         try:
             self.process = subprocess.Popen(words, stdin=subprocess.PIPE, stdout=subprocess.PIPE,
                                             stderr=subprocess.PIPE, pass_fds=(tape,), start_new_session=True, bufsize=0)

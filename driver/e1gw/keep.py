@@ -77,6 +77,8 @@ class Ring:
 
     def _next(self, place: int) -> None:
         self._finish()
+        if self._path and self._zstd:
+            threading.Thread(target=_compress, args=(self._zstd, self._path), daemon=True).start()
         stamp = time.strftime('%Y%m%dT%H%M%SZ', time.gmtime())
         front = os.path.join(self.folder, f'{self.name}-{stamp}')
         about = {'config': os.path.abspath(self.config), 'config_sha256': self._sum, 'time': round(time.time(), 3),
@@ -102,18 +104,23 @@ class Ring:
         if self._file >= 0:
             os.close(self._file)
             self._file = -1
-            if self._zstd:
-                threading.Thread(target=_compress, args=(self._zstd, self._path), daemon=True).start()
 
     def close(self) -> None:
+        """The last file stays as it is, since nobody waits for what would compress it."""
         self._finish()
 
 
 def _compress(zstd: str, path: str) -> None:
     """Compresses a file, as the least of the machine's work."""
+    part = f'{path}.part'
     try:
-        subprocess.run(['nice', '-n', '19', zstd, '-q', '-f', '--rm', path], stdin=subprocess.DEVNULL,
-                       stderr=subprocess.DEVNULL, start_new_session=True, check=False)
+        done = subprocess.run(['nice', '-n', '19', zstd, '-q', '-f', path, '-o', part], stdin=subprocess.DEVNULL,
+                              stderr=subprocess.DEVNULL, start_new_session=True, check=False)
+        if done.returncode == 0:
+            os.rename(part, f'{path}.zst')
+            os.unlink(path)
+        else:
+            os.unlink(part)
     except OSError:
         pass
 

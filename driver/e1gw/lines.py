@@ -22,6 +22,7 @@ SIGNAL = 0x1B               # the frame alignment signal, without its first bit
 SECOND = 0x40               # the bit of the octet between two signals
 REMOTE = 0x20               # bit A of that octet
 REMOTE_MULTIFRAME = 0x04    # bit y of slot 16 in frame 0
+MOST_QUIET = 64             # records that are known to change nothing
 
 Event = dict[str, Any]
 Tell = Callable[[Event], None]
@@ -252,6 +253,8 @@ class Lines:
         self._frames = _Frames()
         self._multi = _Multiframes()
         self._fresh: dict[int, int] = {}        # pairs that came, by circuit, and wait for the line's turn
+        self._quiet: dict[tuple[int, int], tuple[bytes, bytes]] = {}    # by place and length: what changes nothing
+        self._disturbed = False
 
     def aligned(self, what: Alignment = Alignment.MULTIFRAME) -> bool:
         """Whether the gateway has this alignment."""
@@ -265,6 +268,30 @@ class Lines:
 
     def trunk(self, given: bytes, answered: bytes) -> None:
         """Octets of the trunk, and as many that the gateway answered."""
+        start = self._frames.start
+        key, seen = (self.place % MULTIFRAME, len(given)), (b'', b'')
+        if start is not None:
+            # Slots 0 and 16 as they were a while ago, when they changed nothing, need no closer look.
+            seen = given[(start - self.place) % 16::16], answered[-self.place % 16::16]
+            if self._quiet.get(key) == seen:
+                self.place += len(given)
+                return
+        self._disturbed = False
+        self._look_at(given, answered)
+        self.place += len(given)
+        if start is None or not self._is_quiet() or len(self._quiet) >= MOST_QUIET:
+            self._quiet.clear()
+        else:
+            self._quiet[key] = seen
+
+    def _is_quiet(self) -> bool:
+        """Whether more of the same changes nothing."""
+        lines = self.lines
+        return (not self._disturbed and self._multi.start is not None and not self._multi.errors
+                and self._frames.errors == [0, 0] and all(line.settled() for line in lines.values())
+                and all(lines[n].last == pair for n, pair in self._fresh.items()))
+
+    def _look_at(self, given: bytes, answered: bytes) -> None:
         at = 0
         while at < len(given):
             if self._frames.start is None:
@@ -273,7 +300,6 @@ class Lines:
                 at = upto
             else:
                 at = self._exchange(given, answered, at)
-        self.place += len(given)
 
     def _search(self, given: bytes, at: int) -> int:
         """Searches for frames from an octet on; returns the octet behind the search."""
@@ -318,7 +344,9 @@ class Lines:
             self._hear_signalling(place, octet)
             return True
         odd = behind % 64 != 0
-        self.wrong_signals += frames.wrong(octet, odd)
+        if frames.wrong(octet, odd):
+            self.wrong_signals += 1
+            self._disturbed = True
         if odd:
             self._remote(Alignment.FRAME, bool(octet & REMOTE))
         if not frames.is_lost(odd):
@@ -346,6 +374,7 @@ class Lines:
             return
         self._remote(Alignment.MULTIFRAME, bool(octet & REMOTE_MULTIFRAME))
         multi.errors = multi.errors + 1 if octet >> 4 else 0
+        self._disturbed |= multi.errors > 0
         if multi.errors >= WRONG_MULTIFRAMES:
             self._lose_multiframes(True)
             multi.before = octet
@@ -396,6 +425,7 @@ class Lines:
     def command(self, circuit: int, command: Command) -> None:
         """A command that was done."""
         line = self.lines[circuit]
+        self._quiet.clear()
         before, line.state = line.state, LEADS[Command(command)]
         if command == Command.SEIZE:
             line.waits = 0
@@ -416,6 +446,7 @@ class Lines:
                     place=place)
 
     def _event(self, event: str, **fields: Any) -> None:
+        self._disturbed = True
         self.tell({'event': event, **fields})
 
     # ---- how it stands ----

@@ -1,9 +1,9 @@
 """A trunk as an emulated circuit: SAToP over UDP (RFC 4553), all 2048 kbit/s as bits in packets of one size.
 
-The clock is that of the packets that come: each packet that is due is answered by one. Where none comes for 100 ms,
-this machine's clock goes on in their place, with octets of ones, and what is sent says that packets are missing; so
-the lines of the trunk age as they do on a dead one. With a clock of its own this end gives the rate at all times, for
-an other end that answers packet for packet itself.
+The clock is that of the packets that come: each packet that is due is answered by one, at no more than a thousandth
+above the rate of a trunk. Where none comes for 100 ms, this machine's clock goes on in their place, with octets of
+ones, and what is sent says that packets are missing; so the lines of the trunk age as they do on a dead one. With a
+clock of its own this end gives the rate at all times, for an other end that answers packet for packet itself.
 """
 from __future__ import annotations
 
@@ -25,6 +25,7 @@ GONE = 0.100                # seconds without a packet of the stream
 CLOSE = 1e-6                # seconds; a moment so near has come
 MOST_BEHIND = 1.0           # seconds that are made up for at once, after this process stood still
 MOST_DATAGRAMS = 1000       # of one read
+FASTEST = 1.001             # times the rate of a trunk, over longer than MOST_BEHIND; a trunk is within 1.00005
 SIZES = range(FRAME, 1280 + 1, FRAME)
 JITTERS = range(0, 501)
 
@@ -77,7 +78,8 @@ class Flag:
 
 class Satop(Trunk):
     """One end of an emulated circuit, at a connected UDP socket. `tell` is called with each change, if it is set:
-    {'event': 'satop', 'what': 'packets' or 'far end fault' or 'far end misses packets' or 'bit offset', 'on': ..}."""
+    {'event': 'satop', 'what': .., 'on': true or false} of 'packets missing', 'far end fault' and 'far end misses
+    packets', and {'event': 'satop', 'what': 'bit offset 3', 'bits': 3}."""
 
     tell: Tell | None = None
 
@@ -91,9 +93,11 @@ class Satop(Trunk):
         self._sequence, self._timestamp = secrets.randbelow(SEQUENCES), secrets.randbits(32)
         self._ssrc = secrets.randbits(32)
         self._heard = self._reached = clock()   # the last packet; up to when octets were given
+        self._allowed, self._counted = MOST_BEHIND / circuit.seconds, self._heard   # packets, and when they were
         self.silent = False
         self._remote, self._fault = Flag(), Flag()
-        self._offset: int | None = None
+        self._offset: int | None = None         # the one that was told
+        self._found, self._since = 0, 0.0       # alignments, and when the last one was
         self.counts = dict.fromkeys(('received', 'sent', 'unsent', 'faulty', 'ticks', 'silences'), 0)
         self.malformed: Counter[Fault] = Counter()
         self._plan()
@@ -109,7 +113,9 @@ class Satop(Trunk):
     def read(self, most: int) -> bytes:
         if len(self._ready) < most:
             now = self._clock()
+            self._allow(now)
             self._receive(now)
+            self._play_due()
             self._keep_time(now)
             self._tell_changes(now)
         octets = bytes(self._ready[:most])
@@ -123,8 +129,23 @@ class Satop(Trunk):
             self.deadline = self._clock()
         elif self.silent or self._circuit.own_clock:
             self.deadline = self._reached + self._circuit.seconds
+        elif self._playout.is_due():
+            self.deadline = self._counted + (1 - self._allowed) * self._circuit.seconds / FASTEST
         else:
             self.deadline = self._heard + GONE
+
+    def _allow(self, now: float) -> None:
+        """Two ends that both answer packet for packet would drive each other ever faster; so there is a bound."""
+        more = (now - self._counted) * FASTEST / self._circuit.seconds
+        self._allowed = min(self._allowed + more, MOST_BEHIND / self._circuit.seconds)
+        self._counted = now
+
+    def _play_due(self) -> None:
+        if self._circuit.own_clock or self.silent:
+            return
+        for each in self._playout.due(int(self._allowed + CLOSE)):
+            self._allowed -= 1
+            self._ready += self._bits.octets(each)
 
     def _receive(self, now: float) -> None:
         for _ in range(MOST_DATAGRAMS):
@@ -151,26 +172,25 @@ class Satop(Trunk):
         self._heard = now
         if self.silent:
             self.silent = False
-            self._say('packets', True)
+            self._say('packets missing', on=False)
         if not self._circuit.own_clock:
             self._reached = now
-            for each in self._playout.due():
-                self._ready += self._bits.octets(each)
+            self._play_due()
 
     def _heed(self, packet: Packet, now: float) -> None:
         """Takes the bits L and R."""
         self.counts['faulty'] += packet.lost
         if packet.lost and self._fault.seen(now):
-            self._say('far end fault', True)
+            self._say('far end fault', on=True)
         if packet.remote and self._remote.seen(now):
-            self._say('far end misses packets', True)
+            self._say('far end misses packets', on=True)
 
     def _keep_time(self, now: float) -> None:
         """Gives what is due by this machine's clock."""
         if not self.silent and now - self._heard > GONE - CLOSE:
             self.silent = True
             self.counts['silences'] += 1
-            self._say('packets', False)
+            self._say('packets missing', on=True)
         if not (self.silent or self._circuit.own_clock):
             return
         seconds = self._circuit.seconds
@@ -208,25 +228,30 @@ class Satop(Trunk):
 
     # ---- what is told ----
 
-    def _say(self, what: str, on: bool | int | None) -> None:
+    def _say(self, what: str, **more: object) -> None:
         if self.tell:
-            self.tell({'event': 'satop', 'what': what, 'on': on})
+            self.tell({'event': 'satop', 'what': what, **more})
 
     def _tell_changes(self, now: float) -> None:
         if self._fault.gone(now):
-            self._say('far end fault', False)
+            self._say('far end fault', on=False)
         if self._remote.gone(now):
-            self._say('far end misses packets', False)
-        if self._bits.offset != self._offset:
+            self._say('far end misses packets', on=False)
+        if self._bits.found != self._found:
+            self._found, self._since = self._bits.found, now
+        # In noise alignment is found and lost many times a second.
+        stands = self._bits.aligned and now - self._since >= GONE
+        if stands and self._bits.offset != self._offset:
             self._offset = self._bits.offset
-            self._say('bit offset', self._offset)
+            self._say(f'bit offset {self._offset}', bits=self._offset)
 
     def status(self) -> dict[str, Any]:
         causes = {f'malformed_{fault.name.lower()}': self.malformed[fault] for fault in Fault}
         return {
             'trunk': 'satop', **self.counts, **asdict(self._playout.counts),
             'malformed': self.malformed.total(), **causes, 'waiting': self._playout.waiting,
-            'silent': int(self.silent), 'remote_lost': int(self._remote.up), 'remote_fault': int(self._fault.up),
+            'fast': int(self._allowed < 1), 'silent': int(self.silent),
+            'remote_lost': int(self._remote.up), 'remote_fault': int(self._fault.up),
             'offset': self._bits.offset, 'aligned': int(self._bits.aligned),
             'searches': self._bits.found, 'alignment_lost': self._bits.lost}
 

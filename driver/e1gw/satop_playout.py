@@ -109,10 +109,14 @@ class Playout:
         self._begin(sequence)
         return True
 
-    def due(self) -> list[bytes]:
-        """The octets of each packet that is due by those that have come."""
-        out = []
-        while self._next is not None and distance(self._end, self._next) > self.jitter:
+    def is_due(self) -> bool:
+        """Whether a packet is due by those that have come."""
+        return self._next is not None and distance(self._end, self._next) > self.jitter
+
+    def due(self, most: int) -> list[bytes]:
+        """The octets of each packet that is due, of at most so many."""
+        out: list[bytes] = []
+        while len(out) < most and self.is_due():
             out.append(self.play())
         return out
 

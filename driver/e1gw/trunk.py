@@ -17,6 +17,8 @@ import subprocess
 import sys
 from typing import Callable, NoReturn
 
+from . import satop
+from .clear import Clear
 from .control import DoorTaken
 from .driver import Driver, Options
 from .gateway import ConfigRefused, check_config
@@ -61,17 +63,16 @@ def trunk_of(asked: argparse.Namespace) -> Callable[[], Trunk]:
         opens = lambda: open_files(asked.input, asked.out)          # noqa: E731
     if not asked.clear:
         return opens
-    from .clear import Clear
     return lambda: Clear(opens())
 
 
 def _satop_of(asked: argparse.Namespace) -> Callable[[], Trunk]:
-    from .satop import open_satop
     local, comma, peer = asked.satop.partition(',')
     if not comma:
         raise Usage('--satop wants LOCAL:PORT,PEER:PORT')
     host_and_port(local), host_and_port(peer)
-    return lambda: open_satop(asked.satop)
+    circuit = satop.circuit_of(asked)
+    return lambda: satop.open_satop(asked.satop, circuit)
 
 
 def _number(least: float, most: float, kind: type = int) -> Callable[[str], float]:
@@ -91,8 +92,10 @@ def parser() -> argparse.ArgumentParser:
     words.add_argument('--config', metavar='FILE', required=True, help='the configuration, e1gw.toml(5)')
     words.add_argument('--name', help='the name of the trunk in metrics and files [default: that of FILE]')
     words.add_argument('--program', metavar='E1GW', help='the program [default: that of this repository, or e1gw]')
+    words.add_argument('--senders', choices=('any', 'host', 'peer'), help='whose datagrams are received, e1gw(1)')
     words.add_argument('--totals', action='store_true', help='tells at the end what the gateway has counted')
     _add_trunk(words.add_argument_group('the trunk'))
+    satop.add_arguments(words)
     _add_control(words.add_argument_group('control and what is told'))
     _add_calls(words.add_argument_group('sessions and calls'))
     return words
@@ -151,10 +154,15 @@ def options_of(words: list[str]) -> Options:
     name = asked.name or os.path.splitext(os.path.basename(asked.config))[0]
     return Options(
         config=asked.config, program=program_of(asked.program), name=name, open_trunk=opens, most=asked.most,
-        totals=asked.totals, reopen=asked.reopen, watch=asked.watch, top=asked.top, control=asked.control,
+        serve=_serve_words(asked), reopen=asked.reopen, watch=asked.watch, top=asked.top, control=asked.control,
         control_mode=asked.control_mode, control_group=asked.control_group, http=http, metrics=asked.metrics,
         json=asked.json, session=asked.session, keep=keep, gap=asked.gap / 1000, dark=asked.dark, on_loss=on_loss,
         counts=asked.counts)
+
+
+def _serve_words(asked: argparse.Namespace) -> list[str]:
+    """The options that the gateway gets as they are."""
+    return ['--totals'] * asked.totals + (['--senders', asked.senders] if asked.senders else [])
 
 
 def _serve(options: Options, journal: Journal) -> int:

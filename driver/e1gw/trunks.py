@@ -7,7 +7,7 @@ import socket
 import stat
 import tty
 from abc import ABC, abstractmethod
-from typing import Any
+from typing import Any, Callable
 
 MOST_WAITING = 1 << 20      # octets that wait to be written before the trunk counts as broken
 
@@ -17,6 +17,7 @@ class Trunk(ABC):
 
     deadline: float | None = None   # of time.monotonic: `read` is called then although nothing has come
     paced = True                    # octets come by a clock, and not as fast as they are read
+    tell: Callable[[dict[str, Any]], None] | None = None    # is called with each change that is to be told
 
     @abstractmethod
     def fileno(self) -> int:

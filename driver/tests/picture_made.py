@@ -1,12 +1,13 @@
 """Sessions with a trouble each, for the tests of the picture and for the pictures in the documents."""
 from __future__ import annotations
 
+import functools
 import random
 import struct
 from collections.abc import Callable, Iterator
 from dataclasses import dataclass, field
 
-from support import Exchange
+from .support import Exchange
 
 from e1gw.session import Command, Kind, command_record, datagram_record, spell, trunk_record
 
@@ -246,3 +247,10 @@ TROUBLES: dict[str, Callable[[], Made]] = {
     'fast-clock': fast_clock, 'hold': hold, 'jump': jump, 'jitter': jitter, 'stranger': stranger, 'lost': lost,
     'burst': burst, 'gap': gap, 'slips': slips, 'all-ones': all_ones, 'silent-slot': silent_slot,
     'unacknowledged': unacknowledged, 'sound': sound}
+
+
+@functools.cache
+def recorded(name: str) -> tuple[str, bytes]:
+    """The configuration and the records of a session with a trouble."""
+    made = TROUBLES[name]()
+    return made.config(), b''.join(made.given())

@@ -60,6 +60,7 @@ class Flow(unittest.TestCase):
         trunk.quiet(0.5)
         trunk.go(1)
         self.assertEqual(trunk.words(), ['stalled', 'flows', 'gap'])
+        self.assertAlmostEqual(trunk.found[1].value, 0.5, delta=0.03)
         self.assertAlmostEqual(trunk.found[2].value, 0.5, delta=0.02)
         self.assertEqual((trunk.clock.stalls, trunk.clock.gaps), (1, 1))
 

@@ -204,7 +204,7 @@ class Beside(unittest.TestCase):
                 time.sleep(0.2)
                 self.goes_on(world, what)
                 status, said = world.quit()
-                self.assertEqual((status, said.count(f'ended, what {what}, why No space left')), (0, 1))
+                self.assertEqual((status, said.count(f'{what} ended, the calls go on: No space left')), (0, 1))
 
     def test_a_folder_for_metrics_that_is_not_there(self) -> None:
         with World(config_of(FOUR), '--metrics', '@/none/e1gw.prom') as world:

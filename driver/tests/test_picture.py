@@ -8,9 +8,9 @@ import os
 import random
 import unittest
 
-from support import program, run
+from .support import program, run
 
-from picture_made import TROUBLES, Made, Sender, answered, rtp
+from .picture_made import TROUBLES, Made, Sender, answered, recorded, rtp
 
 from e1gw.lines import Lines, read_config
 from e1gw.picture import Live, page
@@ -21,7 +21,7 @@ from e1gw.picture.page import MOST as MOST_OCTETS
 from e1gw.picture.page import draw, numbers
 from e1gw.picture.reading import read
 from e1gw.picture.svg import Scale, clock, runs
-from e1gw.session import OCTETS_A_SECOND, Kind, records_in
+from e1gw.session import OCTETS_A_SECOND, Kind, records_in, trunk_record
 
 # The columns of `e1gw check`: number, role, state, pairs sent and recognised, sent, admitted, refused, codec, type.
 NUMBER, STATE, SENT, ADMITTED, REFUSED = 0, 2, 5, 6, 7
@@ -46,11 +46,10 @@ def facts_of(session: Made, codes: list[int], last: int | None = None) -> Facts:
 @functools.cache
 def played(name: str) -> tuple[bytes, bytes, str]:
     """A session with a trouble, what the program answers to it, and the path of its configuration."""
-    folder, session = made_folder(), TROUBLES[name]()
-    path = os.path.join(folder, 'trunk.toml')
+    config, given = recorded(name)
+    path = os.path.join(made_folder(), 'trunk.toml')
     with open(path, 'w', encoding='utf-8') as file:
-        file.write(session.config())
-    given = b''.join(session.given())
+        file.write(config)
     return given, run('replay', '--config', path, given=given), path
 
 
@@ -204,7 +203,8 @@ class BesideTheProgram(unittest.TestCase):
         for name in TROUBLES:
             with self.subTest(name):
                 given, answers, path = played(name)
-                kinds = [each.kind for each in findings(read(io.BytesIO(given), io.BytesIO(answers), read_config(path)))]
+                facts = read(io.BytesIO(given), io.BytesIO(answers), read_config(path))
+                kinds = [each.kind for each in findings(facts)]
                 if name == 'sound':
                     self.assertEqual(kinds, [])
                 else:
@@ -230,7 +230,7 @@ class BesideTheProgram(unittest.TestCase):
                 size = rng.randrange(1, 3000)
                 take(octets[at[n]:at[n] + size])
                 at[n] += size
-        live.reading.flush()
+        live.page()
         self.assertFalse(live.ended)
         whole, cell = read(io.BytesIO(given), io.BytesIO(answers), read_config(path)).rows[3].count(), \
             live.facts.rows[3].count()
@@ -327,6 +327,18 @@ class Drawn(unittest.TestCase):
         os.wait()
         self.assertTrue(text.endswith('</html>\n'))
         self.checked(text)
+
+    def test_live_ends_at_what_cannot_be(self) -> None:
+        live = Live({}, 60)
+        live.taped(b'T\0\0\1x')
+        live.answered(b'T\0\0\2xy')
+        self.assertIn('ended: fault 1 BadKind', self.checked(live.page()))
+        live.taped(b'more')
+        self.assertIn('ended', self.checked(live.page()))
+        behind = Live({}, 60)
+        for _ in range(200):
+            behind.taped(trunk_record(bytes(60_000)))
+        self.assertEqual(behind.ended, 'the answers fell behind')
 
     def test_small_things(self) -> None:
         self.assertEqual(numbers([1, 2, 3, 4, 7, 9, 10]), '1 to 4, 7, 9, 10')

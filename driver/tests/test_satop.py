@@ -135,17 +135,27 @@ class Packets(Case):
     def test_bits_that_come_late(self) -> None:
         for bits in range(8):
             self.setUp()
-            line = int.from_bytes(b'\xff' + b''.join(map(piece, range(100))), 'big') >> bits
-            octets = line.to_bytes(256 * 100 + 1, 'big')[1:]
+            line = int.from_bytes(b'\xff' + b''.join(map(piece, range(150))), 'big') >> bits
+            octets = line.to_bytes(256 * 150 + 1, 'big')[1:]
             out = b''
-            for number in range(100):
+            for number in range(150):
+                self.now += .001
                 self.send(spell(Packet(False, False, number, octets[number * 256:][:256])))
                 out += self.trunk.read(1000)
             begins = 1 if bits else 0
-            whole = b''.join(map(piece, range(96)))
+            whole = b''.join(map(piece, range(146)))
             self.assertEqual(out[256 + begins:], whole[256:len(whole) - begins])
             self.told(offset=bits, searches=1, alignment_lost=0)
-            self.assertIn({'event': 'satop', 'what': 'bit offset', 'on': bits}, self.events)
+            self.assertEqual(self.events, [{'event': 'satop', 'what': f'bit offset {bits}', 'bits': bits}])
+
+    def test_noise_tells_nothing(self) -> None:
+        chance = random.Random(9)
+        for number in range(1000):
+            self.now += .001
+            self.send(spell(Packet(False, False, number, chance.randbytes(256))))
+            self.trunk.read(1000)
+        self.assertGreater(self.trunk.status()['searches'], 10)
+        self.assertEqual(self.events, [])
 
 
 class Flags(Case):
@@ -165,7 +175,7 @@ class Flags(Case):
         self.told(remote_fault=True, remote_lost=True)
         self.numbers(*range(115, 125))
         self.told(remote_fault=False, remote_lost=False)
-        told = [(event['what'], event['on']) for event in self.events if event['what'] != 'bit offset']
+        told = [(event['what'], event['on']) for event in self.events if 'on' in event]
         self.assertEqual(told, [('far end fault', True), ('far end misses packets', True),
                                 ('far end fault', False), ('far end misses packets', False)])
 
@@ -212,8 +222,8 @@ class Silence(Timed):
         self.assertTrue(out.endswith(b''.join(map(piece, range(1030, 1216)))))
         self.told(silent=False, silences=1, late=0, resyncs=0)
         self.assertFalse(any(packet.remote for packet in self.sent()))
-        told = [event['on'] for event in self.events if event['what'] == 'packets']
-        self.assertEqual(told, [False, True])
+        told = [event['on'] for event in self.events if event['what'] == 'packets missing']
+        self.assertEqual(told, [True, False])
 
     def test_what_was_held_back_does_not_count_twice(self) -> None:
         self.numbers(*range(20))
@@ -295,6 +305,47 @@ class OwnClock(Timed):
         self.wait(.5)
         status = self.trunk.status()
         self.assertAlmostEqual(status['sent'] + status['unsent'], 500, delta=1)
+
+
+class BackToBack(unittest.TestCase):
+    """Two ends at one another, without anything between."""
+
+    def octets(self, *circuits: Circuit, seconds: float) -> list[int]:
+        """How many octets each end gives in so long, by a clock that goes on by steps of 1 ms."""
+        now = 50.0
+        lines = [socket.socket(socket.AF_INET, socket.SOCK_DGRAM) for _ in circuits]
+        for line in lines:
+            line.bind(('127.0.0.1', 0))
+            self.addCleanup(line.close)
+        lines[0].connect(lines[1].getsockname())
+        lines[1].connect(lines[0].getsockname())
+        ends = [Satop(line, circuit, lambda: now) for line, circuit in zip(lines, circuits)]
+        given = [0, 0]
+        for _ in range(round(seconds * 1000)):
+            now += .001
+            more = True
+            while more:
+                more = False
+                for at, end in enumerate(ends):
+                    octets = end.read(256)
+                    end.write(octets)
+                    given[at] += len(octets)
+                    more = more or bool(octets)
+        self.states = [end.status() for end in ends]
+        return given
+
+    def test_one_gives_the_clock(self) -> None:
+        for given in self.octets(Circuit(own_clock=True), Circuit(), seconds=3):
+            self.assertAlmostEqual(given / 256, 3000, delta=110)
+        self.assertEqual([state['fast'] for state in self.states], [0, 0])
+        self.assertEqual([state['silent'] for state in self.states], [0, 0])
+
+    def test_none_gives_the_clock(self) -> None:
+        # what 1 s may be ahead by, a thousandth above the rate, and each end's silence at the begin
+        for given in self.octets(Circuit(), Circuit(), seconds=3):
+            self.assertLess(given / 256, 3000 * 1.001 + 1000 + 210)
+            self.assertGreater(given / 256, 3000)
+        self.assertIn(1, [state['fast'] for state in self.states])
 
 
 class Rtp(Case):

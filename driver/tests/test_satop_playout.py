@@ -24,7 +24,7 @@ class Case(unittest.TestCase):
         for number in numbers:
             self.now += .001
             self.playout.put(number % 65536, octets(number), self.now)
-            out += self.playout.due()
+            out += self.playout.due(1000)
         return out
 
     def told(self, **counts: int) -> None:
@@ -87,9 +87,9 @@ class Missing(Case):
             whole = bytes(place % 251 for place in range(size * 20))
             for number in range(20):
                 self.playout.put(number, whole[number * size:(number + 1) * size], 0.0)
-            out = b''.join(self.playout.due())
+            out = b''.join(self.playout.due(1000))
             self.playout.put(21, bytes(size), 0.0)
-            filled = self.playout.due()[0]
+            filled = self.playout.due(1000)[0]
             self.assertEqual(filled, (whole[-512:] * 2)[:size])
             self.assertEqual(out, whole)
 
@@ -188,7 +188,7 @@ class Alignment(unittest.TestCase):
             if number > 20 and chance.random() < rate:
                 continue
             playout.put(number, bytes(piece), number / 1000)
-            for each in playout.due():
+            for each in playout.due(1000):
                 bits.octets(each)
         return playout.counts.lost, bits.lost
 

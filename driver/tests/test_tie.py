@@ -3,6 +3,7 @@ import asyncio
 import json
 import os
 import shutil
+import socket
 import subprocess
 import tempfile
 import time
@@ -24,6 +25,7 @@ from e1gw.tie.tie import Options, Tie
 from tests.test_tie_circuit import CALLED, COLUMN, DONE, INCOMING, OUTGOING
 
 HERE = os.path.dirname(os.path.dirname(os.path.abspath(__file__)))
+HOLD = 1.5                  # seconds
 IDLE, SEIZED, ANSWER, HELD = 0b10, 0b00, 0b01, 0b11         # bits a and b
 
 
@@ -170,7 +172,7 @@ class Played:
             self.move(n, table[self.states[n]][COLUMN[self.pairs[n]]])
 
 
-class Lines(unittest.IsolatedAsyncioTestCase):
+class Sites(unittest.IsolatedAsyncioTestCase):
     """Two ties with played drivers: on odd circuits the west calls, on even ones the east."""
 
     async def asyncSetUp(self) -> None:
@@ -179,7 +181,7 @@ class Lines(unittest.IsolatedAsyncioTestCase):
         self.events: dict[str, list[dict[str, Any]]] = {'west': [], 'east': []}
         self.port = 0
         asyncio.get_running_loop().set_exception_handler(lambda *_: None)
-        for patched, value in ((site_module, {'GONE': 0.4, 'ALIVE': 0.1, 'AGAIN': 0.05}),):
+        for patched, value in ((site_module, {'GONE': 2.0, 'ALIVE': 0.2, 'AGAIN': 0.05}),):
             for name, number in value.items():
                 change = mock.patch.object(patched, name, number)
                 change.start()
@@ -202,7 +204,7 @@ class Lines(unittest.IsolatedAsyncioTestCase):
     def tie(self, name: str, waits: bool = False, **more: Any) -> tuple[Tie, Site]:
         driver = self.west if name == 'west' else self.east
         told = self.events[name]
-        made = Tie(Options(driver.path, more.get('pairs'), 0.3, waits), f'run of {name} {time.monotonic()}',
+        made = Tie(Options(driver.path, more.get('pairs'), HOLD, waits), f'run of {name} {time.monotonic()}',
                    Kept(os.path.join(self.folder.name, f'{name}.kept')),
                    lambda event, **fields: told.append({'event': event, **fields}))
         if not self.port:
@@ -233,7 +235,7 @@ class Lines(unittest.IsolatedAsyncioTestCase):
     def told(self, name: str, event: str) -> list[dict[str, Any]]:
         return [each for each in self.events[name] if each['event'] == event]
 
-    async def until(self, holds: Callable[[], bool], seconds: float = 5.0) -> None:
+    async def until(self, holds: Callable[[], bool], seconds: float = 20.0) -> None:
         end = time.monotonic() + seconds
         while not holds():
             self.assertLess(time.monotonic(), end, 'it does not come')
@@ -243,6 +245,10 @@ class Lines(unittest.IsolatedAsyncioTestCase):
 
     def at(self, n: int, west: State, east: State) -> Callable[[], bool]:
         return lambda: (self.west.states[n], self.east.states[n]) == (west, east)
+
+
+class Lines(Sites):
+    """Calls from end to end."""
 
     async def test_call(self) -> None:
         """Seized, answered, hung up, answered again, cleared: each is passed on."""
@@ -257,7 +263,7 @@ class Lines(unittest.IsolatedAsyncioTestCase):
         await self.until(self.at(3, State.ANSWERED, State.ANSWERED))
         self.west.send(3, IDLE)
         await self.until(self.at(3, State.IDLE, State.IDLE))
-        self.assertIn('on-loss clear 0.3', self.west.asked)
+        self.assertIn('on-loss block 1.5', self.west.asked)
         self.assertNotIn('seize 3', self.west.asked)
 
     async def test_blocked(self) -> None:
@@ -391,15 +397,16 @@ class Lines(unittest.IsolatedAsyncioTestCase):
 
 
 def free_port() -> int:
-    import socket
     with socket.socket() as line:
         line.bind(('127.0.0.1', 0))
         return int(line.getsockname()[1])
 
 
 @unittest.skipUnless(shutil.which('openssl'), 'openssl makes the certificates')
-class Certificates(Lines):
+class Certificates(Sites):
     """The same connection by TLS, and who is let in."""
+
+    test_call, test_strangers = Lines.test_call, Lines.test_strangers
 
     async def asyncSetUp(self) -> None:
         await super().asyncSetUp()
@@ -435,7 +442,7 @@ class Certificates(Lines):
         await self.refused(context=self.context('stranger', 'ours', False))
 
     async def test_another_name(self) -> None:
-        """A certificate of the authority, but not of that site: of the one that connects, and of the one that listens."""
+        """A certificate of the authority, but not that of the site that should connect."""
         await self.refused(context=self.context('west', 'ours', False))
 
     async def test_another_name_of_the_listener(self) -> None:

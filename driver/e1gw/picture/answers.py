@@ -9,7 +9,7 @@ import subprocess
 import threading
 from collections.abc import Iterator
 from dataclasses import dataclass
-from typing import Any, BinaryIO
+from typing import IO, Any
 
 PIECE = 1 << 16
 WAITING = 256               # pieces: more than a gateway holds back before it answers
@@ -65,7 +65,7 @@ def _told(session: Kept) -> Kept:
     return session
 
 
-def pieces(file: BinaryIO) -> Iterator[bytes]:
+def pieces(file: IO[bytes]) -> Iterator[bytes]:
     read = getattr(file, 'read1', file.read)
     while piece := read(PIECE):
         yield piece

@@ -15,7 +15,7 @@ from .reading import Stream as Records
 from .reading import rows_of
 
 NEAR = 101                  # datagrams that were sent by which the times of the capture are laid on the trunk
-SILENCE = 2 * OCTETS_A_SECOND       # after which another source begins another call, where no line tells
+SILENCE = 2 * OCTETS_A_SECOND       # after which what comes is another call, where no line tells
 
 
 def ports(config: Mapping[str, Any]) -> dict[int, int]:
@@ -156,12 +156,11 @@ def _code(row: Row, body: bytes, place: int, seen: dict[int, int]) -> int:
     _, second, _, stamp, ssrc = HEADER(body[:12])
     if second & 127 != row.payload:
         return 11
-    stream = row.stream
+    if place - seen.get(row.number, place) > SILENCE:
+        row.stream = Stream()
+    seen[row.number], stream = place, row.stream
     if stream.base is not None and ssrc != stream.ssrc:
-        if place - seen.get(row.number, place) < SILENCE:
-            return 12
-        row.stream = stream = Stream()
-    seen[row.number] = place
+        return 12
     if stream.base is None:
         return 0
     margin = (stream.base + stamp - place // FRAME + 0x8000_0000) % 0x1_0000_0000 - 0x8000_0000

@@ -5,7 +5,7 @@ from ..session import DatagramRefusal
 from .facts import NOT_OPEN, SECOND, WINDOW, Cell, Facts, Row
 from .svg import LEFT, WIDE, Scale, Sheet, duration, runs
 
-ROW = 27                    # of the circuits
+ROW = 30                    # of the circuits
 MOST_RUNS = 160             # stretches of a lane
 MOST_SPANS = 220            # of a line
 MEANS = {'idle': 'idle', 'seized': 'seized', 'acked': 'acknowledged', 'answered': 'answered',
@@ -50,9 +50,9 @@ def trunk(facts: Facts, scale: Scale) -> str:
                 x = int(scale.x(first) * 2 / scale.coarse)
                 begun[x] = (begun.get(x, (first, last))[0], last)
         for first, last in begun.values():
-            for kind in ('s-alarm', 'h-cross'):
-                sheet.box(scale.x(first), y, scale.x(last) - scale.x(first), 10, kind,
-                          f'{name}: {scale.span(first, last)}')
+            wide = max(scale.x(last) - scale.x(first), 2.4)
+            for kind in ('s-alarm', 'h-cross') if wide > 5 else ('s-alarm',):
+                sheet.box(scale.x(first), y, wide, 10, kind, f'{name}: {scale.span(first, last)}')
     return sheet.drawn()
 
 
@@ -117,7 +117,7 @@ def _lanes(sheet: Sheet, row: Row, facts: Facts, scale: Scale, seen: Pixels, y: 
     packet = max(1.0, facts.width / scale.octets) + 1.6 * row.ptime / 1000 * SECOND / scale.octets
     for n, what in enumerate(('sent', 'admitted', 'refused')):
         columns = sorted(x for x, cell in seen.items() if getattr(cell, what))
-        gap = packet if what != 'refused' else 1.0
+        gap = packet if what != 'refused' else 4.0
         found = runs(columns, gap)
         while len(found) * scale.coarse > MOST_RUNS:
             gap *= 2
@@ -178,7 +178,7 @@ class Playout:
         return self.y0 + (self.top - inside) / (self.top - self.bottom) * self.high
 
     def drawn(self) -> str:
-        row, scale = self.row, self.scale
+        row = self.row
         sheet = Sheet(self.y0 + self.high + 6 + 13 * len(self.others), f'Datagrams of circuit {row.number} against the '
                       f'playout: {self.whole.admitted} admitted; refused: {refusals(self.whole) or "none"}')
         self._frame(sheet)

@@ -12,7 +12,7 @@ from dataclasses import dataclass, field
 from typing import Any
 
 SECOND = 256_000            # octets of the trunk
-FRAME = 32
+FRAME, MULTIFRAME = 32, 512
 MOST = 2400                 # columns
 WINDOW = 3200               # samples that the playout holds
 OPEN = ('acked', 'answered', 'clearedback')
@@ -88,9 +88,12 @@ class Spans:
     def put(self, place: int, value: Any) -> None:
         if self.items[-1][1] == value:
             return
-        if self.items[-1][0] == place:
+        if self.items[-1][0] == place and len(self.items) > 1:
             self.items.pop()
-        self.items.append((place, value))
+            if self.items[-1][1] != value:
+                self.items.append((place, value))
+        else:
+            self.items.append((place, value))
 
     def forget(self, place: int) -> None:
         """Drops what ended before a place."""
@@ -164,33 +167,40 @@ class Row:
     silent: dict[str, list[int]] = field(default_factory=lambda: {'came': [0, 0], 'sent': [0, 0]})
     begun: list[int] = field(default_factory=list)      # places where the playout began anew
     ssrc: int | None = None                             # of the last call's first datagram
+    step: int = 0                                       # of the timestamp, where it fits the words of a datagram
+    length: int = 0                                     # of such a datagram
 
     def came(self, place: int, code: int, head: bytes, length: int) -> None:
         """A datagram that came: its first twelve octets, its length and how it was answered."""
-        cell = self.cell
         if len(head) < 12:
-            cell.refuse(code, None)
+            self.cell.refuse(code, None)
             return
         _, second, sequence, stamp, ssrc = HEADER(head)
+        stream = self.stream
         if code:
             self._refused(place, code, second & 127, stamp, ssrc)
-            if code not in (13, 14, 16):
+            if code not in (13, 14, 16) or stream.base is None:
                 return
-        stream = self.stream
-        if stream.base is None:
-            if code:
-                return
-            stream.base, stream.ssrc, stream.sequence = place // FRAME + self.prefill - stamp, ssrc, -1
-            self.ssrc = ssrc
-            self.begun.append(place)
-            self.types[second & 127] = self.sources[ssrc] = place
-        if not code:
-            cell.admit((stream.base + stamp - place // FRAME + 0x8000_0000) % 0x1_0000_0000 - 0x8000_0000)
-        self._follow(stream, sequence, stamp, length)
+        else:
+            if stream.base is None:
+                self._begin(stream, place, second & 127, stamp, ssrc)
+            assert stream.base is not None
+            self.cell.admit((stream.base + stamp - place // FRAME + 0x8000_0000 & 0xFFFF_FFFF) - 0x8000_0000)
+        if sequence - stream.sequence & 0xFFFF != 1 or stamp - stream.stamp != self.step or length != self.length:
+            self._follow(stream, sequence, stamp, length)
+        else:
+            stream.sequence, stream.stamp = sequence, stamp
+
+    def _begin(self, stream: Stream, place: int, kind: int, stamp: int, ssrc: int) -> None:
+        """The first datagram of a call that is admitted."""
+        stream.base, stream.ssrc, stream.sequence = place // FRAME + self.prefill - stamp, ssrc, -1
+        self.ssrc = ssrc
+        self.begun.append(place)
+        self.types[kind] = self.sources[ssrc] = place
 
     def _follow(self, stream: Stream, sequence: int, stamp: int, length: int) -> None:
         """Looks at the place of a datagram among those of its stream."""
-        ahead = (sequence - stream.sequence) & 0xFFFF
+        ahead = sequence - stream.sequence & 0xFFFF
         if stream.sequence >= 0 and ahead != 1:
             if 1 < ahead < 3000:
                 self.cell.lost += ahead - 1
@@ -199,9 +209,12 @@ class Row:
                 return
         elif stream.sequence >= 0:
             words = (length - 12) * 8 // BITS.get(self.codec, 8)
-            if words != (stamp - stream.stamp) & 0xFFFF_FFFF:
+            step = stamp - stream.stamp & 0xFFFF_FFFF
+            if words == step:
+                self.step, self.length = step, length
+            else:
                 self.cell.uneven += 1
-                self.mismatch = words, (stamp - stream.stamp + 0x8000_0000) % 0x1_0000_0000 - 0x8000_0000
+                self.mismatch = words, (step + 0x8000_0000 & 0xFFFF_FFFF) - 0x8000_0000
         stream.sequence, stream.stamp = sequence, stamp
 
     def _refused(self, place: int, code: int, kind: int, stamp: int, ssrc: int) -> None:
@@ -253,10 +266,10 @@ class Row:
 class Facts:
     """All that a picture shows. What happens is told in the order in which it happened."""
 
-    def __init__(self, rows: dict[int, Row] | None = None, last: int | None = None, width: int = 64) -> None:
+    def __init__(self, rows: dict[int, Row] | None = None, last: int | None = None, width: int = MULTIFRAME) -> None:
         self.rows = rows or {n: Row(n) for n in range(1, 31)}
         self.last = last
-        self.width = max(1, last // (MOST // 2)) if last else width
+        self.width = max(1, last // (MOST // 2) // MULTIFRAME) * MULTIFRAME if last else width
         self.column = 0
         self.place = 0
         self.start = 0                      # of what is to be shown

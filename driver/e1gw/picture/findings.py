@@ -6,11 +6,9 @@ from dataclasses import dataclass
 from statistics import median
 
 from .facts import NOT_OPEN, OPEN, SECOND, Cell, Facts, Row
-from .svg import duration
+from .slopes import Points, Step, points, slope, steps
+from .svg import Scale, duration
 
-AROUND = 6                  # points on each side of a step
-STEP = 120                  # samples, 15 ms, from which on it is one
-POINTS = 300
 SHORT = SECOND // 50        # an alarm of the far end that is shorter is but a wrong bit
 
 
@@ -24,72 +22,16 @@ class Finding:
     bad: bool = True
 
 
-@dataclass(frozen=True)
-class Step:
-    """All at once the datagrams come earlier before their turn by so many samples, or later where it is below 0."""
-    place: int
-    samples: float
-
-
 def times(count: int) -> str:
     return 'once' if count == 1 else f'{count} times'
 
 
-def points(row: Row, width: int) -> list[list[tuple[float, float]]]:
-    """How many samples before its turn what came in a column was, on average, for each time that the playout began."""
-    out: list[list[tuple[float, float]]] = [[]]
-    begun = sorted(row.begun)
-    for column in sorted(row.cells):
-        cell, place = row.cells[column], (column + 0.5) * width
-        while begun and begun[0] < (column + 1) * width:
-            begun.pop(0)
-            out.append([])
-        if cell.admitted:
-            out[-1].append((place, cell.total / cell.admitted))
-        else:
-            seen = cell.refused.get(14) or cell.refused.get(16)
-            if seen:
-                out[-1].append((place, (seen[1] + seen[2]) / 2))
-    return [_thinned(part) for part in out if len(part) > 3]
-
-
-def _thinned(part: list[tuple[float, float]]) -> list[tuple[float, float]]:
-    """At most so many points, each the mean of neighbours."""
-    each = -(-len(part) // POINTS)
-    groups = [part[n:n + each] for n in range(0, len(part), each)]
-    return [(sum(x for x, _ in group) / len(group), sum(y for _, y in group) / len(group)) for group in groups]
-
-
-def steps(part: list[tuple[float, float]]) -> list[Step]:
-    """Where the points go to another height and stay there."""
-    out: list[Step] = []
-    for n in range(AROUND, len(part) - AROUND + 1):
-        before = [y for _, y in part[n - AROUND:n]]
-        after = [y for _, y in part[n:n + AROUND]]
-        jump = median(after) - median(before)
-        noise = max(max(before) - min(before), max(after) - min(after))
-        if abs(jump) > max(STEP, 1.5 * noise) and not (out and part[n][0] - out[-1].place < SECOND / 2):
-            out.append(Step(int(part[n][0]), jump))
-    return out
-
-
-def slope(part: list[tuple[float, float]]) -> tuple[float, float, float]:
-    """Of the straight line through points: parts in a million, by how much it goes on in all, and how far the points
-    are from it, in samples."""
-    count = len(part)
-    x0, y0 = sum(x for x, _ in part) / count, sum(y for _, y in part) / count
-    square = sum((x - x0) ** 2 for x, _ in part)
-    gain = sum((x - x0) * (y - y0) for x, y in part) / square if square else 0.0
-    away = (sum((y - y0 - gain * (x - x0)) ** 2 for x, y in part) / count) ** 0.5
-    return gain * 32 * 1e6, gain * (part[-1][0] - part[0][0]), away
-
-
-def _clock(row: Row, parts: list[list[tuple[float, float]]], found: list[Step]) -> Iterator[Finding]:
+def _clock(row: Row, parts: list[Points], found: list[Step]) -> Iterator[Finding]:
     """A difference of clocks: the longest stretch without a step that is a slope."""
     best: tuple[float, float, float] | None = None
     for part in parts:
         cuts = [step.place for step in found]
-        piece: list[tuple[float, float]] = []
+        piece: Points = []
         for n, point in enumerate([*part, (float('inf'), 0.0)]):
             if n == len(part) or (cuts and point[0] >= cuts[0]):
                 if len(piece) >= 12 and piece[-1][0] - piece[0][0] > 2 * SECOND:
@@ -103,8 +45,8 @@ def _clock(row: Row, parts: list[list[tuple[float, float]]], found: list[Step]) 
         rate, gone, long = best
         side, way = ('slower', 'later') if rate < 0 else ('faster', 'earlier')
         yield Finding('clock ' + side, row.number,
-                      f'datagrams come ever {way}: by {abs(gone) / 8:.0f} ms in {duration(long)}, so the sender\'s clock '
-                      f'is {side} than the trunk\'s by {abs(rate):.0f} ppm',
+                      f'datagrams come ever {way}: by {abs(gone) / 8:.0f} ms in {duration(long)}, so the sender\'s '
+                      f'clock is {side} than the trunk\'s by {abs(rate):.0f} ppm',
                       'one clock for both, or a prefill that lasts for the longest call; `codec` with the codec that '
                       'the circuit has begins the playout anew')
 
@@ -123,9 +65,9 @@ def _steps(facts: Facts, rows: list[Row], found: dict[int, list[Step]]) -> Itera
         ahead = median(step.samples for _, _, step in near)
         words = f'{abs(ahead) / 8:.0f} ms {"earlier" if ahead > 0 else "later"}'
         if len(circuits) > 1 and len(circuits) * 2 >= talking and ahead > 0:
-            yield Finding('gap', 0, f'at {_moment(facts, place)} the datagrams of {len(circuits)} circuits come {words} '
-                          'all at once: so much of the trunk was lost', 'the device lost octets; `codec` for each call '
-                          'begins its playout anew')
+            yield Finding('gap', 0, f'at {_moment(facts, place)} the datagrams of {len(circuits)} circuits come '
+                          f'{words} all at once: so much of the trunk was lost',
+                          'the device lost octets; `codec` for each call begins its playout anew')
             continue
         for at, number, step in near:
             words = f'{abs(step.samples) / 8:.0f} ms {"earlier" if step.samples > 0 else "later"}'
@@ -135,7 +77,6 @@ def _steps(facts: Facts, rows: list[Row], found: dict[int, list[Step]]) -> Itera
 
 
 def _moment(facts: Facts, place: int) -> str:
-    from .svg import Scale
     return Scale(0, facts.place, facts.begin).words(place)
 
 
@@ -190,7 +131,8 @@ def _silent(row: Row, whole: Cell, opened: int) -> Iterator[Finding]:
     came = whole.admitted + sum(seen[0] for code, seen in whole.refused.items() if code != NOT_OPEN)
     if opened > SECOND // 2 and not came:
         yield Finding('none', row.number, f'the path was open for {duration(opened)}, and no datagram came',
-                      f'the peer\'s address and port (this end receives at {row.local or "no port"}), a firewall, `host`')
+                      f'the peer\'s address and port (this end receives at {row.local or "no port"}), a firewall, '
+                      '`host`')
     for way, words, hint in (
             ('came', 'the datagrams that came carry one octet alone, as silence does', 'the far end is silent'),
             ('sent', 'the datagrams that were sent carry one octet alone, as silence does',
@@ -199,8 +141,9 @@ def _silent(row: Row, whole: Cell, opened: int) -> Iterator[Finding]:
         if seen[0] > 6 and seen[1] == seen[0]:
             yield Finding(f'silent {way}', row.number, words, hint, False)
     if whole.uneven > max(20, whole.admitted // 2):
-        words, step = row.mismatch
-        yield Finding('words', row.number, f'a datagram has {words} words of {row.codec}, and timestamps go on by {step}',
+        count, step = row.mismatch
+        yield Finding('words', row.number,
+                      f'a datagram has {count} words of {row.codec}, and timestamps go on by {step}',
                       'another codec under this payload type, or a clock other than 8000 Hz')
 
 
@@ -208,28 +151,32 @@ def _lines(row: Row, whole: Cell) -> Iterator[Finding]:
     """Calls that did not come up, and commands that were refused."""
     unacknowledged, faults = whole.counts.get('unacknowledged', 0), whole.counts.get('faults', 0)
     if unacknowledged:
-        yield Finding('unacknowledged', row.number, f'a seizure was not acknowledged within 200 ms ({times(unacknowledged)})',
+        yield Finding('unacknowledged', row.number,
+                      f'a seizure was not acknowledged within 200 ms ({times(unacknowledged)})',
                       'is the circuit incoming there, and its slot the same? No seizure works while there is an alarm')
     if faults:
-        yield Finding('fault', row.number, f'the line came to fault {times(faults)}', 'signals of the exchange that are '
-                      'not of Q.421, or both ends outgoing')
+        yield Finding('fault', row.number, f'the line came to fault {times(faults)}',
+                      'signals of the exchange that are not of Q.421, or both ends outgoing')
     if row.states.value == 'blocked':
         yield Finding('blocked', row.number, 'is blocked at the end', 'unblock it here, or at the exchange', False)
     refused = [command for (_, done), command in row.commands.items() if not done]
     if refused:
-        words = sorted({f'{command.words}: {command.refusal}' for command in refused})
-        yield Finding('command', row.number, f'commands were refused {times(sum(c.more + 1 for c in refused))}: {", ".join(words)}',
+        words = ', '.join(sorted({f'{command.words}: {command.refusal}' for command in refused}))
+        count = sum(command.more + 1 for command in refused)
+        yield Finding('command', row.number, f'commands were refused {times(count)}: {words}',
                       'see the state at that moment', False)
 
 
-def _jitter(row: Row, whole: Cell, parts: list[list[tuple[float, float]]], explained: bool) -> Iterator[Finding]:
+def _jitter(row: Row, whole: Cell, parts: list[Points], explained: bool) -> Iterator[Finding]:
     """A band that is wide."""
     spread = [cell.high - cell.low for cell in row.cells.values() if cell.admitted > 2]
     wide = max(spread, default=0)
     if wide > 80 and not explained and parts:
-        yield Finding('jitter', row.number, f'datagrams come by up to {wide / 8:.0f} ms more or less early, a band in the '
-                      f'drawing; the prefill is {row.prefill / 8:g} ms',
-                      'jitter of the network or bursts of the sender; the prefill has to be above it', 14 in whole.refused)
+        yield Finding('jitter', row.number,
+                      f'datagrams come by up to {wide / 8:.0f} ms more or less early, a band in the drawing; the '
+                      f'prefill is {row.prefill / 8:g} ms',
+                      'jitter of the network or bursts of the sender; the prefill has to be above it',
+                      14 in whole.refused)
 
 
 def _lost(row: Row, whole: Cell) -> Iterator[Finding]:
@@ -259,8 +206,8 @@ def _trunk(facts: Facts) -> Iterator[Finding]:
                           f'{_moment(facts, places[0])}', 'the device lost or doubled octets, or the line was cut')
     ones = sum(last - first for first, last, on in facts.ones.between(facts.start, facts.place) if on)
     if ones:
-        yield Finding('ones', 0, f'all ones (AIS) came for {duration(ones)}', 'calls stand and send idle packets as long '
-                      'as it lasts; seizures are released')
+        yield Finding('ones', 0, f'all ones (AIS) came for {duration(ones)}',
+                      'calls stand and send idle packets as long as it lasts; seizures are released')
 
 
 def findings(facts: Facts) -> list[Finding]:

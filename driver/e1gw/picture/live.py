@@ -11,6 +11,7 @@ from .page import draw
 from .reading import Reading, rows_of
 
 MOST_HELD = 8 << 20         # octets of the recording that wait for their answers
+AT_ONCE = 1 << 16           # octets that are looked at together, since pieces are small
 NICE = 10
 
 
@@ -22,33 +23,52 @@ class Live:
         self.facts = Facts(rows_of(config), int(seconds * OCTETS_A_SECOND))
         self.reading = Reading(self.facts, config)
         self.ended = ''                 # why it goes on no more
+        self._waiting: tuple[list[bytes], list[bytes]] = ([], [])
+        self._held = 0
 
     def taped(self, octets: bytes) -> None:
         """Octets of the recording."""
-        if self.ended:
-            return
-        self.reading.given.push(octets)
-        if len(self.reading.given.held) > MOST_HELD:
-            self.end('the answers fell behind')
+        self._take(0, octets)
 
     def answered(self, octets: bytes) -> None:
         """Octets that the replay of the recording has written."""
+        self._take(1, octets)
+
+    def _take(self, which: int, octets: bytes) -> None:
+        if not self.ended:
+            self._waiting[which].append(octets)
+            self._held += len(octets)
+            if self._held >= AT_ONCE:
+                self.look()
+
+    def look(self) -> None:
+        """Looks at all that was told up to now."""
         if self.ended:
             return
-        self.reading.answered.push(octets)
+        tape, answers = self._waiting
+        self.reading.given.push(b''.join(tape))
+        self.reading.answered.push(b''.join(answers))
+        tape.clear()
+        answers.clear()
+        self._held = 0
         try:
             self.reading.go_on()
         except (BadSession, ValueError) as fault:
             self.end(str(fault))
+        if len(self.reading.given.held) > MOST_HELD:
+            self.end('the answers fell behind')
 
     def end(self, why: str) -> None:
         """Nothing is told any more; the page says since when."""
         if not self.ended:
             self.ended = why
             self.reading.given.held = self.reading.answered.held = b''
+            for pieces in self._waiting:
+                pieces.clear()
 
     def page(self, begin: float | None = None, refresh: int | None = 5) -> str:
         """The page; `begin` is the time of the session's first octet, in seconds since 1970."""
+        self.look()
         if not self.ended:
             self.reading.flush()
         self.facts.begin = begin

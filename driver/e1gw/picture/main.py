@@ -17,6 +17,8 @@ from .reading import Reading, rows_of
 
 UNITS = {'ms': 0.001, 's': 1.0, 'm': 60.0, 'h': 3600.0, 'd': 86400.0}
 
+MIDDLE = 'the session begins in the middle; calls that were under way show as fault or blocked until they end'
+
 ABOUT = '''Draws a session as one page of HTML, which needs no network and no script: the trunk's alarms both ways, the
 thirty circuits over time with their datagrams and commands, each troubled circuit's datagrams against its playout, the
 counts with their causes, and in words what stands out.
@@ -71,7 +73,7 @@ def parser() -> argparse.ArgumentParser:
                                     formatter_class=argparse.RawDescriptionHelpFormatter,
                                     epilog='Example: e1gw-picture --config trunk1.toml -o page.html trunk1.rec')
     words.add_argument('session', nargs='?', metavar='SESSION', help='what the gateway was given')
-    words.add_argument('--config', metavar='FILE', help='the configuration [default: the one that the kept session names]')
+    words.add_argument('--config', metavar='FILE', help='the configuration [default: that of the kept session]')
     words.add_argument('--answers', metavar='FILE', help='what the gateway answered [default: e1gw replay is run]')
     words.add_argument('--capture', metavar='FILE', help='a capture of the datagrams')
     words.add_argument('-o', '--output', metavar='PAGE', help='where the page goes [default: standard output]')
@@ -125,15 +127,11 @@ def drawn(options: argparse.Namespace) -> str:
         facts, word = reckoned(options.capture, read_config(config), options.last), ''
     name = os.path.basename(os.path.normpath(options.session or options.capture))
     title = options.title or f'e1gw: {name if name != "-" else "a session"}'
-    if word:
-        print(f'e1gw-picture: {word}; what was before it is drawn', file=sys.stderr)
-    if session.middle:
-        print('e1gw-picture: the session begins in the middle; calls that were under way show as fault or blocked',
-              file=sys.stderr)
-    return draw(facts, title, options.circuits, notes=[note for note in (
-        f'{word}; what was before it is drawn.' if word else '',
-        'The session begins in the middle: calls that were under way show as fault or blocked.' if session.middle else '')
-        if note])
+    notes = [f'{word}; what was before it is drawn'] if word else []
+    notes += [MIDDLE] if session.middle else []
+    for note in notes:
+        print(f'e1gw-picture: {note}', file=sys.stderr)
+    return draw(facts, title, options.circuits, notes=notes)
 
 
 def main() -> int:

@@ -2,6 +2,7 @@
 from __future__ import annotations
 
 import html
+import re
 import time
 from collections.abc import Iterable
 
@@ -13,6 +14,8 @@ from .svg import Scale, duration
 
 MOST = 1_900_000            # octets of a page
 LISTED = 400                # rows of a table
+FEW = 6                     # entries of what stands out that are printed with their causes
+PRINTED = 733, 1040         # pixels of a sheet of A4 within its margins
 STATES = ('idle', 'seized', 'acked', 'answered', 'clearedback', 'releasing', 'blocked', 'fault')
 
 
@@ -48,7 +51,7 @@ def numbers(circuits: Iterable[int]) -> str:
     return ', '.join(str(a) if a == b else f'{a}, {b}' if b == a + 1 else f'{a} to {b}' for a, b in out)
 
 
-def found_list(found: list[Finding], shown: set[int]) -> str:
+def found_items(found: list[Finding], shown: set[int]) -> list[str]:
     """What stands out, one entry for circuits of which the same is to be said."""
     groups: dict[str, list[Finding]] = {}
     for each in found:
@@ -70,9 +73,15 @@ def found_list(found: list[Finding], shown: set[int]) -> str:
                                      if len(others) > 1 else '')
         if 1 < len(others) <= 4:
             seen = '; '.join(f'{each.circuit}: {escape(each.seen)}' for each in group)
+        seen, hint = (re.sub('`(.*?)`', r'<code>\1</code>', words) for words in (seen, escape(first.hint)))
         items.append(f'<li class="{"alert" if first.bad else "plain"}"><b>{who}</b>{seen}'
-                     f'<span class="hint"> &rarr; {escape(first.hint)}</span></li>')
-    return f'<ul class="found">{"".join(items)}</ul>' if items else '<p>Nothing.</p>'
+                     f'<span class="hint"> &rarr; {hint}</span></li>')
+    return items
+
+
+def found_list(items: list[str]) -> str:
+    many = ' many' if len(items) > FEW else ''
+    return f'<ul class="found{many}">{"".join(items)}</ul>' if items else '<p>Nothing.</p>'
 
 
 class Page:
@@ -94,6 +103,7 @@ class Page:
         busy = [row for row in self.rows if self.whole[row.number].admitted or self.whole[row.number].refused]
         self.troubled = [row for row in busy if row.number in troubled]
         self.even = [row for row in busy if row.number not in troubled]
+        self.items = found_items(self.found, {row.number for row in busy})
 
     def told(self) -> str:
         """The first lines: when, how long, how many."""
@@ -103,9 +113,9 @@ class Page:
         if facts.begin is not None:
             first = facts.begin + facts.start / SECOND
             when = time.strftime('%Y-%m-%d %H:%M:%S UTC, ', time.gmtime(first))
+        calls, answers = (sum(whole.counts.get(name, 0) for whole in wholes) for name in ('calls', 'answers'))
         parts = [f'{when}{duration(facts.place - facts.start)} of the trunk',
-                 f'{sum(w.counts.get("calls", 0) for w in wholes)} calls, '
-                 f'{sum(w.counts.get("answers", 0) for w in wholes)} answered',
+                 f'{calls} call{"s" * (calls != 1)}, {answers} answered',
                  f'datagrams: {sum(w.sent for w in wholes)} sent, {sum(w.admitted for w in wholes)} admitted, '
                  f'{refused} refused{"" if facts.told == "e1gw" else " (" + facts.told + ")"}']
         return ' &middot; '.join(escape(part) for part in parts)
@@ -128,8 +138,8 @@ class Page:
         if self.even:
             names = numbers(row.number for row in self.even)
             words = f'Circuits whose datagrams came in time and evenly: {names}'
-            out += (f'<details{"" if self.troubled else " open"}><summary>{words}</summary>{self.playouts(self.even)}'
-                    '</details>')
+            out += (f'<details><summary>{words}</summary>{self.playouts(self.even)}</details>' if self.troubled else
+                    f'<p>{words}</p>{self.playouts(self.even)}')
         return out
 
     # ---- the tables ----
@@ -148,7 +158,7 @@ class Page:
                          f'{row.codec} {row.payload}', row.local, row.peer))
         return table('Each circuit: counts, and how many ms before their turn datagrams came', (
             'circuit', 'role', 'at the end', 'calls', 'answered', 'open, s', 'sent', 'admitted', 'refused', 'causes',
-            'lost', 'least / mean / most', 'codec, type', 'receives at', 'sends to'), rows)
+            'lost', 'least / mean / most ms', 'codec, type', 'receives at', 'sends to'), rows)
 
     def states(self) -> str:
         rows: list[tuple[object, ...]] = []
@@ -179,6 +189,17 @@ class Page:
 
     # ---- all of it ----
 
+    def zoom(self) -> float:
+        """By how much all of it is made smaller so that it is printed on one sheet: its height is reckoned."""
+        words = [re.sub('<.*?>', '', item).partition('&rarr;')[0] if len(self.items) > FEW else item
+                 for item in self.items]
+        lines = sum(1.3 + len(each) // 170 for each in words) + 2 * len(self.notes)
+        lanes = [len(self.whole[row.number].refused) for row in self.troubled] or [
+            len(self.whole[row.number].refused) for row in self.even]
+        playouts = 66 * (len(lanes) + 1) // 2 + 7 * sum(lanes)
+        high = 420 + 17 * lines + charts.ROW * len(self.rows) + playouts
+        return min(PRINTED[0] / 1140, PRINTED[1] / high)
+
     def drawn(self) -> str:
         facts = self.facts
         quiet = f'<p class="note">Nothing but idle: circuits {numbers(self.quiet)}.</p>' if self.quiet else ''
@@ -186,7 +207,7 @@ class Page:
         trunk = f'<h2>The trunk</h2><div class="wide">{charts.trunk(facts, self.scale)}</div>' if facts.alarms else ''
         notes = ''.join(f'<p><b>{escape(note)}</b></p>' for note in self.notes)
         parts = [f'<h1>{escape(self.title)}</h1><p>{self.told()}</p>{notes}',
-                 f'<h2>What stands out</h2>{found_list(self.found, shown)}',
+                 f'<h2>What stands out</h2>{found_list(self.items)}',
                  trunk,
                  f'<h2>The circuits</h2>{key()}<div class="wide">'
                  f'{charts.circuits(facts, self.rows, self.scale, self.seen)}</div>{quiet}' if self.rows else
@@ -194,7 +215,7 @@ class Page:
                  f'<h2>Datagrams against the playout</h2>{self.datagrams()}',
                  f'<div class="screen"><h2>Counts</h2>{self.counts()}<details><summary>The same in words: alarms, '
                  f'commands, states</summary>{self.alarms()}{self.commands()}{self.states()}</details></div>']
-        return ''.join(parts)
+        return f'<style>@media print{{body{{zoom:{self.zoom():.3f}}}}}</style>{"".join(parts)}'
 
 
 def key() -> str:
@@ -212,7 +233,8 @@ def key() -> str:
         out.append((f'<rect y="{2 + 3.4 * n}" width="26" height="{2.2 + (n == 2)}" class="d-{kind}"/>', words))
     out.append(('<path d="M13 11l5 -8h-10z" class="c-done"/>', 'command done'))
     out.append(('<path d="M9 3l8 8m0 -8l-8 8" class="c-refused"/>', 'command refused'))
-    spans = ''.join(f'<span><svg viewBox="0 0 26 13" aria-hidden="true">{box}</svg>{words}</span>' for box, words in out)
+    spans = ''.join(f'<span><svg viewBox="0 0 26 13" aria-hidden="true">{box}</svg>{words}</span>'
+                    for box, words in out)
     return f'<div class="key">{spans}</div>'
 
 

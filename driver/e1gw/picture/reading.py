@@ -1,17 +1,18 @@
 """Reads a session and its answers, side by side, into what a picture shows."""
 from __future__ import annotations
 
+import re
+from collections import deque
 from typing import Any, Mapping, Protocol
 
 from ..lines import Event, law_of
-from ..session import Codec, Command, Fault, BadSession, Kind, refusal_of
+from ..session import MULTIFRAME, BadSession, Codec, Command, Fault, Kind, refusal_of
 from .facts import Facts, Row
 from .following import Follower
 
 PIECE = 1 << 16
-TRUNK, DATAGRAM = int(Kind.TRUNK), int(Kind.DATAGRAM)
-# Octets of the trunk that are followed at once.
-AT_ONCE = 32_768
+TRUNK, DATAGRAM, ANSWER = int(Kind.TRUNK), int(Kind.DATAGRAM), int(Kind.ANSWER)
+ONES = re.compile(b'\xff{512,}')
 
 
 class Readable(Protocol):
@@ -51,7 +52,7 @@ class Told:
             facts.alarms['there', event['what']].put(place, event['on'])
         elif name == 'codec':
             row = facts.rows[event['circuit']]
-            row.codec, row.payload = event['codec'], event['payload']
+            row.codec, row.payload, row.length = event['codec'], event['payload'], 0
         elif name == 'lost':
             facts.lost(event['what'], place)
             facts.alarms['there', event['what']].put(place, False)
@@ -92,14 +93,17 @@ class Reading:
     def __init__(self, facts: Facts, config: Mapping[str, Any], given: Readable | None = None,
                  answered: Readable | None = None) -> None:
         self.facts = facts
-        self.told: list[Event] = []
+        self.told: deque[Event] = deque()
         self.lines = Follower(config, self.told.append)
         self.tell = Told(facts)
         self.given, self.answered = Stream(given), Stream(answered)
         self.place = 0
-        self.trunk: list[bytes] = []
+        self.trunk: list[bytes] = []    # octets that were not followed yet, from `followed` on, and those sent
         self.sends: list[bytes] = []
-        self.waiting: list[tuple[int, int, int, bytes]] = []       # place, circuit, code or -1 where sent, datagram
+        self.followed = 0
+        self.due = 0                    # where they are followed next
+        self.came: deque[tuple[int, int, int, bytes, int]] = deque()    # place, circuit, code, head, length
+        self.sent = dict.fromkeys(facts.rows, 0)
         self.whole = True               # both ended with a whole record
 
     def read(self) -> None:
@@ -111,66 +115,89 @@ class Reading:
 
     def go_on(self) -> bool:
         """Reads the whole records that are held; returns whether the answers go on."""
-        stream = self.given
-        data, at, end = stream.held, 0, len(stream.held)
-        followed = self.place + AT_ONCE
+        stream, at = self.given, self.given.at
+        data, end = stream.held, len(stream.held)
         going = True
         while at + 4 <= end:
             kind, circuit = data[at], data[at + 1]
             after = at + 4 + (data[at + 2] << 8 | data[at + 3])
             if after > end:
                 break
-            body = data[at + 4:after]
             if kind == TRUNK:
-                going = self._trunk(body)
+                going = self._trunk(data[at:after])
             elif kind == DATAGRAM:
-                code = self._answer(DATAGRAM)
-                going = code >= 0
-                if going:
-                    self.waiting.append((self.place, circuit, code, body))
+                going = self._datagram(circuit, data, at + 4, after)
             else:
                 stream.at = at
-                going = self._command(kind, circuit, body)
+                going = self._command(kind, circuit, data[at + 4:after])
             if not going:
                 break
             at = after
-            if self.place >= followed:
-                self.flush()
-                followed = self.place + AT_ONCE
         stream.at = at
         return going
 
-    def _trunk(self, octets: bytes) -> bool:
+    def _trunk(self, record: bytes) -> bool:
         """Octets of the trunk: the datagrams that were sent with them, and the octets."""
         stream = self.answered
-        while True:
-            data, at = stream.held, stream.at
-            if at + 4 <= len(data):
-                after = at + 4 + (data[at + 2] << 8 | data[at + 3])
-                if after <= len(data):
-                    body = data[at + 4:after]
-                    stream.at = after
-                    if data[at] == DATAGRAM:
-                        self.waiting.append((self.place, data[at + 1], -1, body))
-                        continue
-                    if data[at] != TRUNK or len(body) != len(octets):
-                        stream.at = at
-                        raise stream.wrong()
-                    self.trunk.append(octets)
-                    self.sends.append(body)
-                    self.place += len(octets)
-                    return True
-            if not stream.more():
+        data, at = stream.held, stream.at
+        while data[at:at + 4] != record[:4]:
+            after = at + 4 + (data[at + 2] << 8 | data[at + 3]) if at + 4 <= len(data) else len(data) + 1
+            if after > len(data) and (at == len(data) or data[at] in (TRUNK, DATAGRAM)):
+                if not self._more(at):
+                    return False
+                data, at = stream.held, stream.at
+            elif data[at] == DATAGRAM and data[at + 1] in self.sent:
+                self._sent(data, at, after)
+                at = after
+            else:
+                stream.at = at
+                raise stream.wrong()
+        while at + len(record) > len(data):
+            if not self._more(at):
                 return False
+            data, at = stream.held, stream.at
+        stream.at = at + len(record)
+        self.trunk.append(record[4:])
+        self.sends.append(data[at + 4:stream.at])
+        self.place += len(record) - 4
+        if self.place >= self.due:
+            self._follow(self.place // MULTIFRAME * MULTIFRAME)
+        return True
+
+    def _more(self, at: int) -> bool:
+        """More of the answers, from a place in what is held on."""
+        self.answered.at = at
+        return self.answered.more()
+
+    def _sent(self, data: bytes, at: int, after: int) -> None:
+        """A datagram that was sent. Of some it is looked at whether they are silent."""
+        circuit = data[at + 1]
+        self.sent[circuit] += 1
+        if after - at > 16 and not data[at + 7] & 15:
+            self.facts.rows[circuit].hear('sent', data[at + 16:after])
+
+    def _datagram(self, circuit: int, data: bytes, at: int, after: int) -> bool:
+        """A datagram that came."""
+        code = self._answer(DATAGRAM)
+        if code < 0:
+            return False
+        if circuit not in self.sent:
+            raise self.given.wrong(Fault.BAD_CIRCUIT)
+        self.came.append((self.place, circuit, code, data[at:min(at + 12, after)], after - at))
+        if not code and after - at > 12 and not data[at + 3] & 15:
+            self.facts.rows[circuit].hear('came', data[at + 12:after])
+        return True
 
     def _answer(self, asked: int) -> int:
         """The code of the next answer, or -1 where there is none."""
         stream = self.answered
-        while stream.at + 6 > len(stream.held):
+        at = stream.at
+        while at + 6 > len(stream.held):
             if not stream.more():
                 return -1
-        data, at = stream.held, stream.at
-        if data[at] != Kind.ANSWER or data[at + 4] != asked:
+            at = stream.at
+        data = stream.held
+        if data[at] != ANSWER or data[at + 4] != asked:
             raise stream.wrong()
         stream.at = at + 6
         return data[at + 5]
@@ -195,33 +222,40 @@ class Reading:
         return True
 
     def flush(self) -> None:
-        """Follows the octets that wait, then looks at the datagrams between them."""
-        facts = self.facts
+        """Follows all octets that wait, and looks at all datagrams."""
+        self._follow(self.place)
+        while self.told:
+            self._pass_on(self.told.popleft())
+        self.facts.turn(self.place)
+
+    def _follow(self, upto: int) -> None:
+        """Follows octets up to a place, then looks at the datagrams before it."""
         if self.trunk:
-            given = b''.join(self.trunk)
-            self.lines.trunk(given, b''.join(self.sends))
-            ones = given.count(b'\xff') == len(given) and len(given) >= 512
-            facts.ones.put(self.place - len(given), ones)
-            self.trunk.clear()
-            self.sends.clear()
-        told = self.told
-        for place, circuit, code, datagram in self.waiting:
+            given, sends = b''.join(self.trunk), b''.join(self.sends)
+            size = upto - self.followed
+            self.lines.trunk(given[:size], sends[:size])
+            for run in ONES.finditer(given, 0, size):
+                self.facts.ones.put(self.followed + run.start(), True)
+                self.facts.ones.put(self.followed + run.end(), False)
+            self.trunk, self.sends = [given[size:]], [sends[size:]]
+            self.followed = upto
+        facts, told, came = self.facts, self.told, self.came
+        rows = facts.rows
+        while came and came[0][0] <= upto:
+            place, circuit, code, head, length = came.popleft()
             while told and told[0]['place'] < place:
-                self._pass_on(told.pop(0))
-            facts.turn(place)
-            row = facts.rows[circuit]
-            if code < 0:
-                row.cell.sent += 1
-                if datagram[3] & 15 == 0:
-                    row.hear('sent', datagram[12:])
-            else:
-                row.came(place, code, datagram[:12], len(datagram))
-                if not code and datagram[3] & 15 == 0:
-                    row.hear('came', datagram[12:])
-        self.waiting.clear()
-        while told:
-            self._pass_on(told.pop(0))
-        facts.turn(self.place)
+                self._pass_on(told.popleft())
+            if place // facts.width != facts.column:
+                facts.turn(place)
+            rows[circuit].came(place, code, head, length)
+        while told and told[0]['place'] < upto:
+            self._pass_on(told.popleft())
+        facts.turn(upto)
+        for circuit, count in self.sent.items():
+            if count:
+                rows[circuit].cell.sent += count
+                self.sent[circuit] = 0
+        self.due = upto // facts.width * facts.width + max(facts.width, 4 * MULTIFRAME)
 
     def _pass_on(self, event: Event) -> None:
         if event['place'] >= self.facts.place:

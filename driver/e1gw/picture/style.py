@@ -35,15 +35,17 @@ text{fill:var(--ink);font-size:11.5px}.tick{font-size:10.5px;fill:var(--soft)}.b
 .p-admitted{stroke:var(--admitted);stroke-width:1.5;fill:none}.p-refused,.p-strip{fill:var(--refused)}
 .over{fill:transparent}.over:hover{fill:var(--line);fill-opacity:.18}
 table{border-collapse:collapse;margin:6px 0;font-variant-numeric:tabular-nums}caption{text-align:left;color:var(--soft)}
-td,th{border-bottom:1px solid var(--grid);padding:2px 12px 2px 0;text-align:left;vertical-align:top}
+td,th{border-bottom:1px solid var(--grid);padding:2px 12px 2px 0;text-align:left;vertical-align:top;white-space:nowrap;
+font-size:12.5px}
 th{font-weight:600;color:var(--soft)}td.n{text-align:right}summary{cursor:pointer;margin:6px 0}
 @media print{:root{color-scheme:light;--bg:#fff;--ink:#000;--soft:#444;--grid:#ccc;--idle:#c9ced5;--seized:#e69f00;
 --acked:#a9d4f1;--answered:#0b64a0;--clearedback:#b388c9;--releasing:#b79b6a;--blocked:#4d5661;--fault:#d55e00;
 --good:#cfe6d8;--window:#eef6f1;--sent:#2f8f6f;--admitted:#1f78b4;--refused:#c2185b;--bad:#b3124f;--card:#f5f7f9;
 --on-answered:#fff;--on-acked:#123;--line:#7b8794}
-body{padding:0;max-width:none;width:1140px;print-color-adjust:exact;-webkit-print-color-adjust:exact}
-.screen,details{display:none}h2{margin:10px 0 2px}.two{display:grid;grid-template-columns:1fr 1fr;gap:0 12px}
-svg{min-width:0}.found li{padding:1px 8px;margin:2px 0;font-size:12px}}
+@page{size:A4;margin:8mm}
+body{padding:0;margin:0;max-width:none;width:1140px;print-color-adjust:exact;-webkit-print-color-adjust:exact}
+.screen,details,.many .hint{display:none}h2{margin:8px 0 2px}.two{display:grid;grid-template-columns:1fr 1fr;gap:0 12px}
+svg{min-width:0}.wide{overflow:visible}.found li{padding:1px 8px;margin:2px 0;font-size:12px}}
 '''
 
 # The hatchings, which every drawing of the page uses.

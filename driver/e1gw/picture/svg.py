@@ -82,7 +82,8 @@ class Sheet:
     def box(self, x: float, y: float, wide: float, high: float, kind: str, title: str = '') -> None:
         """A rectangle of a class, at least so wide that it is seen."""
         told = f'><title>{html.escape(title)}</title></rect>' if title else '/>'
-        self.out.append(f'<rect x="{x:.1f}" y="{y:g}" width="{max(wide, 0.8):.1f}" height="{high:g}" class="{kind}"{told}')
+        self.out.append(f'<rect x="{x:.1f}" y="{y:g}" width="{max(wide, 0.8):.1f}" height="{high:g}" '
+                        f'class="{kind}"{told}')
 
     def path(self, d: str, kind: str, title: str = '') -> None:
         told = f'><title>{html.escape(title)}</title></path>' if title else '/>'

@@ -20,11 +20,11 @@ from .pairs import BadPairs, Pairs, pairs_of
 from .site import Site, context_of
 from .tie import Options, Tell, Tie
 
-ABOUT = '''Joins the circuits of two gateways at two sites: what an exchange seizes at one end is seized at the other, and
-answers, clear-backs, clearing, blocking, faults and alarms are passed on.'''
+ABOUT = '''Joins the circuits of two gateways at two sites: what an exchange seizes at one end is seized at the other,
+and answers, clear-backs, clearing, blocking, faults and alarms are passed on.'''
 MORE = '''One of these runs at each site beside its e1gw-trunk. Each thing that it does is a line of JSON on standard
 output. Without --tls the connection is neither secret nor authenticated. See e1gw-tie(1).'''
-BROKEN_AFTER = 100_000      # octets of the map's file that are looked at
+MOST_MAP = 100_000          # characters of the map's file that are looked at
 
 
 def seconds(text: str) -> float:
@@ -63,7 +63,7 @@ def parser() -> argparse.ArgumentParser:
 
 def read_map(path: str) -> Pairs:
     with open(path, encoding='utf-8', errors='replace') as file:
-        return pairs_of(file.read(BROKEN_AFTER))
+        return pairs_of(file.read(MOST_MAP))
 
 
 def site_of(options: argparse.Namespace, tie: Tie) -> Site:

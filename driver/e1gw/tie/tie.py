@@ -83,9 +83,7 @@ class Tie:
         reading.add_done_callback(lambda task: task.cancelled() or task.exception())
         try:
             await client.ask('events')
-            answer = await client.ask(f'on-loss clear {self.options.hold:g}')
-            if not answer.endswith('done'):
-                self.tell('warning', about='the driver clears no calls when this program is gone', answer=answer)
+            await self._ask_on_loss(client)
             life = life_of(self.options.control)
             await client.ask('status json', lambda text: self._begin(client, json.loads(text), life))
             while True:
@@ -97,6 +95,14 @@ class Tie:
             self._client = None
             reading.cancel()
             client.close()
+
+    async def _ask_on_loss(self, client: Client) -> None:
+        """Asks the driver to end calls, and to let nobody begin one, when this program is gone."""
+        for what in ('block', 'clear'):
+            answer = await client.ask(f'on-loss {what} {self.options.hold:g}')
+            if answer.endswith('done'):
+                return
+        self.tell('warning', about='the driver clears no calls when this program is gone', answer=answer)
 
     def _begin(self, client: Client, status: dict[str, Any], life: str) -> None:
         """All circuits as the driver has them, with what is remembered of their calls."""

@@ -1,0 +1,24 @@
+# bash completion for e1gw-trunk: options, files and the values of those that have some.
+
+_e1gw_trunk() {
+  local cur=${COMP_WORDS[COMP_CWORD]} prev=${COMP_WORDS[COMP_CWORD - 1]}
+  local options='--config --name --program --senders --totals --in --out --unix --tcp --satop --clear --most --reopen
+    --satop-size --satop-jitter --satop-rtp --satop-fill --satop-clock --control --control-mode --control-group
+    --on-loss --http --metrics --json --watch --top --no-counts --session --keep --gap --dark --help'
+  COMPREPLY=()
+  case $prev in
+    --config | --program | --in | --out | --unix | --control | --metrics | --json | --session)
+      compopt -o filenames 2> /dev/null
+      mapfile -t COMPREPLY < <(compgen -f -- "$cur") ;;
+    --satop-fill) mapfile -t COMPREPLY < <(compgen -W 'again ones' -- "$cur") ;;
+    --satop-clock) mapfile -t COMPREPLY < <(compgen -W 'packets own' -- "$cur") ;;
+    --senders) mapfile -t COMPREPLY < <(compgen -W 'any host peer' -- "$cur") ;;
+    --on-loss) mapfile -t COMPREPLY < <(compgen -W 'keep clear' -- "$cur") ;;
+    --control-group) mapfile -t COMPREPLY < <(compgen -g -- "$cur") ;;
+    --name | --tcp | --satop | --most | --satop-size | --satop-jitter | --satop-rtp | --control-mode | --http | \
+      --keep | --gap | --dark) ;;
+    *) mapfile -t COMPREPLY < <(compgen -W "$options" -- "$cur") ;;
+  esac
+}
+
+complete -F _e1gw_trunk e1gw-trunk

@@ -1,0 +1,68 @@
+"""How early datagrams come, as points over time: steps, and straight lines through them."""
+from __future__ import annotations
+
+from dataclasses import dataclass
+from statistics import median
+
+from .facts import FRAME, SECOND, Row
+
+AROUND = 6                  # points on each side of a step
+STEP = 120                  # samples, 15 ms, from which on it is one
+POINTS = 300
+Points = list[tuple[float, float]]      # place, samples before its turn
+
+
+@dataclass(frozen=True)
+class Step:
+    """All at once the datagrams come earlier before their turn by so many samples, or later where it is below 0."""
+    place: int
+    samples: float
+
+
+def points(row: Row, width: int) -> list[Points]:
+    """How many samples before its turn what came in a column was, on average, for each time that the playout began."""
+    out: list[Points] = [[]]
+    begun = sorted(row.begun)
+    for column in sorted(row.cells):
+        cell, place = row.cells[column], (column + 0.5) * width
+        while begun and begun[0] < (column + 1) * width:
+            begun.pop(0)
+            out.append([])
+        if cell.admitted:
+            out[-1].append((place, cell.total / cell.admitted))
+        else:
+            seen = cell.refused.get(14) or cell.refused.get(16)
+            if seen:
+                out[-1].append((place, (seen[1] + seen[2]) / 2))
+    return [_thinned(part) for part in out if len(part) > 3]
+
+
+def _thinned(part: Points) -> Points:
+    """At most so many points, each the mean of neighbours."""
+    each = -(-len(part) // POINTS)
+    groups = [part[n:n + each] for n in range(0, len(part), each)]
+    return [(sum(x for x, _ in group) / len(group), sum(y for _, y in group) / len(group)) for group in groups]
+
+
+def steps(part: Points) -> list[Step]:
+    """Where the points go to another height and stay there."""
+    out: list[Step] = []
+    for n in range(AROUND, len(part) - AROUND + 1):
+        before = [y for _, y in part[n - AROUND:n]]
+        after = [y for _, y in part[n:n + AROUND]]
+        jump = median(after) - median(before)
+        noise = max(max(before) - min(before), max(after) - min(after))
+        if abs(jump) > max(STEP, 1.5 * noise) and not (out and part[n][0] - out[-1].place < SECOND / 2):
+            out.append(Step(int(part[n][0]), jump))
+    return out
+
+
+def slope(part: Points) -> tuple[float, float, float]:
+    """Of the straight line through points: parts in a million, by how much it goes on in all, and how far the points
+    are from it, in samples."""
+    count = len(part)
+    x0, y0 = sum(x for x, _ in part) / count, sum(y for _, y in part) / count
+    square = sum((x - x0) ** 2 for x, _ in part)
+    gain = sum((x - x0) * (y - y0) for x, y in part) / square if square else 0.0
+    away = (sum((y - y0 - gain * (x - x0)) ** 2 for x, y in part) / count) ** 0.5
+    return gain * FRAME * 1e6, gain * (part[-1][0] - part[0][0]), away

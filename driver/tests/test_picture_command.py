@@ -1,0 +1,303 @@
+"""e1gw-picture as it is run: what it takes, what it writes, what it says, and captures."""
+from __future__ import annotations
+
+import io
+import json
+import os
+import re
+import shutil
+import struct
+import subprocess
+import tempfile
+import unittest
+
+from .support import TOP, program, run
+
+from .picture_made import TROUBLES, Made, Sender, answered, recorded
+
+from e1gw.picture.capture import reckoned
+from e1gw.picture.packets import BadCapture, datagrams
+from e1gw.session import OCTETS_A_SECOND, Kind, records_in
+
+COMMAND = os.path.join(TOP, 'driver', 'e1gw-picture')
+BEGIN = 1_700_000_000           # 2023-11-14 22:13:20 UTC
+GATEWAY, PEER = bytes([192, 0, 2, 1]), bytes([192, 0, 2, 2])
+
+
+def udp(source: int, target: int, body: bytes) -> bytes:
+    """A UDP packet over IPv4 (RFC 768, RFC 791)."""
+    return (struct.pack('>BBHHHBBH4s4s', 0x45, 0, 28 + len(body), 0, 0, 64, 17, 0, GATEWAY, PEER)
+            + struct.pack('>HHHH', source, target, 8 + len(body), 0) + body)
+
+
+def udp6(source: int, target: int, body: bytes) -> bytes:
+    """The same over IPv6 (RFC 8200)."""
+    return (struct.pack('>IHBB', 6 << 28, 8 + len(body), 17, 64) + bytes(32)
+            + struct.pack('>HHHH', source, target, 8 + len(body), 0) + body)
+
+
+def pcap(packets: list[tuple[float, bytes]], link: int = 101, front: bytes = b'') -> bytes:
+    """A capture with times in microseconds."""
+    out = [struct.pack('<IHHiIII', 0xA1B2C3D4, 2, 4, 0, 0, 65535, link)]
+    for time, octets in packets:
+        whole = front + octets
+        out.append(struct.pack('<IIII', int(time), round(time % 1 * 1e6) % 1_000_000, len(whole), len(whole)) + whole)
+    return b''.join(out)
+
+
+def pcapng(packets: list[tuple[float, bytes]]) -> bytes:
+    """The same with times in nanoseconds, in blocks."""
+    def block(kind: int, body: bytes) -> bytes:
+        body += bytes(-len(body) % 4)
+        return struct.pack('<II', kind, len(body) + 12) + body + struct.pack('<I', len(body) + 12)
+    out = [block(0x0A0D0D0A, struct.pack('<IHHq', 0x1A2B3C4D, 1, 0, -1)),
+           block(1, struct.pack('<HHI', 101, 0, 0) + struct.pack('<HHBxxx', 9, 1, 9) + struct.pack('<HH', 0, 0))]
+    for time, octets in packets:
+        unit = round(time * 1e9)
+        out.append(block(6, struct.pack('<5I', 0, unit >> 32, unit & 0xFFFFFFFF, len(octets), len(octets)) + octets))
+    return b''.join(out)
+
+
+class Folder(unittest.TestCase):
+    """Has a folder for what is read and written."""
+
+    def setUp(self) -> None:
+        folder = tempfile.TemporaryDirectory()
+        self.addCleanup(folder.cleanup)
+        self.folder = folder.name
+
+    def file(self, name: str, octets: bytes | str) -> str:
+        path = os.path.join(self.folder, name)
+        with open(path, 'wb') as file:
+            file.write(octets.encode() if isinstance(octets, str) else octets)
+        return path
+
+    def drawn(self, *words: str, status: int = 0, given: bytes = b'') -> tuple[str, str]:
+        """Runs the command; returns the page and what it said."""
+        done = subprocess.run([COMMAND, *words], input=given, stdout=subprocess.PIPE, stderr=subprocess.PIPE,
+                              check=False, timeout=120)
+        self.assertEqual(done.returncode, status, done.stderr.decode())
+        return done.stdout.decode(), done.stderr.decode()
+
+    def small(self, codes: int = 0) -> tuple[str, str, str]:
+        """A session of a call whose twenty datagrams are all answered so: configuration, session, answers."""
+        made = Made(1.2, {3: {'prefill': 320}})
+        made.call(3, 0.05, 1.0)
+        made.senders.append(Sender(3, 0.2, 0.5999))
+        records = list(made.given())
+        return (self.file('trunk.toml', made.config()), self.file('given.rec', b''.join(records)),
+                self.file('answers.rec', answered(records, [codes] * 20)))
+
+
+class Run(Folder):
+    """The command line."""
+
+    def test_help_comes_first(self) -> None:
+        for words in (['--help'], ['-h', 'no-file', '--config', 'none']):
+            page, said = self.drawn(*words)
+            self.assertIn('usage: e1gw-picture', page)
+            self.assertEqual(said, '')
+
+    def test_page_to_output_and_file(self) -> None:
+        config, given, answers = self.small()
+        page, said = self.drawn('--config', config, '--answers', answers, given)
+        self.assertEqual(said, '')
+        self.assertIn('20 admitted, 0 refused', page)
+        path = os.path.join(self.folder, 'page.html')
+        self.drawn('--config', config, '--answers', answers, '-o', path, given)
+        with open(path, encoding='utf-8') as file:
+            self.assertEqual(file.read(), page)
+
+    def test_standard_input_and_title(self) -> None:
+        config, given, answers = self.small(12)
+        with open(given, 'rb') as file:
+            page, _ = self.drawn('--config', config, '--answers', answers, '--title', 'A <b>', '-', given=file.read())
+        self.assertIn('0 admitted, 20 refused', page)
+        self.assertIn('<h1>A &lt;b&gt;</h1>', page)
+
+    def test_times_in_utc(self) -> None:
+        config, given, answers = self.small()
+        page, _ = self.drawn('--config', config, '--answers', answers, '--begin', '2023-11-14T22:13:20Z', given)
+        self.assertIn('2023-11-14 22:13:20 UTC', page)
+        again, _ = self.drawn('--config', config, '--answers', answers, '--begin', str(BEGIN), given)
+        self.assertEqual(page, again)
+
+    def test_cut_session_is_drawn_up_to_there(self) -> None:
+        config, given, answers = self.small()
+        with open(given, 'r+b') as file:
+            file.truncate(os.path.getsize(given) - 100)
+        page, said = self.drawn('--config', config, '--answers', answers, given)
+        self.assertIn('20 admitted, 0 refused', page)
+        self.assertIn('what was before it is drawn', said)
+        self.assertIn('what was before it is drawn', page)
+
+    def test_kept_session(self) -> None:
+        config, given, answers = self.small()
+        folder = os.path.join(self.folder, 'kept')
+        os.mkdir(folder)
+        shutil.copy(given, os.path.join(folder, 'west-20231114T221320Z.e1gw'))
+        about = {'config': config, 'time': BEGIN, 'place': 0, 'begins': 'start'}
+        with open(os.path.join(folder, 'west-20231114T221320Z.json'), 'w', encoding='utf-8') as file:
+            json.dump(about, file)
+        page, said = self.drawn('--answers', answers, folder)
+        self.assertIn('2023-11-14 22:13:20 UTC', page)
+        self.assertEqual(said, '')
+        about['begins'] = 'middle'
+        with open(os.path.join(folder, 'west-20231114T221320Z.json'), 'w', encoding='utf-8') as file:
+            json.dump(about, file)
+        page, said = self.drawn('--answers', answers, folder)
+        self.assertIn('begins in the middle', page)
+        self.assertIn('begins in the middle', said)
+
+    def test_what_cannot_be(self) -> None:
+        config, given, answers = self.small()
+        nothing = os.path.join(self.folder, 'nothing')
+        for words, status, said in (
+                (['--config', config], 1, 'no session was named'),
+                (['--answers', answers, given], 1, 'no configuration'),
+                (['--config', config, '--answers', answers, nothing], 1, 'No such file'),
+                (['--config', nothing, '--answers', answers, given], 1, 'No such file'),
+                (['--config', config, '--program', nothing, given], 1, 'No such file'),
+                (['--config', config, '--answers', config, given], 1, 'BadKind'),
+                (['--config', config, '--capture', config, given], 1, 'no local_port'),
+                (['--last', '5 parsecs', given], 2, 'no time'),
+                (['--circuits', '0-3', given], 2, '1 to 30'),
+                (['--circuits', 'x', given], 2, 'no list of circuits'),
+                (['--begin', 'noon', given], 2, 'no time'),
+                (['--config', config, '--answers', answers, '-o', nothing + '/x', given], 1, 'No such file')):
+            with self.subTest(words):
+                page, line = self.drawn(*words, status=status)
+                self.assertEqual(page, '')
+                self.assertIn(said, line)
+                self.assertNotIn('Traceback', line)
+
+    def test_closed_output(self) -> None:
+        config, given, answers = self.small()
+        reads, writes = os.pipe()
+        os.close(reads)
+        done = subprocess.run([COMMAND, '--config', config, '--answers', answers, given], stdout=writes,
+                              stderr=subprocess.PIPE, check=False)
+        os.close(writes)
+        self.assertEqual((done.returncode, done.stderr), (1, b''))
+
+    def test_circuits_alone(self) -> None:
+        config, given, answers = self.small()
+        page, _ = self.drawn('--config', config, '--answers', answers, '--circuits', '4-6', given)
+        self.assertIn('0 sent, 0 admitted, 0 refused', page)
+
+
+class WithProgram(Folder):
+    """With `e1gw replay` for the answers."""
+
+    def test_replayed(self) -> None:
+        path = program()
+        text, given = recorded('stranger')
+        page, said = self.drawn('--program', path, '--config', self.file('trunk.toml', text), '-', given=given)
+        self.assertEqual(said, '')
+        self.assertIn('WrongSource', page)
+
+    def test_refused_configuration(self) -> None:
+        config = self.file('trunk.toml', 'law = "A"\nhost = ""\n')
+        page, said = self.drawn('--program', program(), '--config', config, '-', status=1)
+        self.assertEqual((page, said), ('', 'e1gw-picture: config 5 OutOfRange at 0\n'))
+
+    def test_what_the_documents_quote(self) -> None:
+        path = program()
+        with open(os.path.join(TOP, 'docs', 'SYMPTOMS.md'), encoding='utf-8') as file:
+            quotes = re.findall(r'!\[\]\(pictures/([a-z-]+)\.svg\)\n\n> ([^:]+): (.*)\n', file.read())
+        self.assertEqual({name for name, _, _ in quotes}, set(TROUBLES) - {'sound'})
+        for name, who, words in quotes:
+            with self.subTest(name):
+                config, given = recorded(name)
+                page, _ = self.drawn('--program', path, '--config', self.file('trunk.toml', config), '-', given=given)
+                entries = [re.sub('<.*?>', '', entry) for entry in re.findall('<li.*?</li>', page, re.S)]
+                wanted = who + words.replace("'", '&#x27;')
+                self.assertTrue(any(entry.startswith(wanted) for entry in entries), (wanted, entries))
+
+
+class Captured(Folder):
+    """Datagrams of a capture."""
+
+    def test_forms_of_captures(self) -> None:
+        packets = [(BEGIN + 0.25, udp(5004, 5006, b'one')), (BEGIN + 0.5, udp6(5006, 5004, b'two'))]
+        found = [(BEGIN + 0.25, 5004, 5006, b'one'), (BEGIN + 0.5, 5006, 5004, b'two')]
+        ether = [(time, bytes(12) + (b'\x08\x00' if octets[0] >> 4 == 4 else b'\x86\xDD') + octets)
+                 for time, octets in packets]
+        vlan = [(time, octets[:12] + b'\x81\x00\x00\x05' + octets[12:]) for time, octets in ether]
+        for octets in (pcap(packets), pcapng(packets), pcap(ether, 1), pcap(vlan, 1)):
+            self.assertEqual([tuple(each) for each in datagrams(io.BytesIO(octets))], found)
+            self.assertEqual([tuple(each) for each in datagrams(io.BytesIO(octets[:-1]))], found[:1])
+
+    def test_what_is_no_capture(self) -> None:
+        for octets in (b'', b'RIFF', b'\x0A\x0D\x0D\x0A' + struct.pack('<I', 5) + b'\x4D\x3C\x2B\x1A'):
+            with self.assertRaises(BadCapture):
+                list(datagrams(io.BytesIO(octets)))
+        other = [(0.0, b'\x45' + bytes(30)), (0.0, b''), (0.0, udp(1, 2, b'')[:27])]
+        self.assertEqual(list(datagrams(io.BytesIO(pcap(other)))), [])
+
+    def split(self, name: str) -> tuple[str, bytes, bytes, bytes]:
+        """A session with a trouble, its octets and commands alone, and a capture of its datagrams both ways."""
+        text, given = recorded(name)
+        config = self.file('trunk.toml', text)
+        packets, bare, place = [], [], 0
+        for record in records_in(given):
+            if record.kind is Kind.DATAGRAM:
+                packets.append((BEGIN + place / OCTETS_A_SECOND, udp(24106, 24006, record.body)))
+            else:
+                bare.append(record.spelled())
+                place += len(record.body) * (record.kind is Kind.TRUNK)
+        for record in records_in(run('replay', '--config', config, given=given)):
+            if record.kind is Kind.DATAGRAM:
+                # Its last word was heard in the frame of its timestamp and 160 more.
+                frame = struct.unpack_from('>I', record.body, 4)[0] + 160
+                packets.append((BEGIN + frame / 8000, udp(24006, 24106, record.body)))
+        return config, given, b''.join(bare), pcap(sorted(packets, key=lambda each: each[0]))
+
+    def test_beside_a_session(self) -> None:
+        path = program()
+        for name in ('hold', 'jump', 'jitter'):
+            with self.subTest(name):
+                config, given, bare, capture = self.split(name)
+                whole, _ = self.drawn('--program', path, '--config', config, '-', given=given)
+                beside, _ = self.drawn('--program', path, '--config', config, '--capture',
+                                       self.file('call.pcap', capture), '-', given=bare)
+                counts = r'(\d+) sent, (\d+) admitted, (\d+) refused'
+                wanted, found = (re.findall(counts, page)[0] for page in (whole, beside))
+                self.assertEqual(wanted[0], found[0])
+                # A microsecond of the capture's times can put a datagram into the frame before.
+                self.assertAlmostEqual(int(wanted[1]), int(found[1]), delta=3)
+                self.assertIn('2023-11-14 22:13:20 UTC', beside)
+
+    def test_alone(self) -> None:
+        program()
+        config, given, _, capture = self.split('hold')
+        path = self.file('call.pcap', capture)
+        answers = run('replay', '--config', config, given=given)
+        told = [record.body[1] for record in records_in(answers)
+                if record.kind is Kind.ANSWER and record.body[0] == Kind.DATAGRAM]
+        import tomllib
+        with open(config, 'rb') as file:
+            facts = reckoned(path, tomllib.load(file))
+        cell = facts.rows[3].count()
+        self.assertAlmostEqual(cell.admitted, told.count(0), delta=1)
+        self.assertAlmostEqual(cell.refused[12][0], told.count(12), delta=1)
+        # Seized at 0.1 s, acknowledged 30 ms on, recognised after 20 more; then a packet takes 20.
+        self.assertAlmostEqual(facts.begin or 0.0, BEGIN + 0.17, delta=0.005)
+        page, _ = self.drawn('--config', config, '--capture', path)
+        self.assertIn('reckoned from the capture', page)
+
+    def test_one_way_needs_a_begin(self) -> None:
+        program()
+        config, _, bare, capture = self.split('hold')
+        packets = [(each.time, udp(each.source, each.target, each.body)) for each in datagrams(io.BytesIO(capture))
+                   if each.target == 24006]
+        path = self.file('call.pcap', pcap(packets))
+        _, said = self.drawn('--program', program(), '--config', config, '--capture', path, '-', given=bare, status=1)
+        self.assertIn('--begin', said)
+        page, _ = self.drawn('--program', program(), '--config', config, '--capture', path, '--begin', str(BEGIN), '-',
+                             given=bare)
+        self.assertIn('WrongSource', page)
+
+
+if __name__ == '__main__':
+    unittest.main()

@@ -1,0 +1,187 @@
+"""Trunks of each kind, and what becomes of calls when a trunk loses octets or goes and comes again."""
+from __future__ import annotations
+
+import json
+import os
+import pty
+import socket
+import tempfile
+import threading
+import time
+import tty
+import unittest
+
+from . import support
+from .test_driver import FOUR, aligned, call
+from .world import SECONDS, World, config_of
+from e1gw.trunks import Stream, Trunk, host_and_port, open_files, open_tcp, open_unix
+
+OCTETS = bytes(range(256)) * 2
+
+
+class Kinds(unittest.TestCase):
+    """Each kind gives the octets that come and sends those that go, and ends with an EOFError."""
+
+    def setUp(self) -> None:
+        folder = tempfile.TemporaryDirectory()
+        self.addCleanup(folder.cleanup)
+        self.folder = folder.name
+
+    def path(self, name: str) -> str:
+        return os.path.join(self.folder, name)
+
+    def both_ways(self, trunk: Trunk, reads: int, writes: int) -> None:
+        """The other end writes and reads by these descriptors, which it then closes."""
+        self.assertEqual(trunk.read(100), b'')
+        os.write(writes, OCTETS)
+        read = b''
+        while len(read) < len(OCTETS):
+            read += trunk.read(100)
+        trunk.write(OCTETS)
+        back = b''
+        while len(back) < len(OCTETS):
+            back += os.read(reads, 1000)
+        self.assertEqual((read, back), (OCTETS, OCTETS))
+        for file in {reads, writes}:
+            os.close(file)
+        with self.assertRaises(EOFError):
+            for _ in range(100):
+                trunk.read(100)
+                time.sleep(0.01)
+        trunk.close()
+
+    def test_fifos(self) -> None:
+        for name in ('in', 'out'):
+            os.mkfifo(self.path(name))
+        opened: list[Stream] = []
+        thread = threading.Thread(target=lambda: opened.append(open_files(self.path('in'), self.path('out'))))
+        thread.start()
+        writes = os.open(self.path('in'), os.O_WRONLY)
+        reads = os.open(self.path('out'), os.O_RDONLY)
+        thread.join(SECONDS)
+        self.both_ways(opened[0], reads, writes)
+
+    def test_a_pseudo_terminal(self) -> None:
+        ours, theirs = pty.openpty()
+        tty.setraw(theirs)
+        trunk = open_files(os.ttyname(theirs), os.ttyname(theirs))
+        os.close(theirs)
+        self.both_ways(trunk, ours, ours)
+
+    def test_a_unix_socket(self) -> None:
+        with socket.socket(socket.AF_UNIX) as door:
+            door.bind(self.path('card'))
+            door.listen()
+            trunk = open_unix(self.path('card'))
+            file = door.accept()[0].detach()
+        self.both_ways(trunk, file, file)
+
+    def test_a_tcp_socket(self) -> None:
+        with socket.create_server(('127.0.0.1', 0)) as door:
+            trunk = open_tcp('127.0.0.1', door.getsockname()[1])
+            file = door.accept()[0].detach()
+        self.both_ways(trunk, file, file)
+
+    def test_a_file(self) -> None:
+        with open(self.path('in'), 'wb') as file:
+            file.write(OCTETS)
+        trunk = open_files(self.path('in'), self.path('out'))
+        self.assertEqual((trunk.read(500), trunk.read(500), trunk.paced), (OCTETS[:500], OCTETS[500:], False))
+        with self.assertRaises(EOFError):
+            trunk.read(1)
+        trunk.write(OCTETS)
+        trunk.close()
+        with open(self.path('out'), 'rb') as file:
+            self.assertEqual(file.read(), OCTETS)
+
+    def test_what_is_not_taken_waits(self) -> None:
+        reads, writes = os.pipe()
+        trunk = Stream(os.open(os.devnull, os.O_RDONLY), writes, 'pipe')
+        self.addCleanup(os.close, reads)
+        sent = 0
+        while not trunk.waiting():
+            trunk.write(OCTETS)
+            sent += len(OCTETS)
+        got = 0
+        while got < sent:
+            got += len(os.read(reads, 1 << 20))
+            trunk.flush()
+        self.assertEqual((got, trunk.waiting()), (sent, 0))
+        with self.assertRaises(OSError):
+            for _ in range(10_000):
+                trunk.write(OCTETS)
+        trunk.close()
+
+    def test_hosts_and_ports(self) -> None:
+        self.assertEqual(host_and_port('127.0.0.1:1'), ('127.0.0.1', 1))
+        self.assertEqual(host_and_port('[::1]:65535'), ('::1', 65535))
+        for text in ('', ':', 'a', 'a:', ':1', 'a:0', 'a:65536', 'a:99999', 'a:-1', 'a:٣', '.x:1', 'a..b:1', '[]:1'):
+            with self.subTest(text), self.assertRaises(ValueError):
+                host_and_port(text)
+
+
+class Service(unittest.TestCase):
+    def setUp(self) -> None:
+        support.program()
+
+    def test_lost_octets_begin_the_playout_anew(self) -> None:
+        with World(config_of(FOUR, prefill=160)) as world:
+            aligned(world)
+            events = world.follow()
+            self.addCleanup(events.close)
+            for n in (1, 2):
+                call(world, n)
+            self.in_time(world, 0.5)
+            time.sleep(0.7)
+            self.in_time(world, 1.0)
+            world.quit()
+            told = [json.loads(line) for line in events]
+            gaps = [event for event in told if event['event'] == 'gap']
+            renewed = [event['circuits'] for event in told if event['event'] == 'renewed'
+                       and event['why'].startswith('gap')]
+            self.assertTrue(gaps and max(gap['seconds'] for gap in gaps) > 0.4, told)
+            self.assertIn([1, 2], renewed)
+
+    def in_time(self, world: World, seconds: float) -> None:
+        """Multiframes at their rate."""
+        due = time.monotonic()
+        for _ in range(round(seconds / 0.002)):
+            world.step()
+            due += 0.002
+            time.sleep(max(0.0, due - time.monotonic()))
+
+    def test_a_trunk_that_comes_again(self) -> None:
+        with World(config_of(FOUR), '--reopen') as world:
+            aligned(world)
+            call(world, 1)
+            world.line.close()
+            until = time.monotonic() + SECONDS
+            while world.status()['trunk_up'] and time.monotonic() < until:
+                time.sleep(0.05)
+            self.assertEqual(world.ask('seize 2'), 'seize 2: no trunk')
+            os.unlink(world.path('card'))
+            with socket.socket(socket.AF_UNIX) as door:
+                door.bind(world.path('card'))
+                door.listen()
+                door.settimeout(SECONDS)
+                world.line = door.accept()[0]
+            world.line.settimeout(SECONDS)
+            world.step(50)
+            self.assertEqual((world.status()['trunk_up'], world.state(1)), (True, 'answered'))
+
+    def test_a_trunk_that_takes_nothing_holds_nobody_else(self) -> None:
+        with World(config_of(FOUR)) as world:
+            aligned(world)
+            world.line.setblocking(False)
+            try:
+                for _ in range(20_000):
+                    world.line.send(world.exchange.multiframe())
+            except BlockingIOError:
+                pass
+            for _ in range(3):
+                self.assertEqual(world.ask('codec 1 pcma 8'), 'codec 1: done')
+                time.sleep(0.1)
+
+
+if __name__ == '__main__':
+    unittest.main()

@@ -1,0 +1,125 @@
+"""What is seen from outside: pages over HTTP, the text of Prometheus, the file of metrics, and the rules of alerts."""
+from __future__ import annotations
+
+import json
+import re
+import socket
+import time
+import unittest
+import urllib.error
+import urllib.request
+
+from . import support
+from .test_driver import FOUR, aligned, call
+from .world import SECONDS, World, config_of
+from e1gw.metrics import family
+
+SAMPLE = re.compile(r'([a-z_0-9]+)(\{(?:[a-z_]+="(?:[^"\\]|\\.)*",?)*\})? (-?[0-9.e+-]+)')
+
+
+def samples(text: str) -> dict[str, float]:
+    """The samples of a text of Prometheus; each is of a family that was declared before it, and stands there once."""
+    found: dict[str, float] = {}
+    declared: set[str] = set()
+    for line in text.splitlines():
+        if line.startswith('# TYPE '):
+            declared.add(line.split()[2])
+        elif not line.startswith('# HELP '):
+            match = SAMPLE.fullmatch(line)
+            assert match and match[1] in declared and line.rpartition(' ')[0] not in found, line
+            found[line.rpartition(' ')[0]] = float(match[3])
+    return found
+
+
+def free_port() -> int:
+    with socket.create_server(('127.0.0.1', 0)) as door:
+        port: int = door.getsockname()[1]
+        return port
+
+
+class Text(unittest.TestCase):
+    def test_labels_are_escaped(self) -> None:
+        text = family('a', 'gauge', 'b', [({'c': 'd"e\\f\ng'}, 1)], 'h="i"')
+        self.assertEqual(text, '# HELP a b\n# TYPE a gauge\na{h="i",c="d\\"e\\\\f\\ng"} 1\n')
+
+
+class Pages(unittest.TestCase):
+    def setUp(self) -> None:
+        support.program()
+        self.port = free_port()
+        self.world = World(config_of(FOUR), '--http', f'127.0.0.1:{self.port}', '--name', 'west', '--metrics', '@/prom')
+        self.addCleanup(self.world.__exit__)
+
+    def get(self, path: str) -> str:
+        with urllib.request.urlopen(f'http://127.0.0.1:{self.port}{path}', timeout=SECONDS) as page:
+            text: str = page.read().decode()
+            return text
+
+    def test_pages(self) -> None:
+        world = self.world
+        aligned(world)
+        call(world, 1)
+        world.ask('seize 1')
+        world.step(30)
+        status = world.settled()
+        found = samples(self.get('/metrics'))
+        counts = status['circuits'][0]['datagrams']
+        self.assertGreater(counts['sent'], 2)
+        for name, value in (
+                ('e1gw_trunk_octets_total{trunk="west"}', status['octets']),
+                ('e1gw_alarm{trunk="west",end="this",alignment="frame"}', 0),
+                ('e1gw_circuit_state{trunk="west",circuit="1",role="outgoing",state="answered"}', 1),
+                ('e1gw_circuit_state{trunk="west",circuit="1",role="outgoing",state="idle"}', 0),
+                ('e1gw_circuit_seizures_total{trunk="west",circuit="1"}', 1),
+                ('e1gw_datagrams_total{trunk="west",circuit="1",what="sent"}', counts['sent']),
+                ('e1gw_commands_total{trunk="west",command="seize",answer="not idle"}', 1),
+                ('e1gw_ended{trunk="west",what="shadow"}', 0), ('e1gw_counts_stale{trunk="west"}', 0)):
+            self.assertEqual(found.get(name), value, name)
+        self.assertEqual(json.loads(self.get('/status'))['octets'], status['octets'])
+        for path in ('/none', '/metrics/x'):
+            with self.assertRaises(urllib.error.HTTPError) as fault:
+                self.get(path)
+            self.assertEqual(fault.exception.code, 404)
+            fault.exception.close()
+        self.assertIn('answered', self.get('/'))
+
+    def test_rules_name_what_there_is(self) -> None:
+        with open(f'{support.TOP}/package/alerts.yml', encoding='utf-8') as file:
+            named = set(re.findall(r'\be1gw_\w+', file.read()))
+        metrics = self.get('/metrics')
+        declared = set(re.findall(r'^# TYPE (\w+)', metrics, re.M)) | {'e1gw_trunk_rate_ppm'}
+        self.assertLessEqual(named, declared)
+
+    def test_a_file_of_metrics(self) -> None:
+        until = time.monotonic() + SECONDS
+        path = self.world.path('prom')
+        text = ''
+        while not text and time.monotonic() < until:
+            try:
+                with open(path, encoding='utf-8') as file:
+                    text = file.read()
+            except FileNotFoundError:
+                time.sleep(0.05)
+        self.assertIn('e1gw_uptime_seconds{trunk="west"}', samples(text))
+        self.world.quit()
+        with self.assertRaises(FileNotFoundError):
+            open(path, encoding='utf-8').close()
+
+    def test_visitors_that_are_slow_or_mad(self) -> None:
+        lines = []
+        for request in (b'', b'GET', b'\xff' * 20_000, b'GET /metrics HTTP/1.0\r\n\r\n', b'\r\n\r\n',
+                        b'DELETE / HTTP/1.0\r\n\r\n'):
+            line = socket.create_connection(('127.0.0.1', self.port))
+            line.sendall(request)
+            lines.append(line)
+        for _ in range(80):
+            lines.append(socket.create_connection(('127.0.0.1', self.port)))
+        aligned(self.world)
+        for line in lines:
+            line.close()
+        time.sleep(0.1)
+        self.assertIn('e1gw_trunk_up', self.get('/metrics'))
+
+
+if __name__ == '__main__':
+    unittest.main()
