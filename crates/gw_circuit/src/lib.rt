@@ -94,6 +94,3 @@ pub struct Status {
     /// The datagrams that were dropped.
     pub dropped: u32,
 }
-
-#[cfg(test)]
-mod tests;

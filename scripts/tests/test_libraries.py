@@ -1,7 +1,7 @@
 #!/usr/bin/env python3
 """Tests scripts/libraries and scripts/build on a small tree, with a command rt that proves nothing.
 
-usage: scripts/test_libraries.py
+usage: scripts/tests/test_libraries.py
 """
 import os
 import shutil
@@ -15,7 +15,7 @@ from importlib.machinery import SourceFileLoader
 from importlib.util import module_from_spec, spec_from_loader
 from types import ModuleType
 
-SCRIPTS = os.path.dirname(os.path.realpath(__file__))
+SCRIPTS = os.path.dirname(os.path.dirname(os.path.realpath(__file__)))
 ROWS = 'low:\nother:\nmiddle: low arrayvec\ngateway_main: clap middle other\napart: low\n'
 # It notes when it begins and ends with a library, and what of the libraries below is there.
 RT = '''#!/bin/sh
