@@ -1,9 +1,10 @@
-"""What bench/flood runs. Argument: the program. (With `flood PORT SECONDS` it is the flood itself, a process of its
-own, so that it does not hold the trunk up.)
+"""What bench/flood runs. Argument: the program. (With `flood PORT SECONDS RATE ADDRESS` it is the flood itself, a
+process of its own, so that it does not hold the trunk up.)
 
 The trunk goes in real time. This script is the peer of circuit 1 and sends it a packet of known speech every 20 ms
 of the trunk, so what circuit 1 sends to the trunk and to its peer is the same in each run. Circuit 2 has a call up
-too; its port is the one that is flooded, and nobody listens where its packets go.
+too; its port is the one that is flooded, and nobody listens where its packets go. Then the call's own port is
+flooded, and again with `--senders host` and `--senders peer`, by strangers at another address and faster.
 """
 import os
 import random
@@ -18,6 +19,8 @@ sys.path.insert(0, os.path.join(os.path.dirname(os.path.abspath(__file__)), '..'
 from exchange import ACKNOWLEDGED, Exchange, Serve  # noqa: E402
 
 RATE, SECONDS = 10000, 5
+FASTER = 50000                          # from ELSEWHERE, where only the peer is let in
+HERE, ELSEWHERE = '127.0.0.1', '127.0.0.9'
 STEP = 0.002                            # seconds of a multiframe
 PACKET_STEPS = 10
 CALL, PEER, FLOODED, NOBODY = 21051, 21052, 21053, 21054
@@ -69,16 +72,19 @@ def strangers(large):
             yield rtp(8, sequence, sequence * 160, ssrc, bytes(65507 - 12))
 
 
-def flood(port, seconds):
-    """Sends the strangers' datagrams from eight sockets, RATE a second; prints how many and in what time."""
+def flood(port, seconds, rate, address):
+    """Sends the strangers' datagrams from eight sockets at an address, so many a second; prints how many and in what
+    time."""
     sockets = [socket.socket(socket.AF_INET, socket.SOCK_DGRAM) for _ in range(8)]
+    for each in sockets:
+        each.bind((address, 0))
     begun = time.monotonic()
     # Three large ones fill a socket, so at the call's own port they would crowd its packets out in the kernel.
     sent, datagrams = 0, strangers(port != CALL)
-    while sent < RATE * seconds:
-        due = min(RATE * seconds, int((time.monotonic() - begun) * RATE))
+    while sent < rate * seconds:
+        due = min(rate * seconds, int((time.monotonic() - begun) * rate))
         for _ in range(due - sent):
-            sockets[sent % 8].sendto(next(datagrams), ('127.0.0.1', port))
+            sockets[sent % 8].sendto(next(datagrams), (HERE, port))
             sent += 1
         time.sleep(0.001)
     print(sent, time.monotonic() - begun)
@@ -101,13 +107,15 @@ def kernel(port):
     return 0, 0
 
 
-def call(program, path, flooded, what):
+def call(program, path, flooded, what, *options):
     """Runs the calls for some seconds, with a flood at that port if one is named; returns what circuit 1 sent to the
-    trunk and to its peer, with the status, and how many datagrams the kernel dropped at that port."""
+    trunk and to its peer, with the status, and how many datagrams the kernel dropped at that port. With options the
+    flood is the faster one from elsewhere."""
+    rate, address = (FASTER, ELSEWHERE) if options else (RATE, HERE)
     peer = socket.socket(socket.AF_INET, socket.SOCK_DGRAM)
     peer.bind(('127.0.0.1', PEER))
     peer.setblocking(False)
-    serve, exchange, packets, speech = Serve(program, path), Exchange(), [], random.Random(1)
+    serve, exchange, packets, speech = Serve(program, path, *options), Exchange(), [], random.Random(1)
     spoken = random.Random(3)
     due, late, dropped, strangers_at_work = time.monotonic(), 0.0, 0, None
     for step in range(round((SECONDS + 1) / STEP)):
@@ -118,8 +126,8 @@ def call(program, path, flooded, what):
         if step == 55:
             exchange.pairs.update({1: ACKNOWLEDGED, 2: ACKNOWLEDGED})
         if step == 150 and flooded:
-            strangers_at_work = subprocess.Popen([sys.executable, '-B', __file__, 'flood', str(flooded), str(SECONDS)],
-                                                 stdout=subprocess.PIPE, text=True)
+            strangers_at_work = subprocess.Popen([sys.executable, '-B', __file__, 'flood', str(flooded), str(SECONDS),
+                                                  str(rate), address], stdout=subprocess.PIPE, text=True)
         if step >= 100 and step % PACKET_STEPS == 0:
             turn = step // PACKET_STEPS
             peer.sendto(rtp(96, turn, turn * 160, 7, speech.randbytes(80)), ('127.0.0.1', CALL))
@@ -167,8 +175,11 @@ def main():
         path = config(folder, CONFIG.replace('HOST', '127.0.0.1'))
         alone, _ = call(program, path, None, 'no flood')
         good = alone[2] == 0 and len(alone[1]) > 200
-        for port, what in ((FLOODED, "flood at circuit 2's port"), (CALL, "flood at circuit 1's own port")):
-            flooded, dropped = call(program, path, port, what)
+        own = "flood at circuit 1's own port"
+        for port, what, *options in ((FLOODED, "flood at circuit 2's port"), (CALL, own),
+                                     (CALL, own + ', --senders host', '--senders', 'host'),
+                                     (CALL, own + ', --senders peer', '--senders', 'peer')):
+            flooded, dropped = call(program, path, port, what, *options)
             print(f'{what}: ' + ('the same octets and packets' if flooded == alone else
                                  'not the same, but the kernel may have dropped some of the call' if port == CALL
                                  and dropped else 'NOT the same octets and packets'))
@@ -183,6 +194,6 @@ def main():
 
 if __name__ == '__main__':
     if sys.argv[1] == 'flood':
-        flood(int(sys.argv[2]), int(sys.argv[3]))
+        flood(*map(int, sys.argv[2:5]), sys.argv[5])
     else:
         main()

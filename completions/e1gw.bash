@@ -1,4 +1,4 @@
-# bash completion for e1gw: subcommands, options and their values, and a file for --config.
+# bash completion for e1gw: subcommands, options and their values, and a file for --config and --record.
 
 # The values of an option, or nothing where it takes a number of its own.
 _e1gw_values() {
@@ -13,7 +13,8 @@ _e1gw_values() {
 _e1gw_options() {
   case $1 in
     encode | decode) echo '--law --codec --payload --ptime --ssrc --sequence --timestamp --totals --help' ;;
-    replay | check | serve) echo '--config --totals --help' ;;
+    replay | check) echo '--config --totals --help' ;;
+    serve) echo '--config --record --record-over --totals --help' ;;
     '') echo '--help --version' ;;
   esac
 }
@@ -35,7 +36,7 @@ _e1gw() {
       return ;;
     --payload | --ssrc | --sequence | --timestamp)
       return ;;
-    --config)
+    --config | --record)
       compopt -o filenames 2> /dev/null
       mapfile -t COMPREPLY < <(compgen -f -- "$cur")
       return ;;

@@ -1,13 +1,16 @@
 """Both ends of a trunk for scripts: `e1gw serve` as a process, and the exchange that its trunk leads to.
 
-Python's standard library alone. Used by examples/two_gateways, bench/interwork and bench/flood.
+Python's standard library alone. Used by the examples, bench/interwork and bench/flood.
 """
 import math
-import struct
+import os
 import subprocess
+import sys
 
-FRAME = 32                  # octets of a frame, one for each time slot
-MULTIFRAME = 16 * FRAME     # 2 ms
+sys.dont_write_bytecode = True
+sys.path.insert(0, os.path.join(os.path.dirname(os.path.dirname(os.path.abspath(__file__))), 'driver'))
+from e1gw.session import FRAME, HEAD, MULTIFRAME, Command, command_record, trunk_record  # noqa: E402
+
 FAS, NFAS = 0x9B, 0xDF      # slot 0: the frame alignment signal, and the octet between two of them
 REMOTE_ALARM = 0x20         # bit A of the octet between two signals
 MULTIFRAME_ALARM = 0x04     # bit y of slot 16 in frame 0
@@ -16,21 +19,7 @@ IDLE_OCTET = {'A': 0xD5, 'mu': 0xFF}
 # The pairs ab of ITU-T Q.421.
 SEIZED, ANSWERED, IDLE, ACKNOWLEDGED = 0b00, 0b01, 0b10, 0b11
 
-COMMANDS = {'seize': 1, 'clear': 2, 'answer': 3, 'clear-back': 4, 'block': 5, 'unblock': 6}
-
-
-def record(kind, circuit, body):
-    """A record of a session: its kind and circuit, the length of its body, its body."""
-    return struct.pack('>cBH', kind, circuit, len(body)) + body
-
-
-def records(session):
-    """The records of a session: kind, circuit, body."""
-    at = 0
-    while at < len(session):
-        kind, circuit, length = struct.unpack_from('>cBH', session, at)
-        yield kind, circuit, bytes(session[at + 4:at + 4 + length])
-        at += 4 + length
+COMMANDS = {command.word: command for command in Command}
 
 
 class Serve:
@@ -54,7 +43,7 @@ class Serve:
         head = self.process.stdout.read(4)
         if len(head) < 4:
             self._gone()
-        body = self.process.stdout.read(struct.unpack('>xxH', head)[0])
+        body = self.process.stdout.read(HEAD.unpack(head)[2])
         self.answered.append(head + body)
         return body
 
@@ -63,12 +52,12 @@ class Serve:
 
     def trunk(self, octets):
         """Gives it octets of the trunk; returns as many that it sends."""
-        self._give(record(b'T', 0, octets))
+        self._give(trunk_record(octets))
         return self._answer()
 
     def command(self, circuit, name):
         """An operator's command; returns 0, or the number of the fault."""
-        self._give(record(b'C', circuit, bytes([COMMANDS[name]])))
+        self._give(command_record(circuit, COMMANDS[name]))
         return self._answer()[1]
 
     def end(self):

@@ -234,7 +234,7 @@ def main():
     lines = page('e1gw.1')
     compare_options(lines)
     for option, about in described(lines).items():
-        if option not in {'config', 'totals', 'help', 'version'}:
+        if option not in {'config', 'record', 'record-over', 'totals', 'help', 'version'}:
             compare_values(option, about)
     compare_payloads()
     compare_options_passed_over(lines)

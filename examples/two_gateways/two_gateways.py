@@ -1,6 +1,8 @@
 """Two gateways and the exchanges at the ends of their trunks; `run` beside this file makes the speech and starts it.
 
-Arguments: the program, the folder of west.toml and east.toml, and a file of A-law octets for each of the two.
+Arguments: the program, the folder of west.toml and east.toml, the folder where recordings are kept, and a file of
+A-law octets for each of the two. Kept are west.rec and east.rec, what each gateway took (its --record), and west.raw
+and east.raw, the octets of the trunk that it sent.
 
 Both trunks are driven in lock step, as fast as the machine goes: each gateway is given one multiframe (2 ms of its
 trunk), and its answer is read before the other has its turn. So the two trunks have one clock, a packet that one
@@ -14,7 +16,8 @@ import sys
 HERE = os.path.dirname(os.path.abspath(__file__))
 sys.path.insert(0, os.path.join(HERE, '..', '..', 'scripts'))
 from exchange import (ACKNOWLEDGED, ANSWERED, IDLE, SEIZED, Exchange, Serve,  # noqa: E402
-                      decibels, delay, record, records, samples)
+                      decibels, delay, samples)
+from e1gw.session import Kind, records_in  # noqa: E402
 
 CIRCUIT = 1
 PATIENCE = 500      # multiframes, 1 s
@@ -24,11 +27,12 @@ BAR = 20            # decibels
 class End:
     """A gateway, its trunk and the exchange there."""
 
-    def __init__(self, name, program, folder, first):
+    def __init__(self, name, program, folder, kept, first):
         self.name = name
         self.config = os.path.join(folder, name + '.toml')
         self.program = program
-        self.serve = Serve(program, self.config)
+        self.recording, self.sent = (os.path.join(kept, name + ending) for ending in ('.rec', '.raw'))
+        self.serve = Serve(program, self.config, '--record', self.recording, '--record-over')
         self.exchange = Exchange()
         # The trunk does not begin with a frame: the gateway has to look for one.
         self.exchange.hear(self.serve.trunk(self.exchange.multiframe()[first:]))
@@ -44,16 +48,9 @@ class End:
         """Whether the exchange sees this line signal."""
         return self.exchange.signals.get(CIRCUIT) == pair
 
-    def session(self, datagrams=None, later=0):
-        """The session so far; with datagrams, each stands before the trunk record that was to read it."""
-        out, turn = [], 0
-        for given in self.serve.given:
-            if given[:1] == b'T':
-                if datagrams and turn >= later:
-                    out += datagrams[turn - later]
-                turn += 1
-            out.append(given)
-        return b''.join(out)
+    def session(self):
+        """The session so far, but for its datagrams."""
+        return b''.join(self.serve.given)
 
     def run(self, command, session):
         return subprocess.run([self.program, command, '--config', self.config], input=session,
@@ -63,15 +60,17 @@ class End:
         """The circuit's line of the listing that `e1gw check` gives for a session."""
         return self.run('check', session).decode().splitlines()[CIRCUIT - 1]
 
-    def datagrams(self):
-        """For each trunk record the datagrams that the gateway sent, as `e1gw replay` tells them."""
-        sent = [[]]
-        for kind, circuit, body in records(self.run('replay', self.session())):
-            if kind == b'D':
-                sent[-1].append(record(b'D', circuit, body))
-            elif kind == b'T':
-                sent.append([])
-        return sent
+    def keep(self):
+        """Keeps the octets of the trunk that were sent, and returns them."""
+        octets = trunk_octets(b''.join(self.serve.answered))
+        with open(self.sent, 'wb') as file:
+            file.write(octets)
+        return octets
+
+    def recorded(self):
+        """What the gateway took."""
+        with open(self.recording, 'rb') as file:
+            return file.read()
 
 
 class Call:
@@ -159,28 +158,29 @@ def came_through(name, sentence, octets):
     return ratio
 
 
+def trunk_octets(session):
+    """The octets of the trunk in a session."""
+    return b''.join(record.body for record in records_in(session) if record.kind is Kind.TRUNK)
+
+
 def replayed(west, east):
-    """Gives both sessions, with the datagrams between them, to `e1gw replay`; prints the listing of both ends."""
-    of_west, of_east = west.datagrams(), east.datagrams()
+    """Gives both recordings to `e1gw replay`; prints the listing of both ends."""
     same = True
-    # In each turn the west is first, so it reads what the east sent the turn before.
-    for end, session in ((west, west.session(of_east, 1)), (east, east.session(of_west, 0))):
-        trunk = b''.join(body for kind, _, body in records(end.run('replay', session)) if kind == b'T')
-        served = b''.join(body for kind, _, body in records(b''.join(end.serve.answered)) if kind == b'T')
-        same = same and trunk == served
+    for end in (west, east):
+        session = end.recorded()
+        same = end.keep() == trunk_octets(end.run('replay', session)) and same
         print(f'{end.name}: {end.listed(session)}')
-    print('the recorded sessions, replayed with these datagrams, give ' + ('the same' if same else 'OTHER')
-          + ' trunk octets')
+    print('the recordings, replayed, give ' + ('the same' if same else 'OTHER') + ' trunk octets')
     return same
 
 
 def main():
-    program, folder, *files = sys.argv[1:]
+    program, folder, kept, *files = sys.argv[1:]
     sentences = []
     for file in files:
         with open(file, 'rb') as speech:
             sentences.append(speech.read())
-    call = Call(End('west', program, folder, 77), End('east', program, folder, 300))
+    call = Call(End('west', program, folder, kept, 77), End('east', program, folder, kept, 300))
     print(f'{"trunk time":9s} {"what":58s} {"west":11s} east')
     call.set_up()
     heard = call.speak(sentences)

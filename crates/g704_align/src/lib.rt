@@ -5,6 +5,3 @@ mod alignment;
 pub mod laws;
 
 pub use alignment::{Aligner, Place, count_after, is_fas, is_nfas};
-
-#[cfg(test)]
-mod tests;

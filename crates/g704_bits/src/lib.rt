@@ -7,6 +7,3 @@ mod bits;
 pub mod laws;
 
 pub use bits::BitAligner;
-
-#[cfg(test)]
-mod tests;

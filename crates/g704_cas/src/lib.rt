@@ -8,6 +8,3 @@ mod numbers;
 
 pub use alignment::{MfAligner, MfPlace};
 pub use numbers::{CircuitNo, Nibble, join, nibbles};
-
-#[cfg(test)]
-mod tests;

@@ -45,6 +45,3 @@ impl CodecKind {
         }
     }
 }
-
-#[cfg(test)]
-mod tests;

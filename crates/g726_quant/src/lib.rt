@@ -23,6 +23,3 @@ pub fn wrap16(z: i32) -> i16
 {
     (z.rem_euclid(65_536) as u16).cast_signed()
 }
-
-#[cfg(test)]
-mod tests;

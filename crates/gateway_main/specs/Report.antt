@@ -1,5 +1,5 @@
 -- What is told of a session that ended well.
-use Rattle.std.specs.Prelude.{ℕ, Option, Some, None, nat_lt, if◌then◌else◌}
+use Rattle.std.specs.Prelude.{Option, Some, None, nat_lt, if◌then◌else◌}
 use Rattle.gw_records.specs.declared.outcome.Totals.{Totals}
 use Rattle.gateway_main.specs.declared.command.Job.{Job}
 use Rattle.gateway_main.specs.declared.command.Job.TheVariants.{Encode, Decode}

@@ -1,33 +1,27 @@
 //! The sockets that a configuration asks for.
 
+ghost use Rattle.std.specs.Prelude.{IfOk, string_bytes};
+ghost use Rattle.gateway_main.specs.Udp.{HasEndpoints};
+
+use crate::senders::Senders;
+use crate::socket::Socket;
 use crate::trouble::Trouble;
-use crate::udp::{OpenFault, PortConfig, UdpPorts};
-use gw_config::{Config, Port};
+use crate::udp::{OpenFault, UdpPorts};
+use gw_config::Config;
 use std::alloc::Global;
 use std::net::Net;
 
-fn port_of(port: &Option<Port>) -> Option<PortConfig<'_>> {
-    match port {
-        Some(port) => Some(PortConfig {
-            local_port: port.local_port,
-            peer_host: port.peer_host.as_str(),
-            peer_port: port.peer_port,
-        }),
-        None => None,
-    }
-}
-
-fn ports_of(config: &Config) -> [Option<PortConfig<'_>>; 30] {
-    let mut ports = [None; 30];
-    for i in 0..30usize {
-        ports[i] = port_of(&config.ports[i]);
-    }
-    ports
-}
-
-/// Opens the sockets of a configuration.
-pub fn open_sockets(net: &impl Net, alloc: Global, config: &Config) -> Result<UdpPorts, Trouble> {
-    match UdpPorts::open(net, alloc, config.host.as_str(), &ports_of(config)) {
+/// Opens the sockets of a configuration, which take in the datagrams of these senders.
+pub fn open_sockets<S: Socket>(
+    net: &impl Net,
+    alloc: Global,
+    config: &Config,
+    senders: Senders,
+) -> Result<UdpPorts<S>, Trouble>
+    ensures { IfOk result (λ opened. HasEndpoints S.is_bound (string_bytes config.now.host) senders
+        config.now.ports opened.endpoints.items 30) }
+{
+    match UdpPorts::open(net, alloc, config.host.as_str(), &config.ports, senders) {
         Ok(ports) => Ok(ports),
         Err(OpenFault::Socket(circuit)) => Err(Trouble::Socket(circuit)),
         Err(OpenFault::OutOfMemory) => Err(Trouble::OutOfMemory),

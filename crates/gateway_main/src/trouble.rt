@@ -37,6 +37,12 @@ pub enum Trouble {
     /// The file of the configuration can't be read.
     #[error("cannot read the configuration")]
     File,
+    /// The file of the recording can't be opened.
+    #[error("cannot open the recording")]
+    Recording,
+    /// The file of the recording is there already, and is not to be written over.
+    #[error("the recording is there already: name a new file, or give --record-over")]
+    OldRecording,
     /// The file says no configuration.
     #[error("{0}")]
     Config(ConfigFault),
@@ -66,7 +72,12 @@ impl Trouble {
             | Trouble::Config(ConfigFault::OutOfMemory)
             | Trouble::OutOfMemory => NO_MEMORY,
             Trouble::Session(_) | Trouble::Socket(_) => FAULT,
-            Trouble::NotText | Trouble::Nothing | Trouble::File | Trouble::Config(_) => BAD_COMMAND,
+            Trouble::NotText
+            | Trouble::Nothing
+            | Trouble::File
+            | Trouble::Recording
+            | Trouble::OldRecording
+            | Trouble::Config(_) => BAD_COMMAND,
         }
     }
 }

@@ -68,6 +68,7 @@ unfolding datagram_reply open_after signalling recognised is_open next_state cod
     offer_answer due read_of parts_of header_of marker_of extension_of padding_len words_of
 admitted = refl
 
+-- a datagram for a circuit whose seizure is not acknowledged is refused as NotOpen
 not_open : datagram_reply A config (seized ++ signals 0b1001) two_words ≡ Err NotOpen
 unfolding datagram_reply open_after signalling recognised is_open next_state
 not_open = refl

@@ -186,9 +186,9 @@ ended totals w r same ends kept done = ((session totals w r.gives same ends kept
 -- a read failed, or there were too many
 pub gives_up : {kinds : Kinds} {a b b' : SourceState} {c d d' : SinkState} {reader reader' : Reader}
     {octets slice : List ℕ} {records : List Record} {ending : Ending} {Done : Totals → List Record → Type 0}
-    (totals : Totals) → Stage kinds a b c d reader octets records → FailsToRead b b' reader reader'
+    (totals : Totals) → Stage kinds a b c d reader octets records → FailsToRead b b' reader reader' ending
     → slice ≡ held reader → end_of kinds slice ≡ Some ending → d'.failures ≡ d.failures → Done totals records
-    → (ending : Ending) × (s : Session kinds a b' c d' Done ending) × GivesUp a b' s.octets
+    → (ending : Ending) × (s : Session kinds a b' c d' Done ending) × GivesUp a b' s.octets × (is_open ending ≡ true)
 unfolding session
 gives_up totals w r same ends kept done = (
   _,
@@ -197,6 +197,7 @@ gives_up totals w r same ends kept done = (
     | inl h ↦ inl (omega (arith, h, w.no_read))
     | inr h ↦ inr (omega (arith, h, w.calls, r.uncounted), omega (arith, h, w.turns))
   ],
+  r.awaited,
 )
 
 -- a session ends where its records end so

@@ -1,5 +1,5 @@
 -- How a session ends, and what it has done by then (module `outcome`).
-use Rattle.std.specs.Prelude.{◌≡◌, ◌-◌, ◌^◌, ◌<◌, ℕ, min, List, Result, Ok, Err}
+use Rattle.std.specs.Prelude.{◌≡◌, ◌-◌, ◌^◌, ◌<◌, ℕ, min, true, List, Result, Ok, Err}
 use Rattle.std.specs.Io.KnownBytes.{IsAtEnd}
 use Rattle.gw_records.specs.declared.outcome.Totals.{Totals}
 use Rattle.gw_records.specs.declared.outcome.RunFault.{RunFault}
@@ -7,7 +7,7 @@ use Rattle.gw_records.specs.declared.outcome.RunFault.TheVariants as faults
 use Rattle.gw_records.specs.declared.records.Kinds.{Kinds}
 use Rattle.gw_records.specs.declared.records.Ending.{Ending}
 use Rattle.gw_records.specs.declared.records.Ending.TheVariants as endings
-use Rattle.gw_records.specs.Records.{Record, Begins, Reads}
+use Rattle.gw_records.specs.Records.{Record, Begins, Reads, is_open}
 use Rattle.gw_records.specs.Streams.{SourceState, SinkState, Gives, GivesUp}
 
 -- the number of a fault
@@ -74,7 +74,7 @@ pub record FailsToWrite (kinds : Kinds) (source source' : SourceState) (sink sin
 
 -- How a session ends before the end of its source: with the fault of the record that is not good, cut only
 -- where the source is at its end; by a read, which failed, or there were 2 ^ 62 of them, each of which gave
--- an octet; by a write; or for want of memory, with all as it was.
+-- an octet: so no bad record stands first there; by a write; or for want of memory, with all as it was.
 abbrev pub EndsUntil : Kinds → SourceState → SourceState → SinkState → SinkState
     → (Totals → List Record → Type 0) → (List Record → Type 0) → Type 0 → RunFault → Type 0
 EndsUntil kinds source source' sink sink' Done Begun kept faults.BadKind =
@@ -87,6 +87,7 @@ EndsUntil kinds source source' sink sink' Done Begun kept faults.Truncated =
     Ends kinds source source' sink sink' Done endings.Truncated × IsAtEnd source'.to_come
 EndsUntil kinds source source' sink sink' Done Begun kept faults.Read = (ending : Ending)
     × (s : Session kinds source source' sink sink' Done ending) × GivesUp source source' s.octets
+    × (is_open ending ≡ true)
 EndsUntil kinds source source' sink sink' Done Begun kept faults.Write =
     FailsToWrite kinds source source' sink sink' Begun
 EndsUntil kinds source source' sink sink' Done Begun kept faults.OutOfMemory = kept

@@ -40,8 +40,10 @@ abbrev pub ReadsOn : SourceState → SourceState → Reader → Reader → Endin
 ReadsOn source source' reader reader' ending true = Brings source source' reader reader'
 ReadsOn source source' reader reader' ending false = RunsOut source source' reader reader' ending
 
--- the source gave nothing more: it failed, or there were as many reads as may be
-pub record FailsToRead (source source' : SourceState) (reader reader' : Reader) : Type 0 where
+-- more octets might have changed how those that are held end, and the source gave nothing more: it failed, or
+-- there were as many reads as may be
+pub record FailsToRead (source source' : SourceState) (reader reader' : Reader) (ending : Ending) : Type 0 where
+  pub awaited : is_open ending ≡ true
   pub gives : Gives source source' []
   pub holds : held reader' ≡ held reader
   pub cause : (source.failures < source'.failures) ⊎ (reader.reads_left ≡ 0)

@@ -157,7 +157,7 @@ impl Reader {
         ensures ok { IfOk result (λ came. ReadsOn (S.tells source.old) (S.tells source.new)
             self.old self.new ending came) }
         ensures fault { IfErr result (λ e. (e ≡ RunFault.Read)
-            × FailsToRead (S.tells source.old) (S.tells source.new) self.old self.new) }
+            × FailsToRead (S.tells source.old) (S.tells source.new) self.old self.new ending) }
     {
         if !is_open(ending) {
             return Ok(false);

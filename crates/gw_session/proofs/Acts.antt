@@ -21,6 +21,7 @@ use Rattle.gw_session.specs.Answers.{Written, written_out, code_of}
 use Rattle.gw_session.specs.Serve.{Act, told, turns_of, events_of, events_of_turns, octet_of, answer_to}
 use Rattle.gw_session.specs.Serve.{packets_for, octets_for, dropped_for}
 use Rattle.gw_session.specs.Exchange.{Takes, spelled_for, written_for, Exchanges, ActsOn, Acts}
+use Rattle.gw_session.specs.Tape.{TapeState, Recorded}
 use Rattle.gw_session.proofs.Turns.{Trades-none, counted_is}
 
 -- the answer to octets that were exchanged
@@ -42,12 +43,13 @@ trunk_written spells config before act waiting out e =
     ∙ append_assoc waiting (spelled_for spells config before (events_of act)) (answer_to config before act)
 
 -- octets were exchanged
-trunk_on : (spells : Spells) (a b : PortsState) (g g' : Gateway) (t t' : Totals) (r o : ℕ) (s s' : SinkState)
-    (w w' body sent : List ℕ)
+trunk_on : (spells : Spells) (a b : PortsState) (g g' : Gateway) (t t' : Totals) (tape tape' : TapeState) (r o : ℕ)
+    (s s' : SinkState) (w w' body sent : List ℕ)
     → (p : Exchanges spells a b g g' (record t { records = r; octets = o }) t' s s' w w' body sent)
+    → Recorded tape tape' (events_of_turns p.turns)
     → r ≡ min (t.records + 1) (2 ^ 64 - 1) → o ≡ min (t.octets + length body) (2 ^ 64 - 1) → t.octets < 2 ^ 64
-    → (q : ActsOn a b g g' t t' (Record.Trunk body)) × (q.act ≡ Act.Trunk p.turns)
-trunk_on spells a b g g' t t' r o s s' w w' body sent p counts trunk fits =
+    → (q : ActsOn a b g g' t t' tape tape' (Record.Trunk body)) × (q.act ≡ Act.Trunk p.turns)
+trunk_on spells a b g g' t t' tape tape' r o s s' w w' body sent p recorded counts trunk fits =
     let len : length p.turns ≡ length body = sym (length-map p.turns octet_of) ∙ ap length p.heard in (
       record {
         act = Act.Trunk p.turns;
@@ -63,6 +65,7 @@ trunk_on spells a b g g' t t' r o s s' w w' body sent p counts trunk fits =
         records = p.kept.0 ∙ counts;
         octets = p.kept.1 ∙ trunk ∙ counted_is t.octets (length body) fits
             ∙ ap (λ k. counted t.octets k) (sym len);
+        recorded = recorded;
       },
       refl,
     )
@@ -81,17 +84,18 @@ trunk_put spells a b g g' t t' r o s s' w w' body front sent out p fronts outs c
     ∙ sym outs)
 
 -- .. and the record of them was put
-pub trunk_acts : (spells : Spells) (a b : PortsState) (g g' : Gateway) (t t' : Totals) (r o : ℕ)
-    (s s' s'' : SinkState) (w w' w'' body front answer out : List ℕ) (result : Result (Unit {0}) RunFault)
-    → (sent : List ℕ) × Exchanges spells a b g g' (record t { records = r; octets = o }) t' s s' w w' body sent
-    × (answer ≡ front ++ sent)
+pub trunk_acts : (spells : Spells) (a b : PortsState) (g g' : Gateway) (t t' : Totals) (tape tape' : TapeState)
+    (r o : ℕ) (s s' s'' : SinkState) (w w' w'' body front answer out : List ℕ) (result : Result (Unit {0}) RunFault)
+    → (sent : List ℕ) × (x : Exchanges spells a b g g' (record t { records = r; octets = o }) t' s s' w w' body sent)
+    × (answer ≡ front ++ sent) × Recorded tape tape' (events_of_turns x.turns)
     → front ≡ 84 ∷ 0 ∷ big_bytes 2 (length body) → out ≡ answer
     → r ≡ min (t.records + 1) (2 ^ 64 - 1) → o ≡ min (t.octets + length body) (2 ^ 64 - 1) → t.octets < 2 ^ 64
     → Puts s' s'' w'' (w' ++ out) result
-    → Acts spells a b g g' t t' s s'' w w'' (Record.Trunk body) result
-trunk_acts spells a b g g' t t' r o s s' s'' w w' w'' body front answer out (Ok u) x fronts same counts trunk fits puts =
+    → Acts spells a b g g' t t' tape tape' s s'' w w'' (Record.Trunk body) result
+trunk_acts spells a b g g' t t' tape tape' r o s s' s'' w w' w'' body front answer out (Ok u) x fronts same counts trunk
+    fits puts =
     let p = x.1 in
-    let on = trunk_on spells a b g g' t t' r o s s' w w' body x.0 p counts trunk fits in
+    let on = trunk_on spells a b g g' t t' tape tape' r o s s' w w' body x.0 p x.3 counts trunk fits in
     record {
       acts = on.0;
       passes = λ config before h.
@@ -99,9 +103,10 @@ trunk_acts spells a b g g' t t' r o s s' s'' w w' w'' body front answer out (Ok 
           (same ∙ x.2) config before h) (Passes-join _ _ _ _ _ _ _ (p.passes config before h) puts.0));
       no_failure = puts.1 ∙ p.no_failure;
     }
-trunk_acts spells a b g g' t t' r o s s' s'' w w' w'' body front answer out (Err e) x fronts same counts trunk fits puts =
+trunk_acts spells a b g g' t t' tape tape' r o s s' s'' w w' w'' body front answer out (Err e) x fronts same counts trunk
+    fits puts =
     let p = x.1 in
-    let on = trunk_on spells a b g g' t t' r o s s' w w' body x.0 p counts trunk fits in (
+    let on = trunk_on spells a b g g' t t' tape tape' r o s s' w w' body x.0 p x.3 counts trunk fits in (
       puts.0,
       inl (record {
         acts = on.0;
@@ -113,16 +118,17 @@ trunk_acts spells a b g g' t t' r o s s' s'' w w' w'' body front answer out (Err
     )
 
 -- an act of one event
-one_on : (p : PortsState) (g g' : Gateway) (t t' : Totals) (act : Act) (event : Event) (code : ℕ)
+one_on : (p : PortsState) (g g' : Gateway) (t t' : Totals) (tape tape' : TapeState) (act : Act) (event : Event)
+    (code : ℕ)
     → turns_of act ≡ [] → events_of act ≡ event ∷ []
     → ((config : GatewayConfig) (before : List Event) → packets_for config before (event ∷ []) ≡ [])
     → Takes g g' event code
     → ((config : GatewayConfig) (before : List Event) → Stands config g before
     → t'.dropped ≡ counted t.dropped (dropped_for config before (event ∷ [])))
-    → t' ≡ record t { records = one_more t.records; dropped = t'.dropped }
-    → (q : ActsOn p p g g' t t' (told act)) × (q.act ≡ act)
+    → t' ≡ record t { records = one_more t.records; dropped = t'.dropped } → Recorded tape tape' (events_of act)
+    → (q : ActsOn p p g g' t t' tape tape' (told act)) × (q.act ≡ act)
 unfolding Trades-none
-one_on p g g' t t' act event code none one packets takes dropped same = (
+one_on p g g' t t' tape tape' act event code none one packets takes dropped same recorded = (
   record {
     act = act;
     told_is = refl;
@@ -139,6 +145,7 @@ one_on p g g' t t' act event code none one packets takes dropped same = (
     });
     records = ap (λ (x : Totals). x.records) same;
     octets = rw none (ap (λ (x : Totals). x.octets) same);
+    recorded = recorded;
   },
   refl,
 )
@@ -162,8 +169,8 @@ one_written spells g g' act event circuit kind code w one packets answer takes c
     ∙ ap (λ (ps : List (ℕ × List ℕ)). w ++ (flat_map spells ps ++ answer_to config before act)) (sym none)
 
 -- .. and that was put
-pub one_acts : (spells : Spells) (p : PortsState) (g g' : Gateway) (t t' : Totals) (s s' : SinkState) (w w' : List ℕ)
-    (act : Act) (event : Event) (circuit kind code : ℕ) (result : Result (Unit {0}) RunFault)
+pub one_acts : (spells : Spells) (p : PortsState) (g g' : Gateway) (t t' : Totals) (tape tape' : TapeState)
+    (s s' : SinkState) (w w' : List ℕ) (act : Act) (event : Event) (circuit kind code : ℕ) (result : Result (Unit {0}) RunFault)
     → turns_of act ≡ [] → events_of act ≡ event ∷ []
     → ((config : GatewayConfig) (before : List Event) → packets_for config before (event ∷ []) ≡ [])
     → ((config : GatewayConfig) (before : List Event) → answer_to config before act
@@ -173,17 +180,20 @@ pub one_acts : (spells : Spells) (p : PortsState) (g g' : Gateway) (t t' : Total
     → t'.dropped ≡ counted t.dropped (dropped_for config before (event ∷ [])))
     → t' ≡ record t { records = one_more t.records; dropped = t'.dropped }
     → Puts s s' w' (w ++ written_out (Written.Answered circuit kind code)) result
-    → Acts spells p p g g' t t' s s' w w' (told act) result
-one_acts spells p g g' t t' s s' w w' act event circuit kind code (Ok u) none one packets answer takes dropped same puts =
-    let on = one_on p g g' t t' act event code none one packets takes dropped same in
+    → Recorded tape tape' (events_of act)
+    → Acts spells p p g g' t t' tape tape' s s' w w' (told act) result
+one_acts spells p g g' t t' tape tape' s s' w w' act event circuit kind code (Ok u) none one packets answer takes dropped
+    same puts recorded =
+    let on = one_on p g g' t t' tape tape' act event code none one packets takes dropped same recorded in
     record {
       acts = on.0;
       passes = λ config before h. rw (on.1) (Passes-same _ _ _ _ _
           (one_written spells g g' act event circuit kind code w one packets answer takes config before h) puts.0);
       no_failure = puts.1;
     }
-one_acts spells p g g' t t' s s' w w' act event circuit kind code (Err e) none one packets answer takes dropped same puts =
-    let on = one_on p g g' t t' act event code none one packets takes dropped same in (
+one_acts spells p g g' t t' tape tape' s s' w w' act event circuit kind code (Err e) none one packets answer takes dropped
+    same puts recorded =
+    let on = one_on p g g' t t' tape tape' act event code none one packets takes dropped same recorded in (
       puts.0,
       inl (record {
         acts = on.0;

@@ -24,7 +24,9 @@ use Rattle.gw_session.specs.Ports.{PortsState, counted}
 use Rattle.gw_session.specs.Serve.{Act, Turn, told, turns_of, turns, events_of, events, events_of_turns, Goes, Does}
 use Rattle.gw_session.specs.Exchange.{spelled_for, written_for, written_by, ActsOn, Finishes, Unwritten, StopsAt, Cut}
 use Rattle.gw_session.specs.Exchange.{Through, CutThrough, Begun}
+use Rattle.gw_session.specs.Tape.{TapeState}
 use Rattle.gw_session.proofs.Turns.{Goes-none, Goes-join, counted-more, octets-append, turns_have_octets}
+use Rattle.gw_session.proofs.Taping.{recorded_none, recorded_join, recorded_same}
 
 -- the record that stands first, by its body
 pub record_is : (f : First) (held body : List ℕ) → 4 ≤ f.len → body ≡ take (f.len - 4) (drop 4 held)
@@ -61,9 +63,9 @@ acts_octets (act ∷ acts) =
     ∙ length-append (octets (events_of act)) (octets (events acts))
     ∙ omega (arith, act_octets act, acts_octets acts, length-append (turns_of act) (turns acts))
 
-does_more : (a b c : PortsState) (g g' g'' : Gateway) (t t' : Totals) (acts : List Act) (r : Record)
-    → Does a b g g' t acts → (q : ActsOn b c g' g'' t t' r) → Does a c g g'' t' (acts ++ q.act ∷ [])
-does_more a b c g g' g'' t t' acts r p q =
+does_more : (a b c : PortsState) (g g' g'' : Gateway) (t t' : Totals) {x y : TapeState} (acts : List Act) (r : Record)
+    → Does a b g g' t acts → (q : ActsOn b c g' g'' t t' x y r) → Does a c g g'' t' (acts ++ q.act ∷ [])
+does_more a b c g g' g'' t t' {x} {y} acts r p q =
     let G : List Turn → Type 0 = λ ts. Goes a c g g'' nothing_counted t' ts (events acts ++ events_of q.act) in
     let H : List Event → Type 0 = λ es. Goes a c g g'' nothing_counted t' (turns (acts ++ q.act ∷ [])) es in
     let goes = Goes-join a b c g g' g'' nothing_counted t t' (turns acts) (turns_of q.act) (events acts)
@@ -93,28 +95,33 @@ written_more spells config before (a ∷ acts) act =
     ∙ sym (append_assoc first later (written_for spells config (before ++ (events_of a ++ events acts)) act))
 
 -- before the first record
-pub through_none : (spells : Spells) (a : PortsState) (g : Gateway) (o : Option (List ℕ)) (w : List ℕ) (t : Totals)
-    → w ≡ [] → t ≡ nothing_counted → Through spells a a g g (λ xs. Passes o o w xs) t []
-through_none spells a g o w t none nothing =
+pub through_none : (spells : Spells) (a : PortsState) (g : Gateway) (tape : TapeState) (o : Option (List ℕ))
+    (w : List ℕ) (t : Totals)
+    → w ≡ [] → t ≡ nothing_counted → Through spells a a g g tape tape (λ xs. Passes o o w xs) t []
+through_none spells a g tape o w t none nothing =
     let P : Totals → Type 0 = λ x. Does a a g g x [] in
     record {
       acts = [];
+      recorded = recorded_none tape;
       told_are = refl;
       does = subst P (sym nothing) (record { goes = Goes-none a g nothing_counted; records = refl; trunk_octets = refl });
       took = λ config before at. Passes-start o w none;
     }
 
 -- one record more, for which this is put
-through_more : {spells : Spells} {a b c : PortsState} {g g' g'' : Gateway} {t t' : Totals}
+through_more : {spells : Spells} {a b c : PortsState} {g g' g'' : Gateway} {x y z : TapeState} {t t' : Totals}
     {Took More : List ℕ → Type 0} {records : List Record} {r : Record}
-    → Through spells a b g g' Took t records → (q : ActsOn b c g' g'' t t' r)
+    → Through spells a b g g' x y Took t records → (q : ActsOn b c g' g'' t t' y z r)
     → ((config : GatewayConfig) (now : List Event) → Stands config g' now → (xs : List ℕ) → Took xs
     → More (xs ++ written_for spells config now q.act))
-    → Through spells a c g g'' More t' (records ++ r ∷ [])
-through_more {spells} {a} {b} {c} {g} {g'} {g''} {t} {t'} {Took} {More} {records} {r} p q more = record {
+    → Through spells a c g g'' x z More t' (records ++ r ∷ [])
+through_more {spells} {a} {b} {c} {g} {g'} {g''} {x} {y} {z} {t} {t'} {Took} {More} {records} {r} p q more = record {
   acts = p.acts ++ q.act ∷ [];
+  recorded = recorded_same x z (events p.acts ++ events_of q.act) (events (p.acts ++ q.act ∷ []))
+      (sym (one_more_of events_of p.acts q.act))
+      (recorded_join x y z (events p.acts) (events_of q.act) p.recorded q.recorded);
   told_are = map-append told p.acts (q.act ∷ []) ∙ ap (λ (rs : List Record). rs ++ told q.act ∷ []) p.told_are
-      ∙ ap (λ (x : Record). records ++ x ∷ []) q.told_is;
+      ∙ ap (λ (one : Record). records ++ one ∷ []) q.told_is;
   does = does_more _ _ _ _ _ _ _ _ p.acts _ p.does q;
   took = λ config before at.
       subst More (sym (written_more spells config before p.acts q.act))
@@ -122,50 +129,54 @@ through_more {spells} {a} {b} {c} {g} {g'} {g''} {t} {t'} {Took} {More} {records
       (written_by spells config before p.acts) (p.took config before at));
 }
 
-pub through_done : {spells : Spells} {a b c : PortsState} {g g' g'' : Gateway} {t t' : Totals}
+pub through_done : {spells : Spells} {a b c : PortsState} {g g' g'' : Gateway} {x y z : TapeState} {t t' : Totals}
     {o : Option (List ℕ)} {s' s'' : SinkState} {w w' : List ℕ} {records : List Record} {r : Record}
-    → Through spells a b g g' (λ xs. Passes o s'.taken w xs) t records
-    → Finishes spells b c g' g'' t t' s' s'' w w' r
-    → Through spells a c g g'' (λ xs. Passes o s''.taken w' xs) t' (records ++ r ∷ [])
+    → Through spells a b g g' x y (λ xs. Passes o s'.taken w xs) t records
+    → Finishes spells b c g' g'' t t' y z s' s'' w w' r
+    → Through spells a c g g'' x z (λ xs. Passes o s''.taken w' xs) t' (records ++ r ∷ [])
 through_done p q = through_more p q.acts
     (λ config now at xs took. Passes-join _ _ _ _ _ _ _ took (q.passes config now at))
 
-pub through_failed : {spells : Spells} {a b c : PortsState} {g g' g'' : Gateway} {t t' : Totals}
+pub through_failed : {spells : Spells} {a b c : PortsState} {g g' g'' : Gateway} {x y z : TapeState} {t t' : Totals}
     {o : Option (List ℕ)} {s' s'' : SinkState} {w : List ℕ} {records : List Record} {r : Record}
-    → Through spells a b g g' (λ xs. Passes o s'.taken w xs) t records
-    → Unwritten spells b c g' g'' t t' s' s'' w r
-    → Through spells a c g g'' (λ xs. AppendsPrefix o s''.taken xs) t' (records ++ r ∷ [])
+    → Through spells a b g g' x y (λ xs. Passes o s'.taken w xs) t records
+    → Unwritten spells b c g' g'' t t' y z s' s'' w r
+    → Through spells a c g g'' x z (λ xs. AppendsPrefix o s''.taken xs) t' (records ++ r ∷ [])
 through_failed p q = through_more p q.acts
     (λ config now at xs took. AppendsPrefix-behind _ _ _ _ _ _ took (q.took config now at))
 
 -- what is known of what was put
-pub through_as : {spells : Spells} {a b : PortsState} {g g' : Gateway} {t : Totals} {Took More : List ℕ → Type 0}
-    {records : List Record} → ((xs : List ℕ) → Took xs → More xs) → Through spells a b g g' Took t records
-    → Through spells a b g g' More t records
-through_as {spells} {a} {b} {g} {g'} {t} {Took} {More} f p = record {
+pub through_as : {spells : Spells} {a b : PortsState} {g g' : Gateway} {x y : TapeState} {t : Totals}
+    {Took More : List ℕ → Type 0} {records : List Record} → ((xs : List ℕ) → Took xs → More xs)
+    → Through spells a b g g' x y Took t records → Through spells a b g g' x y More t records
+through_as {spells} {a} {b} {g} {g'} {x} {y} {t} {Took} {More} f p = record {
   acts = p.acts;
+  recorded = p.recorded;
   told_are = p.told_are;
   does = p.does;
   took = λ config before at. f (written_by spells config before p.acts) (p.took config before at);
 }
 
 -- all of it was taken
-pub through_all : {spells : Spells} {a b : PortsState} {g g' : Gateway} {t : Totals} {o p : Option (List ℕ)}
-    {w : List ℕ} {records : List Record} (q : Option (List ℕ)) → Through spells a b g g' (λ xs. Passes o p w xs) t records
-    → Appends p q w → Through spells a b g g' (Appends o q) t records
+pub through_all : {spells : Spells} {a b : PortsState} {g g' : Gateway} {x y : TapeState} {t : Totals}
+    {o p : Option (List ℕ)} {w : List ℕ} {records : List Record} (q : Option (List ℕ))
+    → Through spells a b g g' x y (λ xs. Passes o p w xs) t records → Appends p q w
+    → Through spells a b g g' x y (Appends o q) t records
 through_all q h wrote = through_as (λ xs took. Passes-appended _ _ _ _ _ took wrote) h
 
-pub through_on : {spells : Spells} {a b : PortsState} {g g' : Gateway} {t : Totals} {o p q : Option (List ℕ)}
-    {w w' : List ℕ} {records : List Record} → Through spells a b g g' (λ xs. Passes o p w xs) t records
-    → Appends p q w → w' ≡ [] → Through spells a b g g' (λ xs. Passes o q w' xs) t records
+pub through_on : {spells : Spells} {a b : PortsState} {g g' : Gateway} {x y : TapeState} {t : Totals}
+    {o p q : Option (List ℕ)} {w w' : List ℕ} {records : List Record}
+    → Through spells a b g g' x y (λ xs. Passes o p w xs) t records → Appends p q w → w' ≡ []
+    → Through spells a b g g' x y (λ xs. Passes o q w' xs) t records
 through_on h wrote none = through_as
     (λ xs took. Passes-empty _ _ _ none (Passes-appended _ _ _ _ _ took wrote)) h
 
 -- .. or a write of what waits failed
-pub waiting_failed : {spells : Spells} {a b : PortsState} {g g' : Gateway} {t : Totals} {s s' s'' : SinkState}
-    {w : List ℕ} {records : List Record} → Through spells a b g g' (λ xs. Passes s.taken s'.taken w xs) t records
-    → 0 < length records → Breaks s' s'' w → Begun spells a b g g' s s'' records
-waiting_failed {spells} {a} {b} {g} {g'} {t} p some breaks = inl (
+pub waiting_failed : {spells : Spells} {a b : PortsState} {g g' : Gateway} {x y : TapeState} {t : Totals}
+    {s s' s'' : SinkState} {w : List ℕ} {records : List Record}
+    → Through spells a b g g' x y (λ xs. Passes s.taken s'.taken w xs) t records
+    → 0 < length records → Breaks s' s'' w → Begun spells a b g g' x y s s'' records
+waiting_failed {spells} {a} {b} {g} {g'} {x} {y} {t} p some breaks = inl (
   t,
   some,
   through_as (λ xs took. AppendsPrefix-join _ _ _ took.written _ _ took.appended breaks.took took.whole) p,
@@ -177,24 +188,24 @@ some_records zero waiting none some = absurd (let e = none refl in omega (arith,
 some_records (suc n) waiting none some = omega arith
 
 -- a write failed in a record
-pub record_failed : {spells : Spells} {a b c : PortsState} {g g' g'' : Gateway} {t t' : Totals}
+pub record_failed : {spells : Spells} {a b c : PortsState} {g g' g'' : Gateway} {x y z : TapeState} {t t' : Totals}
     {s s' s'' : SinkState} {w : List ℕ} {records : List Record} {r : Record}
-    → Through spells a b g g' (λ xs. Passes s.taken s'.taken w xs) t records
-    → Unwritten spells b c g' g'' t t' s' s'' w r → Begun spells a c g g'' s s'' (records ++ r ∷ [])
-record_failed {spells} {a} {b} {c} {g} {g'} {g''} {t} {t'} {s} {s'} {s''} {w} {records} {r} p q =
+    → Through spells a b g g' x y (λ xs. Passes s.taken s'.taken w xs) t records
+    → Unwritten spells b c g' g'' t t' y z s' s'' w r → Begun spells a c g g'' x z s s'' (records ++ r ∷ [])
+record_failed {spells} {a} {b} {c} {g} {g'} {g''} {x} {y} {z} {t} {t'} {s} {s'} {s''} {w} {records} {r} p q =
     inl (t', omega (arith, length-append records (r ∷ [])), through_failed p q)
 
 -- .. and cut it
-pub record_cut : {spells : Spells} {a b c : PortsState} {g g' g'' : Gateway} {t : Totals}
+pub record_cut : {spells : Spells} {a b c : PortsState} {g g' g'' : Gateway} {x y z : TapeState} {t : Totals}
     {s s' s'' : SinkState} {w : List ℕ} {records : List Record} {r : Record}
-    → Through spells a b g g' (λ xs. Passes s.taken s'.taken w xs) t records
-    → Cut spells b c g' g'' s' s'' w r → Begun spells a c g g'' s s'' (records ++ r ∷ [])
-record_cut {spells} {a} {b} {c} {g} {g'} {g''} {t} {s} {s'} {s''} {w} {records} {r} p q =
+    → Through spells a b g g' x y (λ xs. Passes s.taken s'.taken w xs) t records
+    → Cut spells b c g' g'' s' s'' w r → Begun spells a c g g'' x z s s'' (records ++ r ∷ [])
+record_cut {spells} {a} {b} {c} {g} {g'} {g''} {x} {y} {z} {t} {s} {s'} {s''} {w} {records} {r} p q =
     let k = q.stops in
     inr (record {
       records = records;
       octets = q.octets;
-      all = ap (λ (x : Record). records ++ x ∷ []) q.is_trunk;
+      all = ap (λ (one : Record). records ++ one ∷ []) q.is_trunk;
       acts = p.acts;
       told_are = p.told_are;
       between = b;
@@ -217,10 +228,10 @@ record_cut {spells} {a} {b} {c} {g} {g'} {g''} {t} {s} {s'} {s''} {w} {records} 
     })
 
 -- .. in one way or the other
-pub act_failed : {spells : Spells} {a b c : PortsState} {g g' g'' : Gateway} {t t' : Totals}
+pub act_failed : {spells : Spells} {a b c : PortsState} {g g' g'' : Gateway} {x y z : TapeState} {t t' : Totals}
     {s s' s'' : SinkState} {w : List ℕ} {records : List Record} {r : Record}
-    → Through spells a b g g' (λ xs. Passes s.taken s'.taken w xs) t records
-    → Unwritten spells b c g' g'' t t' s' s'' w r ⊎ Cut spells b c g' g'' s' s'' w r
-    → (s'.failures < s''.failures) × Begun spells a c g g'' s s'' (records ++ r ∷ [])
+    → Through spells a b g g' x y (λ xs. Passes s.taken s'.taken w xs) t records
+    → Unwritten spells b c g' g'' t t' y z s' s'' w r ⊎ Cut spells b c g' g'' s' s'' w r
+    → (s'.failures < s''.failures) × Begun spells a c g g'' x z s s'' (records ++ r ∷ [])
 act_failed p (inl q) = (q.failed, record_failed p q)
 act_failed p (inr q) = (q.stops.failed, record_cut p q)

@@ -36,15 +36,15 @@ all_as kinds a b c d (Ok t) f e = record { ends = ends_as f e.ends; ended = e.en
 all_as kinds a b c d (Err x) f e = tt
 
 fault_as : (kinds : Kinds) (a b : SourceState) (c d : SinkState) {P Q : Totals → List Record → Type 0}
-    {B C : List Record → Type 0} (kept : Type 0) (e : RunFault) → ((t : Totals) (rs : List Record) → P t rs → Q t rs)
-    → ((rs : List Record) → B rs → C rs) → EndsUntil kinds a b c d P B ⊥ e → EndsUntil kinds a b c d Q C kept e
+    {B C : List Record → Type 0} {K L : Type 0} (e : RunFault) → (K → L) → ((t : Totals) (rs : List Record) → P t rs → Q t rs)
+    → ((rs : List Record) → B rs → C rs) → EndsUntil kinds a b c d P B K e → EndsUntil kinds a b c d Q C L e
 unfolding session_as
-fault_as kinds a b c d kept faults.BadKind f begun e = ends_as f e
-fault_as kinds a b c d kept faults.BadCircuit f begun e = ends_as f e
-fault_as kinds a b c d kept faults.BadCommand f begun e = ends_as f e
-fault_as kinds a b c d kept faults.Truncated f begun e = (ends_as f e.0, e.1)
-fault_as kinds a b c d kept faults.Read f begun e = (e.0, session_as f e.1, e.2)
-fault_as kinds a b c d kept faults.Write f begun e = record {
+fault_as kinds a b c d faults.BadKind k f begun e = ends_as f e
+fault_as kinds a b c d faults.BadCircuit k f begun e = ends_as f e
+fault_as kinds a b c d faults.BadCommand k f begun e = ends_as f e
+fault_as kinds a b c d faults.Truncated k f begun e = (ends_as f e.0, e.1)
+fault_as kinds a b c d faults.Read k f begun e = (e.0, session_as f e.1, e.2, e.3)
+fault_as kinds a b c d faults.Write k f begun e = record {
   octets = e.octets;
   gives = e.gives;
   records = e.records;
@@ -53,12 +53,12 @@ fault_as kinds a b c d kept faults.Write f begun e = record {
   counted = e.counted;
   no_read = e.no_read;
 }
-fault_as kinds a b c d kept faults.OutOfMemory f begun e = absurd e
+fault_as kinds a b c d faults.OutOfMemory k f begun e = k e
 
 -- .. or before its end
 pub until_as : (kinds : Kinds) (a b : SourceState) (c d : SinkState) {P Q : Totals → List Record → Type 0}
-    {B C : List Record → Type 0} (kept : Type 0) (result : Result Totals RunFault)
-    → ((t : Totals) (rs : List Record) → P t rs → Q t rs) → ((rs : List Record) → B rs → C rs)
-    → IfErr result (EndsUntil kinds a b c d P B ⊥) → IfErr result (EndsUntil kinds a b c d Q C kept)
-until_as kinds a b c d kept (Ok t) f begun e = tt
-until_as kinds a b c d kept (Err x) f begun e = fault_as kinds a b c d kept x f begun e
+    {B C : List Record → Type 0} {K L : Type 0} (result : Result Totals RunFault)
+    → (K → L) → ((t : Totals) (rs : List Record) → P t rs → Q t rs) → ((rs : List Record) → B rs → C rs)
+    → IfErr result (EndsUntil kinds a b c d P B K) → IfErr result (EndsUntil kinds a b c d Q C L)
+until_as kinds a b c d (Ok t) k f begun e = tt
+until_as kinds a b c d (Err x) k f begun e = fault_as kinds a b c d x k f begun e

@@ -28,6 +28,7 @@ use Rattle.gw_session.specs.Serve.{Act, Turn, told, octet_of, turns_of, turns, e
 use Rattle.gw_session.specs.Serve.{events_of_turns, of_circuit, coming, arrivals, first_four, behind_four, FirstFour}
 use Rattle.gw_session.specs.Serve.{Trades, LeavesOut, packets_for, octets_for}
 use Rattle.gw_session.specs.Serve.{dropped_for, answer_to, Does}
+use Rattle.gw_session.specs.Tape.{TapeState}
 use Rattle.gw_session.specs.Exchange.{spelled_for, written_for, written_by, Through, CutThrough, Begun}
 use Rattle.gw_session.proofs.Turns.{Trades-join, LeavesOut-all, counted_is}
 use Rattle.gw_session.proofs.Cutting.{answered_first}
@@ -198,9 +199,10 @@ plain_totals g g' t acts d plain config before at =
     none
 
 -- a session went through records
-pub runs : {g g' : Gateway} {s s' : SinkState} (t : Totals) (records : List Record)
-    → Through in_record no_ports no_ports g g' (Appends s.taken s'.taken) t records → RunsThrough g g' s s' t records
-runs {g} {g'} {s} {s'} t records p =
+pub runs : {g g' : Gateway} {x y : TapeState} {s s' : SinkState} (t : Totals) (records : List Record)
+    → Through in_record no_ports no_ports g g' x y (Appends s.taken s'.taken) t records
+    → RunsThrough g g' s s' t records
+runs {g} {g'} {x} {y} {s} {s'} t records p =
     let P : List Record → Type 0 = λ rs. RunsThrough g g' s s' t rs in
     let plain = plain_trades (turns p.acts) p.does.goes.trades in
     subst P p.told_are (λ config before at.
@@ -237,10 +239,10 @@ events_more records r =
     (append-nil (answers.events_of r))
 
 -- .. and a write failed when it had acted on the last one
-whole_until : {g g' : Gateway} {s s' : SinkState} {t : Totals} (records : List Record) → 0 < length records
-    → Through in_record no_ports no_ports g g' (AppendsPrefix s.taken s'.taken) t records
+whole_until : {g g' : Gateway} {x y : TapeState} {s s' : SinkState} {t : Totals} (records : List Record)
+    → 0 < length records → Through in_record no_ports no_ports g g' x y (AppendsPrefix s.taken s'.taken) t records
     → RunsUntilWrite g g' s s' records
-whole_until {g} {g'} {s} {s'} {t} records some p =
+whole_until {g} {g'} {x} {y} {s} {s'} {t} records some p =
     let l = last_of records some in
     let plain = plain_trades (turns p.acts) p.does.goes.trades in
     let T : List Record → Type 0 = λ rs. (config : GatewayConfig) (before : List Event) → Stands config g before
@@ -330,7 +332,7 @@ cut_until {g} {g'} {s} {s'} begun p =
           (AppendsPrefix-more _ _ _ (cut_rest config before p.acts p.turns rest) (p.took config before at)));
     }
 
-pub runs_until : {g g' : Gateway} {s s' : SinkState} (records : List Record)
-    → Begun in_record no_ports no_ports g g' s s' records → RunsUntilWrite g g' s s' records
+pub runs_until : {g g' : Gateway} {x y : TapeState} {s s' : SinkState} (records : List Record)
+    → Begun in_record no_ports no_ports g g' x y s s' records → RunsUntilWrite g g' s s' records
 runs_until records (inl w) = whole_until records w.1 w.2
 runs_until records (inr w) = cut_until records w

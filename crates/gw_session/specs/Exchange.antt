@@ -1,12 +1,12 @@
 -- What the parts of a session do, for the private functions of modules `exchange`, `act` and `attend`.
-use Rattle.std.specs.Prelude.{◌≡◌, ◌⊎◌, ◌+◌, ◌<◌, ◌≤◌, ◌++◌, ℕ, List, [], ◌∷◌, length, map, Option, Some}
+use Rattle.std.specs.Prelude.{◌≡◌, ◌⊎◌, ◌+◌, ◌<◌, ◌≤◌, ◌++◌, ℕ, List, [], ◌∷◌, length, map, drop, Option, Some}
 use Rattle.std.specs.Prelude.{Result, MatchResult}
 use Rattle.std.specs.List.{flat_map}
 use Rattle.gw_switch.specs.declared.GatewayConfig.{GatewayConfig}
 use Rattle.gw_switch.specs.declared.gateway.Gateway.{Gateway}
-use Rattle.gw_switch.specs.Events.{Event}
+use Rattle.gw_switch.specs.Events.{Event, octets}
 use Rattle.gw_switch.specs.Standing.{Stands}
-use Rattle.gw_switch.specs.Whole.{reply_to}
+use Rattle.gw_switch.specs.Whole.{reply_to, next_circuit}
 use Rattle.gw_records.specs.declared.outcome.Totals.{Totals}
 use Rattle.gw_records.specs.declared.outcome.RunFault.{RunFault}
 use Rattle.gw_records.specs.declared.outcome.RunFault.TheVariants.{Write}
@@ -19,6 +19,7 @@ use Rattle.gw_session.specs.Ports.{counted}
 use Rattle.gw_session.specs.Serve.{Act, Turn, told, octet_of, turns_of, events_of, events_of_turns, answer_to}
 use Rattle.gw_session.specs.Serve.{Goes, Trades, of_circuit, coming, first_four, behind_four}
 use Rattle.gw_session.specs.Serve.{LeavesOut, packets_for, octets_for, dropped_for, Does, events}
+use Rattle.gw_session.specs.Tape.{TapeState, Recorded, RecordedBut}
 
 -- the gateway took an event, and the number of its reply is this
 abbrev pub Takes : Gateway → Gateway → Event → ℕ → Type 0
@@ -71,6 +72,29 @@ pub record Comes (ports ports' : PortsState) (gateway gateway' : Gateway) (total
   pub datagrams : totals'.datagrams ≡ totals.datagrams
   pub kept : KeepsRecords totals totals'
   pub given : IsGiven gateway gateway' totals totals' (of_circuit circuit came)
+
+-- Of octets that were heard the first ones are recorded, as many as this says; datagrams came, and all was
+-- recorded but for the octets that are still behind those.
+pub record RecordsBehind (tape tape' : TapeState) (heard : List ℕ) (recorded recorded' : ℕ)
+    (happened : List Event) : Type 0 where
+  pub within : recorded' ≤ length heard
+  pub but : RecordedBut tape tape' (map Event.Octet (drop recorded heard) ++ happened) (drop recorded' heard)
+
+-- datagrams of a circuit came, and were recorded behind octets that were heard
+abbrev pub ComesRecorded : PortsState → PortsState → Gateway → Gateway → Totals → Totals → Option ℕ → TapeState
+    → TapeState → List ℕ → ℕ → ℕ → Type 0
+ComesRecorded ports ports' gateway gateway' totals totals' circuit tape tape' heard recorded recorded' =
+    (c : Comes ports ports' gateway gateway' totals totals' circuit)
+    × RecordsBehind tape tape' heard recorded recorded' (coming (of_circuit circuit c.came))
+
+-- .. of the circuit whose slot the next octet sends
+pub record ComesInTurn (ports ports' : PortsState) (gateway gateway' : Gateway) (totals totals' : Totals)
+    (tape tape' : TapeState) (heard : List ℕ) (recorded recorded' : ℕ) : Type 0 where
+  pub circuit : Option ℕ
+  pub comes : Comes ports ports' gateway gateway' totals totals' circuit
+  pub records : RecordsBehind tape tape' heard recorded recorded' (coming (of_circuit circuit comes.came))
+  pub in_turn : (config : GatewayConfig) (before : List Event) → Stands config gateway before
+      → circuit ≡ next_circuit (length (octets before))
 
 -- the packet that is sent with an octet, if there is one, went to the ports
 pub record SendsPacket (ports ports' : PortsState) (totals totals' : Totals) (packet : Option (ℕ × List ℕ))
@@ -150,23 +174,26 @@ pub record StopsAt (spells : Spells) (ports ports' : PortsState) (gateway gatewa
   pub packet : ℕ × List ℕ
   pub some : 0 < length (spells packet)
 
--- one octet
+-- one octet, which with the datagrams before it was recorded but for the last octets
 abbrev pub Exchanging : Spells → PortsState → PortsState → Gateway → Gateway → Totals → Totals → SinkState
-    → SinkState → List ℕ → List ℕ → ℕ → Result ℕ RunFault → Type 0
-Exchanging spells ports ports' gateway gateway' totals totals' sink sink' waiting waiting' octet result =
-    MatchResult result
-    (λ sent. Exchanges spells ports ports' gateway gateway' totals totals' sink sink' waiting waiting' (octet ∷ [])
-    (sent ∷ []))
+    → SinkState → List ℕ → List ℕ → ℕ → TapeState → TapeState → List ℕ → ℕ → ℕ → Result ℕ RunFault → Type 0
+Exchanging spells ports ports' gateway gateway' totals totals' sink sink' waiting waiting' octet tape tape' heard
+    recorded recorded' result = MatchResult result
+    (λ sent. (x : Exchanges spells ports ports' gateway gateway' totals totals' sink sink' waiting waiting'
+    (octet ∷ []) (sent ∷ []))
+    × (recorded' ≤ length heard) × RecordedBut tape tape'
+    (map Event.Octet (drop recorded heard) ++ events_of_turns x.turns) (drop recorded' heard ++ octet ∷ []))
     (λ e. (e ≡ Write) × StopsAt spells ports ports' gateway gateway' sink sink' waiting (octet ∷ []))
 
--- octets, those to send behind those of the answer
+-- octets, those to send behind those of the answer; they and the datagrams that came were recorded
 abbrev pub ExchangingAll : Spells → PortsState → PortsState → Gateway → Gateway → Totals → Totals → SinkState
-    → SinkState → List ℕ → List ℕ → List ℕ → List ℕ → List ℕ → Result (Unit {0}) RunFault → Type 0
+    → SinkState → List ℕ → List ℕ → List ℕ → List ℕ → List ℕ → TapeState → TapeState → Result (Unit {0}) RunFault
+    → Type 0
 ExchangingAll spells ports ports' gateway gateway' totals totals' sink sink' waiting waiting' octets answer answer'
-    result = MatchResult result
+    tape tape' result = MatchResult result
     (λ _. (sent : List ℕ)
-    × Exchanges spells ports ports' gateway gateway' totals totals' sink sink' waiting waiting' octets sent
-    × (answer' ≡ answer ++ sent))
+    × (x : Exchanges spells ports ports' gateway gateway' totals totals' sink sink' waiting waiting' octets sent)
+    × (answer' ≡ answer ++ sent) × Recorded tape tape' (events_of_turns x.turns))
     (λ e. (e ≡ Write) × StopsAt spells ports ports' gateway gateway' sink sink' waiting octets)
 
 -- datagrams came so far, with no failed receive
@@ -179,27 +206,38 @@ pub record Receiving (ports ports' : PortsState) (gateway gateway' : Gateway) (t
   pub others : totals' ≡ record totals { dropped = totals'.dropped }
   pub given : IsGiven gateway gateway' totals totals' (of_circuit (Some circuit) came)
 
--- a record was acted on: the gateway and the ports went through its act, and the totals count it
-pub record ActsOn (ports ports' : PortsState) (gateway gateway' : Gateway) (totals totals' : Totals) (r : Record)
+-- .. and were recorded behind octets that were heard
+pub record ReceivingRecorded (ports ports' : PortsState) (gateway gateway' : Gateway) (totals totals' : Totals)
+    (circuit : ℕ) (came : List (List ℕ)) (tape tape' : TapeState) (heard : List ℕ) (recorded recorded' : ℕ)
     : Type 0 where
+  pub receiving : Receiving ports ports' gateway gateway' totals totals' circuit came
+  pub records : RecordsBehind tape tape' heard recorded recorded' (coming (of_circuit (Some circuit) came))
+
+-- a record was acted on: the gateway and the ports went through its act, which was recorded, and the totals
+-- count it
+pub record ActsOn (ports ports' : PortsState) (gateway gateway' : Gateway) (totals totals' : Totals)
+    (tape tape' : TapeState) (r : Record) : Type 0 where
   pub act : Act
   pub told_is : told act ≡ r
   pub goes : Goes ports ports' gateway gateway' totals totals' (turns_of act) (events_of act)
   pub records : totals'.records ≡ counted totals.records 1
   pub octets : totals'.octets ≡ counted totals.octets (length (turns_of act))
+  pub recorded : Recorded tape tape' (events_of act)
 
 -- .. and all that is put for it passes
 pub record Finishes (spells : Spells) (ports ports' : PortsState) (gateway gateway' : Gateway)
-    (totals totals' : Totals) (sink sink' : SinkState) (waiting waiting' : List ℕ) (r : Record) : Type 0 where
-  pub acts : ActsOn ports ports' gateway gateway' totals totals' r
+    (totals totals' : Totals) (tape tape' : TapeState) (sink sink' : SinkState) (waiting waiting' : List ℕ)
+    (r : Record) : Type 0 where
+  pub acts : ActsOn ports ports' gateway gateway' totals totals' tape tape' r
   pub passes : (config : GatewayConfig) (before : List Event) → Stands config gateway before
       → Passes sink.taken sink'.taken waiting' (waiting ++ written_for spells config before acts.act)
   pub no_failure : sink'.failures ≡ sink.failures
 
 -- .. or a write failed when it was done, and a prefix of that was taken
 pub record Unwritten (spells : Spells) (ports ports' : PortsState) (gateway gateway' : Gateway)
-    (totals totals' : Totals) (sink sink' : SinkState) (waiting : List ℕ) (r : Record) : Type 0 where
-  pub acts : ActsOn ports ports' gateway gateway' totals totals' r
+    (totals totals' : Totals) (tape tape' : TapeState) (sink sink' : SinkState) (waiting : List ℕ) (r : Record)
+    : Type 0 where
+  pub acts : ActsOn ports ports' gateway gateway' totals totals' tape tape' r
   pub took : (config : GatewayConfig) (before : List Event) → Stands config gateway before
       → AppendsPrefix sink.taken sink'.taken (waiting ++ written_for spells config before acts.act)
   pub failed : sink.failures < sink'.failures
@@ -212,17 +250,21 @@ pub record Cut (spells : Spells) (ports ports' : PortsState) (gateway gateway' :
   pub stops : StopsAt spells ports ports' gateway gateway' sink sink' waiting octets
 
 -- a record was acted on, or a write failed in it
-abbrev pub Acts : Spells → PortsState → PortsState → Gateway → Gateway → Totals → Totals → SinkState → SinkState
-    → List ℕ → List ℕ → Record → Result (Unit {0}) RunFault → Type 0
-Acts spells ports ports' gateway gateway' totals totals' sink sink' waiting waiting' r result = MatchResult result
-    (λ _. Finishes spells ports ports' gateway gateway' totals totals' sink sink' waiting waiting' r)
-    (λ e. (e ≡ Write) × (Unwritten spells ports ports' gateway gateway' totals totals' sink sink' waiting r
+abbrev pub Acts : Spells → PortsState → PortsState → Gateway → Gateway → Totals → Totals → TapeState → TapeState
+    → SinkState → SinkState → List ℕ → List ℕ → Record → Result (Unit {0}) RunFault → Type 0
+Acts spells ports ports' gateway gateway' totals totals' tape tape' sink sink' waiting waiting' r result =
+    MatchResult result
+    (λ _. Finishes spells ports ports' gateway gateway' totals totals' tape tape' sink sink' waiting waiting' r)
+    (λ e. (e ≡ Write)
+    × (Unwritten spells ports ports' gateway gateway' totals totals' tape tape' sink sink' waiting r
     ⊎ Cut spells ports ports' gateway gateway' sink sink' waiting r))
 
--- the ports and the gateway went through the acts of records, and this is known of all that is put for them
+-- the ports and the gateway went through the acts of records, which were recorded, and this is known of all that
+-- is put for them
 pub record Through (spells : Spells) (ports ports' : PortsState) (gateway gateway' : Gateway)
-    (Took : List ℕ → Type 0) (totals : Totals) (records : List Record) : Type 0 where
+    (tape tape' : TapeState) (Took : List ℕ → Type 0) (totals : Totals) (records : List Record) : Type 0 where
   pub acts : List Act
+  pub recorded : Recorded tape tape' (events acts)
   pub told_are : map told acts ≡ records
   pub does : Does ports ports' gateway gateway' totals acts
   pub took : (config : GatewayConfig) (before : List Event) → Stands config gateway before
@@ -253,9 +295,9 @@ pub record CutThrough (spells : Spells) (ports ports' : PortsState) (gateway gat
   pub some : 0 < length (spells packet)
 
 -- so much was done of records in which a write failed
-abbrev pub Begun : Spells → PortsState → PortsState → Gateway → Gateway → SinkState → SinkState → List Record
-    → Type 0
-Begun spells ports ports' gateway gateway' sink sink' records =
+abbrev pub Begun : Spells → PortsState → PortsState → Gateway → Gateway → TapeState → TapeState → SinkState
+    → SinkState → List Record → Type 0
+Begun spells ports ports' gateway gateway' tape tape' sink sink' records =
     ((totals : Totals) × (0 < length records)
-    × Through spells ports ports' gateway gateway' (AppendsPrefix sink.taken sink'.taken) totals records)
+    × Through spells ports ports' gateway gateway' tape tape' (AppendsPrefix sink.taken sink'.taken) totals records)
     ⊎ CutThrough spells ports ports' gateway gateway' sink sink' records

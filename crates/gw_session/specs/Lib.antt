@@ -9,6 +9,8 @@ pub mod Running
 pub mod Ports
 pub mod Outlet
 pub mod Serve
+pub mod Tape
 pub mod Exchange
-pub mod Recorded
+pub mod Recording
 pub mod ServeLaws
+pub mod RecordingLaws

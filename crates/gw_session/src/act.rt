@@ -10,6 +10,7 @@ ghost use Rattle.gw_session.specs.Exchange.{Takes};
 
 use crate::exchange::{Session, give};
 use crate::outlet::Outlet;
+use crate::tape::Tape;
 use byteorder::{BigEndian, ByteOrder};
 use g704_cas::CircuitNo;
 use g726_codec::CodecKind;
@@ -130,18 +131,20 @@ impl Session {
     ghost use Rattle.gw_session.specs.Exchange.{Acts};
 
     // Hears the octets of a trunk record, and puts the record that answers it.
-    fn act_on_trunk<O: Outlet, K: Sink>(
+    fn act_on_trunk<O: Outlet, K: Sink, T: Tape>(
         &mut self,
         gateway: &mut Gateway,
         outlet: &mut O,
         body: &[u8],
         sink: &mut K,
+        tape: &mut T,
     ) -> Result<(), RunFault>
         requires short { length body.now < 2 ^ 16 }
         requires room { O.place ≤ vec_len self.old.room }
         requires writes { CanCount (K.tells sink.old).failures }
         ensures acts { Acts O.spells (O.tells outlet.old) (O.tells outlet.new) gateway.old gateway.new
-            self.old.totals self.new.totals (K.tells sink.old) (K.tells sink.new)
+            self.old.totals self.new.totals (T.tells tape.old) (T.tells tape.new)
+            (K.tells sink.old) (K.tells sink.new)
             self.old.waiting.items self.new.waiting.items (Record.Trunk body.now) result }
         ensures room { vec_len self.new.room ≡ vec_len self.old.room }
     {
@@ -149,7 +152,7 @@ impl Session {
         self.totals.octets = self.totals.octets.saturating_add(body.len() as u64);
         self.answer.clear();
         let _ = self.answer.try_extend_from_slice(&trunk_front(body.len()));
-        self.exchange_all(gateway, outlet, body, sink)?;
+        self.exchange_all(gateway, outlet, body, sink, tape)?;
         put_out(
             self.answer.as_slice(),
             &mut self.waiting,
@@ -178,34 +181,39 @@ impl Session {
         put_out(&octets, &mut self.waiting, self.at_once, sink)
     }
 
-    /// Acts on a record, and puts what answers it behind the octets that wait.
-    pub fn act<O: Outlet, K: Sink>(
+    /// Acts on a record, which is recorded before, and puts what answers it behind the octets that wait.
+    pub fn act<O: Outlet, K: Sink, T: Tape>(
         &mut self,
         gateway: &mut Gateway,
         outlet: &mut O,
         head: Head,
         body: &[u8],
         sink: &mut K,
+        tape: &mut T,
     ) -> Result<(), RunFault>
         requires good { IsGood all_kinds (named head body.now) }
         requires room { O.place ≤ vec_len self.old.room }
         requires writes { CanCount (K.tells sink.old).failures }
         ensures acts { Acts O.spells (O.tells outlet.old) (O.tells outlet.new) gateway.old gateway.new
-            self.old.totals self.new.totals (K.tells sink.old) (K.tells sink.new)
+            self.old.totals self.new.totals (T.tells tape.old) (T.tells tape.new)
+            (K.tells sink.old) (K.tells sink.new)
             self.old.waiting.items self.new.waiting.items (named head body.now) result }
         ensures room { vec_len self.new.room ≡ vec_len self.old.room }
     {
         match head {
-            Head::Trunk => self.act_on_trunk(gateway, outlet, body, sink),
+            Head::Trunk => self.act_on_trunk(gateway, outlet, body, sink, tape),
             Head::Datagram(circuit) => {
+                tape.put(head, body);
                 let code = give(gateway, circuit_no(circuit), body, &mut self.totals);
                 self.put_answer(circuit, DATAGRAM, code, sink)
             }
             Head::Command(circuit, command) => {
+                tape.put(head, body);
                 let code = give_command(gateway, circuit, command);
                 self.put_answer(circuit, COMMAND, code, sink)
             }
             Head::Codec(circuit, codec, payload_type) => {
+                tape.put(head, body);
                 let code = give_codec(gateway, circuit, codec, payload_type);
                 self.put_answer(circuit, CODEC, code, sink)
             }

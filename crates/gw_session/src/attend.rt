@@ -8,15 +8,16 @@ ghost use Rattle.gw_session.specs.Exchange.{Through, Begun};
 
 use crate::exchange::Session;
 use crate::outlet::Outlet;
+use crate::tape::Tape;
 use gw_records::{
     FRONT_LEN, Kinds, Reader, RunFault, Sink, Source, Totals, answer, first_record, flush,
 };
 use gw_switch::Gateway;
 
-/// Acts on the records of the source, of these kinds, by a gateway. It is inlined, so that a session tests for
+/// Acts on the records of the source, of these kinds, by a gateway, and records on a tape what it takes. It is inlined, so that a session tests for
 /// no other kinds than its own.
 #[inline(always)]
-pub fn attend<O: Outlet, S: Source, K: Sink>(
+pub fn attend<O: Outlet, S: Source, K: Sink, T: Tape>(
     kinds: &Kinds,
     reader: &mut Reader,
     session: &mut Session,
@@ -24,6 +25,7 @@ pub fn attend<O: Outlet, S: Source, K: Sink>(
     outlet: &mut O,
     source: &mut S,
     sink: &mut K,
+    tape: &mut T,
 ) -> Result<Totals, RunFault>
     requires begins { CanBegin (S.tells source.old) (K.tells sink.old) }
     requires holds { held reader.old ≡ [] }
@@ -34,19 +36,21 @@ pub fn attend<O: Outlet, S: Source, K: Sink>(
     ensures ok { IfOk result (EndsAll kinds.now
         (S.tells source.old) (S.tells source.new) (K.tells sink.old) (K.tells sink.new)
         (Through O.spells (O.tells outlet.old) (O.tells outlet.new) gateway.old gateway.new
+        (T.tells tape.old) (T.tells tape.new)
         (Appends (K.tells sink.old).taken (K.tells sink.new).taken))) }
     ensures fault { IfErr result (EndsUntil kinds.now
         (S.tells source.old) (S.tells source.new) (K.tells sink.old) (K.tells sink.new)
         (Through O.spells (O.tells outlet.old) (O.tells outlet.new) gateway.old gateway.new
+        (T.tells tape.old) (T.tells tape.new)
         (Appends (K.tells sink.old).taken (K.tells sink.new).taken))
         (Begun O.spells (O.tells outlet.old) (O.tells outlet.new) gateway.old gateway.new
-        (K.tells sink.old) (K.tells sink.new)) ⊥) }
+        (T.tells tape.old) (T.tells tape.new) (K.tells sink.old) (K.tells sink.new)) ⊥) }
 {
     'attending: loop {
         match first_record(kinds, reader.held()) {
             Ok(first) => {
                 let body = &reader.held()[FRONT_LEN..first.len];
-                session.act(gateway, outlet, first.head, body, sink)?;
+                session.act(gateway, outlet, first.head, body, sink, tape)?;
                 reader.pass(first.len);
             }
             Err(ending) => {

@@ -1,13 +1,14 @@
 //! Octets of the trunk, and the datagrams that come and go with them.
-ghost use Rattle.std.specs.Prelude.{◌≡◌, ◌≤◌, ◌∷◌, List, [], length, Some};
+ghost use Rattle.std.specs.Prelude.{◌≡◌, ◌≤◌, ◌<◌, ◌^◌, ◌∷◌, List, [], length, Some};
 ghost use Rattle.gw_switch.specs.declared.GatewayConfig.{GatewayConfig};
-ghost use Rattle.gw_switch.specs.Events.{Event, octets};
-ghost use Rattle.gw_switch.specs.Whole.{next_circuit, reply_to};
+ghost use Rattle.gw_switch.specs.Events.{Event};
+ghost use Rattle.gw_switch.specs.Whole.{reply_to};
 ghost use Rattle.gw_switch.specs.Standing.{Stands};
 ghost use Rattle.gw_session.specs.Answers.{code_of};
-ghost use Rattle.gw_session.specs.Exchange.{IsGiven, Comes};
+ghost use Rattle.gw_session.specs.Exchange.{IsGiven, ComesRecorded, ComesInTurn};
 
 use crate::outlet::Outlet;
+use crate::tape::{Tape, record_arrival, record_octets};
 use g704_cas::CircuitNo;
 use gw_circuit::Datagram;
 use gw_records::{NO_TOTALS, OutputBuffer, RunFault, Sink, Totals, TrunkRecord};
@@ -32,22 +33,31 @@ pub fn give(gateway: &mut Gateway, circuit: CircuitNo, octets: &[u8], totals: &m
     }
 }
 
-// Receives the datagrams that wait at a circuit, four at most, and gives them to the gateway.
+// Receives the datagrams that wait at a circuit, four at most, records them behind the octets that were heard
+// and gives them to the gateway. Of these octets the first ones are recorded.
 #[inline]
-fn receive_some<O: Outlet>(
+fn receive_some<O: Outlet, T: Tape>(
     gateway: &mut Gateway,
     outlet: &mut O,
     circuit: CircuitNo,
     room: &mut [u8],
     totals: &mut Totals,
+    tape: &mut T,
+    heard: &[u8],
+    recorded: &mut usize,
 )
     requires room { O.place ≤ length room.old }
-    ensures comes { Comes (O.tells outlet.old) (O.tells outlet.new) gateway.old gateway.new
-        totals.old totals.new (Some circuit) }
+    requires short { length heard.now < 2 ^ 16 }
+    requires within { recorded.old ≤ length heard.now }
+    ensures comes { ComesRecorded (O.tells outlet.old) (O.tells outlet.new) gateway.old gateway.new
+        totals.old totals.new (Some circuit) (T.tells tape.old) (T.tells tape.new)
+        heard.now recorded.old recorded.new }
 {
     'receiving: for _turn in 0..MOST_DATAGRAMS {
         match outlet.arrives(circuit, room) {
             Ok(Some(n)) => {
+                record_arrival(tape, &heard[*recorded..], circuit, &room[..n]);
+                *recorded = heard.len();
                 let _ = give(gateway, circuit, &room[..n], totals);
             }
             Ok(None) => return,
@@ -59,25 +69,28 @@ fn receive_some<O: Outlet>(
     }
 }
 
-// Receives datagrams for the circuit whose slot the next octet sends, and returns that circuit.
+// Receives and records datagrams for the circuit whose slot the next octet sends.
 #[inline]
-fn receive_next<O: Outlet>(
+fn receive_next<O: Outlet, T: Tape>(
     gateway: &mut Gateway,
     outlet: &mut O,
     room: &mut [u8],
     totals: &mut Totals,
-) -> Option<CircuitNo>
+    tape: &mut T,
+    heard: &[u8],
+    recorded: &mut usize,
+)
     requires room { O.place ≤ length room.old }
-    ensures comes { Comes (O.tells outlet.old) (O.tells outlet.new) gateway.old gateway.new
-        totals.old totals.new result }
-    ensures in_turn { (config : GatewayConfig) (before : List Event) → Stands config gateway.old before
-        → result ≡ next_circuit (length (octets before)) }
+    requires short { length heard.now < 2 ^ 16 }
+    requires within { recorded.old ≤ length heard.now }
+    ensures comes { ComesInTurn (O.tells outlet.old) (O.tells outlet.new) gateway.old gateway.new
+        totals.old totals.new (T.tells tape.old) (T.tells tape.new) heard.now recorded.old recorded.new }
 {
-    let next = gateway.next_slot();
-    if let Some(circuit) = next {
-        receive_some(gateway, outlet, circuit, room, totals);
+    if let Some(circuit) = gateway.next_slot() {
+        receive_some(
+            gateway, outlet, circuit, room, totals, tape, heard, recorded,
+        );
     }
-    next
 }
 
 /// What a session has done, what it is to write, and where it receives and makes what it sends.
@@ -92,7 +105,7 @@ pub struct Session {
 }
 
 impl Session {
-    ghost use Rattle.std.specs.Prelude.{◌≡◌, ◌+◌, ◌<◌, ◌≤◌, ◌++◌, [], length, vec_len, OnOk, OnErr};
+    ghost use Rattle.std.specs.Prelude.{◌≡◌, ◌+◌, ◌<◌, ◌≤◌, ◌^◌, ◌++◌, [], length, vec_len, OnOk, OnErr};
     ghost use Rattle.gw_records.specs.Outcome.{nothing_counted};
     ghost use Rattle.gw_records.specs.Streams.{CanCount, Puts};
     ghost use Rattle.gw_session.specs.Exchange.{SendsPacket, Hearing, Exchanging, ExchangingAll};
@@ -165,50 +178,71 @@ impl Session {
         Ok(out.octet)
     }
 
-    // Hears an octet after the datagrams that wait at the circuit whose slot is sent with it, and returns the
-    // octet to send.
+    // Hears an octet after the datagrams that wait at the circuit whose slot is sent with it, which are
+    // recorded behind the octets that were heard before. Returns the octet to send.
     #[inline]
-    fn exchange<O: Outlet, K: Sink>(
+    fn exchange<O: Outlet, K: Sink, T: Tape>(
         &mut self,
         gateway: &mut Gateway,
         outlet: &mut O,
         octet: u8,
         sink: &mut K,
+        tape: &mut T,
+        heard: &[u8],
+        recorded: &mut usize,
     ) -> Result<u8, RunFault>
         requires room { O.place ≤ vec_len self.old.room }
         requires writes { CanCount (K.tells sink.old).failures }
+        requires short { length heard.now < 2 ^ 16 }
+        requires within { recorded.old ≤ length heard.now }
         ensures exchanges { Exchanging O.spells (O.tells outlet.old) (O.tells outlet.new)
             gateway.old gateway.new self.old.totals self.new.totals (K.tells sink.old) (K.tells sink.new)
-            self.old.waiting.items self.new.waiting.items octet result }
+            self.old.waiting.items self.new.waiting.items octet
+            (T.tells tape.old) (T.tells tape.new) heard.now recorded.old recorded.new result }
         ensures answer { self.new.answer ≡ self.old.answer }
         ensures room { vec_len self.new.room ≡ vec_len self.old.room }
     {
-        let _ = receive_next(gateway, outlet, self.room.as_mut_slice(), &mut self.totals);
+        let room = self.room.as_mut_slice();
+        receive_next(
+            gateway,
+            outlet,
+            room,
+            &mut self.totals,
+            tape,
+            heard,
+            recorded,
+        );
         self.hear(gateway, outlet, octet, sink)
     }
 
     /// Hears octets, each after the datagrams that wait at the circuit whose slot is sent with it, and puts
-    /// the octets to send behind those of the answer.
-    pub fn exchange_all<O: Outlet, K: Sink>(
+    /// the octets to send behind those of the answer. All are recorded: the octets are cut where datagrams
+    /// came.
+    pub fn exchange_all<O: Outlet, K: Sink, T: Tape>(
         &mut self,
         gateway: &mut Gateway,
         outlet: &mut O,
         octets: &[u8],
         sink: &mut K,
+        tape: &mut T,
     ) -> Result<(), RunFault>
         requires fits { length self.old.answer.items + length octets.now ≤ 65539 }
+        requires short { length octets.now < 2 ^ 16 }
         requires room { O.place ≤ vec_len self.old.room }
         requires writes { CanCount (K.tells sink.old).failures }
         ensures exchanges { ExchangingAll O.spells (O.tells outlet.old) (O.tells outlet.new)
             gateway.old gateway.new self.old.totals self.new.totals (K.tells sink.old) (K.tells sink.new)
             self.old.waiting.items self.new.waiting.items octets.now
-            self.old.answer.items self.new.answer.items result }
+            self.old.answer.items self.new.answer.items (T.tells tape.old) (T.tells tape.new) result }
         ensures room { vec_len self.new.room ≡ vec_len self.old.room }
     {
-        for octet in octets {
-            let sent = self.exchange(gateway, outlet, *octet, sink)?;
+        let mut recorded = 0;
+        for i in 0..octets.len() {
+            let heard = &octets[..i];
+            let sent = self.exchange(gateway, outlet, octets[i], sink, tape, heard, &mut recorded)?;
             self.answer.push(sent);
         }
+        record_octets(tape, &octets[recorded..]);
         Ok(())
     }
 }

@@ -2,10 +2,12 @@
 ghost use Rattle.std.specs.Prelude.{IfOk, IfErr};
 ghost use Rattle.gw_records.specs.Streams.{CanBegin};
 ghost use Rattle.gw_session.specs.Serve.{ServesAll, ServesUntil};
+ghost use Rattle.gw_session.specs.Recording.{RecordsAll, RecordsUntil};
 
 use crate::attend::attend;
 use crate::exchange::Session;
 use crate::ports::Ports;
+use crate::tape::{NoTape, Tape};
 use gw_records::{Kinds, Reader, RunFault, Sink, Source, Totals};
 use gw_switch::Gateway;
 use std::alloc::Global;
@@ -55,6 +57,32 @@ pub fn serve<S: Source, P: Ports, K: Sink>(
     ensures fault { IfErr result (ServesUntil (S.tells source.old) (S.tells source.new) (K.tells sink.old)
         (K.tells sink.new) (P.tells ports.old) (P.tells ports.new) gateway.old gateway.new) }
 {
+    serve_recorded(alloc, gateway, ports, source, sink, &mut NoTape)
+}
+
+/// Serves as [`serve`] does, and records on a tape what the gateway takes, in the order in which it takes it,
+/// as records of every kind: each before what answers it is written. A tape that ends changes nothing of the
+/// session.
+///
+/// # Errors
+///
+/// Those of [`serve`].
+pub fn serve_recorded<S: Source, P: Ports, K: Sink, T: Tape>(
+    alloc: Global,
+    gateway: &mut Gateway,
+    ports: &mut P,
+    source: &mut S,
+    sink: &mut K,
+    tape: &mut T,
+) -> Result<Totals, RunFault>
+    requires { CanBegin (S.tells source.old) (K.tells sink.old) }
+    ensures ok { IfOk result (RecordsAll (S.tells source.old) (S.tells source.new) (K.tells sink.old)
+        (K.tells sink.new) (P.tells ports.old) (P.tells ports.new) gateway.old gateway.new
+        (T.tells tape.old) (T.tells tape.new)) }
+    ensures fault { IfErr result (RecordsUntil (S.tells source.old) (S.tells source.new) (K.tells sink.old)
+        (K.tells sink.new) (P.tells ports.old) (P.tells ports.new) gateway.old gateway.new
+        (T.tells tape.old) (T.tells tape.new)) }
+{
     let Ok(mut reader) = Reader::new(alloc) else {
         return Err(RunFault::OutOfMemory);
     };
@@ -70,5 +98,6 @@ pub fn serve<S: Source, P: Ports, K: Sink>(
         ports,
         source,
         sink,
+        tape,
     )
 }

@@ -98,6 +98,3 @@ impl LineFault {
         }
     }
 }
-
-#[cfg(test)]
-mod tests;

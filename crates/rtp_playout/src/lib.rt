@@ -58,6 +58,3 @@ impl PlayoutFault {
         }
     }
 }
-
-#[cfg(test)]
-mod tests;

@@ -75,6 +75,3 @@ impl SatopFault {
 #[derive(Clone, Copy, Debug, PartialEq, Eq, Error)]
 #[error("the payload is too long")]
 pub struct TooLong;
-
-#[cfg(test)]
-mod tests;

@@ -14,7 +14,7 @@ attending-init g c = (
   [],
   record {
     stage = starts _ _ _ c.requires.holds c.requires.turns;
-    through = through_none _ _ _ _ _ _ c.requires.waiting c.requires.totals;
+    through = through_none _ _ _ _ _ _ _ c.requires.waiting c.requires.totals;
     none_waits = λ none. ap length c.requires.waiting;
     room = c.requires.room;
   },

@@ -12,7 +12,7 @@ invariant-attending g l = (octets : List ℕ) × (records : List Record) × reco
   stage : Stage l.kinds (g.S.Source.tells l.initial.source) (g.S.Source.tells l.source)
       (g.K.Sink.tells l.initial.sink) (g.K.Sink.tells l.sink) l.reader octets records;
   through : Through g.O.Outlet.spells (g.O.Outlet.tells l.initial.outlet) (g.O.Outlet.tells l.outlet)
-      l.initial.gateway l.gateway
+      l.initial.gateway l.gateway (g.T.Tape.tells l.initial.tape) (g.T.Tape.tells l.tape)
       (λ xs. Passes (g.K.Sink.tells l.initial.sink).taken (g.K.Sink.tells l.sink).taken l.session.waiting.items xs)
       l.session.totals records;
   none_waits : length records ≡ 0 → length l.session.waiting.items ≡ 0;

@@ -16,24 +16,24 @@ returns-in-Datagram-clause-acts g c =
     let code = rw c.circuit_no.ensures at c.give-code.ensures.code in
     let takes : Takes c.args.gateway.now c.give-code.new.gateway (Event.Datagram circuit body) c.give-code.result =
     λ config before h. ((given config before h).0, code config before h) in
-    rw c.in-Datagram.is (one_acts _ _ _ _ c.args.self.now.totals c.put_answer.new.self.totals _ _ _ _ (Act.Datagram circuit body)
+    rw c.in-Datagram.is (one_acts _ _ _ _ c.args.self.now.totals c.put_answer.new.self.totals _ _ _ _ _ _ (Act.Datagram circuit body)
     (Event.Datagram circuit body) circuit 0x44 _ c.put_answer.result refl refl (λ config before. refl)
     (λ config before. refl) takes (λ config before h. ap (λ (x : Totals). x.dropped) c.put_answer.ensures.counts
     ∙ (given config before h).1) (counts_given c.args.self.now.totals c.give-code.new.totals c.put_answer.new.self.totals
     c.give-code.ensures.others c.put_answer.ensures.counts)
-    c.put_answer.ensures.puts)
+    c.put_answer.ensures.puts c.put.ensures)
 
 pub returns-in-Command-clause-acts : goal.returns-in-Command-clause-acts
 unfolding answer_to packets_for dropped_for
 returns-in-Command-clause-acts g c =
     let circuit = c.in-Command.circuit in
     let command = c.in-Command.command in
-    rw c.in-Command.is (one_acts _ _ _ _ c.args.self.now.totals c.put_answer-in-Command.new.self.totals _ _ _ _ (Act.Command circuit command)
+    rw c.in-Command.is (one_acts _ _ _ _ c.args.self.now.totals c.put_answer-in-Command.new.self.totals _ _ _ _ _ _ (Act.Command circuit command)
     (Event.Command circuit (command_of command)) circuit 0x43 _ c.put_answer-in-Command.result refl refl
     (λ config before. refl) (λ config before. refl) c.give_command-code.ensures
     (λ config before h. ap (λ (x : Totals). x.dropped) c.put_answer-in-Command.ensures.counts)
     (counts_given c.args.self.now.totals c.args.self.now.totals c.put_answer-in-Command.new.self.totals refl
-    c.put_answer-in-Command.ensures.counts) c.put_answer-in-Command.ensures.puts)
+    c.put_answer-in-Command.ensures.counts) c.put_answer-in-Command.ensures.puts c.put-in-Command.ensures)
 
 pub returns-in-Codec-clause-acts : goal.returns-in-Codec-clause-acts
 unfolding answer_to packets_for dropped_for
@@ -41,9 +41,9 @@ returns-in-Codec-clause-acts g c =
     let circuit = c.in-Codec.circuit in
     let codec = c.in-Codec.codec in
     let payload_type = c.in-Codec.payload_type in
-    rw c.in-Codec.is (one_acts _ _ _ _ c.args.self.now.totals c.put_answer-in-Codec.new.self.totals _ _ _ _ (Act.Codec circuit codec payload_type)
+    rw c.in-Codec.is (one_acts _ _ _ _ c.args.self.now.totals c.put_answer-in-Codec.new.self.totals _ _ _ _ _ _ (Act.Codec circuit codec payload_type)
     (Event.Codec circuit (codec_of codec) payload_type) circuit 0x4B _ c.put_answer-in-Codec.result refl refl
     (λ config before. refl) (λ config before. refl) c.give_codec-code.ensures
     (λ config before h. ap (λ (x : Totals). x.dropped) c.put_answer-in-Codec.ensures.counts)
     (counts_given c.args.self.now.totals c.args.self.now.totals c.put_answer-in-Codec.new.self.totals refl
-    c.put_answer-in-Codec.ensures.counts) c.put_answer-in-Codec.ensures.puts)
+    c.put_answer-in-Codec.ensures.counts) c.put_answer-in-Codec.ensures.puts c.put-in-Codec.ensures)

@@ -1,12 +1,14 @@
-use Rattle.std.proofs.Common.{◌≡◌, ◌++◌, ℕ, List, take}
+use Rattle.std.proofs.Common.{◌≡◌}
 use Rattle.std.specs.Prelude.{vec_len}
-use Rattle.gw_session.specs.Exchange.{Exchanges}
+use Rattle.gw_session.proofs.Exchanging.{HeardSo}
 use Rattle.gw_session.proofs.exchange.Session.exchange_all.Given as goal
 
-abbrev pub invariant-loop-octet : goal.invariant-loop-octet
-invariant-loop-octet g l = (sent : List ℕ) × (l.self.answer.items ≡ l.initial.self.answer.items ++ sent)
-    × Exchanges g.O.Outlet.spells (g.O.Outlet.tells l.initial.outlet) (g.O.Outlet.tells l.outlet)
-    l.initial.gateway l.gateway l.initial.self.totals l.self.totals
-    (g.K.Sink.tells l.initial.sink) (g.K.Sink.tells l.sink) l.initial.self.waiting.items l.self.waiting.items
-    (take l.octet-index l.octets) sent
-    × (vec_len l.self.room ≡ vec_len l.initial.self.room)
+abbrev pub invariant-loop-i : goal.invariant-loop-i
+invariant-loop-i g l = record {
+  heard : HeardSo g.O.Outlet.spells (g.O.Outlet.tells l.initial.outlet) (g.O.Outlet.tells l.outlet)
+      l.initial.gateway l.gateway l.initial.self.totals l.self.totals
+      (g.K.Sink.tells l.initial.sink) (g.K.Sink.tells l.sink) l.initial.self.waiting.items l.self.waiting.items
+      l.octets l.i l.recorded l.initial.self.answer.items l.self.answer.items
+      (g.T.Tape.tells l.initial.tape) (g.T.Tape.tells l.tape);
+  room : vec_len l.self.room ≡ vec_len l.initial.self.room;
+}

@@ -1,0 +1,318 @@
+"""What bench/satop runs."""
+from __future__ import annotations
+
+import argparse
+import os
+import random
+import shutil
+import struct
+import subprocess
+import sys
+import tempfile
+from collections import Counter
+from dataclasses import dataclass
+from typing import Any, Callable
+
+sys.dont_write_bytecode = True
+HERE = os.path.dirname(os.path.abspath(__file__))
+TOP = os.path.dirname(HERE)
+sys.path[:0] = [HERE, os.path.join(TOP, 'driver'), os.path.join(TOP, 'scripts')]
+from e1gw.lines import Alignment, Lines  # noqa: E402
+from e1gw.satop import Circuit, Satop, connected  # noqa: E402
+from e1gw.satop_playout import Fill  # noqa: E402
+from e1gw.session import Command  # noqa: E402
+from exchange import ACKNOWLEDGED, ANSWERED, SEIZED, Serve  # noqa: E402
+from satop_far import Multiplexer, Network  # noqa: E402
+from satop_real import real_time  # noqa: E402
+
+NEAR, FAR = ('127.0.0.1', 27501), ('127.0.0.1', 27502)
+PORTS = 27510, 27512
+STEP = 0.002                # seconds of a multiframe
+OUT, IN = 1, 2              # the circuit on which the gateway calls, and the one on which the exchange does
+CONFIG = f'''law = "A"
+
+[[circuit]]
+number = {OUT}
+local_port = {PORTS[0]}
+peer_port = {PORTS[1]}
+prefill = 160
+
+[[circuit]]
+number = {IN}
+role = "incoming"
+local_port = {PORTS[1]}
+peer_port = {PORTS[0]}
+prefill = 160
+'''
+
+
+@dataclass
+class Trial:
+    """What is done in lock step."""
+
+    name: str
+    bits: int = 0
+    rtp: int | None = None
+    jitter: int = 4
+    fill: Fill = Fill.AGAIN
+    loss: float = 0.0
+    swap: float = 0.0
+    double: float = 0.0
+    wrong: float = 0.0
+    seconds: float = 2.0
+
+
+TRIALS = [
+    *(Trial(f'{bits} bits late', bits) for bits in range(8)),
+    Trial('an RTP header', 5, rtp=97),
+    Trial('a jitter buffer of 16', 5, jitter=16),
+    Trial('2 % in another order', 2, swap=.02),
+    Trial('2 % doubled, 2 % in another order', 2, swap=.02, double=.02),
+    Trial('5 % of malformed datagrams beside', 0, wrong=.05, seconds=4),
+    Trial('0.1 % lost', 1, loss=.001, seconds=20),
+    Trial('1 % lost', 1, loss=.01, seconds=5),
+    Trial('5 % lost', 1, loss=.05, seconds=5),
+]
+
+
+class Lock:
+    """A gateway and the driver's SAToP, with a clock that goes on by steps."""
+
+    def __init__(self, program: str, folder: str, trial: Trial) -> None:
+        self.trial, self.now = trial, 0.0
+        config = os.path.join(folder, 'lock.toml')
+        with open(config, 'w', encoding='utf-8') as file:
+            file.write(CONFIG)
+        self.network = Network(random.Random(7))
+        self.far = Multiplexer(FAR, NEAR, self.network, trial.bits, trial.rtp)
+        self.near = Satop(connected(NEAR, FAR), Circuit(jitter=trial.jitter, rtp=trial.rtp, fill=trial.fill),
+                          lambda: self.now)
+        self.serve, self.lines = Serve(program, config), Lines(config)
+        self.exchange = self.far.exchange
+        self.alarms = 0             # multiframes in which the exchange was told of an alarm
+
+    def step(self, paused: bool = False) -> None:
+        self.now += STEP
+        if not paused:
+            self.far.send()
+        while octets := self.near.read(256):
+            sent = self.serve.trunk(octets)
+            self.serve.given.clear()
+            self.serve.answered.clear()
+            self.lines.trunk(octets, sent)
+            self.near.write(sent)
+        self.far.hear()
+        self.alarms += self.exchange.remote_alarms
+
+    def until(self, what: str, holds: Callable[[], bool]) -> int:
+        """Goes on until something holds; returns the milliseconds."""
+        for count in range(1500):
+            if holds():
+                return round(count * STEP * 1000)
+            self.step()
+        raise SystemExit(f'{self.trial.name}: after 3 s still not: {what}')
+
+    def go(self, seconds: float, paused: bool = False) -> None:
+        for _ in range(round(seconds / STEP)):
+            self.step(paused)
+
+    def set_up(self) -> int:
+        """A call from the exchange on one circuit, and one from the gateway on the other, whose RTP meet."""
+        found = self.until('alignment', lambda: self.exchange.aligned and not self.exchange.remote_alarms)
+        self.go(.04)
+        self.exchange.pairs[IN] = SEIZED
+        self.until('seizure acknowledged', lambda: self.exchange.signals[IN] == ACKNOWLEDGED)
+        self.command(IN, 'answer')
+        self.command(OUT, 'seize')
+        self.until('seizure', lambda: self.exchange.signals[OUT] == SEIZED)
+        self.exchange.pairs[OUT] = ACKNOWLEDGED
+        self.go(.04)
+        self.exchange.pairs[OUT] = ANSWERED
+        self.go(.08)
+        return found
+
+    def command(self, circuit: int, word: str) -> None:
+        answer = self.serve.command(circuit, word)
+        if answer:
+            raise SystemExit(f'{self.trial.name}: {word} is refused with {answer}')
+        self.lines.command(circuit, Command[word.upper()])
+
+    def states(self) -> list[str]:
+        return [str(row['state']) for row in self.lines.status()['circuits'] if row['circuit'] in (OUT, IN)]
+
+    def end(self) -> None:
+        self.serve.end()
+        self.near.close()
+        self.far.socket.close()
+
+
+class Bars:
+    """Prints what was seen beside what has to be, and counts what is not."""
+
+    def __init__(self) -> None:
+        self.missed = 0
+
+    def look(self, what: str, seen: object, good: bool, bar: str) -> None:
+        self.missed += not good
+        print(f'  {what:52s} {seen!s:>14s}   {bar}{"" if good else "   NOT MET"}', flush=True)
+
+
+def differing(spoken: bytes, heard: bytes) -> int:
+    """How many octets of what was spoken are others in what was heard, or not there, at its delay."""
+    lags: Counter[int] = Counter()
+    for at in range(0, len(spoken) - 64, 997):
+        place = heard.find(spoken[at:at + 64])
+        if place >= 0:
+            lags[place - at] += 1
+    if not lags:
+        return len(spoken)
+    lag = lags.most_common(1)[0][0]
+    came = heard[max(0, lag):][:len(spoken)]
+    return sum(one != other for one, other in zip(spoken, came)) + len(spoken) - len(came)
+
+
+def speak(lock: Lock, seconds: float, seed: int = 1) -> int:
+    """Random octets on the circuit that the gateway called; returns how many come out of the other one as others."""
+    spoken = random.Random(seed).randbytes(round(8000 * seconds))
+    start = len(lock.exchange.heard[IN])
+    lock.exchange.speech[OUT] = bytearray(spoken)
+    lock.go(seconds + .3)
+    return differing(spoken, bytes(lock.exchange.heard[IN][start:]))
+
+
+def lock_step(program: str, folder: str, trial: Trial, bars: Bars) -> list[bytes]:
+    """One trial; returns packets that the gateway's end sent."""
+    lock = Lock(program, folder, trial)
+    found = lock.set_up()
+    network = lock.network
+    network.loss, network.swap, network.double, network.wrong = trial.loss, trial.swap, trial.double, trial.wrong
+    lock.alarms = 0
+    wrong = speak(lock, trial.seconds)
+    status = lock.near.status()
+    print(f'{trial.name}:')
+    bars.look('both ends aligned, ms', found, found <= 50, 'at most 50')
+    bars.look('bit offset', status['offset'], status['offset'] == trial.bits, f'{trial.bits}')
+    losses = status['alignment_lost'], sum(lock.lines.losses.values()), lock.alarms
+    bars.look('alignment lost by bits, by octets; alarms', ', '.join(map(str, losses)), not any(losses), '0, 0, 0')
+    bars.look('packets lost on the way, and missed', f'{network.lost}, {status["lost"]}',
+              network.lost == status['lost'] and (network.lost > 0) == (trial.loss > 0), 'the same')
+    bars.look('octets of speech that are others', f'{wrong} of {8000 * trial.seconds:.0f}', wrong <= 8 * network.lost,
+              'at most 8 for a lost packet')
+    bars.look('reordered, doubled, malformed', f'{status["reordered"]}, {status["doubled"]}, {status["malformed"]}',
+              (status['reordered'], status['doubled'], status['malformed'])
+              == (network.swapped, network.doubled, network.malformed), 'as on the way')
+    bars.look('states', ' '.join(lock.states()), lock.states() == ['answered'] * 2, 'answered answered')
+    bars.look('packets there and back', f'{lock.far.sent}, {lock.far.heard}',
+              0 <= lock.far.sent - lock.far.heard <= trial.jitter + 1 and not lock.far.gaps, 'but for the buffer')
+    lock.end()
+    return lock.far.packets
+
+
+def ones(program: str, folder: str, bars: Bars) -> None:
+    """What the same loss costs where ones stand in."""
+    trial = Trial('1 % lost, filled with ones', 1, loss=.01, fill=Fill.ONES)
+    lock = Lock(program, folder, trial)
+    lock.set_up()
+    lock.network.loss = trial.loss
+    lock.go(5)
+    lost = lock.network.lost
+    print(f'{trial.name}:')
+    bars.look('packets lost, and alignment lost', f'{lost}, {lock.lines.losses[Alignment.FRAME]}',
+              0 < lock.lines.losses['frame'] <= lost, 'told, to compare')
+    lock.end()
+
+
+def silence(program: str, folder: str, bars: Bars, paused: bool) -> None:
+    """A second without packets within two calls: the network loses them, or the far end sends none and goes on then
+    with the number at which it stood."""
+    what = 'the far end stands still' if paused else 'all packets are lost'
+    lock = Lock(program, folder, Trial(f'a second in which {what}', 3))
+    lock.set_up()
+    print(f'{lock.trial.name}:')
+    speak(lock, .5)
+    heard, remote = lock.far.heard, lock.far.remote
+    lock.network.loss = 1.0
+    lock.go(1.0, paused)
+    lock.network.loss = 0.0
+    sent, told = lock.far.heard - heard, lock.far.remote - remote
+    bars.look('packets that are sent, and with R', f'{sent}, {told}', 990 <= sent <= 1010 and told >= 890,
+              'some 1000, at least 890')
+    bars.look('the exchange is told of an alarm', lock.exchange.remote_alarms, lock.exchange.remote_alarms, 'True')
+    again, most = lock.until('no alarm', lambda: not lock.exchange.remote_alarms), 100 if paused else 50
+    bars.look('no alarm after packets again, ms', again, again <= most, f'at most {most}')
+    lock.go(.3)
+    told = lock.far.remote - remote - told
+    bars.look('packets with R after that', told, told <= (60 if paused else 5), f'at most {60 if paused else 5}')
+    wrong = speak(lock, 1.0, 2)
+    bars.look('octets of speech after it that are others', wrong, wrong == 0, '0')
+    bars.look('states', ' '.join(lock.states()), lock.states() == ['answered'] * 2, 'answered answered')
+    lock.end()
+
+
+def dissected(packets: list[bytes], folder: str, bars: Bars) -> None:
+    """What tshark's dissector makes of packets that were sent."""
+    print('tshark reads what is sent:')
+    tshark = shutil.which('tshark')
+    if not tshark:
+        return print('  not installed; not looked at')
+    path = os.path.join(folder, 'satop.pcap')
+    with open(path, 'wb') as file:
+        file.write(struct.pack('<IHHiIII', 0xA1B2C3D4, 2, 4, 0, 0, 65535, 101))
+        for at, packet in enumerate(packets):
+            udp = struct.pack('>HHHH', NEAR[1], FAR[1], 8 + len(packet), 0) + packet
+            ip = struct.pack('>BBHHHBBH4s4s', 0x45, 0, 20 + len(udp), at & 65535, 0, 64, 17, 0, bytes([127, 0, 0, 1]),
+                             bytes([127, 0, 0, 1]))
+            file.write(struct.pack('<IIII', at // 1000, at % 1000 * 1000, len(ip + udp), len(ip + udp)) + ip + udp)
+    words = [tshark, '-r', path, '-d', f'udp.port=={NEAR[1]},pwsatopcw']
+
+    def lines(*more: str) -> list[str]:
+        made = subprocess.run(words + list(more), stdout=subprocess.PIPE, stderr=subprocess.DEVNULL, check=True)
+        return made.stdout.decode().splitlines()
+    read = lines('-T', 'fields', '-e', '_ws.col.Protocol', '-e', '_ws.col.Info')
+    named = sum(line.startswith('SAToP') for line in read)
+    bars.look('packets read as SAToP', f'{named} of {len(packets)}', named == len(packets) > 0, 'all')
+    bars.look('of which with an expert\'s note or malformed', len(lines('-Y', '_ws.malformed or _ws.expert')),
+              not lines('-Y', '_ws.malformed or _ws.expert'), '0')
+    print(f'  the first: {read[0]}')
+
+
+def options_of() -> argparse.Namespace:
+    parser = argparse.ArgumentParser(prog='bench/satop', description='A gateway over SAToP and a played exchange: each '
+                                     'figure beside its bar; status 1 where one is not met.')
+    parser.add_argument('program', nargs='?', help='the e1gw to look at [default: that of this repository]')
+    parser.add_argument('--seconds', type=float, default=600, help='of thirty calls in real time [default: 600]')
+    parser.add_argument('--nice', type=int, default=0, help='niceness of the driver and the gateway [default: 0]')
+    parser.add_argument('--only', choices=('lock', 'real'), help='one half alone')
+    return parser.parse_args()
+
+
+def program_of(asked: str | None) -> str:
+    if asked:
+        return asked
+    build = os.path.join(TOP, 'scripts', 'build')
+    return subprocess.run([build], stdout=subprocess.PIPE, check=True, text=True).stdout.strip()
+
+
+def main() -> int:
+    options = options_of()
+    program, bars, on_time = program_of(options.program), Bars(), True
+    print(f'load of the machine: {", ".join(f"{each:.1f}" for each in os.getloadavg())}')
+    with tempfile.TemporaryDirectory() as folder:
+        if options.only != 'real':
+            packets: dict[str, Any] = {trial.name: lock_step(program, folder, trial, bars) for trial in TRIALS}
+            ones(program, folder, bars)
+            silence(program, folder, bars, False)
+            silence(program, folder, bars, True)
+            dissected(packets['3 bits late'], folder, bars)
+        if options.only != 'lock':
+            on_time = real_time(program, folder, options.seconds, options.nice, bars.look)
+    print(f'load of the machine: {", ".join(f"{each:.1f}" for each in os.getloadavg())}')
+    if not on_time:
+        print('the far end itself was not on time: the figures in real time tell nothing')
+        return 2
+    print('all bars are met' if not bars.missed else f'{bars.missed} bars are NOT met')
+    return 1 if bars.missed else 0
+
+
+if __name__ == '__main__':
+    sys.exit(main())

@@ -1,0 +1,74 @@
+//! Recordings of `serve`: where they are written, and how they end.
+
+use crate::trouble::Trouble;
+use gw_session::{Recorder, ToWrite, TrunkRecord};
+use std::fs::{self, File, OpenOptions};
+use std::io;
+
+/// A recording that is asked for.
+#[derive(Clone, Copy, Debug)]
+pub struct Recording<'m> {
+    /// The file.
+    pub path: &'m str,
+    /// An old file may be written over.
+    pub over: bool,
+}
+
+/// What is recorded, if something is.
+pub type Tape = Option<Recorder<ToWrite<File>>>;
+
+// What stands at the path is written to as it is: a pipe, a device, or an open file of the process.
+fn append(rt: &HostRuntime, path: &str) -> io::Result<File> {
+    OpenOptions::new().append(true).open(rt, path)
+}
+
+// Opens a file that is there: a regular one only where it may be written over, and it is emptied then.
+fn open_old(rt: &HostRuntime, recording: Recording<'_>) -> Result<File, Trouble> {
+    let found = fs::metadata(rt, recording.path);
+    let found = found.map_err(|error| Trouble::of(&error, Trouble::Recording))?;
+    if found.is_file() && !recording.over {
+        return Err(Trouble::OldRecording);
+    }
+    let opened = if found.is_file() {
+        fs::create(rt, recording.path)
+    } else {
+        append(rt, recording.path)
+    };
+    opened.map_err(|error| Trouble::of(&error, Trouble::Recording))
+}
+
+// Opens the file of a recording: a new one, or what is there already.
+fn open(rt: &HostRuntime, recording: Recording<'_>) -> Result<File, Trouble> {
+    if recording.path.starts_with("/dev/fd/") {
+        return append(rt, recording.path).map_err(|error| Trouble::of(&error, Trouble::Recording));
+    }
+    match File::create_new(rt, recording.path) {
+        Ok(file) => Ok(file),
+        Err(error) => match error.kind() {
+            io::ErrorKind::AlreadyExists => open_old(rt, recording),
+            _ => Err(Trouble::of(&error, Trouble::Recording)),
+        },
+    }
+}
+
+/// Begins a recording, where one is asked for.
+pub fn begin(rt: &HostRuntime, recording: Option<Recording<'_>>) -> Result<Tape, Trouble> {
+    let Some(recording) = recording else {
+        return Ok(None);
+    };
+    // (It is on the heap, since the frames of a session are large.)
+    let Ok(room) = Box::new(rt.alloc(), TrunkRecord::new()) else {
+        return Err(Trouble::OutOfMemory);
+    };
+    let file = open(rt, recording)?;
+    Ok(Some(Recorder::new(ToWrite::new(file), room)))
+}
+
+/// Says on standard error that a recording has ended before its session, if it has.
+pub fn tell_end(rt: &HostRuntime, tape: &Tape) {
+    if let Some(recorder) = tape {
+        if recorder.has_ended() {
+            let _ = eprintln!(rt; "recording ended: a write failed");
+        }
+    }
+}

@@ -1,0 +1,49 @@
+//! Standard descriptors that the program was started without.
+//!
+//! While 0, 1 or 2 is closed, the next file or socket takes its number, and records would be read from it, or
+//! answers written to it.
+
+ghost use Rattle.std.specs.Prelude.{◌≤ℤ◌, pos, IfSome};
+ghost use Rattle.std.specs.Fd.{file_raw_fd};
+
+use std::fs::{File, OpenOptions};
+use std::os::fd::{AsRawFd, RawFd};
+use std::{fs, io};
+
+// What stands in the place of a descriptor.
+const NULL: &str = "/dev/null";
+
+/// What stands in the places of those that were closed. As with a closed one, a read of 0 fails, and so does
+/// a write to 1 and 2.
+#[derive(Drop)]
+pub struct Held {
+    input: Option<File>,
+    output: Option<File>,
+    error: Option<File>,
+}
+
+// The file, where its descriptor is at most this one.
+fn up_to(most: RawFd, opened: io::Result<File>) -> Option<File>
+    ensures { IfSome result (λ file. file_raw_fd file ≤ℤ most) }
+{
+    let file = opened.ok()?;
+    if file.as_raw_fd() <= most {
+        Some(file)
+    } else {
+        None
+    }
+}
+
+/// Holds 0, 1 and 2 open, each as it is where it is open. Where the system opens nothing, a closed one stays
+/// closed.
+pub fn hold(rt: &HostRuntime) -> Held
+    ensures input { IfSome result.input (λ file. file_raw_fd file ≤ℤ pos 0) }
+    ensures output { IfSome result.output (λ file. file_raw_fd file ≤ℤ pos 2) }
+    ensures error { IfSome result.error (λ file. file_raw_fd file ≤ℤ pos 2) }
+{
+    Held {
+        input: up_to(0, OpenOptions::new().write(true).open(rt, NULL)),
+        output: up_to(2, fs::open(rt, NULL)),
+        error: up_to(2, fs::open(rt, NULL)),
+    }
+}

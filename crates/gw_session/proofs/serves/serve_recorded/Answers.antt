@@ -1,0 +1,9 @@
+use Rattle.gw_session.proofs.Ends.{all_as, until_as}
+use Rattle.gw_session.proofs.Silent.{serves, serves_until}
+use Rattle.gw_session.proofs.serves.serve_recorded.Goals as goal
+
+pub returns : goal.returns
+returns g c = record {
+  ok = all_as _ _ _ _ _ c.attend.result serves c.attend.ensures.ok;
+  fault = until_as _ _ _ _ _ c.attend.result (λ e. absurd e) serves serves_until c.attend.ensures.fault;
+}

@@ -1,0 +1,54 @@
+-- What tapes tell of themselves, and how events are recorded on them.
+use Rattle.std.specs.Prelude.{◌≡◌, ◌⊎◌, ◌^◌, ◌<◌, ◌≤◌, ◌∷◌, ◌++◌, Bool, true, false, List, [], ℕ, Option, None, Some}
+use Rattle.std.specs.Prelude.{length, map}
+use Rattle.std.specs.List.{flat_map, AllByRecursion}
+use Rattle.std.specs.Io.KnownBytes.{Appends}
+use Rattle.gw_switch.specs.Events.{Event}
+use Rattle.gw_records.specs.Records.{Record, IsGood, spelled}
+use Rattle.gw_records.specs.Streams.{AppendsPrefix}
+use Rattle.gw_session.specs.Answers.{events}
+use Rattle.gw_session.specs.Running.{all_kinds}
+
+-- a tape: whether it has ended, its writes that failed and, where they are known, the octets that it took
+pub record TapeState : Type 0 where
+  pub ended : Bool
+  pub failures : ℕ
+  pub taken : Option (List ℕ)
+
+-- what a tape tells, or one that takes nothing
+abbrev pub tells_of : {T : Type 0} → (T → TapeState) → Option T → TapeState
+tells_of tells None = record { ended = true; failures = 0; taken = None }
+tells_of tells (Some tape) = tells tape
+
+-- a datagram among events is longer than a record can say
+pub record HasLong (es : List Event) : Type 0 where
+  pub before : List Event
+  pub circuit : ℕ
+  pub bytes : List ℕ
+  pub after : List Event
+  pub events_are : es ≡ before ++ Event.Datagram circuit bytes ∷ after
+  pub long : 2 ^ 16 ≤ length bytes
+
+-- Events were recorded: the tape took the octets of good records, or a prefix of them, and the events of these
+-- records are the first of the events that happened. As long as the tape has not ended, they are all of them, and
+-- it took the octets whole and no write failed. It ends only where a write failed, or at a datagram that no record
+-- can say, and one that had ended stays as it was.
+pub record Recorded (tape tape' : TapeState) (happened : List Event) : Type 0 where
+  pub records : List Record
+  pub good : AllByRecursion (IsGood all_kinds) records
+  pub lost : List Event
+  pub events_are : happened ≡ events records ++ lost
+  pub took : AppendsPrefix tape.taken tape'.taken (flat_map spelled records)
+  pub whole : tape'.ended ≡ false → (lost ≡ []) × Appends tape.taken tape'.taken (flat_map spelled records)
+      × (tape'.failures ≡ tape.failures)
+  pub cause : tape.ended ≡ false → tape'.ended ≡ true → (tape.failures < tape'.failures) ⊎ HasLong happened
+  pub stays : tape.ended ≡ true → tape' ≡ tape
+
+-- a tape ends, with what it has taken
+abbrev pub HasEnded : TapeState → TapeState → Type 0
+HasEnded tape tape' = (tape'.ended ≡ true) × (tape'.taken ≡ tape.taken) × (tape.ended ≡ true → tape' ≡ tape)
+
+-- events happened and were recorded, but for octets of the trunk at their end
+abbrev pub RecordedBut : TapeState → TapeState → List Event → List ℕ → Type 0
+RecordedBut tape tape' happened fresh =
+    (es : List Event) × Recorded tape tape' es × (happened ≡ es ++ map Event.Octet fresh)

@@ -1,0 +1,95 @@
+//! A recorder, which writes what it records to a sink until a write fails.
+ghost use Rattle.std.specs.Prelude.{◌≡◌, ◌-◌, ◌^◌, ◌<◌, false, length};
+ghost use Rattle.gw_records.specs.Records.{IsGood, named, spelled, record_of};
+ghost use Rattle.gw_session.specs.Running.{all_kinds};
+
+use crate::tape::Tape;
+use byteorder::{BigEndian, ByteOrder};
+use gw_records::{CODEC, COMMAND, DATAGRAM, Head, Sink, TRUNK, TrunkRecord, write_all};
+
+// Fills a record.
+fn fill(room: &mut TrunkRecord, kind: u8, circuit: u8, body: &[u8])
+    requires { length body.now < 2 ^ 16 }
+    ensures { room.new.items ≡ record_of kind circuit body.now }
+{
+    let mut front = [kind, circuit, 0, 0];
+    BigEndian::write_u16(&mut front[2..4], body.len() as u16);
+    room.clear();
+    let _ = room.try_extend_from_slice(&front);
+    let _ = room.try_extend_from_slice(body);
+}
+
+// Spells a record.
+fn spell(room: &mut TrunkRecord, head: Head, body: &[u8])
+    requires { IsGood all_kinds (named head body.now) }
+    ensures { room.new.items ≡ spelled (named head body.now) }
+{
+    match head {
+        Head::Trunk => fill(room, TRUNK, 0, body),
+        Head::Datagram(circuit) => fill(room, DATAGRAM, circuit, body),
+        Head::Command(circuit, command) => fill(room, COMMAND, circuit, &[command]),
+        Head::Codec(circuit, codec, payload_type) => {
+            fill(room, CODEC, circuit, &[codec, payload_type]);
+        }
+    }
+}
+
+/// Writes records of what happens to a sink, each at once, until a write fails.
+#[derive(Drop)]
+pub struct Recorder<K: Sink> {
+    sink: K,
+    room: Box<TrunkRecord>,
+    ended: bool,
+    ghost counts: { ended ≡ false → (K.tells sink).failures < 2 ^ 64 - 1 },
+}
+
+impl<K: Sink> Recorder<K> {
+    /// A recorder that has recorded nothing, with room for a record.
+    pub fn new(sink: K, room: Box<TrunkRecord>) -> Self
+        requires { (K.tells sink).failures < 2 ^ 64 - 1 }
+        ensures ended { result.ended ≡ false }
+        ensures sink { result.sink ≡ sink }
+    {
+        Recorder {
+            sink,
+            room,
+            ended: false,
+        }
+    }
+
+    /// Where it is written to.
+    pub fn sink(&self) -> &K
+        ensures { result.now ≡ self.now.sink }
+    {
+        &self.sink
+    }
+
+    /// Whether the recording has ended, since a write failed.
+    pub fn has_ended(&self) -> bool
+        ensures { result ≡ self.now.ended }
+    {
+        self.ended
+    }
+}
+
+impl<K: Sink> Tape for Recorder<K> {
+    ghost tells = { λ r. record {
+      ended = r.ended;
+      failures = (K.tells r.sink).failures;
+      taken = (K.tells r.sink).taken;
+    } };
+
+    fn put(&mut self, head: Head, body: &[u8]) {
+        if self.ended {
+            return;
+        }
+        spell(&mut self.room, head, body);
+        if write_all(&mut self.sink, self.room.as_slice()).is_err() {
+            self.ended = true;
+        }
+    }
+
+    fn end(&mut self) {
+        self.ended = true;
+    }
+}

@@ -1,0 +1,135 @@
+"""The trunk's time beside this machine's: stalls, gaps and the rate.
+
+An octet is behind by the time since the first one less its place at 256,000 octets a second. What it is behind by more
+than is usual is the displacement. It is measured where octets flow steadily; a slow change of it is the rate of a clock.
+"""
+from __future__ import annotations
+
+import bisect
+from collections import deque
+from dataclasses import dataclass
+from typing import Any
+
+from .session import OCTETS_A_SECOND
+
+TICK = 0.02                 # seconds between two looks
+WINDOW = 5                  # looks over which the flow has to be steady
+STEADY = 0.02               # seconds by which octets of a steady flow are early or late
+DRIFT = 200e-6              # a clock that is off by no more than this is followed
+MINUTE = 60
+RATE_LIMIT = 200            # parts in a million
+NOTED = 0.01                # seconds of displacement from which places are kept
+
+
+@dataclass(frozen=True)
+class Finding:
+    """What was found: `stalled`, `flows`, `gap`, `ahead` (each with seconds) or `rate` (with parts in a million)."""
+
+    what: str
+    value: float
+
+
+class Clock:
+    """Looks at the flow of octets. Times are of time.monotonic."""
+
+    def __init__(self, now: float, gap: float = 0.1) -> None:
+        self.gap = gap
+        self.octets = 0
+        self.stalls = self.gaps = 0
+        self.lost_seconds = 0.0             # the gaps in all
+        self.stalled = False
+        self.ppm: float | None = None
+        self.off_rate = False
+        self._began = self._last = now
+        self._low: float | None = None      # the least that octets were behind since the last look
+        self._lows: deque[float] = deque(maxlen=WINDOW)
+        self._base: float | None = None     # what octets are behind by as a rule
+        self._steps = 0.0                   # of that, what gaps have added
+        self._rates: deque[tuple[float, float]] = deque()
+        self._late_places: deque[int] = deque(maxlen=4096)
+        self._late: deque[float] = deque(maxlen=4096)
+
+    def took(self, count: int, now: float) -> None:
+        """So many octets came."""
+        behind = now - self._began - self.octets / OCTETS_A_SECOND
+        if self._base is not None and behind - self._base > NOTED:
+            self._late_places.append(self.octets)
+            self._late.append(behind - self._base)
+        self.octets += count
+        behind -= count / OCTETS_A_SECOND
+        self._last = now
+        if self._low is None or behind < self._low:
+            self._low = behind
+
+    def late_at(self, place: int) -> float:
+        """By how much the octet at a place was later than usual, as far as that is kept."""
+        at = bisect.bisect_right(self._late_places, place) - 1
+        if at < 0 or place - self._late_places[at] > OCTETS_A_SECOND // 10:
+            return 0.0
+        return self._late[at]
+
+    def steady(self) -> bool:
+        """Whether octets flow at their rate."""
+        return not self.stalled and len(self._lows) == WINDOW and max(self._lows) - min(self._lows) < STEADY
+
+    def look(self, now: float) -> list[Finding]:
+        """To be called each TICK: what has become of the flow since."""
+        found = self._look_at_flow(now)
+        if not self.steady():
+            return found
+        behind = min(self._lows)
+        if self._base is None:
+            self._base = behind
+        displaced = behind - self._base
+        if abs(displaced) > self.gap:
+            found.append(self._step(displaced))
+        else:
+            self._base += max(-DRIFT * TICK, min(DRIFT * TICK, displaced))
+        return found + self._look_at_rate(now, behind - self._steps)
+
+    def _look_at_flow(self, now: float) -> list[Finding]:
+        if self._low is None:
+            quiet = now - self._last
+            if quiet <= self.gap or self.stalled or not self.octets:
+                return []
+            self.stalled = True
+            self.stalls += 1
+            self._lows.clear()
+            return [Finding('stalled', quiet)]
+        self._lows.append(self._low)
+        self._low = None
+        if not self.stalled:
+            return []
+        self.stalled = False
+        return [Finding('flows', now - self._began - self.octets / OCTETS_A_SECOND - (self._base or 0.0))]
+
+    def _step(self, displaced: float) -> Finding:
+        self._base = (self._base or 0.0) + displaced
+        self._steps += displaced
+        if displaced < 0:
+            return Finding('ahead', -displaced)
+        self.gaps += 1
+        self.lost_seconds += displaced
+        return Finding('gap', displaced)
+
+    def _look_at_rate(self, now: float, behind: float) -> list[Finding]:
+        """The rate over the last minute, from one sample each second."""
+        rates = self._rates
+        if rates and now - rates[-1][0] < 1:
+            return []
+        rates.append((now, behind))
+        while now - rates[0][0] > MINUTE + 1:
+            rates.popleft()
+        if now - rates[0][0] < MINUTE - 1:
+            return []
+        self.ppm = (rates[0][1] - behind) / (now - rates[0][0]) * 1e6
+        off = abs(self.ppm) > RATE_LIMIT
+        if off == self.off_rate:
+            return []
+        self.off_rate = off
+        return [Finding('rate', self.ppm)]
+
+    def status(self) -> dict[str, Any]:
+        """All of it, as plain values."""
+        return {'stalled': self.stalled, 'stalls': self.stalls, 'gaps': self.gaps,
+                'gap_seconds': round(self.lost_seconds, 3), 'ppm': None if self.ppm is None else round(self.ppm, 1)}

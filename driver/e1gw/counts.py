@@ -1,0 +1,124 @@
+"""What became of the datagrams of each circuit: counted from the recording and from what its replay answers."""
+from __future__ import annotations
+
+import struct
+from collections import deque
+from dataclasses import dataclass, field
+from typing import Any, Callable
+
+from .session import CIRCUITS, HEAD, OCTETS_A_SECOND, DatagramRefusal, Kind
+
+SAMPLE = 32                     # octets of the trunk
+LATE = OCTETS_A_SECOND          # octets by which the answers may be behind before the counts are stale
+_WORDS = {int(refusal): refusal.label for refusal in DatagramRefusal} | {0: 'admitted'}
+_FIELDS = struct.Struct('>HII')
+_TRUNK, _DATAGRAM = int(Kind.TRUNK), int(Kind.DATAGRAM)
+_ANSWER = int(Kind.ANSWER)
+
+
+@dataclass(slots=True)
+class Stream:
+    """What the receiver of a stream can tell of it (RFC 3550): lost packets by sequence number, and jitter in samples."""
+
+    ssrc: int = -1
+    last: int = 0
+    transit: int = 0
+    lost: int = 0
+    jitter: float = 0.0
+
+    def take(self, sequence: int, timestamp: int, ssrc: int, now: int) -> None:
+        """An admitted packet, at this sample of the trunk."""
+        transit = (now - timestamp) & 0xFFFFFFFF
+        if ssrc != self.ssrc:
+            self.ssrc, self.last, self.transit, self.jitter = ssrc, sequence, transit, 0.0
+            return
+        step = (sequence - self.last) & 0xFFFF
+        if 0 < step < 0x8000:
+            self.lost += step - 1
+            self.last = sequence
+        elif step:
+            self.lost = max(0, self.lost - 1)       # one that was thought lost has come
+        change = (transit - self.transit + 0x80000000) % 0x100000000 - 0x80000000
+        self.jitter += (abs(change) - self.jitter) / 16
+        self.transit = transit
+
+
+@dataclass(slots=True)
+class Circuit:
+    """The datagrams of a circuit."""
+
+    counts: dict[str, int] = field(default_factory=lambda: {'sent': 0, 'admitted': 0})
+    stream: Stream = field(default_factory=Stream)
+    admitted_at: int | None = None      # the place of the last one that was admitted
+
+
+class Counts:
+    """Counts datagrams. `taped` is given the octets of the recording and `answered` those of its replay, in pieces.
+
+    `admitted(circuit, place)` is called with each datagram that was admitted."""
+
+    def __init__(self, admitted: Callable[[int, int], None] | None = None) -> None:
+        self.circuits = {n: Circuit() for n in CIRCUITS}
+        self.place = 0                      # octets of the trunk on the recording
+        self.answered_place = 0             # of them those that the replay has answered
+        self.ended: str | None = None       # why the counts go on no more
+        self._admitted = admitted or (lambda circuit, place: None)
+        self._tape, self._answers = b'', b''
+        self._asked: deque[tuple[int, int, int, int, int]] = deque()
+
+    def stale(self) -> bool:
+        """Whether the counts are not those of now."""
+        return self.ended is not None or self.place - self.answered_place > LATE
+
+    def taped(self, octets: bytes) -> bytes:
+        """Octets of the recording: notes each datagram and where on the trunk it came. Returns the records that are
+        whole now."""
+        held, at, unpack, asked = self._tape + octets, 0, HEAD.unpack_from, self._asked
+        size = len(held)
+        while size - at >= 4:
+            kind, circuit, length = unpack(held, at)
+            after = at + 4 + length
+            if after > size:
+                break
+            if kind == _TRUNK:
+                self.place += length
+            elif kind == _DATAGRAM:
+                fields = _FIELDS.unpack_from(held, at + 6) if length >= 12 else (0, 0, 0)
+                asked.append((circuit, self.place, *fields))
+            at = after
+        self._tape = held[at:]
+        return held[:at]
+
+    def answered(self, octets: bytes) -> None:
+        """Octets of the replay: what was sent, and what became of each datagram."""
+        held, at, unpack, circuits = self._answers + octets, 0, HEAD.unpack_from, self.circuits
+        size = len(held)
+        while size - at >= 4:
+            kind, circuit, length = unpack(held, at)
+            after = at + 4 + length
+            if after > size:
+                break
+            if kind == _DATAGRAM:
+                circuits[circuit].counts['sent'] += 1
+            elif kind == _TRUNK:
+                self.answered_place += length
+            elif kind == _ANSWER and held[at + 4] == _DATAGRAM:
+                self._count(circuit, held[at + 5])
+            at = after
+        self._answers = held[at:]
+
+    def _count(self, circuit: int, code: int) -> None:
+        _, place, sequence, timestamp, ssrc = self._asked.popleft()
+        row = self.circuits[circuit]
+        word = _WORDS.get(code, str(code))
+        row.counts[word] = row.counts.get(word, 0) + 1
+        if code == 0:
+            row.admitted_at = place
+            row.stream.take(sequence, timestamp, ssrc, place // SAMPLE)
+            self._admitted(circuit, place)
+
+    def status(self, circuit: int) -> dict[str, Any]:
+        """The counts of a circuit, as plain values."""
+        row = self.circuits[circuit]
+        return {'datagrams': dict(row.counts), 'lost': row.stream.lost, 'jitter_ms': round(row.stream.jitter / 8, 2),
+                'stale': self.stale()}

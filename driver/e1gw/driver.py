@@ -1,0 +1,548 @@
+"""The driver of a trunk: carries octets between the trunk and the gateway, and tells, counts and obeys beside that."""
+from __future__ import annotations
+
+import functools
+import json
+import os
+import socket
+import threading
+import time
+from collections import deque
+from dataclasses import dataclass
+from typing import Any, Callable
+
+from .clock import TICK, Clock, Finding
+from .control import Client, Console, Door, Peer, Say, listen_unix
+from .counts import Counts
+from .gateway import Gateway, Shadow
+from .guards import Guards, OnLoss
+from .keep import OneFile, Ring, put_file
+from .lines import OPEN, Event, Lines, Role, State
+from .loop import READ, WRITE, Loop
+from .metrics import exposition, table
+from .outlets import Journal, Outlet, to_descriptor
+from .session import (SAMPLES_A_SECOND, Codec, Command, Kind, Record, codec_record, command_record,
+                      trunk_record)
+from .trunks import Trunk
+from .web import Visitor
+
+BESIDE = ('shadow', 'recording', 'session', 'json', 'metrics')     # what may end without the calls
+REOPEN_MOST = 30.0              # seconds between two tries to open the trunk
+DISPLACED = 0.02                # seconds by which a call's first datagram may be displaced
+WARNED = frozenset(('lost', 'gap', 'ahead', 'stalled', 'ended', 'trunk lost', 'dark', 'cleared'))
+NOTICED = frozenset(('aligned', 'alarm', 'remote alarm', 'flows', 'rate', 'renewed', 'trunk'))
+
+
+@dataclass
+class Options:
+    """What the driver was asked for."""
+
+    config: str
+    program: str
+    name: str
+    open_trunk: Callable[[], Trunk]
+    most: int = 256
+    totals: bool = False
+    reopen: bool = False
+    watch: bool = False
+    top: bool = False
+    control: str | None = None
+    control_mode: int = 0o660
+    control_group: str | None = None
+    http: tuple[str, int] | None = None
+    metrics: str | None = None
+    json: str | None = None
+    session: str | None = None
+    keep: int | None = None
+    gap: float = 0.1
+    dark: float | None = None
+    on_loss: OnLoss = OnLoss()
+    counts: bool = True
+
+
+def words_of(event: Event) -> str:
+    """An event in words."""
+    about = {key: value for key, value in event.items() if key != 'event'}
+    name, what = str(event['event']), about.get('what', '')
+    if name == 'state':
+        return f'{about["circuit"]}: {about["state"]}, was {about["was"]}'
+    if name in ('alarm', 'remote alarm'):
+        return f'{name}: ' + (f'no {what} alignment' if about['on'] else f'{what} alignment again')
+    if name in ('aligned', 'lost'):
+        return f'{what} alignment ' + ('found' if name == 'aligned' else 'lost')
+    if name == 'codec':
+        return f'{about["circuit"]}: codec {about["codec"]}, payload type {about["payload"]}'
+    if name == 'command':
+        return f'{about["circuit"]}: {about["command"]}: {about["answer"]}'
+    return name + ''.join(f', {key} {value}' for key, value in about.items() if key != 'place')
+
+
+class Driver:
+    """One trunk in service."""
+
+    def __init__(self, loop: Loop, options: Options, journal: Journal) -> None:
+        self.loop, self.options, self.journal = loop, options, journal
+        self.lines = Lines(options.config, self.tell)
+        self.began = time.monotonic()
+        self.clock = Clock(self.began, options.gap)
+        self.counts = Counts(self._admitted)
+        self.guards = Guards(options.on_loss, self.clear_all)
+        self.trunk: Trunk | None = None
+        self.status_code: int | None = None         # once it is there the driver ends
+        self.ended: dict[str, str | None] = dict.fromkeys(BESIDE)
+        self.done: dict[tuple[str, str], int] = {}  # commands, by name and answer
+        self.renewed = 0
+        self.peers: set[Peer] = set()
+        self._doors: list[Door] = []
+        self._paused = False
+        self._slowest: deque[float] = deque([0.0], maxlen=60)
+        self._first: dict[int, float] = {}          # of open circuits, how late the first datagram's octet was
+        self._dark_since: float | None = None
+        self._dark_cleared = False
+        self._notes: deque[tuple[str, str]] = deque()   # from other threads: what has ended, and why
+        self._opened: deque[Trunk | OSError | EOFError] = deque()
+        self._reopen_after = 1.0
+        self._reopen_due: float | None = None
+        self._out = to_descriptor('standard output', 1)
+        self._json = self._open_json()
+        self._session, self._ring = self._open_session()
+        self._prom = Outlet('metrics', self._put_metrics, self._note) if options.metrics else None
+        self.gateway = Gateway(loop, options.program, options.config, self._taped, self._said, self._resume,
+                               self._gateway_ended, options.totals)
+        self.shadow = Shadow(loop, options.program, options.config, self.counts.answered,
+                             functools.partial(self._end_beside, 'shadow')) if options.counts else None
+        if not options.counts:
+            self.counts.ended = 'not asked for'
+
+    # ---- what is opened ----
+
+    def _note(self, what: str, why: str) -> None:
+        """From any thread: something beside the calls has ended."""
+        self._notes.append((what, why))
+        self.loop.wake()
+
+    def _open_json(self) -> Outlet | None:
+        path = self.options.json
+        if not path:
+            return None
+        file = 1 if path == '-' else os.open(path, os.O_WRONLY | os.O_CREAT | os.O_APPEND | os.O_CLOEXEC, 0o644)
+        return to_descriptor('json', file, self._note)
+
+    def _open_session(self) -> tuple[Outlet | None, Ring | None]:
+        options = self.options
+        if not options.session:
+            return None, None
+        if options.keep is None:
+            one = OneFile(options.session)
+            return Outlet('session', one.write, self._note, one.close), None
+        ring = Ring(options.session, options.name, options.config, options.keep)
+        return Outlet('session', ring.write, self._note, ring.close), ring
+
+    def open_doors(self) -> None:
+        """Opens what others connect to, and the terminal."""
+        options = self.options
+        if options.control:
+            door = listen_unix(options.control, options.control_mode, options.control_group)
+            self._doors.append(Door(self.loop, door, lambda line: self.peers.add(Client(self, line)),
+                                    lambda: len(self.peers), options.control))
+        if options.http:
+            family = socket.AF_INET6 if ':' in options.http[0] else socket.AF_INET
+            web = socket.create_server(options.http, family=family)
+            self._doors.append(Door(self.loop, web, lambda line: self.peers.add(Visitor(self, line)),
+                                    lambda: len(self.peers)))
+        Console(self, lambda text: self._out.put(f'{text}\n'.encode()))
+
+    def left(self, peer: Peer) -> None:
+        """A client or a visitor is gone."""
+        self.peers.discard(peer)
+        self.guards.left(peer, time.monotonic())
+
+    # ---- the trunk ----
+
+    def _open_trunk(self) -> None:
+        """Opens the trunk in a thread, since that may wait."""
+        self._reopen_due = None
+
+        def run() -> None:
+            try:
+                self._opened.append(self.options.open_trunk())
+            except (OSError, EOFError) as fault:
+                self._opened.append(fault)
+            self.loop.wake()
+        threading.Thread(target=run, name='opening the trunk', daemon=True).start()
+
+    def _look_at_opening(self) -> None:
+        while self._opened:
+            found = self._opened.popleft()
+            if isinstance(found, Trunk):
+                self.trunk, self._paused, self._reopen_after = found, True, 1.0
+                self.tell({'event': 'trunk', **found.status()})
+                self._resume()
+            else:
+                self._trunk_lost(f'the trunk cannot be opened: {found}', 1)
+        if self._reopen_due is not None and time.monotonic() >= self._reopen_due:
+            self._open_trunk()
+
+    def _trunk_lost(self, why: str, status: int) -> None:
+        if self.trunk:
+            self._pause()
+            if self.loop.watches(self.trunk.writer()):
+                self.loop.forget(self.trunk.writer())
+            self.trunk.close()
+            self.trunk = None
+        if not self.options.reopen:
+            self.journal.line(Journal.ERROR if status else Journal.INFO, why)
+            return self.end(status)
+        if self._reopen_after == 1.0:
+            self.tell({'event': 'trunk lost', 'why': why})
+        self._reopen_due = time.monotonic() + self._reopen_after
+        self._reopen_after = min(REOPEN_MOST, 2 * self._reopen_after)
+
+    def _pause(self) -> None:
+        if self.trunk and not self._paused:
+            self._paused = True
+            self.loop.forget(self.trunk.fileno())
+
+    def _resume(self) -> None:
+        """Reads the trunk again, once the gateway has answered and what it answered is sent."""
+        if self.trunk and self._paused and not self.trunk.waiting() and not self.gateway.busy():
+            self._paused = False
+            self.loop.watch(self.trunk.fileno(), READ, lambda _: self._readable())
+
+    def _readable(self) -> None:
+        """Octets have come: gives them to the gateway, and its answer to the trunk."""
+        trunk = self.trunk
+        if trunk is None or self.gateway.busy():
+            return
+        try:
+            octets = trunk.read(self.options.most)
+        except EOFError:
+            return self._trunk_lost('the trunk has ended', 0)
+        except OSError as fault:
+            return self._trunk_lost(f'the trunk cannot be read: {fault}', 1)
+        if octets:
+            began = time.monotonic()
+            if trunk.paced:
+                self.clock.took(len(octets), began)
+            self.gateway.give(trunk_record(octets), functools.partial(self._answered, octets, began))
+            self.gateway.settle()
+            if self.gateway.busy() or trunk.waiting():
+                self._pause()
+
+    def _answered(self, octets: bytes, began: float, record: Record) -> None:
+        trunk = self.trunk
+        if record.kind is not Kind.TRUNK or len(record.body) != len(octets):
+            return self._gateway_ended('it answers what is no answer')
+        if trunk:
+            try:
+                trunk.write(record.body)
+            except OSError as fault:
+                self._trunk_lost(f'the trunk cannot be written: {fault}', 1)
+            else:
+                if trunk.waiting():
+                    self._pause()
+                    if not self.loop.watches(trunk.writer()):
+                        self.loop.watch(trunk.writer(), WRITE, lambda _: self._writable())
+        self.lines.trunk(octets, record.body)
+        spent = time.monotonic() - began
+        if spent > self._slowest[-1]:
+            self._slowest[-1] = spent
+
+    def _writable(self) -> None:
+        trunk = self.trunk
+        if trunk is None:
+            return
+        try:
+            trunk.flush()
+        except OSError as fault:
+            return self._trunk_lost(f'the trunk cannot be written: {fault}', 1)
+        if not trunk.waiting():
+            self.loop.forget(trunk.writer())
+            self._resume()
+
+    # ---- the gateway and its recording ----
+
+    def _taped(self, octets: bytes) -> None:
+        place = self.counts.place
+        whole = self.counts.taped(octets)
+        if self._session and not self._session.has_ended:
+            if self._ring and whole:
+                self._ring.places.append(place)
+            self._session.put(whole)
+        if self.shadow:
+            self.shadow.give(octets)
+
+    def _said(self, line: str) -> None:
+        """A line that the gateway prints."""
+        if line.startswith('recording ended'):
+            self._end_beside('recording', line)
+        elif line:
+            self.journal.line(Journal.INFO, f'gateway: {line}')
+
+    def _gateway_ended(self, why: str) -> None:
+        if self.status_code is None:
+            self.journal.line(Journal.ERROR, why)
+            self.end(1)
+
+    def _end_beside(self, what: str, why: str) -> None:
+        """Something beside the calls has ended; they go on."""
+        if self.status_code is not None and not why:
+            return
+        if self.ended.get(what) is None:
+            self.ended[what] = why
+            if what in ('shadow', 'recording'):
+                self.counts.ended = why
+            self.tell({'event': 'ended', 'what': what, 'why': why})
+
+    # ---- calls ----
+
+    def dark_words(self) -> str | None:
+        """Why no seizure can reach the other end, or None."""
+        if self.trunk is None:
+            return 'no trunk'
+        if self.clock.stalled:
+            return 'the trunk stands still'
+        if self.lines.alarm():
+            return 'no alignment'
+        return 'the other end has no alignment' if any(self.lines.remote.values()) else None
+
+    def command(self, record: bytes, circuit: int, words: str, say: Say) -> None:
+        """Gives the gateway a command or a change of codec; `say` is called with the answer in words."""
+        kind, number, more = record[0], record[4], record[5:]
+
+        def answered(answer: Record) -> None:
+            refusal = answer.refusal
+            text = refusal.words if refusal else 'done'
+            if refusal is None and kind == Kind.COMMAND:
+                self.lines.command(circuit, Command(number))
+            elif refusal is None:
+                self.lines.codec(circuit, Codec(number), more[0])
+            self._count(circuit, words, text)
+            say(text)
+        self.gateway.give(record, answered)
+        self.gateway.settle()
+        if self.gateway.busy():
+            self._pause()
+
+    def refused(self, circuit: int, words: str, text: str) -> None:
+        """A command that the driver itself refuses."""
+        self._count(circuit, words, text)
+
+    def _count(self, circuit: int, words: str, text: str) -> None:
+        key = words.split()[0], text
+        self.done[key] = self.done.get(key, 0) + 1
+        self.tell({'event': 'command', 'circuit': circuit, 'command': words, 'answer': text})
+
+    def clear_all(self, why: str) -> None:
+        """Ends all calls that this end can end: clear at the outgoing end, clear-back at the incoming one."""
+        cleared = []
+        for n, line in self.lines.lines.items():
+            if line.role is Role.OUTGOING and (line.state in OPEN or line.state is State.SEIZED):
+                self.command(command_record(n, Command.CLEAR), n, 'clear', lambda text: None)
+                cleared.append(n)
+            elif line.role is Role.INCOMING and line.state is State.ANSWERED:
+                self.command(command_record(n, Command.CLEAR_BACK), n, 'clear-back', lambda text: None)
+                cleared.append(n)
+        if cleared:
+            self.tell({'event': 'cleared', 'why': why, 'circuits': cleared})
+
+    def renew(self, circuits: list[int], why: str) -> None:
+        """Gives open circuits the codec that they have, which begins their playout anew."""
+        if not circuits:
+            return
+        for n in circuits:
+            line = self.lines.lines[n]
+            codec = next(each for each in Codec if each.word(self.lines.law) == line.codec)
+            self.gateway.give(codec_record(n, codec, line.payload), lambda answer: None)
+            self._first.pop(n, None)
+        self.renewed += len(circuits)
+        self.gateway.settle()
+        if self.gateway.busy():
+            self._pause()
+        self.tell({'event': 'renewed', 'why': why, 'circuits': circuits})
+
+    def _open_circuits(self) -> list[int]:
+        return [n for n, line in self.lines.lines.items() if line.state in OPEN]
+
+    def _admitted(self, circuit: int, place: int) -> None:
+        if circuit not in self._first:
+            self._first[circuit] = self.clock.late_at(place)
+
+    # ---- time ----
+
+    def tick(self) -> None:
+        """Each TICK: what has come of the recording, and what has become of the trunk's time."""
+        now = time.monotonic()
+        self.gateway.drain()
+        if self.shadow:
+            self.shadow.drain()
+        if self.trunk and self.trunk.paced:
+            for finding in self.clock.look(now):
+                self._found(finding)
+            if self._first:
+                self._look_at_first()
+        self._look_at_opening()
+        while self._notes:
+            self._end_beside(*self._notes.popleft())
+        self.guards.look(now)
+        self._look_at_dark(now)
+
+    def _found(self, finding: Finding) -> None:
+        if finding.what == 'rate':
+            return self.tell({'event': 'rate', 'ppm': round(finding.value, 1)})
+        seconds = round(finding.value, 3)
+        self.tell({'event': finding.what, 'seconds': seconds})
+        if finding.what in ('gap', 'ahead'):
+            self.renew(self._open_circuits(), f'{finding.what} of {seconds} s')
+
+    def _look_at_first(self) -> None:
+        """Calls whose first datagram came with octets that had waited: all later ones would be late."""
+        lines = self.lines.lines
+        for n in [n for n in self._first if lines[n].state not in OPEN]:
+            del self._first[n]
+        if self.clock.steady():
+            late = [n for n, behind in self._first.items()
+                    if behind > max(DISPLACED, lines[n].prefill / SAMPLES_A_SECOND / 2)]
+            self._first = {n: 0.0 for n in self._first}
+            self.renew(late, 'octets had waited')
+
+    def _look_at_dark(self, now: float) -> None:
+        if self.dark_words() is None:
+            self._dark_since, self._dark_cleared = None, False
+            return
+        if self._dark_since is None:
+            self._dark_since = now
+        dark = self.options.dark
+        if dark is not None and not self._dark_cleared and now - self._dark_since >= dark:
+            self._dark_cleared = True
+            self.clear_all(f'the trunk has been dark for {dark:g} s')
+
+    def second(self) -> None:
+        """Each second."""
+        self._slowest.append(0.0)
+        now = time.monotonic()
+        for peer in [peer for peer in self.peers if isinstance(peer, Visitor) and peer.late(now)]:
+            peer.close()
+
+    def write_metrics(self) -> None:
+        if self._prom:
+            self._prom.put(exposition(self.status(), self.options.name).encode())
+
+    def _put_metrics(self, text: bytes) -> None:
+        assert self.options.metrics
+        put_file(self.options.metrics, text)
+
+    def show(self) -> None:
+        """The table in the terminal."""
+        self._out.put(f'\x1b[H\x1b[2J{self.table()}'.encode())
+
+    # ---- what is told ----
+
+    def tell(self, event: Event) -> None:
+        """Tells a change to all who follow."""
+        name = event['event']
+        if name in WARNED or name in NOTICED:
+            level = Journal.WARNING if name in WARNED or event.get('on') else Journal.NOTICE
+            self.journal.line(level, words_of(event))
+        elif name == 'state' and event['state'] == State.FAULT:
+            self.journal.line(Journal.WARNING, words_of(event))
+        followers = [peer for peer in self.peers if isinstance(peer, Client) and peer.follows]
+        if followers or self._json:
+            text = (json.dumps({'time': round(time.time(), 6), **event}) + '\n').encode()
+            for peer in followers:
+                peer.send(text)
+            if self._json:
+                self._json.put(text)
+        if self.options.watch:
+            self._out.put(f'{words_of(event)}\n'.encode())
+
+    def status(self) -> dict[str, Any]:
+        """All that is known, as plain values."""
+        status = self.lines.status()
+        sockets = self._sockets()
+        status |= {
+            'time': round(time.time(), 3), 'uptime': round(time.monotonic() - self.began, 3),
+            'trunk_up': self.trunk is not None, 'transport': self.trunk.status() if self.trunk else {},
+            'slowest_turn': round(max(self._slowest), 6), 'clock': self.clock.status(),
+            'counted': self.counts.answered_place, 'stale': self.counts.stale(), 'ended': dict(self.ended), 'renewed': self.renewed,
+            'commands': [{'command': name, 'answer': answer, 'count': n}
+                         for (name, answer), n in sorted(self.done.items())]}
+        for row in status['circuits']:
+            row.update(self.counts.status(row['circuit']), socket=sockets.get(row['circuit']))
+        return status
+
+    def table(self) -> str:
+        return table(self.status())
+
+    def _sockets(self) -> dict[int, dict[str, int]]:
+        """Of each circuit's socket: octets that wait, and datagrams for which the kernel had no room."""
+        ports = {line.port: n for n, line in self.lines.lines.items() if line.port}
+        found: dict[int, dict[str, int]] = {}
+        for name in ('/proc/net/udp', '/proc/net/udp6') if ports else ():
+            try:
+                with open(name, encoding='ascii') as file:
+                    rows = file.readlines()[1:]
+            except OSError:
+                continue
+            for row in rows:
+                words = row.split()
+                circuit = ports.get(int(words[1].rpartition(':')[2], 16))
+                if circuit:
+                    found[circuit] = {'waiting': int(words[4].partition(':')[2], 16), 'dropped': int(words[-1])}
+        return found
+
+    # ---- the whole ----
+
+    def stop(self, why: str) -> None:
+        """Ends the trunk as asked."""
+        if self.status_code is None:
+            self.journal.line(Journal.INFO, f'ends: {why}')
+            self.end(0)
+
+    def end(self, status: int) -> None:
+        if self.status_code is None:
+            self.status_code = status
+            self.loop.wake()
+
+    def run(self) -> int:
+        """Carries the trunk until its end; returns the status."""
+        self.loop.every(TICK, self.tick)
+        self.loop.every(1.0, self.second)
+        if self.options.metrics:
+            self.write_metrics()
+            self.loop.every(5.0, self.write_metrics)
+        if self.options.top:
+            self.loop.every(0.5, self.show)
+        self._open_trunk()
+        while self.status_code is None:
+            deadline = self.trunk.deadline if self.trunk else None
+            self.loop.turn(deadline)
+            if deadline is not None and time.monotonic() >= deadline:
+                self._readable()
+        return self._finish()
+
+    def _finish(self) -> int:
+        """Ends what is open, in order; returns the status."""
+        if self.trunk:
+            self._pause()
+        for door in self._doors:
+            door.close()
+        status = self.gateway.finish()
+        if status and not self.status_code:
+            self.journal.line(Journal.ERROR, f'the gateway ended with status {status}')
+            self.status_code = 1
+        if self.shadow:
+            self.shadow.finish()
+        for peer in list(self.peers):
+            peer.close()
+        for outlet in (self._session, self._json, self._prom, self._out):
+            if outlet:
+                outlet.close()
+        if self.options.metrics:
+            try:
+                os.unlink(self.options.metrics)
+            except OSError:
+                pass
+        if self.trunk:
+            self.trunk.close()
+        return self.status_code or 0

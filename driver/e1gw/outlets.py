@@ -1,0 +1,110 @@
+"""Where the driver writes to beside the call: each place has a thread of its own, so that no slow disk, full disk or
+reader that stands still is ever waited for."""
+from __future__ import annotations
+
+import os
+import queue
+import sys
+import threading
+from typing import Callable
+
+MOST_WAITING = 16 << 20     # octets for one place; more are not kept
+
+
+class Outlet:
+    """Writes pieces in their order by `write`, which may wait and may fail. After a failure, or where too much waits,
+    the outlet has ended, and `ended(why)` is called once, in another thread or in that of `put`."""
+
+    def __init__(self, name: str, write: Callable[[bytes], object], ended: Callable[[str, str], None] | None = None,
+                 finish: Callable[[], object] | None = None) -> None:
+        self.name, self._write, self._ended, self._finish = name, write, ended, finish
+        self.has_ended = False
+        self._queue: queue.SimpleQueue[bytes | None] = queue.SimpleQueue()
+        self._put = self._done = 0
+        self._thread = threading.Thread(target=self._run, name=f'outlet {name}', daemon=True)
+        self._thread.start()
+
+    def put(self, piece: bytes) -> None:
+        """Gives it a piece to write; never waits."""
+        if self.has_ended or not piece:
+            return
+        if self._put - self._done > MOST_WAITING:
+            self._end('it takes too little')
+            return
+        self._put += len(piece)
+        self._queue.put(piece)
+
+    def close(self, seconds: float = 2.0) -> None:
+        """Waits that long at most until all is written."""
+        self._queue.put(None)
+        self._thread.join(seconds)
+
+    def _end(self, why: str) -> None:
+        if not self.has_ended:
+            self.has_ended = True
+            if self._ended:
+                self._ended(self.name, why)
+
+    def _run(self) -> None:
+        try:
+            while (piece := self._queue.get()) is not None:
+                if not self.has_ended:
+                    self._write(piece)
+                self._done += len(piece)
+            if self._finish:
+                self._finish()
+        except (OSError, ValueError) as fault:
+            self._end(getattr(fault, 'strerror', None) or str(fault))
+            while self._queue.get() is not None:
+                pass
+
+
+def write_all(file: int, octets: bytes) -> None:
+    """Writes to a descriptor, also to one that somebody has made non-blocking."""
+    while octets:
+        try:
+            octets = octets[os.write(file, octets):]
+        except BlockingIOError:
+            threading.Event().wait(0.02)
+
+
+def to_descriptor(name: str, file: int, ended: Callable[[str, str], None] | None = None) -> Outlet:
+    return Outlet(name, lambda octets: write_all(file, octets), ended)
+
+
+class Journal:
+    """Lines for the operator on standard error, with the levels of syslog where systemd's journal reads them."""
+
+    ERROR, WARNING, NOTICE, INFO = 3, 4, 5, 6
+
+    def __init__(self, file: int = 2) -> None:
+        self._outlet = to_descriptor('standard error', file)
+        self._levels = _is_journal(file)
+
+    def line(self, level: int, text: str) -> None:
+        front = f'<{level}>' if self._levels else 'e1gw-trunk: '
+        self._outlet.put(f'{front}{text}\n'.encode(errors='replace'))
+
+    def close(self) -> None:
+        self._outlet.close()
+
+
+def _is_journal(file: int) -> bool:
+    """Whether a descriptor is the journal's, as JOURNAL_STREAM says (systemd.exec(5))."""
+    try:
+        about = os.fstat(file)
+    except OSError:
+        return False
+    return os.environ.get('JOURNAL_STREAM') == f'{about.st_dev}:{about.st_ino}'
+
+
+def hold_descriptors() -> None:
+    """Opens /dev/null as each of the descriptors 0 to 2 that is closed, so that nothing else becomes one of them."""
+    for file in range(3):
+        try:
+            os.fstat(file)
+        except OSError:
+            os.open(os.devnull, os.O_RDWR)
+    for name, file, mode in (('stdin', 0, 'r'), ('stdout', 1, 'w'), ('stderr', 2, 'w')):
+        if getattr(sys, name) is None:
+            setattr(sys, name, open(file, mode, closefd=False))     # noqa: SIM115

@@ -1,0 +1,258 @@
+"""The drawings: the trunk, the circuits over time, and a circuit's datagrams against its playout."""
+from __future__ import annotations
+
+from ..session import DatagramRefusal
+from .facts import NOT_OPEN, SECOND, WINDOW, Cell, Facts, Row
+from .svg import LEFT, WIDE, Scale, Sheet, duration, runs
+
+ROW = 27                    # of the circuits
+MOST_RUNS = 160             # stretches of a lane
+MOST_SPANS = 220            # of a line
+MEANS = {'idle': 'idle', 'seized': 'seized', 'acked': 'acknowledged', 'answered': 'answered',
+         'clearedback': 'hung up by the called', 'releasing': 'releasing', 'blocked': 'blocked', 'fault': 'fault',
+         'unknown': 'not known'}
+ALARMS = (('here', 'frame', 'no frame alignment'), ('here', 'multiframe', 'no multiframe'),
+          ('there', 'frame', 'far end: no frames'), ('there', 'multiframe', 'far end: no multifr.'))
+# Height and top of the bar of each state, besides its colour and hatching.
+SHAPES = {'idle': (3, 4), 'seized': (7, 2), 'acked': (11, 0), 'answered': (11, 0), 'clearedback': (11, 0),
+          'releasing': (7, 2), 'blocked': (11, 0), 'fault': (11, 0), 'unknown': (1, 5)}
+HATCHED = {'seized': 'dots', 'clearedback': 'bars', 'releasing': 'dots', 'blocked': 'slant', 'fault': 'cross'}
+Pixels = dict[int, Cell]
+
+
+def name_of(code: int) -> str:
+    """The manual's name of a refusal."""
+    try:
+        return DatagramRefusal(code).label
+    except ValueError:
+        return f'code {code}'
+
+
+def refusals(cell: Cell) -> str:
+    """The refused datagrams, most first."""
+    ordered = sorted(cell.refused.items(), key=lambda each: -each[1][0])
+    return ', '.join(f'{seen[0]} {name_of(code)}' for code, seen in ordered)
+
+
+def trunk(facts: Facts, scale: Scale) -> str:
+    """The alarms of both ends over time."""
+    rows = [(facts.alarms[where, what], name) for where, what, name in ALARMS if facts.alarms]
+    rows.append((facts.ones, 'all ones come'))
+    sheet = Sheet(20 + 16 * len(rows), 'The alarms of the trunk over time')
+    sheet.grid(scale, 16, sheet.height - 2)
+    for n, (spans, name) in enumerate(rows):
+        y = 20 + 16 * n
+        sheet.words(LEFT - 8, y + 9, name, 'label', 'end')
+        sheet.box(LEFT, y + 4, WIDE, 2, 's-good')
+        begun: dict[int, tuple[int, int]] = {}
+        for first, last, on in spans.between(scale.start, scale.end):
+            if on:
+                x = int(scale.x(first) * 2 / scale.coarse)
+                begun[x] = (begun.get(x, (first, last))[0], last)
+        for first, last in begun.values():
+            for kind in ('s-alarm', 'h-cross'):
+                sheet.box(scale.x(first), y, scale.x(last) - scale.x(first), 10, kind,
+                          f'{name}: {scale.span(first, last)}')
+    return sheet.drawn()
+
+
+def pixels(row: Row, facts: Facts, scale: Scale) -> Pixels:
+    """A circuit's cells by pixels of the sheet."""
+    out: Pixels = {}
+    now = {} if row.cell.is_empty() else {facts.column: row.cell}
+    for column, cell in (row.cells | now).items():
+        place = column * facts.width
+        if place + facts.width <= scale.start or place >= scale.end:
+            continue
+        x = int(scale.x(place) - LEFT)
+        out.setdefault(x, Cell()).join(cell)
+    return out
+
+
+def circuits(facts: Facts, rows: list[Row], scale: Scale, seen: dict[int, Pixels]) -> str:
+    """The states of the lines over time, with commands and datagrams."""
+    sheet = Sheet(24 + len(rows) * ROW, 'The states of the circuits over time')
+    sheet.grid(scale, 16, sheet.height)
+    for n, row in enumerate(rows):
+        y = 26 + n * ROW
+        sheet.words(LEFT - 8, y + 9, f'{row.number} {row.role}', 'label', 'end')
+        _line(sheet, row, scale, y)
+        _lanes(sheet, row, facts, scale, seen[row.number], y + 13)
+        _commands(sheet, row, scale, y)
+    return sheet.drawn()
+
+
+def _spans(row: Row, scale: Scale) -> list[tuple[int, int, str, int]]:
+    """The states of a line, short ones of them joined where there are too many: first, last, state, how many."""
+    least = scale.octets / 2
+    while True:
+        out: list[tuple[int, int, str, int]] = []
+        for first, last, state in row.states.between(scale.start, scale.end):
+            before = out[-1] if out else None
+            if before and last - first < least and before[1] - before[0] < least:
+                rank = row.states.rank
+                out[-1] = before[0], last, min(before[2], state, key=rank.index), before[3] + 1
+            else:
+                out.append((first, last, state, 1))
+        if len(out) * scale.coarse <= MOST_SPANS:
+            return out
+        least *= 1.7
+
+
+def _line(sheet: Sheet, row: Row, scale: Scale, y: float) -> None:
+    for first, last, state, count in _spans(row, scale):
+        high, down = SHAPES[state]
+        x, wide = scale.x(first), scale.x(last) - scale.x(first)
+        told = f'{count} states, {MEANS[state]} among them' if count > 1 else MEANS[state]
+        title = f'circuit {row.number} {told}: {scale.span(first, last)}'
+        sheet.box(x, y + down, wide, high, f's-{state}', title)
+        if state in HATCHED:
+            sheet.box(x, y + down, wide, high, f'h-{HATCHED[state]}', title)
+        if wide > 7 * len(MEANS[state]) and state in ('acked', 'answered'):
+            sheet.words(x + 4, y + 9, MEANS[state], f'in on-{state}')
+
+
+def _lanes(sheet: Sheet, row: Row, facts: Facts, scale: Scale, seen: Pixels, y: float) -> None:
+    """Datagrams under a line's bar: sent, admitted, refused."""
+    packet = max(1.0, facts.width / scale.octets) + 1.6 * row.ptime / 1000 * SECOND / scale.octets
+    for n, what in enumerate(('sent', 'admitted', 'refused')):
+        columns = sorted(x for x, cell in seen.items() if getattr(cell, what))
+        gap = packet if what != 'refused' else 1.0
+        found = runs(columns, gap)
+        while len(found) * scale.coarse > MOST_RUNS:
+            gap *= 2
+            found = runs(columns, gap)
+        for first, last in found:
+            whole = Cell()
+            for x in range(first, last + 1):
+                if x in seen:
+                    whole.join(seen[x])
+            words = refusals(whole) if what == 'refused' else f'{getattr(whole, what)} {what}'
+            sheet.box(LEFT + first, y + 3.4 * n, last - first + 1, 2.2 + (n == 2), f'd-{what}',
+                      f'circuit {row.number}: {words}')
+
+
+def _commands(sheet: Sheet, row: Row, scale: Scale, y: float) -> None:
+    """A triangle for a command that was done, a cross for one that was refused."""
+    drawn: dict[tuple[int, bool], int] = {}
+    for (_, done), command in row.commands.items():
+        if not scale.start <= command.place <= scale.end:
+            continue
+        x = scale.x(command.place)
+        key = int(x / (3 * scale.coarse)), done
+        drawn[key] = drawn.get(key, 0) + 1
+        if drawn[key] > 1:
+            continue
+        more = f' and {command.more} more' if command.more else ''
+        title = f'{scale.words(command.place)}: {command.words} {row.number}: {command.refusal or "done"}{more}'
+        if done:
+            sheet.path(f'M{x:.1f} {y + 2}l4 -6h-8z', 'c-done', title)
+        else:
+            sheet.path(f'M{x - 3:.1f} {y - 5}l6 6m0 -6l-6 6', 'c-refused', title)
+
+
+# ---- datagrams against the playout ----
+
+TOPS = (60, 120, 240, 430)
+
+
+class Playout:
+    """How long before its turn each datagram of a circuit came."""
+
+    def __init__(self, row: Row, scale: Scale, seen: Pixels) -> None:
+        self.row, self.scale, self.seen = row, scale, seen
+        whole = Cell()
+        for cell in seen.values():
+            whole.join(cell)
+        self.whole = whole
+        self.others = [code for code in sorted(whole.refused, key=lambda code: -whole.refused[code][0])
+                       if code not in (14, 16)]
+        most = max(row.prefill, whole.high if whole.admitted else 0) / 8
+        self.top = TOPS[-1] if 16 in whole.refused else next((top for top in TOPS if most < top * 0.92), TOPS[-1])
+        self.bottom = -0.22 * self.top if 14 in whole.refused else -0.06 * self.top
+        self.high = 92.0
+        self.y0 = 18.0
+
+    def y(self, ms: float) -> float:
+        inside = min(max(ms, self.bottom), self.top)
+        return self.y0 + (self.top - inside) / (self.top - self.bottom) * self.high
+
+    def drawn(self) -> str:
+        row, scale = self.row, self.scale
+        sheet = Sheet(self.y0 + self.high + 6 + 13 * len(self.others), f'Datagrams of circuit {row.number} against the '
+                      f'playout: {self.whole.admitted} admitted; refused: {refusals(self.whole) or "none"}')
+        self._frame(sheet)
+        self._admitted(sheet)
+        self._untimely(sheet)
+        for n, code in enumerate(self.others):
+            self._strip(sheet, code, self.y0 + self.high + 8 + 13 * n)
+        self._hover(sheet)
+        sheet.words(4, 30, f'circuit {row.number}', 'label strong')
+        sheet.words(4, 44, f'prefill {row.prefill / 8:g} ms', 'tick')
+        for n, code in enumerate(code for code in (14, 16) if code in self.whole.refused):
+            sheet.words(4, 58 + 13 * n, f'{self.whole.refused[code][0]} {name_of(code)}', 'bad')
+        if self.whole.lost > 0 and 12 not in self.whole.refused:
+            sheet.words(4, 100, f'{self.whole.lost} lost', 'tick')
+        return sheet.drawn()
+
+    def _frame(self, sheet: Sheet) -> None:
+        window = min(WINDOW / 8, self.top)
+        sheet.box(LEFT, self.y(window), WIDE, self.y(0) - self.y(window), 'window')
+        sheet.grid(self.scale, self.y0, self.y0 + self.high)
+        step = next(step for step in (20, 40, 80, 100) if self.top / step <= 5)
+        for ms in range(0, int(self.top) + 1, step):
+            sheet.words(LEFT - 6, max(self.y(ms) + 3, self.y0 + 7), f'{ms} ms', 'tick', 'end')
+        sheet.path(f'M{LEFT} {self.y(0):.1f}h{WIDE}', 'zero')
+        sheet.path(f'M{LEFT} {self.y(self.row.prefill / 8):.1f}h{WIDE}', 'prefill', 'the prefill')
+
+    def _admitted(self, sheet: Sheet) -> None:
+        parts = []
+        for x, cell in sorted(self.seen.items()):
+            if cell.admitted:
+                top, bottom = self.y(cell.high / 8) - 0.9, self.y(cell.low / 8) + 0.9
+                parts.append(f'M{LEFT + x} {top:.1f}v{bottom - top:.1f}')
+        sheet.path(''.join(parts), 'p-admitted')
+
+    def _untimely(self, sheet: Sheet) -> None:
+        """Late and Full, as triangles that point to where they are past the window."""
+        marks: dict[int, list[str]] = {14: [], 16: []}
+        drawn: dict[int, int] = {14: -9, 16: -9}
+        for x, cell in sorted(self.seen.items()):
+            for code, parts in marks.items():
+                if code in cell.refused and x - drawn[code] >= 3:
+                    drawn[code] = x
+                    if code == 14:
+                        parts.append(f'M{LEFT + x} {max(self.y(cell.refused[14][1] / 8), self.y(0) + 4):.1f}l3 -4h-6z')
+                    else:
+                        parts.append(f'M{LEFT + x} {min(self.y(400), self.y(cell.refused[16][2] / 8)) - 1:.1f}l3 4h-6z')
+        for code, parts in marks.items():
+            sheet.path(''.join(parts), 'p-refused')
+
+    def _strip(self, sheet: Sheet, code: int, y: float) -> None:
+        """Refused datagrams that have no place in the window."""
+        sheet.words(LEFT - 6, y + 8, f'{self.whole.refused[code][0]} {name_of(code)}',
+                    'tick' if code == NOT_OPEN else 'bad', 'end')
+        sheet.path(f'M{LEFT} {y + 4.5}h{WIDE}', 'grid')
+        columns = sorted(x for x, cell in self.seen.items() if code in cell.refused)
+        parts = [f'M{LEFT + first} {y}h{max(last - first + 1, 1.4):g}v9h-{max(last - first + 1, 1.4):g}z'
+                 for first, last in runs(columns, 1)]
+        sheet.path(''.join(parts), 'p-strip')
+
+    def _hover(self, sheet: Sheet) -> None:
+        """What each stretch of the drawing has, told where the pointer is."""
+        wide = 20 * self.scale.coarse
+        for begin in range(0, WIDE, wide):
+            whole = Cell()
+            for x in range(begin, begin + wide):
+                if x in self.seen:
+                    whole.join(self.seen[x])
+            if not (whole.admitted or whole.refused):
+                continue
+            first = self.scale.start + int(begin * self.scale.octets)
+            told = f'{whole.admitted} admitted'
+            if whole.admitted:
+                told += f', {whole.low / 8:.1f} to {whole.high / 8:.1f} ms before their turn'
+            if whole.refused:
+                told += f'; refused: {refusals(whole)}'
+            title = f'{self.scale.words(first)}, {duration(wide * self.scale.octets)}: {told}'
+            sheet.box(LEFT + begin, self.y0, wide, sheet.height - self.y0, 'over', title)

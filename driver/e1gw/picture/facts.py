@@ -1,0 +1,351 @@
+"""What a picture shows of a session, gathered in columns of time.
+
+Places are octets of the trunk from the session's first, 256,000 a second. There are at most MOST columns: where a
+session goes on beyond them each two become one, so the memory is the same however long it lasts. With `last` only the
+columns of so many octets are kept.
+"""
+from __future__ import annotations
+
+import struct
+from collections.abc import Iterator
+from dataclasses import dataclass, field
+from typing import Any
+
+SECOND = 256_000            # octets of the trunk
+FRAME = 32
+MOST = 2400                 # columns
+WINDOW = 3200               # samples that the playout holds
+OPEN = ('acked', 'answered', 'clearedback')
+NOT_OPEN = 20
+# Refusals of a datagram that is of the call's stream, so that its timestamp tells how early it came.
+TIMED = (0, 13, 14, 15, 16)
+BITS = {'g726-16': 2, 'g726-24': 3, 'g726-32': 4, 'g726-40': 5}
+# Where several states fall into one column, the first of these that is among them is shown.
+RANK = ('fault', 'blocked', 'releasing', 'seized', 'clearedback', 'answered', 'acked', 'idle', 'unknown')
+HEADER = struct.Struct('>BBHII').unpack
+
+
+class Cell:
+    """What happened to a circuit's datagrams in a column."""
+    __slots__ = ('sent', 'admitted', 'low', 'high', 'total', 'lost', 'uneven', 'refused', 'counts')
+
+    def __init__(self) -> None:
+        self.sent = self.admitted = self.lost = self.uneven = 0
+        self.low = self.high = self.total = 0               # samples before their turn, of those admitted
+        self.refused: dict[int, list[int]] = {}             # code: how many, least and most samples before their turn
+        self.counts: dict[str, int] = {}                    # calls, answers, ..
+
+    def is_empty(self) -> bool:
+        return not (self.sent or self.admitted or self.refused or self.counts or self.lost)
+
+    def admit(self, margin: int) -> None:
+        if not self.admitted:
+            self.low = self.high = margin
+        elif margin < self.low:
+            self.low = margin
+        elif margin > self.high:
+            self.high = margin
+        self.total += margin
+        self.admitted += 1
+
+    def refuse(self, code: int, margin: int | None) -> None:
+        seen = self.refused.get(code)
+        at = margin or 0
+        if seen is None:
+            self.refused[code] = [1, at, at]
+        else:
+            seen[0] += 1
+            seen[1], seen[2] = min(seen[1], at), max(seen[2], at)
+
+    def join(self, other: Cell) -> None:
+        """Takes in the column behind this one."""
+        if other.admitted:
+            self.low = min(self.low, other.low) if self.admitted else other.low
+            self.high = max(self.high, other.high) if self.admitted else other.high
+        self.sent += other.sent
+        self.admitted += other.admitted
+        self.total += other.total
+        self.lost += other.lost
+        self.uneven += other.uneven
+        for code, (count, low, high) in other.refused.items():
+            seen = self.refused.setdefault(code, [0, low, high])
+            seen[:] = seen[0] + count, min(seen[1], low), max(seen[2], high)
+        for name, count in other.counts.items():
+            self.counts[name] = self.counts.get(name, 0) + count
+
+
+class Spans:
+    """Values that hold from a place on, each until the next."""
+
+    def __init__(self, value: Any, rank: tuple[Any, ...]) -> None:
+        self.items: list[tuple[int, Any]] = [(0, value)]
+        self.rank = rank
+
+    @property
+    def value(self) -> Any:
+        return self.items[-1][1]
+
+    def put(self, place: int, value: Any) -> None:
+        if self.items[-1][1] == value:
+            return
+        if self.items[-1][0] == place:
+            self.items.pop()
+        self.items.append((place, value))
+
+    def forget(self, place: int) -> None:
+        """Drops what ended before a place."""
+        gone = 0
+        while gone + 1 < len(self.items) and self.items[gone + 1][0] <= place:
+            gone += 1
+        del self.items[:gone]
+
+    def coalesce(self, width: int) -> None:
+        """Leaves one value in each column in which several begin: the first in rank."""
+        kept: list[tuple[int, Any]] = []
+        for place, value in self.items:
+            start = place // width * width
+            if kept and kept[-1][0] >= start and place:
+                # The one that holds at the column's end begins in the next column, if it is another.
+                best = min(kept[-1][1], value, key=self.rank.index)
+                kept[-1] = (kept[-1][0], best)
+                if best != value:
+                    kept.append((start + width, value))
+            elif not kept or kept[-1][1] != value:
+                kept.append((max(place, kept[-1][0] if kept else 0), value))
+        self.items = [item for n, item in enumerate(kept) if not n or item[1] != kept[n - 1][1]]
+
+    def between(self, start: int, end: int) -> Iterator[tuple[int, int, Any]]:
+        """Each value with the stretch in which it holds, cut to these places."""
+        for n, (place, value) in enumerate(self.items):
+            after = self.items[n + 1][0] if n + 1 < len(self.items) else end
+            first, last = max(place, start), min(after, end)
+            if first < last:
+                yield first, last, value
+
+
+@dataclass
+class Command:
+    """Commands to a circuit in a column, those that were done or those that were refused."""
+    place: int
+    words: str
+    refusal: str = ''
+    more: int = 0
+
+
+@dataclass
+class Stream:
+    """What the datagrams of a call that came have told so far."""
+    base: int | None = None             # the sample at which timestamp 0 would be due
+    ssrc: int = 0
+    sequence: int = -1
+    stamp: int = 0
+
+
+@dataclass
+class Row:
+    """A circuit."""
+    number: int
+    role: str = 'outgoing'
+    codec: str = 'g711'
+    payload: int | None = None
+    prefill: int = 0
+    ptime: int = 20
+    local: str = ''
+    peer: str = ''
+    states: Spans = field(default_factory=lambda: Spans('fault', RANK))
+    cells: dict[int, Cell] = field(default_factory=dict)
+    cell: Cell = field(default_factory=Cell)
+    commands: dict[tuple[int, bool], Command] = field(default_factory=dict)
+    stream: Stream = field(default_factory=Stream)
+    # What was seen in datagrams that came, with the place where it was last seen.
+    types: dict[int, int] = field(default_factory=dict)
+    sources: dict[int, int] = field(default_factory=dict)
+    mismatch: tuple[int, int] = (0, 0)          # words of a datagram, step of its timestamp
+    silent: dict[str, list[int]] = field(default_factory=lambda: {'came': [0, 0], 'sent': [0, 0]})
+    begun: list[int] = field(default_factory=list)      # places where the playout began anew
+    ssrc: int | None = None                             # of the last call's first datagram
+
+    def came(self, place: int, code: int, head: bytes, length: int) -> None:
+        """A datagram that came: its first twelve octets, its length and how it was answered."""
+        cell = self.cell
+        if len(head) < 12:
+            cell.refuse(code, None)
+            return
+        _, second, sequence, stamp, ssrc = HEADER(head)
+        if code:
+            self._refused(place, code, second & 127, stamp, ssrc)
+            if code not in (13, 14, 16):
+                return
+        stream = self.stream
+        if stream.base is None:
+            if code:
+                return
+            stream.base, stream.ssrc, stream.sequence = place // FRAME + self.prefill - stamp, ssrc, -1
+            self.ssrc = ssrc
+            self.begun.append(place)
+            self.types[second & 127] = self.sources[ssrc] = place
+        if not code:
+            cell.admit((stream.base + stamp - place // FRAME + 0x8000_0000) % 0x1_0000_0000 - 0x8000_0000)
+        self._follow(stream, sequence, stamp, length)
+
+    def _follow(self, stream: Stream, sequence: int, stamp: int, length: int) -> None:
+        """Looks at the place of a datagram among those of its stream."""
+        ahead = (sequence - stream.sequence) & 0xFFFF
+        if stream.sequence >= 0 and ahead != 1:
+            if 1 < ahead < 3000:
+                self.cell.lost += ahead - 1
+            elif ahead > 0x8000:
+                self.cell.lost -= 1
+                return
+        elif stream.sequence >= 0:
+            words = (length - 12) * 8 // BITS.get(self.codec, 8)
+            if words != (stamp - stream.stamp) & 0xFFFF_FFFF:
+                self.cell.uneven += 1
+                self.mismatch = words, (stamp - stream.stamp + 0x8000_0000) % 0x1_0000_0000 - 0x8000_0000
+        stream.sequence, stream.stamp = sequence, stamp
+
+    def _refused(self, place: int, code: int, kind: int, stamp: int, ssrc: int) -> None:
+        margin = None
+        if code in TIMED and self.stream.base is not None:
+            margin = (self.stream.base + stamp - place // FRAME + 0x8000_0000) % 0x1_0000_0000 - 0x8000_0000
+        self.cell.refuse(code, margin)
+        if code == 11:
+            self._see(self.types, kind, place)
+        elif code == 12:
+            self._see(self.sources, ssrc, place)
+
+    @staticmethod
+    def _see(seen: dict[int, int], value: int, place: int) -> None:
+        if value in seen or len(seen) < 8:
+            seen[value] = place
+
+    def hear(self, way: str, payload: bytes) -> None:
+        """Looks at whether a payload is of one octet alone, as silence is."""
+        seen = self.silent[way]
+        seen[0] += 1
+        seen[1] += payload.count(payload[:1]) == len(payload)
+
+    def state(self, place: int, state: str) -> None:
+        """The line's state from a place on."""
+        was = self.states.value
+        if state == was:
+            return
+        self.states.put(place, state)
+        if (state in OPEN) != (was in OPEN):
+            self.stream = Stream()
+        for name, happened in (
+                ('calls', state == 'seized' or (self.role == 'incoming' and was == 'idle' and state == 'acked')),
+                ('answers', state == 'answered' and was == 'acked'),
+                ('unacknowledged', was == 'seized' and state == 'releasing'),
+                ('faults', state == 'fault')):
+            if happened:
+                self.cell.counts[name] = self.cell.counts.get(name, 0) + 1
+
+    def count(self) -> Cell:
+        """All that the columns have, in one."""
+        whole = Cell()
+        for cell in self.cells.values():
+            whole.join(cell)
+        whole.join(self.cell)
+        return whole
+
+
+class Facts:
+    """All that a picture shows. What happens is told in the order in which it happened."""
+
+    def __init__(self, rows: dict[int, Row] | None = None, last: int | None = None, width: int = 64) -> None:
+        self.rows = rows or {n: Row(n) for n in range(1, 31)}
+        self.last = last
+        self.width = max(1, last // (MOST // 2)) if last else width
+        self.column = 0
+        self.place = 0
+        self.start = 0                      # of what is to be shown
+        self.alarms = {(where, what): Spans(where == 'here', (True, False))
+                       for where in ('here', 'there') for what in ('frame', 'multiframe')}
+        self.ones = Spans(False, (True, False))
+        self.losses: dict[str, list[int]] = {'frame': [], 'multiframe': []}
+        self.begin: float | None = None     # the time of place 0, in seconds since 1970, where it is known
+        self.told = 'e1gw'                  # who told how datagrams were answered
+
+    def turn(self, place: int) -> None:
+        """The trunk has come to a place."""
+        self.place = place
+        column = place // self.width
+        if column == self.column:
+            return
+        for row in self.rows.values():
+            if not row.cell.is_empty():
+                row.cells[self.column] = row.cell
+                row.cell = Cell()
+        if self.last:
+            self._forget(column)
+        elif column >= MOST:
+            while place // self.width >= MOST:
+                self._double()
+            column = place // self.width
+        self.column = column
+        for row in self.rows.values():
+            row.cell = row.cells.pop(column, row.cell)
+
+    def _forget(self, column: int) -> None:
+        """Drops the columns that are too old."""
+        assert self.last
+        self.start = max(0, self.place - self.last)
+        oldest = self.start // self.width
+        for row in self.rows.values():
+            while row.cells and (first := next(iter(row.cells))) < oldest:
+                del row.cells[first]
+            while row.commands and (begun := next(iter(row.commands)))[0] < oldest:
+                del row.commands[begun]
+            row.states.forget(self.start)
+            row.begun = [place for place in row.begun if place >= self.start]
+            for seen in (row.types, row.sources):
+                for value in [value for value, place in seen.items() if place < self.start]:
+                    del seen[value]
+        for spans in (*self.alarms.values(), self.ones):
+            spans.forget(self.start)
+        for what, places in self.losses.items():
+            self.losses[what] = [place for place in places if place >= self.start]
+
+    def _double(self) -> None:
+        """Makes one column of each two."""
+        self.width *= 2
+        for row in self.rows.values():
+            cells: dict[int, Cell] = {}
+            for column, cell in row.cells.items():
+                if column // 2 in cells:
+                    cells[column // 2].join(cell)
+                else:
+                    cells[column // 2] = cell
+            row.cells = cells
+            commands: dict[tuple[int, bool], Command] = {}
+            for (column, done), command in row.commands.items():
+                first = commands.setdefault((column // 2, done), command)
+                if first is not command:
+                    first.more += command.more + 1
+            row.commands = commands
+            if len(row.states.items) > MOST:
+                row.states.coalesce(self.width)
+            if len(row.begun) > MOST:
+                row.begun = sorted({place // self.width: place for place in row.begun}.values())
+        for spans in (*self.alarms.values(), self.ones):
+            if len(spans.items) > MOST:
+                spans.coalesce(self.width)
+
+    def command(self, circuit: int, place: int, words: str, refusal: str = '') -> None:
+        """A command to a circuit, with the words of its refusal where it was refused."""
+        row = self.rows[circuit]
+        first = row.commands.setdefault((place // self.width, not refusal), Command(place, words, refusal, -1))
+        first.more += 1
+        if not refusal and words.startswith('codec'):
+            row.stream = Stream()
+
+    def lost(self, what: str, place: int) -> None:
+        """Alignment was lost: of frames or of multiframes."""
+        places = self.losses[what]
+        if len(places) < MOST:
+            places.append(place)
+
+    def second(self, place: int) -> float:
+        """The time of a place, in seconds from place 0, or since 1970 where that is known."""
+        return place / SECOND + (self.begin or 0.0)

@@ -1,0 +1,158 @@
+"""e1gw-picture: a session as one page of HTML."""
+from __future__ import annotations
+
+import argparse
+import datetime
+import os
+import sys
+from collections.abc import Iterator
+
+from ..lines import read_config
+from ..session import OCTETS_A_SECOND, BadSession
+from .answers import Kept, Replayed, Source, Trouble, kept, octets_of, pieces, program_of
+from .capture import merged, reckoned
+from .facts import Facts
+from .page import draw
+from .reading import Reading, rows_of
+
+UNITS = {'ms': 0.001, 's': 1.0, 'm': 60.0, 'h': 3600.0, 'd': 86400.0}
+
+ABOUT = '''Draws a session as one page of HTML, which needs no network and no script: the trunk's alarms both ways, the
+thirty circuits over time with their datagrams and commands, each troubled circuit's datagrams against its playout, the
+counts with their causes, and in words what stands out.
+
+SESSION is what the gateway was given (e1gw-session(5)): a file, - for standard input, or a folder in which e1gw-trunk
+keeps sessions. The answers are those of `e1gw replay`, which is run for them, or those that --answers names. --capture
+takes the datagrams from a capture (pcap or pcapng), by the ports of the configuration; without SESSION what became of
+them is reckoned.'''
+
+
+def seconds(text: str) -> float:
+    """A time as 60s, 5m, 250ms, or a number of seconds."""
+    number = text.rstrip('mshd')
+    unit = text[len(number):] or 's'
+    try:
+        value = float(number) * UNITS[unit]
+    except (ValueError, KeyError):
+        raise argparse.ArgumentTypeError(f'{text} is no time such as 60s, 5m or 250ms') from None
+    if not 0.001 <= value <= 1e9:
+        raise argparse.ArgumentTypeError(f'{text} is no time between 1 ms and some years')
+    return value
+
+
+def moment(text: str) -> float:
+    """A date and time in UTC, as 2026-11-23T07:30:00Z, or seconds since 1970."""
+    try:
+        return float(text)
+    except ValueError:
+        pass
+    try:
+        when = datetime.datetime.fromisoformat(text)
+    except ValueError:
+        raise argparse.ArgumentTypeError(f'{text} is no time such as 2026-11-23T07:30:00Z') from None
+    return (when if when.tzinfo else when.replace(tzinfo=datetime.timezone.utc)).timestamp()
+
+
+def circuits(text: str) -> list[int]:
+    """Circuits as 1,2,7 or 3-9."""
+    out: list[int] = []
+    for part in text.split(','):
+        first, _, last = part.partition('-')
+        if not (first.isascii() and first.isdecimal() and (not last or last.isascii() and last.isdecimal())):
+            raise argparse.ArgumentTypeError(f'{text} is no list of circuits such as 1,2,7 or 3-9')
+        out += range(int(first), int(last or first) + 1)
+    if not out or not all(1 <= n <= 30 for n in out):
+        raise argparse.ArgumentTypeError('circuits are 1 to 30')
+    return sorted(set(out))
+
+
+def parser() -> argparse.ArgumentParser:
+    words = argparse.ArgumentParser(prog='e1gw-picture', description=ABOUT,
+                                    formatter_class=argparse.RawDescriptionHelpFormatter,
+                                    epilog='Example: e1gw-picture --config trunk1.toml -o page.html trunk1.rec')
+    words.add_argument('session', nargs='?', metavar='SESSION', help='what the gateway was given')
+    words.add_argument('--config', metavar='FILE', help='the configuration [default: the one that the kept session names]')
+    words.add_argument('--answers', metavar='FILE', help='what the gateway answered [default: e1gw replay is run]')
+    words.add_argument('--capture', metavar='FILE', help='a capture of the datagrams')
+    words.add_argument('-o', '--output', metavar='PAGE', help='where the page goes [default: standard output]')
+    words.add_argument('--last', type=seconds, metavar='TIME', help='the last part of the session alone, as 60s or 5m')
+    words.add_argument('--circuits', type=circuits, metavar='LIST', help='these circuits alone, as 1,2,7 or 3-9')
+    words.add_argument('--begin', type=moment, metavar='TIME', help='when the session began, in UTC')
+    words.add_argument('--title', metavar='WORDS', help='the title of the page')
+    words.add_argument('--program', metavar='E1GW', help='the program [default: that of this repository, or e1gw]')
+    return words
+
+
+def given(session: Kept) -> Iterator[bytes]:
+    """The octets of a session."""
+    for path in session.files:
+        yield from pieces(sys.stdin.buffer) if path == '-' else octets_of(path)
+
+
+def gathered(options: argparse.Namespace, session: Kept, config: str) -> tuple[Facts, str]:
+    """What is drawn of a session, and a word on how it ended."""
+    facts = Facts(rows_of(read_config(config)), int(options.last * OCTETS_A_SECOND) if options.last else None)
+    octets = given(session)
+    facts.begin = options.begin if options.begin is not None else session.begin
+    if options.capture:
+        octets, facts.begin = merged(octets, options.capture, read_config(config), facts.begin)
+        facts.told = 'placed by the times of the capture'
+    if options.answers:
+        with open(options.answers, 'rb') as answers:
+            reading = Reading(facts, read_config(config), Source(octets), answers)
+            reading.read()
+        return facts, '' if reading.whole else 'it ends inside a record, or its answers do'
+    replayed = Replayed(program_of(options.program), config, octets)
+    fault = ''
+    try:
+        Reading(facts, read_config(config), replayed.given, replayed.answered).read()
+    except BadSession as bad:
+        fault = str(bad)
+    return facts, replayed.end() or fault
+
+
+def drawn(options: argparse.Namespace) -> str:
+    """The page that was asked for."""
+    if not options.session and not options.capture:
+        raise Trouble('no session was named, and no capture')
+    session = kept(options.session) if options.session and options.session != '-' else Kept(['-'])
+    config = options.config or session.config
+    if not config:
+        raise Trouble('no configuration: name it by --config')
+    if options.session:
+        facts, word = gathered(options, session, config)
+    else:
+        facts, word = reckoned(options.capture, read_config(config), options.last), ''
+    name = os.path.basename(os.path.normpath(options.session or options.capture))
+    title = options.title or f'e1gw: {name if name != "-" else "a session"}'
+    if word:
+        print(f'e1gw-picture: {word}; what was before it is drawn', file=sys.stderr)
+    if session.middle:
+        print('e1gw-picture: the session begins in the middle; calls that were under way show as fault or blocked',
+              file=sys.stderr)
+    return draw(facts, title, options.circuits, notes=[note for note in (
+        f'{word}; what was before it is drawn.' if word else '',
+        'The session begins in the middle: calls that were under way show as fault or blocked.' if session.middle else '')
+        if note])
+
+
+def main() -> int:
+    options = parser().parse_args()
+    try:
+        page = drawn(options)
+        if options.output and options.output != '-':
+            with open(options.output, 'w', encoding='utf-8') as file:
+                file.write(page)
+        else:
+            sys.stdout.write(page)
+            sys.stdout.flush()
+    except BrokenPipeError:
+        os.dup2(os.open(os.devnull, os.O_WRONLY), 1)
+        return 1
+    except (Trouble, BadSession, ValueError, KeyError) as trouble:
+        print(f'e1gw-picture: {trouble}', file=sys.stderr)
+        return 1
+    except OSError as trouble:
+        print(f'e1gw-picture: {trouble.filename or ""}: {trouble.strerror}', file=sys.stderr)
+        return 1
+    return 0

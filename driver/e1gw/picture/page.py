@@ -1,0 +1,238 @@
+"""The page: one file that needs no network and no script."""
+from __future__ import annotations
+
+import html
+import time
+from collections.abc import Iterable
+
+from . import charts
+from .facts import OPEN, SECOND, Cell, Facts, Row
+from .findings import Finding, findings
+from .style import CSS, PATTERNS
+from .svg import Scale, duration
+
+MOST = 1_900_000            # octets of a page
+LISTED = 400                # rows of a table
+STATES = ('idle', 'seized', 'acked', 'answered', 'clearedback', 'releasing', 'blocked', 'fault')
+
+
+def escape(words: object) -> str:
+    return html.escape(str(words))
+
+
+def table(caption: str, heads: Iterable[str], rows: list[tuple[object, ...]]) -> str:
+    """A table; numbers stand at the right."""
+    def cell(value: object) -> str:
+        kind = ' class="n"' if isinstance(value, (int, float)) else ''
+        return f'<td{kind}>{escape(value)}</td>'
+    body = ''.join(f'<tr>{"".join(cell(value) for value in row)}</tr>' for row in rows[:LISTED])
+    more = f'<p class="note">{len(rows) - LISTED} rows more.</p>' if len(rows) > LISTED else ''
+    return (f'<div class="wide"><table><caption>{escape(caption)}</caption><tr>'
+            f'{"".join(f"<th>{escape(head)}</th>" for head in heads)}</tr>{body}</table></div>{more}')
+
+
+def is_quiet(row: Row, whole: Cell) -> bool:
+    """Nothing but idle, or a line that never left its first state."""
+    states = [state for _, state in row.states.items]
+    return whole.is_empty() and not row.commands and states in (['fault'], ['fault', 'idle'], ['idle'], ['unknown'])
+
+
+def numbers(circuits: Iterable[int]) -> str:
+    """Circuits in words: 1 to 4, 7."""
+    out: list[list[int]] = []
+    for n in sorted(circuits):
+        if out and n == out[-1][1] + 1:
+            out[-1][1] = n
+        else:
+            out.append([n, n])
+    return ', '.join(str(a) if a == b else f'{a}, {b}' if b == a + 1 else f'{a} to {b}' for a, b in out)
+
+
+def found_list(found: list[Finding], shown: set[int]) -> str:
+    """What stands out, one entry for circuits of which the same is to be said."""
+    groups: dict[str, list[Finding]] = {}
+    for each in found:
+        key = f'{each.kind} {each.bad}' + (f' {each.seen}' if not each.circuit else '')
+        groups.setdefault(key, []).append(each)
+    items = []
+    for group in sorted(groups.values(), key=lambda group: (not group[0].bad, group[0].circuit > 0)):
+        first = group[0]
+        circuits = sorted({each.circuit for each in group})
+        if not first.circuit:
+            who = 'the trunk'
+        elif len(circuits) == 1:
+            n = circuits[0]
+            who = f'<a href="#c{n}">circuit {n}</a>' if n in shown else f'circuit {n}'
+        else:
+            who = f'{len(circuits)} circuits ({numbers(circuits)})'
+        others = {each.seen for each in group}
+        seen = escape(first.seen) + (f' <span class="note">(circuit {first.circuit}; the others alike)</span>'
+                                     if len(others) > 1 else '')
+        if 1 < len(others) <= 4:
+            seen = '; '.join(f'{each.circuit}: {escape(each.seen)}' for each in group)
+        items.append(f'<li class="{"alert" if first.bad else "plain"}"><b>{who}</b>{seen}'
+                     f'<span class="hint"> &rarr; {escape(first.hint)}</span></li>')
+    return f'<ul class="found">{"".join(items)}</ul>' if items else '<p>Nothing.</p>'
+
+
+class Page:
+    """What is drawn of facts."""
+
+    def __init__(self, facts: Facts, title: str, circuits: list[int] | None = None,
+                 notes: Iterable[str] = ()) -> None:
+        self.facts, self.title, self.notes = facts, title, list(notes)
+        self.scale = Scale(facts.start, max(facts.place, facts.start + 256), facts.begin)
+        rows = [facts.rows[n] for n in circuits or sorted(facts.rows)]
+        self.whole = {row.number: row.count() for row in rows}
+        quiet = [row for row in rows if is_quiet(row, self.whole[row.number])]
+        self.quiet = [] if circuits else [row.number for row in quiet]
+        self.rows = [row for row in rows if row.number not in self.quiet]
+        self.seen = {row.number: charts.pixels(row, facts, self.scale) for row in self.rows}
+        self.found = [each for each in findings(facts) if not each.circuit or each.circuit in self.whole]
+        troubled = {each.circuit for each in self.found if each.kind not in (
+            'silent came', 'silent sent', 'blocked', 'command', 'unacknowledged', 'fault', 'none')}
+        busy = [row for row in self.rows if self.whole[row.number].admitted or self.whole[row.number].refused]
+        self.troubled = [row for row in busy if row.number in troubled]
+        self.even = [row for row in busy if row.number not in troubled]
+
+    def told(self) -> str:
+        """The first lines: when, how long, how many."""
+        facts, wholes = self.facts, list(self.whole.values())
+        refused = sum(seen[0] for whole in wholes for seen in whole.refused.values())
+        when = ''
+        if facts.begin is not None:
+            first = facts.begin + facts.start / SECOND
+            when = time.strftime('%Y-%m-%d %H:%M:%S UTC, ', time.gmtime(first))
+        parts = [f'{when}{duration(facts.place - facts.start)} of the trunk',
+                 f'{sum(w.counts.get("calls", 0) for w in wholes)} calls, '
+                 f'{sum(w.counts.get("answers", 0) for w in wholes)} answered',
+                 f'datagrams: {sum(w.sent for w in wholes)} sent, {sum(w.admitted for w in wholes)} admitted, '
+                 f'{refused} refused{"" if facts.told == "e1gw" else " (" + facts.told + ")"}']
+        return ' &middot; '.join(escape(part) for part in parts)
+
+    def playouts(self, rows: list[Row]) -> str:
+        drawn = (f'<div class="wide" id="c{row.number}">'
+                 f'{charts.Playout(row, self.scale, self.seen[row.number]).drawn()}</div>' for row in rows)
+        return f'<div class="two">{"".join(drawn)}</div>'
+
+    def datagrams(self) -> str:
+        """The drawings against the playout, the troubled circuits first."""
+        out = ('<p class="note">How long before its turn each datagram came: the line at 0 is its turn, the dashed one '
+               'the prefill, the tinted field the window of 400 ms or what of it is drawn. &#9660; Late, &#9650; Full; '
+               'other refused ones stand in rows of their own. A slope is a difference of clocks, a band is jitter, a '
+               'step is a gap.</p>')
+        if not (self.troubled or self.even):
+            return out + '<p>No datagrams came. (A session that was kept of <code>serve</code> may hold none: give a ' \
+                         'capture.)</p>'
+        out += self.playouts(self.troubled)
+        if self.even:
+            names = numbers(row.number for row in self.even)
+            words = f'Circuits whose datagrams came in time and evenly: {names}'
+            out += (f'<details{"" if self.troubled else " open"}><summary>{words}</summary>{self.playouts(self.even)}'
+                    '</details>')
+        return out
+
+    # ---- the tables ----
+
+    def counts(self) -> str:
+        rows: list[tuple[object, ...]] = []
+        for row in self.rows:
+            whole, states = self.whole[row.number], row.states
+            opened = sum(last - first for first, last, state in states.between(self.facts.start, self.facts.place)
+                         if state in OPEN)
+            margin = (f'{whole.low / 8:.0f} / {whole.total / whole.admitted / 8:.0f} / {whole.high / 8:.0f}'
+                      if whole.admitted else '')
+            rows.append((row.number, row.role, charts.MEANS[states.value], whole.counts.get('calls', 0),
+                         whole.counts.get('answers', 0), f'{opened / SECOND:.1f}', whole.sent, whole.admitted,
+                         sum(seen[0] for seen in whole.refused.values()), charts.refusals(whole), whole.lost, margin,
+                         f'{row.codec} {row.payload}', row.local, row.peer))
+        return table('Each circuit: counts, and how many ms before their turn datagrams came', (
+            'circuit', 'role', 'at the end', 'calls', 'answered', 'open, s', 'sent', 'admitted', 'refused', 'causes',
+            'lost', 'least / mean / most', 'codec, type', 'receives at', 'sends to'), rows)
+
+    def states(self) -> str:
+        rows: list[tuple[object, ...]] = []
+        for row in self.rows:
+            for first, last, state in row.states.between(self.facts.start, self.facts.place):
+                rows.append((row.number, self.scale.words(first), self.scale.words(last), duration(last - first),
+                             charts.MEANS[state]))
+        return table('The states of the circuits', ('circuit', 'from', 'to', 'for', 'state'), rows)
+
+    def commands(self) -> str:
+        rows: list[tuple[object, ...]] = []
+        for row in self.rows:
+            for command in row.commands.values():
+                if command.place >= self.facts.start:
+                    more = f', and {command.more} more' if command.more else ''
+                    rows.append((row.number, self.scale.words(command.place), command.words + more,
+                                 command.refusal or 'done'))
+        return table('Commands', ('circuit', 'at', 'command', 'answer'), rows)
+
+    def alarms(self) -> str:
+        rows: list[tuple[object, ...]] = []
+        spans = [(name, self.facts.alarms[where, what]) for where, what, name in charts.ALARMS if self.facts.alarms]
+        for name, each in (*spans, ('all ones come', self.facts.ones)):
+            for first, last, on in each.between(self.facts.start, self.facts.place):
+                if on:
+                    rows.append((name, self.scale.words(first), self.scale.words(last), duration(last - first)))
+        return table('Alarms of the trunk', ('alarm', 'from', 'to', 'for'), rows)
+
+    # ---- all of it ----
+
+    def drawn(self) -> str:
+        facts = self.facts
+        quiet = f'<p class="note">Nothing but idle: circuits {numbers(self.quiet)}.</p>' if self.quiet else ''
+        shown = {row.number for row in self.troubled + self.even}
+        trunk = f'<h2>The trunk</h2><div class="wide">{charts.trunk(facts, self.scale)}</div>' if facts.alarms else ''
+        notes = ''.join(f'<p><b>{escape(note)}</b></p>' for note in self.notes)
+        parts = [f'<h1>{escape(self.title)}</h1><p>{self.told()}</p>{notes}',
+                 f'<h2>What stands out</h2>{found_list(self.found, shown)}',
+                 trunk,
+                 f'<h2>The circuits</h2>{key()}<div class="wide">'
+                 f'{charts.circuits(facts, self.rows, self.scale, self.seen)}</div>{quiet}' if self.rows else
+                 f'<h2>The circuits</h2>{quiet}',
+                 f'<h2>Datagrams against the playout</h2>{self.datagrams()}',
+                 f'<div class="screen"><h2>Counts</h2>{self.counts()}<details><summary>The same in words: alarms, '
+                 f'commands, states</summary>{self.alarms()}{self.commands()}{self.states()}</details></div>']
+        return ''.join(parts)
+
+
+def key() -> str:
+    """What the marks mean."""
+    out = []
+    for state in STATES:
+        high, down = charts.SHAPES[state]
+        hatch = charts.HATCHED.get(state)
+        box = f'<rect y="{down + 1}" width="26" height="{high}" class="s-{state}"/>'
+        if hatch:
+            box += f'<rect y="{down + 1}" width="26" height="{high}" class="h-{hatch}"/>'
+        out.append((box, charts.MEANS[state]))
+    for n, (kind, words) in enumerate((('sent', 'datagrams sent (upper line)'), ('admitted', 'admitted (middle)'),
+                                       ('refused', 'refused (lower, thick)'))):
+        out.append((f'<rect y="{2 + 3.4 * n}" width="26" height="{2.2 + (n == 2)}" class="d-{kind}"/>', words))
+    out.append(('<path d="M13 11l5 -8h-10z" class="c-done"/>', 'command done'))
+    out.append(('<path d="M9 3l8 8m0 -8l-8 8" class="c-refused"/>', 'command refused'))
+    spans = ''.join(f'<span><svg viewBox="0 0 26 13" aria-hidden="true">{box}</svg>{words}</span>' for box, words in out)
+    return f'<div class="key">{spans}</div>'
+
+
+def html_of(title: str, body: str, refresh: int | None = None) -> str:
+    again = f'<meta http-equiv="refresh" content="{refresh}">' if refresh else ''
+    return (f'<!doctype html>\n<html lang="en"><head><meta charset="utf-8"><title>{escape(title)}</title>{again}'
+            '<meta name="viewport" content="width=device-width,initial-scale=1">'
+            f'<style>{CSS}</style></head><body>{PATTERNS}{body}</body></html>\n')
+
+
+def draw(facts: Facts, title: str, circuits: list[int] | None = None, refresh: int | None = None,
+         notes: Iterable[str] = ()) -> str:
+    """The page of facts, of less than 2 MB: where it would be longer, detail goes."""
+    page = Page(facts, title, circuits, notes)
+    text = html_of(title, page.drawn(), refresh)
+    for coarse in (2, 4, 8, 16, 32):
+        if len(text.encode()) <= MOST:
+            break
+        page.scale.coarse = coarse
+        page.even.clear()
+        del page.troubled[32 // coarse:]
+        text = html_of(title, page.drawn(), refresh)
+    return text

@@ -1,0 +1,119 @@
+"""Pieces of SVG: a scale of time, boxes, marks and words."""
+from __future__ import annotations
+
+import html
+import time
+from collections.abc import Iterable
+
+from .facts import SECOND
+
+LEFT, WIDE, RIGHT = 126, 1000, 14
+STEPS = (0.01, 0.02, 0.05, 0.1, 0.2, 0.5, 1, 2, 5, 10, 20, 30, 60, 120, 300, 600, 1200, 1800, 3600, 7200, 14400, 43200,
+         86400)
+
+
+def clock(second: float, digits: int = 3) -> str:
+    """A time of the day, in UTC."""
+    whole = int(second)
+    part = f'{second - whole:.{digits}f}'
+    if part.startswith('1'):
+        whole, part = whole + 1, f'{0:.{digits}f}'
+    return time.strftime('%H:%M:%S', time.gmtime(whole)) + part[1:]
+
+
+class Scale:
+    """Where places of the trunk are on the sheet, and what they are called."""
+
+    coarse = 1                          # how much less detail is drawn
+
+    def __init__(self, start: int, end: int, begin: float | None) -> None:
+        self.start, self.end, self.begin = start, max(end, start + 256), begin
+        self.octets = (self.end - self.start) / WIDE        # to a pixel
+
+    def x(self, place: float) -> float:
+        return LEFT + (min(max(place, self.start), self.end) - self.start) / self.octets
+
+    def words(self, place: int) -> str:
+        """A moment, for reading."""
+        if self.begin is None:
+            return f'{place / SECOND:.3f} s'
+        return clock(self.begin + place / SECOND)
+
+    def span(self, first: int, last: int) -> str:
+        return f'{self.words(first)} to {self.words(last)}, {duration(last - first)}'
+
+    def ticks(self) -> list[tuple[float, str]]:
+        """The places of round times, and their words."""
+        origin = self.begin or 0.0
+        first, last = origin + self.start / SECOND, origin + self.end / SECOND
+        step = next((step for step in STEPS if (last - first) / step <= 10), STEPS[-1])
+        out = []
+        n = -int(-first // step)
+        while n * step <= last + 1e-9:
+            out.append((self.x((n * step - origin) * SECOND), self._tick(n * step, step)))
+            n += 1
+        return out
+
+    def _tick(self, second: float, step: float) -> str:
+        if self.begin is not None:
+            return clock(second, 0 if step >= 1 else 2 if step < 0.1 else 1)
+        if step < 60:
+            return f'{second:g} s' if step >= 1 else f'{second:.2f} s'
+        return f'{int(second) // 60}:{int(second) % 60:02d} min'
+
+
+def duration(octets: float) -> str:
+    """How long so many octets of the trunk last."""
+    seconds = octets / SECOND
+    if seconds < 1:
+        return f'{seconds * 1000:.4g} ms'
+    if seconds < 120:
+        return f'{seconds:.2f} s'
+    return f'{int(seconds) // 60} min {int(seconds) % 60} s'
+
+
+class Sheet:
+    """One drawing, from top to bottom."""
+
+    def __init__(self, height: float, label: str) -> None:
+        self.height, self.label = height, label
+        self.out: list[str] = []
+
+    def box(self, x: float, y: float, wide: float, high: float, kind: str, title: str = '') -> None:
+        """A rectangle of a class, at least so wide that it is seen."""
+        told = f'><title>{html.escape(title)}</title></rect>' if title else '/>'
+        self.out.append(f'<rect x="{x:.1f}" y="{y:g}" width="{max(wide, 0.8):.1f}" height="{high:g}" class="{kind}"{told}')
+
+    def path(self, d: str, kind: str, title: str = '') -> None:
+        told = f'><title>{html.escape(title)}</title></path>' if title else '/>'
+        if d:
+            self.out.append(f'<path d="{d}" class="{kind}"{told}')
+
+    def words(self, x: float, y: float, words: str, kind: str = '', anchor: str = '') -> None:
+        side = f' text-anchor="{anchor}"' if anchor else ''
+        self.out.append(f'<text x="{x:.1f}" y="{y:g}" class="{kind}"{side}>{html.escape(words)}</text>')
+
+    def grid(self, scale: Scale, top: float, bottom: float, named: bool = True) -> None:
+        """Lines at round times, with their words above."""
+        lines = []
+        for x, words in scale.ticks():
+            lines.append(f'M{x:.1f} {top:g}V{bottom:g}')
+            if named:
+                self.words(min(x, LEFT + WIDE - 10), top - 3, words, 'tick', 'middle')
+        self.path(''.join(lines), 'grid')
+
+    def drawn(self) -> str:
+        return (f'<svg viewBox="0 0 {LEFT + WIDE + RIGHT} {self.height:g}" role="img" '
+                f'aria-label="{html.escape(self.label)}">{"".join(self.out)}</svg>')
+
+
+def runs(columns: Iterable[int], gap: float) -> list[tuple[int, int]]:
+    """Columns in ascending order as stretches from the first to the last, where those less apart than the gap are
+    one."""
+    out: list[tuple[int, int]] = []
+    for column in columns:
+        if out and column - out[-1][1] <= gap:
+            out[-1] = out[-1][0], column
+        else:
+            out.append((column, column))
+    return out

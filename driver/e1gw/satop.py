@@ -1,0 +1,282 @@
+"""A trunk as an emulated circuit: SAToP over UDP (RFC 4553), all 2048 kbit/s as bits in packets of one size.
+
+The clock is that of the packets that come: each packet that is due is answered by one. Where none comes for 100 ms,
+this machine's clock goes on in their place, with octets of ones, and what is sent says that packets are missing; so
+the lines of the trunk age as they do on a dead one. With a clock of its own this end gives the rate at all times, for
+an other end that answers packet for packet itself.
+"""
+from __future__ import annotations
+
+import argparse
+import secrets
+import socket
+import time
+from collections import Counter
+from dataclasses import asdict, dataclass
+from typing import Any, Callable
+
+from .satop_bits import BitAligner
+from .satop_packet import SEQUENCES, Fault, Packet, parse, rtp_header, spell
+from .satop_playout import Fill, Playout
+from .session import FRAME, OCTETS_A_SECOND, SAMPLES_A_SECOND
+from .trunks import Trunk, host_and_port
+
+GONE = 0.100                # seconds without a packet of the stream
+CLOSE = 1e-6                # seconds; a moment so near has come
+MOST_BEHIND = 1.0           # seconds that are made up for at once, after this process stood still
+MOST_DATAGRAMS = 1000       # of one read
+SIZES = range(FRAME, 1280 + 1, FRAME)
+JITTERS = range(0, 501)
+
+Tell = Callable[[dict[str, Any]], None]
+
+
+@dataclass(frozen=True)
+class Circuit:
+    """How an emulated circuit is set; the same at both ends, but for jitter, fill and clock."""
+
+    size: int = 256                 # octets of the trunk in a packet
+    jitter: int = 4                 # packets that wait for those before them
+    rtp: int | None = None          # the payload type of the RTP header, if there is to be one
+    fill: Fill = Fill.AGAIN
+    own_clock: bool = False         # this end gives the rate
+
+    def __post_init__(self) -> None:
+        if self.size not in SIZES:
+            raise ValueError('a packet has whole frames: 32 to 1280 octets, a multiple of 32')
+        if self.jitter not in JITTERS:
+            raise ValueError('the jitter buffer is 0 to 500 packets')
+        if self.rtp is not None and not 0 <= self.rtp <= 127:
+            raise ValueError('payload types are 0 to 127')
+
+    @property
+    def seconds(self) -> float:
+        """How long a packet lasts."""
+        return self.size / OCTETS_A_SECOND
+
+
+class Flag:
+    """Something that packets say: up from the first on that says so, until none does for 100 ms."""
+
+    def __init__(self) -> None:
+        self.up = False
+        self._last = 0.0
+
+    def seen(self, now: float) -> bool:
+        """It is said; returns whether that is new."""
+        new, self.up, self._last = not self.up, True, now
+        return new
+
+    def gone(self, now: float) -> bool:
+        """Whether it ends now."""
+        if not self.up or now - self._last < GONE:
+            return False
+        self.up = False
+        return True
+
+
+class Satop(Trunk):
+    """One end of an emulated circuit, at a connected UDP socket. `tell` is called with each change, if it is set:
+    {'event': 'satop', 'what': 'packets' or 'far end fault' or 'far end misses packets' or 'bit offset', 'on': ..}."""
+
+    tell: Tell | None = None
+
+    def __init__(self, end: socket.socket, circuit: Circuit, clock: Callable[[], float] = time.monotonic) -> None:
+        end.setblocking(False)
+        self._socket, self._circuit, self._clock = end, circuit, clock
+        self._bits = BitAligner()
+        reach = max(2 * circuit.jitter, int(1.25 * GONE / circuit.seconds))
+        self._playout = Playout(circuit.size, circuit.jitter, reach, circuit.fill)
+        self._ready, self._rest = bytearray(), bytearray()
+        self._sequence, self._timestamp = secrets.randbelow(SEQUENCES), secrets.randbits(32)
+        self._ssrc = secrets.randbits(32)
+        self._heard = self._reached = clock()   # the last packet; up to when octets were given
+        self.silent = False
+        self._remote, self._fault = Flag(), Flag()
+        self._offset: int | None = None
+        self.counts = dict.fromkeys(('received', 'sent', 'unsent', 'faulty', 'ticks', 'silences'), 0)
+        self.malformed: Counter[Fault] = Counter()
+        self._plan()
+
+    def fileno(self) -> int:
+        return self._socket.fileno()
+
+    def close(self) -> None:
+        self._socket.close()
+
+    # ---- what comes ----
+
+    def read(self, most: int) -> bytes:
+        if len(self._ready) < most:
+            now = self._clock()
+            self._receive(now)
+            self._keep_time(now)
+            self._tell_changes(now)
+        octets = bytes(self._ready[:most])
+        del self._ready[:most]
+        self._plan()
+        return octets
+
+    def _plan(self) -> None:
+        """When `read` is to be called though nothing comes."""
+        if self._ready:
+            self.deadline = self._clock()
+        elif self.silent or self._circuit.own_clock:
+            self.deadline = self._reached + self._circuit.seconds
+        else:
+            self.deadline = self._heard + GONE
+
+    def _receive(self, now: float) -> None:
+        for _ in range(MOST_DATAGRAMS):
+            try:
+                datagram = self._socket.recv(2048)
+            except ConnectionError:
+                continue            # nobody listens at the other end yet
+            except OSError:
+                return
+            self._take(datagram, now)
+
+    def _take(self, datagram: bytes, now: float) -> None:
+        packet = parse(datagram, self._circuit.rtp is not None)
+        if isinstance(packet, Packet) and len(packet.octets) != self._circuit.size:
+            packet = packet if packet.lost and not packet.octets else Fault.OTHER_SIZE
+        if isinstance(packet, Fault):
+            self.malformed[packet] += 1
+            return
+        self.counts['received'] += 1
+        self._heed(packet, now)
+        octets = b'\xff' * self._circuit.size if packet.lost else packet.octets
+        if not self._playout.put(packet.sequence, octets, now):
+            return
+        self._heard = now
+        if self.silent:
+            self.silent = False
+            self._say('packets', True)
+        if not self._circuit.own_clock:
+            self._reached = now
+            for each in self._playout.due():
+                self._ready += self._bits.octets(each)
+
+    def _heed(self, packet: Packet, now: float) -> None:
+        """Takes the bits L and R."""
+        self.counts['faulty'] += packet.lost
+        if packet.lost and self._fault.seen(now):
+            self._say('far end fault', True)
+        if packet.remote and self._remote.seen(now):
+            self._say('far end misses packets', True)
+
+    def _keep_time(self, now: float) -> None:
+        """Gives what is due by this machine's clock."""
+        if not self.silent and now - self._heard > GONE - CLOSE:
+            self.silent = True
+            self.counts['silences'] += 1
+            self._say('packets', False)
+        if not (self.silent or self._circuit.own_clock):
+            return
+        seconds = self._circuit.seconds
+        self._reached = max(self._reached, now - MOST_BEHIND)
+        count = int((now - self._reached + CLOSE) / seconds)
+        self._reached += count * seconds
+        self.counts['ticks'] += count * self.silent
+        take = self._playout.tick if self._circuit.own_clock else self._playout.play
+        for _ in range(count):
+            self._ready += self._bits.octets(take())
+        if self._circuit.own_clock:
+            self._playout.trim()
+
+    # ---- what is sent ----
+
+    def write(self, octets: bytes) -> None:
+        self._rest += octets
+        while len(self._rest) >= self._circuit.size:
+            self._send(bytes(self._rest[:self._circuit.size]))
+            del self._rest[:self._circuit.size]
+
+    def _send(self, octets: bytes) -> None:
+        header = b''
+        if self._circuit.rtp is not None:
+            header = rtp_header(self._circuit.rtp, self._sequence, self._timestamp, self._ssrc)
+        datagram = spell(Packet(False, self.silent, self._sequence, octets), header)
+        self._sequence = (self._sequence + 1) % SEQUENCES
+        self._timestamp = (self._timestamp + self._circuit.size * SAMPLES_A_SECOND // OCTETS_A_SECOND) % 2**32
+        try:
+            self._socket.send(datagram)
+            self.counts['sent'] += 1
+        except OSError:
+            # The other end misses it as one that the network lost.
+            self.counts['unsent'] += 1
+
+    # ---- what is told ----
+
+    def _say(self, what: str, on: bool | int | None) -> None:
+        if self.tell:
+            self.tell({'event': 'satop', 'what': what, 'on': on})
+
+    def _tell_changes(self, now: float) -> None:
+        if self._fault.gone(now):
+            self._say('far end fault', False)
+        if self._remote.gone(now):
+            self._say('far end misses packets', False)
+        if self._bits.offset != self._offset:
+            self._offset = self._bits.offset
+            self._say('bit offset', self._offset)
+
+    def status(self) -> dict[str, Any]:
+        causes = {f'malformed_{fault.name.lower()}': self.malformed[fault] for fault in Fault}
+        return {
+            'trunk': 'satop', **self.counts, **asdict(self._playout.counts),
+            'malformed': self.malformed.total(), **causes, 'waiting': self._playout.waiting,
+            'silent': int(self.silent), 'remote_lost': int(self._remote.up), 'remote_fault': int(self._fault.up),
+            'offset': self._bits.offset, 'aligned': int(self._bits.aligned),
+            'searches': self._bits.found, 'alignment_lost': self._bits.lost}
+
+
+# ---- opening ----
+
+def connected(local: tuple[str, int], peer: tuple[str, int]) -> socket.socket:
+    """A UDP socket at one address that hears and sends to the other alone. OSError where there is none."""
+    family, _, _, _, address = socket.getaddrinfo(*peer, type=socket.SOCK_DGRAM)[0]
+    own = socket.getaddrinfo(*local, family=family, type=socket.SOCK_DGRAM)[0][4]
+    end = socket.socket(family, socket.SOCK_DGRAM)
+    try:
+        end.setsockopt(socket.SOL_SOCKET, socket.SO_RCVBUF, 1 << 20)
+        end.bind(own)
+        end.connect(address)
+    except OSError:
+        end.close()
+        raise
+    return end
+
+
+def ends_of(text: str) -> tuple[tuple[str, int], tuple[str, int]]:
+    """LOCAL:PORT,PEER:PORT. ValueError where it is something else."""
+    local, comma, peer = text.partition(',')
+    if not comma:
+        raise ValueError(f'{text} is no LOCAL:PORT,PEER:PORT')
+    return host_and_port(local), host_and_port(peer)
+
+
+def open_satop(local_and_peer: str, circuit: Circuit = Circuit()) -> Satop:
+    """The trunk at LOCAL:PORT,PEER:PORT. ValueError where that is none, OSError where no socket opens there."""
+    return Satop(connected(*ends_of(local_and_peer)), circuit)
+
+
+def add_arguments(parser: argparse.ArgumentParser) -> None:
+    """The options of an emulated circuit, beside --satop with its two ends."""
+    group = parser.add_argument_group('SAToP (RFC 4553)')
+    group.add_argument('--satop-size', type=int, default=256, metavar='OCTETS',
+                       help='octets of the trunk in a packet, a multiple of 32 [default: 256, 1 ms]')
+    group.add_argument('--satop-jitter', type=int, default=4, metavar='PACKETS',
+                       help='packets that wait for those before them [default: 4]')
+    group.add_argument('--satop-rtp', type=int, metavar='TYPE', help='packets have an RTP header of this payload type')
+    group.add_argument('--satop-fill', choices=[fill.value for fill in Fill], default=Fill.AGAIN.value,
+                       help='what stands in for a lost packet: the octets of the multiframe before, or ones '
+                       '[default: again]')
+    group.add_argument('--satop-clock', choices=('packets', 'own'), default='packets',
+                       help='the rate is that of the packets that come, or of this machine [default: packets]')
+
+
+def circuit_of(options: argparse.Namespace) -> Circuit:
+    """What these options set. ValueError where it can't be."""
+    return Circuit(options.satop_size, options.satop_jitter, options.satop_rtp, Fill(options.satop_fill),
+                   options.satop_clock == 'own')

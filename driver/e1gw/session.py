@@ -1,0 +1,374 @@
+"""Records of a session, e1gw-session(5): their words and numbers, reading and spelling them, and RTP headers."""
+from __future__ import annotations
+
+import struct
+from dataclasses import dataclass
+from enum import IntEnum
+from typing import BinaryIO, Iterable, Iterator, NamedTuple, Protocol
+
+CIRCUITS = range(1, 31)
+OCTETS_A_SECOND = 256_000       # of the trunk
+SAMPLES_A_SECOND = 8_000        # of a circuit
+FRAME, MULTIFRAME = 32, 512     # octets
+HEAD = struct.Struct('>BBH')
+PIECE = 65_536
+
+
+class Kind(IntEnum):
+    """The kinds of records."""
+
+    TRUNK = 0x54
+    DATAGRAM = 0x44
+    COMMAND = 0x43
+    CODEC = 0x4B
+    ANSWER = 0x52
+
+    @property
+    def letter(self) -> str:
+        """The letter that the manual names it by."""
+        return chr(self)
+
+
+EVERY_KIND = frozenset(Kind)
+KINDS_READ = frozenset((Kind.TRUNK, Kind.DATAGRAM, Kind.COMMAND, Kind.CODEC))       # by replay and check
+KINDS_SERVED = frozenset((Kind.TRUNK, Kind.COMMAND, Kind.CODEC))                    # by serve
+KINDS_WRITTEN = frozenset((Kind.TRUNK, Kind.DATAGRAM, Kind.ANSWER))                 # by replay
+
+
+class Command(IntEnum):
+    """An operator's commands. `word` is what is typed, `label` the manual's name."""
+
+    SEIZE = 1
+    CLEAR = 2
+    ANSWER = 3
+    CLEAR_BACK = 4
+    BLOCK = 5
+    UNBLOCK = 6
+
+    @property
+    def word(self) -> str:
+        return self.name.lower().replace('_', '-')
+
+    @property
+    def label(self) -> str:
+        return self.name.title().replace('_', '')
+
+
+class Codec(IntEnum):
+    """The codecs of a circuit by their numbers in a record. G.711 is that of the trunk's law."""
+
+    G711 = 1
+    G726_16 = 2
+    G726_24 = 3
+    G726_32 = 4
+    G726_40 = 5
+
+    @property
+    def label(self) -> str:
+        return self.name.lower().replace('_', '-')
+
+    def word(self, law: str) -> str:
+        """What is typed, and what the configuration says, on a trunk of that law."""
+        if self is Codec.G711:
+            return 'pcma' if law == 'A' else 'pcmu'
+        return self.label
+
+
+class _Refusal(IntEnum):
+    """Why something was refused. `label` is the manual's name, `words` is what a user reads."""
+
+    @property
+    def label(self) -> str:
+        return self.name.title().replace('_', '')
+
+    @property
+    def words(self) -> str:
+        return _WORDS.get(self, self.name.lower().replace('_', ' '))
+
+
+class CommandRefusal(_Refusal):
+    WRONG_ROLE = 1
+    NOT_IDLE = 2
+    NOT_SEIZED = 3
+    NOT_IN_CALL = 4
+    NOT_BLOCKED = 5
+
+
+class DatagramRefusal(_Refusal):
+    SHORT = 1
+    VERSION = 2
+    SHORT_SOURCES = 3
+    SHORT_EXTENSION = 4
+    BAD_PADDING = 5
+    PAYLOAD_TYPE = 11
+    WRONG_SOURCE = 12
+    REPEAT = 13
+    LATE = 14
+    TOO_MANY = 15
+    FULL = 16
+    NOT_OPEN = 20
+
+
+class CodecRefusal(_Refusal):
+    PAYLOAD_TYPE = 31
+
+
+Refusal = CommandRefusal | DatagramRefusal | CodecRefusal
+_WORDS: dict[object, str] = {CommandRefusal.NOT_IN_CALL: 'not in a call',
+                             CodecRefusal.PAYLOAD_TYPE: 'no payload type of the codec'}
+REFUSALS: dict[int, type[CommandRefusal] | type[DatagramRefusal] | type[CodecRefusal]] = {
+    Kind.COMMAND: CommandRefusal, Kind.DATAGRAM: DatagramRefusal, Kind.CODEC: CodecRefusal}
+
+
+def refusal_of(asked: int, code: int) -> Refusal | None:
+    """The refusal that a code means for a kind of record; None where it was done. ValueError where it means none."""
+    if asked not in REFUSALS:
+        raise ValueError(f'{asked:02X} is no kind that is answered')
+    return REFUSALS[asked](code) if code else None
+
+
+class Fault(IntEnum):
+    """The faults of a session. `label` is the manual's name."""
+
+    BAD_KIND = 1
+    BAD_CIRCUIT = 2
+    BAD_COMMAND = 3
+    TRUNCATED = 4
+    READ = 5
+    WRITE = 6
+
+    @property
+    def label(self) -> str:
+        return self.name.title().replace('_', '')
+
+
+class BadSession(Exception):
+    """A session cannot be read on: its fault, and the place in the stream of the record that has it."""
+
+    def __init__(self, fault: Fault, place: int) -> None:
+        super().__init__(f'fault {int(fault)} {fault.label} in the record at octet {place}')
+        self.fault, self.place = fault, place
+
+
+class Record(NamedTuple):
+    """A record: its kind, its circuit (0 for the trunk) and its body."""
+
+    kind: Kind
+    circuit: int
+    body: bytes
+
+    def spelled(self) -> bytes:
+        return spell(self.kind, self.circuit, self.body)
+
+    @property
+    def command(self) -> Command:
+        """The command of a C record."""
+        return Command(self.body[0])
+
+    @property
+    def codec(self) -> Codec:
+        """The codec of a K record."""
+        return Codec(self.body[0])
+
+    @property
+    def payload_type(self) -> int:
+        """The payload type of a K record."""
+        return self.body[1]
+
+    @property
+    def refusal(self) -> Refusal | None:
+        """Why what an R record answers was refused; None where it was done or admitted."""
+        return refusal_of(self.body[0], self.body[1])
+
+
+def spell(kind: int, circuit: int, body: bytes) -> bytes:
+    """The octets of a record. ValueError where its body is longer than a record can say."""
+    if len(body) > 65_535:
+        raise ValueError('a record has at most 65,535 octets')
+    return HEAD.pack(kind, circuit, len(body)) + body
+
+
+def trunk_record(octets: bytes) -> bytes:
+    return spell(Kind.TRUNK, 0, octets)
+
+
+def datagram_record(circuit: int, datagram: bytes) -> bytes:
+    return spell(Kind.DATAGRAM, circuit, datagram)
+
+
+def command_record(circuit: int, command: Command) -> bytes:
+    return spell(Kind.COMMAND, circuit, bytes([command]))
+
+
+def codec_record(circuit: int, codec: Codec, payload_type: int) -> bytes:
+    return spell(Kind.CODEC, circuit, bytes([codec, payload_type]))
+
+
+_KIND_OF = {int(kind): kind for kind in Kind}
+_LENGTHS = {Kind.COMMAND: 1, Kind.CODEC: 2, Kind.ANSWER: 2}
+
+
+def _bad_head(kind: Kind | None, circuit: int, length: int, kinds: frozenset[Kind]) -> Fault | None:
+    """The first fault of the four octets before a body."""
+    if kind not in kinds:
+        return Fault.BAD_KIND
+    if circuit != 0 if kind is Kind.TRUNK else circuit not in CIRCUITS:
+        return Fault.BAD_CIRCUIT
+    if length != _LENGTHS.get(kind, length):
+        return Fault.BAD_COMMAND
+    return None
+
+
+def _bad_body(kind: Kind, body: bytes) -> Fault | None:
+    """The fault of a body: a command, a codec or a payload type that there is not."""
+    if kind is Kind.COMMAND and not 1 <= body[0] <= 6:
+        return Fault.BAD_COMMAND
+    if kind is Kind.CODEC and not (1 <= body[0] <= 5 and body[1] <= 127):
+        return Fault.BAD_COMMAND
+    return None
+
+
+class Reader:
+    """Reads records from octets that come in pieces, and keeps what is no whole record yet.
+
+    Of a record the faults are looked for in the order of e1gw-session(5). An R record has two octets."""
+
+    def __init__(self, kinds: Iterable[Kind] = EVERY_KIND) -> None:
+        self.kinds = frozenset(kinds)
+        self.place = 0              # in the stream, of the record that is read next
+        self._held = bytearray()
+        self._at = 0                # of that record in what is held
+
+    def push(self, octets: bytes) -> None:
+        """Takes octets."""
+        if self._at:
+            del self._held[:self._at]
+            self._at = 0
+        self._held += octets
+
+    def waiting(self) -> int:
+        """How many octets are held that are no whole record yet."""
+        return len(self._held) - self._at
+
+    def take(self) -> Record | None:
+        """The next record, or None where it is not all there. BadSession at a faulty one."""
+        held, at = self._held, self._at
+        if len(held) - at < 4:
+            return None
+        number, circuit, length = HEAD.unpack_from(held, at)
+        kind = _KIND_OF.get(number)
+        fault = _bad_head(kind, circuit, length, self.kinds)
+        if fault is not None or kind is None:
+            raise BadSession(fault or Fault.BAD_KIND, self.place)
+        after = at + 4 + length
+        if len(held) < after:
+            return None
+        body = bytes(held[at + 4:after])
+        if kind in _LENGTHS:
+            fault = _bad_body(kind, body)
+            if fault is not None:
+                raise BadSession(fault, self.place)
+        self._at = after
+        self.place += 4 + length
+        return Record(kind, circuit, body)
+
+    def whole(self) -> Iterator[Record]:
+        """The whole records of what is held."""
+        while (record := self.take()) is not None:
+            yield record
+
+    def end(self) -> None:
+        """The stream has ended: BadSession where that is inside a record."""
+        if self.waiting():
+            raise BadSession(Fault.TRUNCATED, self.place)
+
+
+class Readable(Protocol):
+    """What octets are read from."""
+
+    def read(self, size: int = -1, /) -> bytes:
+        ...
+
+
+def records(stream: Readable | BinaryIO, kinds: Iterable[Kind] = EVERY_KIND) -> Iterator[Record]:
+    """The records of a stream, one by one. BadSession where it is no session, behind the records before the fault."""
+    reader = Reader(kinds)
+    read = getattr(stream, 'read1', stream.read)
+    while octets := read(PIECE):
+        reader.push(octets)
+        yield from reader.whole()
+    reader.end()
+
+
+def records_in(octets: bytes, kinds: Iterable[Kind] = EVERY_KIND) -> Iterator[Record]:
+    """The records that octets are."""
+    reader = Reader(kinds)
+    reader.push(octets)
+    yield from reader.whole()
+    reader.end()
+
+
+# ---- RTP ----
+
+_RTP = struct.Struct('>BBHII')
+
+
+class BadPacket(Exception):
+    """A datagram is no RTP packet, for this cause (1 to 5 of the codes of answers)."""
+
+    def __init__(self, refusal: DatagramRefusal) -> None:
+        super().__init__(refusal.label)
+        self.refusal = refusal
+
+
+@dataclass(frozen=True, slots=True)
+class Packet:
+    """An RTP packet (RFC 3550, 5.1): the fields of its header, and its payload without padding."""
+
+    payload_type: int
+    sequence: int
+    timestamp: int
+    ssrc: int
+    payload: bytes
+    marker: bool = False
+    sources: tuple[int, ...] = ()
+    extended: bool = False
+    padding: int = 0
+
+    def spelled(self) -> bytes:
+        """A datagram of this packet, without padding and extension."""
+        first = 0x80 | len(self.sources)
+        head = _RTP.pack(first, self.marker << 7 | self.payload_type, self.sequence, self.timestamp, self.ssrc)
+        return head + struct.pack(f'>{len(self.sources)}I', *self.sources) + self.payload
+
+
+def _behind_header(datagram: bytes) -> int:
+    """Where the payload begins."""
+    if len(datagram) < 12:
+        raise BadPacket(DatagramRefusal.SHORT)
+    if datagram[0] >> 6 != 2:
+        raise BadPacket(DatagramRefusal.VERSION)
+    at = 12 + 4 * (datagram[0] & 15)
+    if len(datagram) < at:
+        raise BadPacket(DatagramRefusal.SHORT_SOURCES)
+    if datagram[0] & 0x10:
+        if len(datagram) < at + 4:
+            raise BadPacket(DatagramRefusal.SHORT_EXTENSION)
+        at += 4 + 4 * int.from_bytes(datagram[at + 2:at + 4], 'big')
+        if len(datagram) < at:
+            raise BadPacket(DatagramRefusal.SHORT_EXTENSION)
+    return at
+
+
+def packet_of(datagram: bytes) -> Packet:
+    """The packet that a datagram is. BadPacket where it is none."""
+    at = _behind_header(datagram)
+    padding = 0
+    if datagram[0] & 0x20:
+        padding = datagram[-1] if len(datagram) > at else 0
+        if not 1 <= padding <= len(datagram) - at:
+            raise BadPacket(DatagramRefusal.BAD_PADDING)
+    first, second, sequence, timestamp, ssrc = _RTP.unpack_from(datagram)
+    sources = struct.unpack_from(f'>{first & 15}I', datagram, 12)
+    return Packet(second & 0x7F, sequence, timestamp, ssrc, datagram[at:len(datagram) - padding], bool(second & 0x80),
+                  sources, bool(first & 0x10), padding)

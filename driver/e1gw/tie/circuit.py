@@ -1,0 +1,128 @@
+"""One circuit of a tie line: the command that follows from how its two ends stand.
+
+At one end the circuit is incoming, and its exchange seizes it; at the other end it is outgoing, and the gateway seizes
+it there for each call. What is done follows from states and never from a message, so whatever was lost on the way is
+made good by the next one that comes. There is no clock here and nothing is sent: `wants` is a function of a value.
+
+A call has a name, which the incoming end gives it. The outgoing end keeps the name of the call that was last passed on
+to it; so both know whether what stands there belongs to this call, to an earlier one or to none.
+"""
+from __future__ import annotations
+
+from dataclasses import dataclass, replace
+from enum import Enum
+
+from ..lines import IN_CALL, OPEN, Role, State
+from ..session import Command
+
+NO_CALL = ''        # the name of no call
+
+
+class Link(Enum):
+    """What is known of the other end at this moment."""
+
+    GOOD = 'good'               # it is heard, and both trunks are alight
+    LOST = 'lost'               # it is not; calls wait
+    GIVEN_UP = 'given up'       # it has not been for so long that calls are ended
+
+
+@dataclass(frozen=True, slots=True)
+class End:
+    """How one end stands, as it is told to the other one."""
+
+    role: Role
+    state: State
+    call: str | None            # of its latest call; None: not known yet
+    over: bool = False          # the incoming end has given this call up
+    passed: str = NO_CALL       # the incoming end: the last call that the outgoing one has named
+
+
+@dataclass(frozen=True, slots=True)
+class Circuit:
+    """One end of a circuit, and what is known of the other one."""
+
+    role: Role
+    state: State
+    call: str | None
+    over: bool = False
+    passed: str = NO_CALL
+    kept: bool = False          # blocked by the operator, who alone unblocks it
+    stuck: bool = False         # a release that the exchange does not follow
+    far: End | None = None      # None: not heard of, or not to be joined with this end
+
+    def end(self) -> End:
+        """What the other end is told. A release that is stuck is a fault to it."""
+        return End(self.role, State.FAULT if self.stuck else self.state, self.call, self.over, self.passed)
+
+    def moved(self, state: State, call: str | None = None) -> Circuit:
+        """The line here is in another state; with the name of the call that begins there, if one does."""
+        begun = call is not None
+        return replace(self, state=state, call=call if begun else self.call, over=self.over and not begun, stuck=False,
+                       kept=self.kept and state is State.BLOCKED)
+
+    def heard(self, far: End) -> Circuit:
+        """The other end has told how it stands."""
+        if self.role is Role.INCOMING:
+            return replace(self, far=far, passed=self.passed if far.call is None else far.call)
+        # One who has forgotten which call it was given learns it from the other end.
+        return replace(self, far=far, call=far.passed if self.call is None else self.call)
+
+    def tried(self, call: str) -> Circuit:
+        """The call was passed on to this outgoing end, whether that was done or refused."""
+        return replace(self, call=call)
+
+    def settled(self, link: Link) -> Circuit:
+        """With a call given up that cannot be had: it stays so until it ends."""
+        return replace(self, over=True) if not self.over and self.ends(link) else self
+
+    def ends(self, link: Link) -> bool:
+        """The call that stands at this incoming end has no other end, or has none any more."""
+        if self.role is not Role.INCOMING or self.state not in OPEN:
+            return False
+        if self.over or link is Link.GIVEN_UP:
+            return True
+        if link is Link.LOST or self.far is None or self.far.call is None:
+            return False
+        if self.far.call == self.call:
+            return self.far.state not in IN_CALL
+        # Not passed on yet: it can be, unless that end is out of use or this call has been answered by somebody else.
+        return self.state is not State.ACKED or self.far.state in (State.BLOCKED, State.FAULT)
+
+    def wants(self, link: Link, waits: bool = False) -> Command | None:
+        """The command that this end wants now. A call that cannot be had is told to its caller, or `waits` for him."""
+        if self.role is Role.OUTGOING:
+            return self._outgoing(link)
+        return None if waits and self.state is State.ACKED and self.ends(link) else self._incoming(link)
+
+    def _outgoing(self, link: Link) -> Command | None:
+        called = self.state in IN_CALL
+        if link is Link.GIVEN_UP:
+            return Command.CLEAR if called else None
+        if link is Link.LOST or self.far is None:
+            return None
+        far = self.far
+        stands = far.state in OPEN and not far.over
+        if called:
+            return None if stands and far.call == self.call else Command.CLEAR
+        begins = stands and far.state is State.ACKED and far.call != self.call
+        return Command.SEIZE if begins and self.state is State.IDLE else None
+
+    def _incoming(self, link: Link) -> Command | None:
+        far = self.far if link is Link.GOOD else None
+        if self.state is State.IDLE:
+            out = link is not Link.GOOD or far is not None and far.state in (State.BLOCKED, State.FAULT)
+            return Command.BLOCK if out else None
+        if self.state is State.BLOCKED:
+            free = far is not None and far.state is State.IDLE and not self.kept
+            return Command.UNBLOCK if free else None
+        if self.ends(link):
+            # A clear-back can only follow an answer.
+            return {State.ACKED: Command.ANSWER, State.ANSWERED: Command.CLEAR_BACK}.get(self.state)
+        return self._followed(far.state) if far is not None and far.call == self.call else None
+
+    def _followed(self, far: State) -> Command | None:
+        """What passes the state of a call at the outgoing end on to its caller."""
+        answered = far is State.ANSWERED or far is State.CLEAREDBACK and self.state is State.ACKED
+        if answered and self.state in (State.ACKED, State.CLEAREDBACK):
+            return Command.ANSWER
+        return Command.CLEAR_BACK if far is State.CLEAREDBACK and self.state is State.ANSWERED else None

@@ -1,0 +1,40 @@
+"""The circuits that the operator has blocked, in a file, so that a tie that is started anew leaves them so."""
+from __future__ import annotations
+
+import json
+from typing import Iterable
+
+from ..keep import put_file
+from ..outlets import Outlet
+from ..session import CIRCUITS
+
+
+class Kept:
+    """A set of circuits. Without a path it is forgotten at the end; a file that cannot be written ends nothing."""
+
+    def __init__(self, path: str | None) -> None:
+        self._circuits = read(path) if path else frozenset()
+        self._outlet = Outlet('state', lambda text: put_file(path, text)) if path else None
+
+    def has(self, circuit: int) -> bool:
+        return circuit in self._circuits
+
+    def put(self, circuits: Iterable[int]) -> None:
+        """These and no others."""
+        self._circuits = frozenset(circuits)
+        if self._outlet:
+            self._outlet.put(json.dumps(sorted(self._circuits)).encode() + b'\n')
+
+    def close(self) -> None:
+        if self._outlet:
+            self._outlet.close()
+
+
+def read(path: str) -> frozenset[int]:
+    """What a file keeps; none where there is no such file, or where it is none of ours."""
+    try:
+        with open(path, encoding='ascii') as file:
+            found = json.loads(file.read(4096))
+    except (OSError, ValueError):
+        return frozenset()
+    return frozenset(n for n in found if n in CIRCUITS) if isinstance(found, list) else frozenset()

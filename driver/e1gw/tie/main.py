@@ -1,0 +1,134 @@
+"""The command line of e1gw-tie."""
+from __future__ import annotations
+
+import argparse
+import asyncio
+import json
+import math
+import os
+import secrets
+import signal
+import ssl
+import sys
+import time
+from typing import Any
+
+from ..outlets import hold_descriptors, to_descriptor
+from ..trunks import host_and_port
+from .kept import Kept
+from .pairs import BadPairs, Pairs, pairs_of
+from .site import Site, context_of
+from .tie import Options, Tell, Tie
+
+ABOUT = '''Joins the circuits of two gateways at two sites: what an exchange seizes at one end is seized at the other, and
+answers, clear-backs, clearing, blocking, faults and alarms are passed on.'''
+MORE = '''One of these runs at each site beside its e1gw-trunk. Each thing that it does is a line of JSON on standard
+output. Without --tls the connection is neither secret nor authenticated. See e1gw-tie(1).'''
+BROKEN_AFTER = 100_000      # octets of the map's file that are looked at
+
+
+def seconds(text: str) -> float:
+    number = float(text)
+    if not math.isfinite(number) or not 0 <= number <= 3600:
+        raise argparse.ArgumentTypeError('0 to 3600')
+    return number
+
+
+def place(text: str) -> tuple[str, int]:
+    try:
+        return host_and_port(text)
+    except ValueError as fault:
+        raise argparse.ArgumentTypeError(str(fault)) from None
+
+
+def parser() -> argparse.ArgumentParser:
+    made = argparse.ArgumentParser('e1gw-tie', description=ABOUT, epilog=MORE)
+    made.add_argument('--control', required=True, metavar='SOCKET', help='the control socket of the driver here')
+    ways = made.add_mutually_exclusive_group(required=True)
+    ways.add_argument('--listen', type=place, metavar='HOST:PORT', help='where the other site connects')
+    ways.add_argument('--connect', type=place, metavar='HOST:PORT', help='where the other site listens')
+    made.add_argument('--map', metavar='FILE', help='which circuit here is which one there, `HERE THERE` a line '
+                      '[default: the one of its number]')
+    made.add_argument('--tls', nargs=3, metavar=('CERT', 'KEY', 'CA'), help='TLS: the certificate of this site, its '
+                      'key, and the authority of both sites')
+    made.add_argument('--peer', metavar='NAME', help='with --tls, the host or address in the certificate of the other '
+                      'site [default: the host of --connect; with --listen any that CA has signed]')
+    made.add_argument('--hold', type=seconds, default=2.0, metavar='SECONDS', help='how long calls are kept without '
+                      'the other end [default: 2]')
+    made.add_argument('--congestion', choices=('clear-back', 'wait'), default='clear-back', help='a call that cannot '
+                      'be had is answered and cleared back, or the caller waits [default: clear-back]')
+    made.add_argument('--state', metavar='FILE', help='keeps which circuits the operator has blocked')
+    return made
+
+
+def read_map(path: str) -> Pairs:
+    with open(path, encoding='utf-8', errors='replace') as file:
+        return pairs_of(file.read(BROKEN_AFTER))
+
+
+def site_of(options: argparse.Namespace, tie: Tie) -> Site:
+    listens = options.listen is not None
+    context: ssl.SSLContext | None = None
+    if options.tls:
+        context = context_of(*options.tls, listens)
+    return Site(options.listen or options.connect, listens, context, options.peer, tie)
+
+
+async def work(tie: Tie, site: Site) -> int:
+    """Goes on until a signal asks for the end; returns the status."""
+    asked = asyncio.Event()
+    for number in (signal.SIGINT, signal.SIGTERM, signal.SIGHUP):
+        asyncio.get_running_loop().add_signal_handler(number, asked.set)
+    asyncio.get_running_loop().set_exception_handler(
+        lambda _, about: tie.turned_away(str(about.get('exception') or about.get('message'))))
+    tie.start()
+    tasks = [asyncio.create_task(each) for each in (tie.follow_trunk(), site.run(), asked.wait())]
+    done, _ = await asyncio.wait(tasks, return_when=asyncio.FIRST_COMPLETED)
+    status = 0
+    for task in done:
+        fault = task.exception()
+        if fault is not None:
+            print(f'e1gw-tie: {fault}', file=sys.stderr)
+            status = 1
+    tie.tell('end', status=status)
+    for task in tasks:
+        task.cancel()
+    site.close()
+    return status
+
+
+def refuse(why: object) -> None:
+    print(f'e1gw-tie: {why}', file=sys.stderr)
+    sys.exit(2)
+
+
+def told_on(outlet: Any) -> Tell:
+    """Each event is a line of JSON; one who does not read them ends nothing."""
+    def tell(event: str, **fields: Any) -> None:
+        outlet.put(json.dumps({'time': round(time.time(), 6), 'event': event, **fields}).encode() + b'\n')
+    return tell
+
+
+def main() -> None:
+    hold_descriptors()
+    options = parser().parse_args()
+    if options.peer and not options.tls:
+        parser().error('--peer wants --tls')
+    outlet = to_descriptor('standard output', 1)
+    tell = told_on(outlet)
+    kept = Kept(options.state)
+    try:
+        pairs = read_map(options.map) if options.map else None
+        tie = Tie(Options(options.control, pairs, options.hold, options.congestion == 'wait'), secrets.token_hex(8),
+                  kept, tell)
+        site = tie.site = site_of(options, tie)
+    except (OSError, BadPairs, ValueError) as fault:
+        return refuse(f'{options.map}: {fault}' if isinstance(fault, BadPairs) else fault)
+    host, port = site.place
+    tell('start', control=options.control, hold=options.hold, place=f'{host}:{port}',
+         connection='TLS' if options.tls else 'neither secret nor authenticated: for 127.0.0.1 or a tunnel')
+    status = asyncio.run(work(tie, site))
+    kept.close()
+    outlet.close()
+    # The thread of a reader that stands still is not waited for.
+    os._exit(status)

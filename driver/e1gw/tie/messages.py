@@ -1,0 +1,138 @@
+"""What the ties of two sites tell one another: lines of JSON.
+
+Each begins with a `Greeting` and, once the connection is taken up, tells how all its circuits stand; then each change,
+and a sign of life where nothing else is to be told. Circuits are numbered as at the site that speaks.
+"""
+from __future__ import annotations
+
+import json
+from dataclasses import asdict, dataclass
+from typing import Any
+
+from ..lines import Role, State
+from ..session import CIRCUITS
+from .circuit import End
+from .pairs import Pairs
+
+VERSION = 1
+MOST = 64 << 10             # octets of a line
+MOST_NAME = 100
+
+
+class BadMessage(Exception):
+    """A line is no message; the words say why."""
+
+
+@dataclass(frozen=True)
+class Greeting:
+    """Who speaks: a name for this run of the program, and the pairs of circuits that it was given."""
+
+    run: str
+    pairs: Pairs | None
+
+
+@dataclass(frozen=True)
+class All:
+    """How a site stands."""
+
+    dark: bool
+    ends: dict[int, End]
+
+
+@dataclass(frozen=True)
+class Change:
+    """How a circuit stands now."""
+
+    circuit: int
+    end: End
+
+
+@dataclass(frozen=True)
+class Dark:
+    """Whether the trunk of that site is dark."""
+
+    dark: bool
+
+
+@dataclass(frozen=True)
+class Alive:
+    """Nothing is new."""
+
+
+Message = Greeting | All | Change | Dark | Alive
+
+
+def _plain(message: Message) -> dict[str, Any]:
+    if isinstance(message, Greeting):
+        return {'tie': VERSION, 'run': message.run, 'pairs': message.pairs}
+    if isinstance(message, All):
+        return {'all': {n: asdict(end) for n, end in message.ends.items()}, 'dark': message.dark}
+    if isinstance(message, Change):
+        return {'circuit': message.circuit, 'end': asdict(message.end)}
+    return {'dark': message.dark} if isinstance(message, Dark) else {'alive': True}
+
+
+def spell(message: Message) -> bytes:
+    """The line of a message."""
+    return json.dumps(_plain(message)).encode() + b'\n'
+
+
+def _is(value: Any, kind: type, what: str) -> Any:
+    if not isinstance(value, kind):
+        raise BadMessage(f'no {what}')
+    return value
+
+
+def _name(value: Any, what: str) -> str:
+    if len(_is(value, str, what)) > MOST_NAME:
+        raise BadMessage(f'{what} is too long')
+    return str(value)
+
+
+def _circuit(value: Any) -> int:
+    number = int(value) if isinstance(value, int) or isinstance(value, str) and value.isascii() and \
+        value.isdecimal() and len(value) < 4 else 0
+    if number not in CIRCUITS or isinstance(value, bool):
+        raise BadMessage('no circuit')
+    return number
+
+
+def _pairs(value: Any) -> Pairs | None:
+    if value is None:
+        return None
+    pairs = {_circuit(here): _circuit(there) for here, there in _is(value, dict, 'pairs').items()}
+    if len(set(pairs.values())) != len(value):
+        raise BadMessage('pairs that are none')
+    return pairs
+
+
+def _end(value: Any) -> End:
+    fields = _is(value, dict, 'end')
+    call = fields.get('call')
+    try:
+        return End(Role(fields.get('role')), State(fields.get('state')), None if call is None else _name(call, 'call'),
+                   _is(fields.get('over'), bool, 'over'), _name(fields.get('passed'), 'call'))
+    except ValueError:
+        raise BadMessage('no end of a circuit') from None
+
+
+def message_of(line: bytes) -> Message:
+    """The message of a line. BadMessage where it is none."""
+    try:
+        fields = _is(json.loads(line), dict, 'message')
+    except (ValueError, RecursionError):
+        raise BadMessage('no JSON') from None
+    if 'tie' in fields:
+        if fields['tie'] != VERSION:
+            raise BadMessage(f'another version of the tie, {str(fields["tie"])[:20]}')
+        return Greeting(_name(fields.get('run'), 'run'), _pairs(fields.get('pairs')))
+    if 'all' in fields:
+        ends = {_circuit(n): _end(end) for n, end in _is(fields['all'], dict, 'circuits').items()}
+        return All(_is(fields.get('dark'), bool, 'dark'), ends)
+    if 'circuit' in fields:
+        return Change(_circuit(fields['circuit']), _end(fields.get('end')))
+    if 'dark' in fields:
+        return Dark(_is(fields['dark'], bool, 'dark'))
+    if 'alive' in fields:
+        return Alive()
+    raise BadMessage('nothing that is known')

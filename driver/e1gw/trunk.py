@@ -1,0 +1,198 @@
+"""Carries an E1 trunk: joins what gives 2048 kbit/s as octets with `e1gw serve`, which it starts.
+
+Each octet that is read from the trunk goes to the gateway, and as many come back and are written to the trunk. Lines
+that are typed, or come over the socket of --control, are commands: seize N, clear N, answer N, clear-back N, block N,
+unblock N, codec N CODEC TYPE, status, events, quit, help. Nothing beside the calls ends them: what can no longer be
+written, told or kept is told once, and the trunk goes on.
+
+Statuses: 0 ended as asked, or with the trunk's input; 1 the trunk or the gateway failed; 2 the command line or the
+configuration.
+"""
+from __future__ import annotations
+
+import argparse
+import os
+import shutil
+import subprocess
+import sys
+from typing import Callable, NoReturn
+
+from .control import DoorTaken
+from .driver import Driver, Options
+from .gateway import ConfigRefused, check_config
+from .guards import OnLoss, on_loss_of
+from .keep import seconds_of
+from .loop import Loop
+from .outlets import Journal, hold_descriptors
+from .trunks import Trunk, host_and_port, open_files, open_tcp, open_unix
+
+TOP = os.path.dirname(os.path.dirname(os.path.dirname(os.path.abspath(__file__))))
+
+
+class Usage(Exception):
+    """What is wrong with the command line."""
+
+
+def program_of(asked: str | None) -> str:
+    """The program that is named, or that of this repository, or the one on the path."""
+    build = os.path.join(TOP, 'scripts', 'build')
+    if asked or os.environ.get('E1GW'):
+        return asked or os.environ['E1GW']
+    if os.path.exists(build):
+        return subprocess.run([build], stdout=subprocess.PIPE, check=True, text=True).stdout.strip()
+    return shutil.which('e1gw') or 'e1gw'
+
+
+def trunk_of(asked: argparse.Namespace) -> Callable[[], Trunk]:
+    """What opens the trunk that was asked for."""
+    files = bool(asked.input) + bool(asked.out)
+    ways = [asked.unix, asked.tcp, asked.satop, asked.input and asked.out]
+    if files == 1 or sum(map(bool, ways)) != 1:
+        raise Usage('a trunk is --in and --out, or --unix, or --tcp, or --satop')
+    if asked.satop:
+        return _satop_of(asked)
+    if asked.unix:
+        path: str = asked.unix
+        opens: Callable[[], Trunk] = lambda: open_unix(path)       # noqa: E731
+    elif asked.tcp:
+        host, port = host_and_port(asked.tcp)
+        opens = lambda: open_tcp(host, port)                        # noqa: E731
+    else:
+        opens = lambda: open_files(asked.input, asked.out)          # noqa: E731
+    if not asked.clear:
+        return opens
+    from .clear import Clear
+    return lambda: Clear(opens())
+
+
+def _satop_of(asked: argparse.Namespace) -> Callable[[], Trunk]:
+    from .satop import open_satop
+    local, comma, peer = asked.satop.partition(',')
+    if not comma:
+        raise Usage('--satop wants LOCAL:PORT,PEER:PORT')
+    host_and_port(local), host_and_port(peer)
+    return lambda: open_satop(asked.satop)
+
+
+def _number(least: float, most: float, kind: type = int) -> Callable[[str], float]:
+    def read(text: str) -> float:
+        value = kind(text)
+        if not least <= value <= most:
+            raise argparse.ArgumentTypeError(f'{least:g} to {most:g}')
+        return value        # type: ignore[no-any-return]
+    return read
+
+
+def parser() -> argparse.ArgumentParser:
+    """The options."""
+    about, _, rest = (__doc__ or '').partition('\n\n')
+    words = argparse.ArgumentParser(prog='e1gw-trunk', description=f'{about}\n\n{rest}',
+                                    formatter_class=argparse.RawDescriptionHelpFormatter)
+    words.add_argument('--config', metavar='FILE', required=True, help='the configuration, e1gw.toml(5)')
+    words.add_argument('--name', help='the name of the trunk in metrics and files [default: that of FILE]')
+    words.add_argument('--program', metavar='E1GW', help='the program [default: that of this repository, or e1gw]')
+    words.add_argument('--totals', action='store_true', help='tells at the end what the gateway has counted')
+    _add_trunk(words.add_argument_group('the trunk'))
+    _add_control(words.add_argument_group('control and what is told'))
+    _add_calls(words.add_argument_group('sessions and calls'))
+    return words
+
+
+def _add_trunk(words: argparse._ArgumentGroup) -> None:
+    words.add_argument('--in', dest='input', metavar='FILE', help='a device, file or FIFO to read the trunk from')
+    words.add_argument('--out', metavar='FILE', help='one to write the trunk to, opened after --in; may be the same')
+    words.add_argument('--unix', metavar='PATH', help='a Unix stream socket to connect to, in place of the two')
+    words.add_argument('--tcp', metavar='HOST:PORT', help='a TCP socket to connect to, in place of the two')
+    words.add_argument('--satop', metavar='LOCAL,PEER', help='SAToP (RFC 4553) over UDP, each as HOST:PORT')
+    words.add_argument('--clear', action='store_true', help='the device gives time slots 1 to 31 alone')
+    words.add_argument('--most', type=_number(1, 65535), default=256, metavar='OCTETS',
+                       help='octets in a record at most, 1 to 65535; a frame has 32 [default: 256, 1 ms]')
+    words.add_argument('--reopen', action='store_true', help='opens a trunk that ends or fails again, within 30 s')
+
+
+def _add_control(words: argparse._ArgumentGroup) -> None:
+    words.add_argument('--control', metavar='PATH', help='a Unix socket for commands, e1gw-ctl(1)')
+    words.add_argument('--control-mode', type=lambda text: int(text, 8), default=0o660, metavar='MODE',
+                       help='its mode, in octal [default: 660]')
+    words.add_argument('--control-group', metavar='GROUP', help='its group')
+    words.add_argument('--on-loss', nargs='+', default=['keep'], metavar='WORD',
+                       help='keep, or clear SECONDS: what is done with the calls when the last control client that asked '
+                       'for it is gone [default: keep]')
+    words.add_argument('--http', metavar='HOST:PORT', help='serves /metrics (Prometheus), /status (JSON) and / (table)')
+    words.add_argument('--metrics', metavar='FILE', help='a file of metrics for node_exporter, every 5 s')
+    words.add_argument('--json', metavar='FILE', help='a line of JSON for each change; - is standard output')
+    words.add_argument('--watch', action='store_true', help='tells each change on standard output')
+    words.add_argument('--top', action='store_true', help='the table in the terminal, twice a second')
+    words.add_argument('--no-counts', dest='counts', action='store_false',
+                       help='no shadow: what becomes of datagrams is not counted')
+
+
+def _add_calls(words: argparse._ArgumentGroup) -> None:
+    words.add_argument('--session', metavar='FILE', help='keeps all that the gateway takes, for e1gw replay and check')
+    words.add_argument('--keep', metavar='TIME', help='--session is a folder for the last 30m, 1h, 2d, in twelve files')
+    words.add_argument('--gap', type=_number(20, 10_000), default=100, metavar='MS',
+                       help='lost octets of so many milliseconds begin the playout of open calls anew [default: 100]')
+    words.add_argument('--dark', type=_number(0, 86_400, float), metavar='SECONDS',
+                       help='clears the calls of a trunk that has been in alarm for so long [default: never]')
+
+
+def options_of(words: list[str]) -> Options:
+    """The options of a command line; Usage where they are none."""
+    asked = parser().parse_args(words)
+    try:
+        on_loss: OnLoss = on_loss_of(asked.on_loss)
+        http = host_and_port(asked.http) if asked.http else None
+        opens = trunk_of(asked)
+        keep = seconds_of(asked.keep) if asked.keep else None
+    except ValueError as fault:
+        raise Usage(str(fault)) from None
+    if keep is not None and not asked.session:
+        raise Usage('--keep wants --session')
+    name = asked.name or os.path.splitext(os.path.basename(asked.config))[0]
+    return Options(
+        config=asked.config, program=program_of(asked.program), name=name, open_trunk=opens, most=asked.most,
+        totals=asked.totals, reopen=asked.reopen, watch=asked.watch, top=asked.top, control=asked.control,
+        control_mode=asked.control_mode, control_group=asked.control_group, http=http, metrics=asked.metrics,
+        json=asked.json, session=asked.session, keep=keep, gap=asked.gap / 1000, dark=asked.dark, on_loss=on_loss,
+        counts=asked.counts)
+
+
+def _serve(options: Options, journal: Journal) -> int:
+    loop = Loop()
+    driver: list[Driver] = []
+
+    def caught(number: int) -> None:
+        if number == 1:
+            journal.line(Journal.NOTICE, 'the terminal is gone')
+        elif driver:
+            driver[0].stop(f'signal {number}')
+        else:
+            os._exit(0)
+    loop.catch_signals(caught)
+    check_config(options.program, options.config)
+    driver.append(Driver(loop, options, journal))
+    try:
+        driver[0].open_doors()
+    except (OSError, DoorTaken, KeyError, ValueError) as fault:
+        journal.line(Journal.ERROR, f'cannot listen: {fault}')
+        driver[0].end(2)
+    return driver[0].run()
+
+
+def main(words: list[str] | None = None) -> NoReturn:
+    hold_descriptors()
+    sys.setswitchinterval(0.001)
+    journal = Journal()
+    status = 2
+    try:
+        options = options_of(sys.argv[1:] if words is None else words)
+        status = _serve(options, journal)
+    except Usage as fault:
+        journal.line(Journal.ERROR, f'{fault}; see e1gw-trunk --help')
+    except ConfigRefused as fault:
+        journal.line(Journal.ERROR, str(fault))
+    except (OSError, subprocess.CalledProcessError) as fault:
+        journal.line(Journal.ERROR, str(fault))
+    journal.close()
+    # A thread may still wait for a disk or a reader; nothing waits for it.
+    os._exit(status)

@@ -1,0 +1,152 @@
+"""The trunk's time: what comes of octets that stop, that are lost, that come at once, and of other rates."""
+from __future__ import annotations
+
+import unittest
+
+from . import support
+from e1gw.clock import TICK, Clock, Finding
+from e1gw.counts import Counts, Stream
+from e1gw.session import codec_record, datagram_record, spell, trunk_record, Codec, Kind, Packet
+
+assert support.TOP
+RECORD = 0.001
+
+
+class Trunk:
+    """Octets in records of 256, a millisecond each, with a look each TICK."""
+
+    def __init__(self, gap: float = 0.1) -> None:
+        self.now = 1000.0
+        self.clock = Clock(self.now, gap)
+        self.found: list[Finding] = []
+        self._look = self.now + TICK
+
+    def go(self, seconds: float, rate: float = 1.0) -> None:
+        """Octets come, at this rate."""
+        for _ in range(round(seconds / RECORD)):
+            self._wait(RECORD / rate)
+            self.clock.took(256, self.now)
+
+    def at_once(self, seconds: float) -> None:
+        """Octets of this time come at one moment."""
+        for _ in range(round(seconds / RECORD)):
+            self.clock.took(256, self.now)
+
+    def quiet(self, seconds: float) -> None:
+        """No octets come."""
+        for _ in range(round(seconds / RECORD)):
+            self._wait(RECORD)
+
+    def _wait(self, seconds: float) -> None:
+        self.now += seconds
+        while self._look <= self.now:
+            self.found += self.clock.look(self._look)
+            self._look += TICK
+
+    def words(self) -> list[str]:
+        return [finding.what for finding in self.found]
+
+
+class Flow(unittest.TestCase):
+    def test_a_steady_trunk(self) -> None:
+        trunk = Trunk()
+        trunk.go(70)
+        self.assertEqual(trunk.words(), [])
+        self.assertAlmostEqual(trunk.clock.ppm or 0.0, 0.0, delta=5)
+
+    def test_lost_octets_are_a_gap(self) -> None:
+        trunk = Trunk()
+        trunk.go(2)
+        trunk.quiet(0.5)
+        trunk.go(1)
+        self.assertEqual(trunk.words(), ['stalled', 'flows', 'gap'])
+        self.assertAlmostEqual(trunk.found[2].value, 0.5, delta=0.02)
+        self.assertEqual((trunk.clock.stalls, trunk.clock.gaps), (1, 1))
+
+    def test_octets_that_waited_are_none(self) -> None:
+        trunk = Trunk()
+        trunk.go(2)
+        trunk.quiet(0.5)
+        trunk.at_once(0.5)
+        trunk.go(1)
+        self.assertEqual(trunk.words(), ['stalled', 'flows'])
+
+    def test_small_gaps_add_up(self) -> None:
+        trunk = Trunk()
+        trunk.go(2)
+        for _ in range(6):
+            trunk.quiet(0.02)
+            trunk.go(10)
+        self.assertEqual(trunk.words(), ['gap'])
+
+    def test_a_gap_of_ones_own(self) -> None:
+        trunk = Trunk(gap=0.3)
+        trunk.go(2)
+        trunk.quiet(0.25)
+        trunk.go(1)
+        self.assertEqual(trunk.words(), [])
+
+    def test_octets_that_are_too_many(self) -> None:
+        trunk = Trunk()
+        trunk.go(2)
+        trunk.at_once(0.3)
+        trunk.go(1)
+        self.assertEqual(trunk.words(), ['ahead'])
+
+    def test_clocks_of_networks_are_no_gaps(self) -> None:
+        for ppm in (-50, 50):
+            trunk = Trunk()
+            trunk.go(130, 1 + ppm / 1e6)
+            self.assertEqual(trunk.words(), [])
+            self.assertAlmostEqual(trunk.clock.ppm or 0.0, ppm, delta=5)
+
+    def test_another_rate_is_told(self) -> None:
+        trunk = Trunk()
+        trunk.go(70, 1 - 500e-6)
+        self.assertEqual(trunk.words(), ['rate'])
+        self.assertAlmostEqual(trunk.found[0].value, -500, delta=20)
+
+    def test_how_late_an_octet_was(self) -> None:
+        trunk = Trunk()
+        trunk.go(2)
+        place = trunk.clock.octets
+        trunk.quiet(0.06)
+        trunk.at_once(0.06)
+        trunk.go(1)
+        self.assertEqual(trunk.words(), [])
+        self.assertAlmostEqual(trunk.clock.late_at(place), 0.06, delta=0.005)
+        self.assertAlmostEqual(trunk.clock.late_at(place + 256 * 30), 0.03, delta=0.005)
+        self.assertEqual(trunk.clock.late_at(trunk.clock.octets - 256), 0.0)
+
+
+class Streams(unittest.TestCase):
+    def test_lost_ones_and_jitter(self) -> None:
+        """RFC 3550, 6.4.1 and A.8: the difference of transit times, of which each has a sixteenth."""
+        stream = Stream()
+        for n in (0, 1, 2, 5, 4, 6):
+            stream.take(65_534 + n & 0xFFFF, 160 * n, 7, 160 * n)
+        self.assertEqual((stream.lost, stream.jitter), (1, 0.0))
+        stream.take(65_541 & 0xFFFF, 160 * 7, 7, 160 * 7 + 32)
+        self.assertEqual((stream.lost, stream.jitter), (1, 2.0))
+        stream.take(9, 0, 8, 5)
+        self.assertEqual((stream.lost, stream.jitter), (1, 0.0))
+
+    def test_answers_are_those_of_the_datagrams_before(self) -> None:
+        admitted: list[tuple[int, int]] = []
+        counts = Counts(lambda circuit, place: admitted.append((circuit, place)))
+        packet = Packet(8, 1, 0, 1, b'\xD5' * 160).spelled()
+        tape = (trunk_record(bytes(64)) + datagram_record(3, b'') + codec_record(3, Codec.G711, 8)
+                + datagram_record(4, packet) + trunk_record(bytes(32)))
+        answers = (trunk_record(bytes(64)) + spell(Kind.ANSWER, 3, b'\x44\1') + spell(Kind.ANSWER, 3, b'\x4B\0')
+                   + spell(Kind.ANSWER, 4, b'\x44\0') + datagram_record(4, packet) + trunk_record(bytes(32)))
+        whole = b''.join(counts.taped(tape[at:at + 7]) for at in range(0, len(tape), 7))
+        self.assertEqual((whole, counts.place), (tape, 96))
+        for at in range(0, len(answers), 5):
+            counts.answered(answers[at:at + 5])
+        self.assertEqual(counts.status(3)['datagrams'], {'sent': 0, 'admitted': 0, 'Short': 1})
+        self.assertEqual(counts.status(4)['datagrams'], {'sent': 1, 'admitted': 1})
+        self.assertEqual((admitted, counts.stale(), counts.answered_place), ([(4, 64)], False, 96))
+
+
+if __name__ == '__main__':
+    unittest.main()

@@ -1,0 +1,447 @@
+"""The driver in service: commands, sessions that replay alike, and what ends beside the calls without ending them."""
+from __future__ import annotations
+
+import json
+import os
+import signal
+import socket
+import subprocess
+import sys
+import tempfile
+import time
+import unittest
+from typing import Any
+
+from . import support
+from .world import IDLE, LAUNCHER, SECONDS, SEIZED, World, config_of
+from e1gw import session
+from e1gw.session import Kind
+
+FOUR = range(1, 5)
+
+
+def aligned(world: World) -> World:
+    """Steps until the lines are idle."""
+    world.until(lambda: world.exchange.aligned and not world.exchange.remote_alarms)
+    world.step(15)
+    return world
+
+
+def call(world: World, circuit: int) -> None:
+    """A call that is answered."""
+    assert world.ask(f'seize {circuit}') == f'seize {circuit}: done'
+    world.step(60)
+    assert world.state(circuit) == 'answered'
+
+
+class Commands(unittest.TestCase):
+    """Each command's each answer, by the tables of e1gw-session(5)."""
+
+    def setUp(self) -> None:
+        support.program()
+        self.world = World(config_of(FOUR, incoming=(2,)))
+        self.addCleanup(self.world.__exit__)
+
+    def answers(self, *rows: tuple[str, str]) -> None:
+        for command, answer in rows:
+            with self.subTest(command):
+                self.assertEqual(self.world.ask(command), answer)
+
+    def test_before_alignment(self) -> None:
+        self.world.give(b'\xFF' * 512)
+        self.answers(('seize 1', 'seize 1: no alignment'), ('seize 2', 'seize 2: no alignment'),
+                     ('clear 1', 'clear 1: not in a call'), ('answer 2', 'answer 2: not seized'))
+
+    def test_an_outgoing_circuit(self) -> None:
+        aligned(self.world)
+        self.answers(('answer 1', 'answer 1: wrong role'), ('clear-back 1', 'clear-back 1: wrong role'),
+                     ('block 1', 'block 1: wrong role'), ('unblock 1', 'unblock 1: wrong role'),
+                     ('clear 1', 'clear 1: not in a call'), ('seize 1', 'seize 1: done'),
+                     ('seize 1', 'seize 1: not idle'))
+        self.world.step(60)
+        self.assertEqual(self.world.state(1), 'answered')
+        self.answers(('clear 1', 'clear 1: done'), ('clear 1', 'clear 1: not in a call'))
+        self.world.step(30)
+        self.assertEqual(self.world.state(1), 'idle')
+
+    def test_an_incoming_circuit(self) -> None:
+        world = aligned(self.world)
+        self.answers(('seize 2', 'seize 2: wrong role'), ('clear 2', 'clear 2: wrong role'),
+                     ('answer 2', 'answer 2: not seized'), ('clear-back 2', 'clear-back 2: not in a call'),
+                     ('unblock 2', 'unblock 2: not blocked'), ('block 2', 'block 2: done'),
+                     ('block 2', 'block 2: not idle'), ('unblock 2', 'unblock 2: done'))
+        world.exchange.pairs[2] = SEIZED
+        world.step(15)
+        self.answers(('answer 2', 'answer 2: done'), ('clear-back 2', 'clear-back 2: done'),
+                     ('answer 2', 'answer 2: done'), ('answer 2', 'answer 2: not seized'))
+        world.exchange.pairs[2] = IDLE
+        world.step(15)
+        self.assertEqual(world.state(2), 'idle')
+
+    def test_codecs(self) -> None:
+        self.answers(('codec 1 g726-32 96', 'codec 1: done'), ('codec 1 pcma 8', 'codec 1: done'),
+                     ('codec 1 g726-16 95', 'codec 1: no payload type of the codec'),
+                     ('codec 1 pcma 0', 'codec 1: no payload type of the codec'),
+                     ('codec 1 pcmu 0', 'codec 1: the law of the trunk is A'),
+                     ('codec 1 g729 18', 'codec 1: codecs are pcma, pcmu, g726-16, g726-24, g726-32, g726-40'),
+                     ('codec 1 pcma 128', 'codec 1: payload types are 0 to 127'),
+                     ('codec 1 pcma -1', 'codec 1: payload types are 0 to 127'),
+                     ('codec 1 pcma', 'codec: wants a circuit, a codec and a payload type'))
+        self.assertEqual(self.world.status()['circuits'][0]['codec'], 'pcma')
+
+    def test_what_is_no_command(self) -> None:
+        world = self.world
+        self.answers(('seize', 'seize: wants a circuit'), ('seize 1 2', 'seize: wants a circuit'),
+                     ('seize 0', 'seize 0: circuits are 1 to 30'), ('seize 31', 'seize 31: circuits are 1 to 30'),
+                     ('seize x', 'seize x: circuits are 1 to 30'), ('seize ٣', 'seize ٣: circuits are 1 to 30'),
+                     ('on-loss drop', 'on-loss: wants keep, or clear and seconds'), ('on-loss keep', 'on-loss: done'))
+        self.assertIn('no such command', world.ask('hello'))
+        self.assertIn('no such command', world.ask(b'\xff\xfe\x80'))
+        self.assertIn('seize N', world.ask('help'))
+
+    def test_status_and_events(self) -> None:
+        world = self.world
+        events = world.follow()
+        self.addCleanup(events.close)
+        aligned(world)
+        world.ask('seize 1')
+        world.step(60)
+        status = world.status()
+        self.assertEqual([row['state'] for row in status['circuits'][:3]], ['answered', 'idle', 'idle'])
+        self.assertEqual(len(world.ask('status').splitlines()), 33)
+        world.quit()
+        told = [json.loads(line) for line in events]
+        self.assertTrue(all(event['time'] > 1e9 for event in told))
+        states = [(event['was'], event['state']) for event in told if event.get('circuit') == 1
+                  and event['event'] == 'state']
+        self.assertEqual(states, [('fault', 'idle'), ('idle', 'seized'), ('seized', 'acked'), ('acked', 'answered')])
+        self.assertIn({'event': 'command', 'circuit': 1, 'command': 'seize', 'answer': 'done'},
+                      [{key: each for key, each in event.items() if key != 'time'} for event in told])
+
+
+class Sessions(unittest.TestCase):
+    def setUp(self) -> None:
+        support.program()
+
+    def test_a_session_replays_alike(self) -> None:
+        with World(config_of(range(1, 31), prefill=320), '--session', '@/kept') as world:
+            aligned(world)
+            for n in range(1, 31):
+                self.assertEqual(world.ask(f'seize {n}'), f'seize {n}: done')
+            world.step(80)
+            world.ask('codec 5 g726-32 97')
+            world.step(40)
+            status = world.settled()
+            self.assertEqual(world.quit()[0], 0)
+            with open(world.path('kept'), 'rb') as file:
+                kept = file.read()
+            answered = support.run('replay', '--config', world.config, given=kept)
+            listed = support.run('check', '--config', world.config, given=kept).decode().splitlines()
+        given = b''.join(r.body for r in session.records_in(kept) if r.kind is Kind.TRUNK)
+        heard = b''.join(r.body for r in session.records_in(answered) if r.kind is Kind.TRUNK)
+        self.assertEqual(given, bytes(world.sent))
+        self.assertEqual(heard, bytes(world.heard))
+        for row, line in zip(status['circuits'], listed, strict=True):
+            counts = dict(row['datagrams'])
+            sent, admitted = counts.pop('sent'), counts.pop('admitted')
+            self.assertEqual([row['state'], row['sent'], row['recognised'], str(sent), str(admitted),
+                              str(sum(counts.values())), row['codec'], str(row['payload'])], line.split()[2:])
+        self.assertGreater(sum(row['datagrams']['admitted'] for row in status['circuits']), 30)
+
+    def test_causes_are_counted(self) -> None:
+        config = config_of(FOUR)
+        with World(config) as world, socket.socket(socket.AF_INET, socket.SOCK_DGRAM) as stranger:
+            aligned(world)
+            call(world, 1)
+            port = int(config.split('local_port = ')[1].split()[0])
+            rows = {'Short': b'', 'Version': bytes(12), 'PayloadType': b'\x80\x09' + bytes(10),
+                    'TooMany': b'\x80\x08' + bytes(1700)}
+            for datagram in rows.values():
+                stranger.sendto(datagram, ('127.0.0.1', port))
+            world.step(4)
+            counts = world.settled()['circuits'][0]['datagrams']
+            self.assertEqual({cause: counts.get(cause) for cause in rows}, dict.fromkeys(rows, 1))
+
+    def test_a_ring_of_files(self) -> None:
+        with World(config_of(FOUR), '--session', '@/ring', '--keep', '1m', '--name', 'west') as world:
+            aligned(world)
+            world.quit()
+            files = sorted(os.listdir(world.path('ring')))
+            about = next(name for name in files if name.endswith('.json'))
+            with open(os.path.join(world.path('ring'), about), encoding='utf-8') as file:
+                found = json.load(file)
+            self.assertEqual((found['begins'], found['place'], len(found['config_sha256'])), ('start', 0, 64))
+            self.assertTrue(all(name.startswith('west-') for name in files))
+
+    def test_files_are_appended_to(self) -> None:
+        with World(config_of(FOUR), '--session', '@/kept', '--json', '@/told') as world:
+            for name in ('kept', 'told'):
+                with open(world.path(name), 'ab') as file:
+                    file.write(b'T\0\0\0')
+            world.step(2)
+            world.quit()
+            with open(world.path('kept'), 'rb') as file:
+                self.assertEqual(file.read().count(b'T\0\0\0'), 1)
+
+
+class Beside(unittest.TestCase):
+    """What ends beside the calls; the calls go on."""
+
+    def setUp(self) -> None:
+        support.program()
+
+    def goes_on(self, world: World, what: str | None = None) -> None:
+        """A call comes up, and what has ended is told."""
+        aligned(world)
+        call(world, 1)
+        ended = world.status()['ended']
+        self.assertEqual([name for name, why in ended.items() if why is not None], [what] if what else [])
+
+    def test_a_full_disk(self) -> None:
+        for option, what in (('--session', 'session'), ('--json', 'json')):
+            with self.subTest(option), World(config_of(FOUR), option, '/dev/full') as world:
+                world.step(2)
+                time.sleep(0.2)
+                self.goes_on(world, what)
+                status, said = world.quit()
+                self.assertEqual((status, said.count(f'ended, what {what}, why No space left')), (0, 1))
+
+    def test_a_folder_for_metrics_that_is_not_there(self) -> None:
+        with World(config_of(FOUR), '--metrics', '@/none/e1gw.prom') as world:
+            world.step(2)
+            time.sleep(0.1)
+            self.goes_on(world, 'metrics')
+
+    def test_a_recording_that_nobody_reads_any_more(self) -> None:
+        with World(config_of(FOUR)) as world:
+            world.step(2)
+            found = next(int(pid) for pid in children(world) if 'replay' in command_line(pid))
+            os.kill(found, signal.SIGKILL)
+            time.sleep(0.1)
+            self.goes_on(world, 'shadow')
+            self.assertTrue(world.status()['stale'])
+            self.assertIn('the counts of datagrams are not those of now', world.ask('status'))
+
+    def test_a_shadow_that_stands_still(self) -> None:
+        with World(config_of(FOUR)) as world:
+            found = next(int(pid) for pid in children(world) if 'replay' in command_line(pid))
+            os.kill(found, signal.SIGSTOP)
+            aligned(world)
+            call(world, 1)
+            world.step(600)
+            self.assertTrue(world.status()['stale'])
+            os.kill(found, signal.SIGCONT)
+            self.assertFalse(world.settled()['stale'])
+
+    def test_readers_that_go_and_readers_that_stand_still(self) -> None:
+        reads, writes = os.pipe()
+        with World(config_of(FOUR), '--watch', stdout=writes) as world:
+            os.close(writes)
+            deaf = [socket.socket(socket.AF_UNIX) for _ in range(5)]
+            for line in deaf:
+                line.connect(world.path('ctl'))
+                line.sendall(b'events\n' + b'status\n' * 2000)
+            os.close(reads)
+            self.goes_on(world)
+            for line in deaf:
+                line.close()
+            call(world, 2)
+
+    def test_closed_descriptors(self) -> None:
+        for words in ('<&-', '>&-', '2>&-', '<&- >&- 2>&-'):
+            front = ('sh', '-c', f'exec "$@" {words}', 'sh')
+            with self.subTest(words), World(config_of(FOUR), front=front, stderr=None) as world:
+                self.goes_on(world)
+                self.assertEqual(world.quit()[0], 0)
+
+    def test_typed_letters(self) -> None:
+        with World(config_of(FOUR), stdin=subprocess.PIPE, stdout=subprocess.PIPE) as world:
+            assert world.process.stdin and world.process.stdout
+            world.process.stdin.write(b'\xff\xfe\n\0\nseize \xc3\xa9\n' + b'x' * 10_000 + b'\nseize 31\nquit')
+            world.process.stdin.close()
+            said = world.process.stdout.read().decode()
+            self.assertEqual(world.wait()[0], 0)
+            self.assertIn('seize 31: circuits are 1 to 30', said)
+            self.assertTrue(said.endswith('quit: done\n'))
+            world.process.stdout.close()
+
+    def test_signals(self) -> None:
+        with World(config_of(FOUR)) as world:
+            for number in (signal.SIGHUP, signal.SIGPIPE, signal.SIGXFSZ, signal.SIGWINCH, signal.SIGCHLD):
+                world.process.send_signal(number)
+            self.goes_on(world)
+
+    def test_the_end_at_any_moment(self) -> None:
+        for number in range(8):
+            with self.subTest(number), World(config_of(FOUR), '--session', '@/kept') as world:
+                world.line.settimeout(0.2)
+                time.sleep(0.02 * number)
+                world.process.send_signal((signal.SIGTERM, signal.SIGINT)[number % 2])
+                try:
+                    world.step(500)
+                except (EOFError, OSError):
+                    pass
+                status, said = world.wait()
+                self.assertEqual((status, 'Traceback' in said), (0, False))
+                kept = b''
+                if os.path.exists(world.path('kept')):
+                    with open(world.path('kept'), 'rb') as file:
+                        kept = file.read()
+                list(session.records_in(kept, session.KINDS_READ))
+
+    def test_the_gateway_dies(self) -> None:
+        with World(config_of(FOUR)) as world:
+            aligned(world)
+            found = next(int(pid) for pid in children(world) if 'serve' in command_line(pid))
+            os.kill(found, signal.SIGKILL)
+            status, said = world.wait()
+            self.assertEqual((status, 'the gateway ended by signal 9' in said), (1, True))
+
+    def test_the_trunk_ends(self) -> None:
+        with World(config_of(FOUR)) as world:
+            aligned(world)
+            world.line.close()
+            status, said = world.wait()
+            self.assertEqual((status, 'the trunk has ended' in said), (0, True))
+            self.assertFalse(os.path.exists(world.path('ctl')))
+
+
+def children(world: World) -> list[str]:
+    with open(f'/proc/{world.process.pid}/task/{world.process.pid}/children', encoding='ascii') as file:
+        return file.read().split()
+
+
+def command_line(pid: str) -> str:
+    with open(f'/proc/{pid}/cmdline', encoding='utf-8') as file:
+        return file.read().replace('\0', ' ')
+
+
+class Refused(unittest.TestCase):
+    """Command lines that are refused with status 2, before anything is emptied."""
+
+    def setUp(self) -> None:
+        support.program()
+        folder = tempfile.TemporaryDirectory()
+        self.addCleanup(folder.cleanup)
+        self.folder = folder.name
+        self.good = self.write('good.toml', 'law = "A"\n')
+
+    def write(self, name: str, text: str) -> str:
+        path = os.path.join(self.folder, name)
+        with open(path, 'w', encoding='utf-8') as file:
+            file.write(text)
+        return path
+
+    def run_driver(self, *words: str) -> tuple[int, str]:
+        done = subprocess.run([sys.executable, '-B', LAUNCHER, '--program', support.program(), *words],
+                              stdin=subprocess.DEVNULL, stdout=subprocess.PIPE, stderr=subprocess.PIPE, timeout=SECONDS,
+                              check=False)
+        self.assertNotIn(b'Traceback', done.stderr)
+        return done.returncode, done.stderr.decode()
+
+    def test_the_configuration_is_checked_first(self) -> None:
+        out = self.write('out', 'precious')
+        bad = self.write('bad.toml', 'law = "B"\n')
+        status, said = self.run_driver('--config', bad, '--in', '/dev/null', '--out', out, '--session', out)
+        self.assertEqual((status, 'config 5 OutOfRange at 0' in said), (2, True))
+        with open(out, encoding='utf-8') as file:
+            self.assertEqual(file.read(), 'precious')
+
+    def test_words_of_the_command_line(self) -> None:
+        for words in (['--tcp', '127.0.0.1:99999'], ['--tcp', '.x:1'], ['--tcp', 'host'], ['--tcp', ':1'],
+                      ['--in', '/dev/null'], [], ['--unix', 'a', '--tcp', 'b:1'], ['--unix', 'a', '--most', '0'],
+                      ['--unix', 'a', '--keep', '1h'], ['--unix', 'a', '--session', 's', '--keep', '1x'],
+                      ['--unix', 'a', '--on-loss', 'drop'], ['--unix', 'a', '--http', '1'],
+                      ['--unix', 'a', '--gap', 'x']):
+            with self.subTest(words):
+                self.assertEqual(self.run_driver('--config', self.good, *words)[0], 2)
+
+    def test_only_sockets_are_taken_away(self) -> None:
+        path = self.write('ctl', 'precious')
+        status, said = self.run_driver('--config', self.good, '--unix', 'none', '--control', path)
+        self.assertEqual((status, 'no socket' in said), (2, True))
+        with open(path, encoding='utf-8') as file:
+            self.assertEqual(file.read(), 'precious')
+
+    def test_a_socket_that_is_taken(self) -> None:
+        path = os.path.join(self.folder, 'ctl')
+        with socket.socket(socket.AF_UNIX) as door:
+            door.bind(path)
+            door.listen()
+            status, said = self.run_driver('--config', self.good, '--unix', 'none', '--control', path)
+        self.assertEqual((status, 'another one listens' in said), (2, True))
+
+    def test_a_trunk_that_is_not_there(self) -> None:
+        status, said = self.run_driver('--config', self.good, '--unix', os.path.join(self.folder, 'none'))
+        self.assertEqual((status, 'the trunk cannot be opened' in said), (1, True))
+
+    def test_a_file_goes_through(self) -> None:
+        trunk = os.path.join(self.folder, 'trunk')
+        with open(trunk, 'wb') as file:
+            file.write(b'\xD5' * 10_000)
+        out = os.path.join(self.folder, 'out')
+        self.assertEqual(self.run_driver('--config', self.good, '--in', trunk, '--out', out)[0], 0)
+        given = session.trunk_record(b'\xD5' * 10_000)
+        answered = list(session.records_in(support.run('replay', '--config', self.good, given=given)))
+        with open(out, 'rb') as file:
+            self.assertEqual(file.read(), answered[0].body)
+
+
+class OnLoss(unittest.TestCase):
+    def setUp(self) -> None:
+        support.program()
+
+    def guard(self, world: World, words: str) -> socket.socket:
+        line = socket.socket(socket.AF_UNIX)
+        line.connect(world.path('ctl'))
+        line.sendall(f'on-loss {words}\n'.encode())
+        line.settimeout(SECONDS)
+        self.assertEqual(line.recv(100), b'on-loss: done\n\n')
+        return line
+
+    def test_calls_are_cleared_when_the_last_one_is_gone(self) -> None:
+        with World(config_of(FOUR)) as world:
+            aligned(world)
+            call(world, 1)
+            first, second = self.guard(world, 'clear 0.1'), self.guard(world, 'clear 0.1')
+            first.close()
+            time.sleep(0.3)
+            world.step(5)
+            self.assertEqual(world.state(1), 'answered')
+            second.close()
+            time.sleep(0.3)
+            world.step(30)
+            self.assertEqual(world.state(1), 'idle')
+
+    def test_calls_are_kept(self) -> None:
+        with World(config_of(FOUR)) as world:
+            aligned(world)
+            call(world, 1)
+            line = self.guard(world, 'clear 0')
+            line.sendall(b'on-loss keep\n')
+            self.assertEqual(line.recv(100), b'on-loss: done\n\n')
+            line.close()
+            time.sleep(0.2)
+            world.step(5)
+            self.assertEqual(world.state(1), 'answered')
+
+
+class Darkness(unittest.TestCase):
+    def setUp(self) -> None:
+        support.program()
+
+    def test_calls_of_a_dark_trunk_are_cleared(self) -> None:
+        with World(config_of(FOUR), '--dark', '0.3') as world:
+            aligned(world)
+            call(world, 1)
+            until = time.monotonic() + 10
+            while world.state(1) == 'answered' and time.monotonic() < until:
+                world.give(b'\xFF' * 512)
+            self.assertEqual(world.ask('seize 2'), 'seize 2: no alignment')
+            self.assertEqual(world.state(1), 'releasing')
+            events: list[Any] = [row for row in world.status()['commands'] if row['command'] == 'clear']
+            self.assertEqual(events, [{'command': 'clear', 'answer': 'done', 'count': 1}])
+
+
+if __name__ == '__main__':
+    unittest.main()

@@ -1,0 +1,340 @@
+"""The picture of a session: what is gathered, what is found, and what the page says."""
+from __future__ import annotations
+
+import functools
+import html.parser
+import io
+import os
+import random
+import unittest
+
+from support import program, run
+
+from picture_made import TROUBLES, Made, Sender, answered, rtp
+
+from e1gw.lines import Lines, read_config
+from e1gw.picture import Live, page
+from e1gw.picture.facts import MOST, Cell, Facts, Row, Spans, RANK
+from e1gw.picture.findings import findings
+from e1gw.picture.following import Follower
+from e1gw.picture.page import MOST as MOST_OCTETS
+from e1gw.picture.page import draw, numbers
+from e1gw.picture.reading import read
+from e1gw.picture.svg import Scale, clock, runs
+from e1gw.session import OCTETS_A_SECOND, Kind, records_in
+
+# The columns of `e1gw check`: number, role, state, pairs sent and recognised, sent, admitted, refused, codec, type.
+NUMBER, STATE, SENT, ADMITTED, REFUSED = 0, 2, 5, 6, 7
+# What is found in a session with each trouble.
+FOUND = {'no-datagrams': 'none', 'other-type': 'type', 'other-codec': 'words', 'slow-clock': 'clock slower',
+         'fast-clock': 'clock faster', 'hold': 'source', 'jump': 'jump', 'jitter': 'late', 'stranger': 'source',
+         'lost': 'lost', 'burst': 'late', 'gap': 'gap', 'slips': 'lost frame', 'all-ones': 'ones',
+         'silent-slot': 'silent sent', 'unacknowledged': 'unacknowledged'}
+
+
+def config_of(session: Made) -> dict[str, object]:
+    import tomllib
+    return tomllib.loads(session.config())
+
+
+def facts_of(session: Made, codes: list[int], last: int | None = None) -> Facts:
+    """What is gathered of a session whose datagrams are answered by these codes."""
+    records = list(session.given())
+    return read(io.BytesIO(b''.join(records)), io.BytesIO(answered(records, codes)), config_of(session), last)
+
+
+@functools.cache
+def played(name: str) -> tuple[bytes, bytes, str]:
+    """A session with a trouble, what the program answers to it, and the path of its configuration."""
+    folder, session = made_folder(), TROUBLES[name]()
+    path = os.path.join(folder, 'trunk.toml')
+    with open(path, 'w', encoding='utf-8') as file:
+        file.write(session.config())
+    given = b''.join(session.given())
+    return given, run('replay', '--config', path, given=given), path
+
+
+def made_folder() -> str:
+    import tempfile
+    folder = tempfile.TemporaryDirectory()
+    unittest.addModuleCleanup(folder.cleanup)
+    return folder.name
+
+
+class Gathered(unittest.TestCase):
+    """What becomes of each datagram, by answers that are written by hand."""
+
+    def call(self, count: int = 40, **sender: object) -> Made:
+        session = Made(0.4 + 0.02 * count, {3: {'prefill': 320}})
+        session.call(3, 0.05, 9.0)
+        session.senders.append(Sender(3, 0.2, 0.2 + 0.02 * count - 0.001, **sender))    # type: ignore[arg-type]
+        return session
+
+    def test_counts(self) -> None:
+        cell = facts_of(self.call(), [20, 11, 0, 12, 13, 14, 16] + [0] * 33).rows[3].count()
+        self.assertEqual(cell.admitted, 34)
+        self.assertEqual({code: seen[0] for code, seen in cell.refused.items()},
+                         {20: 1, 11: 1, 12: 1, 13: 1, 14: 1, 16: 1})
+
+    def test_first_is_prefill_before_its_turn(self) -> None:
+        cell = facts_of(self.call(1), [0]).rows[3].count()
+        self.assertEqual((cell.low, cell.high), (320, 320))
+
+    def test_later_datagrams_come_later_before_their_turn(self) -> None:
+        # The second to the last come 10 ms, 80 samples, after their time.
+        session = self.call(3)
+        session.senders = [Sender(3, 0.2, 0.21), Sender(3, 0.23, 0.24), Sender(3, 0.25, 0.26)]
+        records = list(session.given())
+        stamps = iter((0, 160, 320))
+        records = [record[:4] + rtp(0, next(stamps), 7) if record[0] == Kind.DATAGRAM else record for record in records]
+        facts = read(io.BytesIO(b''.join(records)), io.BytesIO(answered(records, [0, 0, 0])), config_of(session))
+        cell = facts.rows[3].count()
+        self.assertEqual((cell.low, cell.high), (240, 320))
+
+    def test_lost_by_sequence_numbers(self) -> None:
+        row = Row(3)
+        for sequence in (65534, 65535, 2, 1, 3):        # 0 is missing; 1 comes behind 2
+            row.came(0, 0, rtp(sequence, 0, 7)[:12], 172)
+        self.assertEqual(row.cell.lost, 1)
+
+    def test_states_by_the_signals(self) -> None:
+        facts = facts_of(self.call(), [0] * 40)
+        states = [state for _, state in facts.rows[3].states.items]
+        self.assertEqual(states, ['fault', 'idle', 'seized', 'acked', 'answered'])
+        self.assertEqual(facts.rows[3].count().counts, {'calls': 1, 'answers': 1})
+
+    def test_last_part_alone(self) -> None:
+        facts = facts_of(self.call(100), [0] * 100, OCTETS_A_SECOND)
+        self.assertEqual(facts.place - facts.start, OCTETS_A_SECOND)
+        # The session ends 0.2 s behind the last datagram, so 0.8 s of datagrams are shown, 50 a second.
+        self.assertAlmostEqual(facts.rows[3].count().admitted, 40, delta=2)
+
+    def test_columns_are_few_and_lose_nothing(self) -> None:
+        facts = Facts()
+        for n in range(100_000):
+            facts.turn(n * 1000)
+            facts.rows[1].cell.sent += 1
+            facts.rows[1].cell.admit(n % 7)
+            facts.command(1, n * 1000, 'seize', 'not idle' if n % 2 else '')
+        cell = facts.rows[1].count()
+        self.assertEqual((cell.sent, cell.admitted, cell.low, cell.high), (100_000, 100_000, 0, 6))
+        self.assertLessEqual(len(facts.rows[1].cells), MOST)
+        self.assertEqual(sum(each.more + 1 for each in facts.rows[1].commands.values()), 100_000)
+        self.assertLessEqual(len(facts.rows[1].commands), 2 * MOST)
+
+    def test_spans_are_few_and_a_fault_stays_seen(self) -> None:
+        spans = Spans('idle', RANK)
+        for n in range(1, 1001):
+            spans.put(n * 100, 'fault' if n == 500 else 'answered' if n % 2 else 'idle')
+        spans.coalesce(1000)
+        self.assertLess(len(spans.items), 110)
+        self.assertIn('fault', [value for _, value in spans.items])
+        places = [place for place, _ in spans.items]
+        self.assertEqual(places, sorted(set(places)))
+
+
+class Followed(unittest.TestCase):
+    """Passing over multiframes that are alike changes nothing."""
+
+    def test_like_each_octet(self) -> None:
+        for seed in range(4):
+            rng = random.Random(seed)
+            session = Made(1.6, {n: {'role': 'incoming'} for n in range(2, 31, 3)})
+            for n in range(1, 29, 4):
+                session.call(n, rng.uniform(0.05, 0.6), rng.uniform(0.7, 1.3), 0.1, rng.random() < 0.8)
+            session.events += [(rng.uniform(0, 1.5), 'pair', n, rng.randrange(4)) for n in range(1, 31, 2)]
+
+            def wrong(now: float, octets: bytearray, rng: random.Random = rng) -> None:
+                if rng.random() < 0.01:
+                    octets[rng.randrange(512)] ^= 1 << rng.randrange(8)
+                if rng.random() < 0.003:
+                    del octets[rng.randrange(512)]
+            session.change = wrong
+            self.alike([record for record in session.given() if record[0] == Kind.TRUNK], config_of(session), seed)
+
+    def alike(self, records: list[bytes], config: dict[str, object], seed: int) -> None:
+        told: tuple[list[object], list[object]] = ([], [])
+        slow, quick = Lines(config, told[0].append), Follower(config, told[1].append)
+        answers = records_in(answered(records, []))
+        waiting: list[tuple[bytes, bytes]] = []
+        for record, answer in zip(records, answers):
+            slow.trunk(record[4:], answer.body)
+            waiting.append((record[4:], answer.body))
+            if len(waiting) == 40 or record is records[-1]:
+                quick.trunk(b''.join(given for given, _ in waiting), b''.join(sent for _, sent in waiting))
+                waiting.clear()
+
+        def states(events: list[object]) -> list[object]:
+            return [event for event in events if event['event'] == 'state']     # type: ignore[index]
+        self.assertEqual(states(told[0]), states(told[1]), f'seed {seed}')
+        self.assertEqual(slow.status()['circuits'], quick.status()['circuits'], f'seed {seed}')
+        self.assertEqual(slow.losses, quick.losses)
+        self.assertEqual(slow.place, quick.place)
+
+
+class BesideTheProgram(unittest.TestCase):
+    """The figures are those of `e1gw check` and of the answers of `e1gw replay`."""
+
+    def test_figures(self) -> None:
+        program()
+        for name in TROUBLES:
+            with self.subTest(name):
+                given, answers, path = played(name)
+                facts = read(io.BytesIO(given), io.BytesIO(answers), read_config(path))
+                listing = [line.split() for line in run('check', '--config', path, given=given).decode().splitlines()]
+                for line in listing:
+                    row = facts.rows[int(line[NUMBER])]
+                    cell = row.count()
+                    refused = sum(seen[0] for seen in cell.refused.values())
+                    self.assertEqual([row.states.value, cell.sent, cell.admitted, refused],
+                                     [line[STATE], *(int(line[n]) for n in (SENT, ADMITTED, REFUSED))], line)
+                self.causes(facts, answers)
+
+    def causes(self, facts: Facts, answers: bytes) -> None:
+        told: dict[tuple[int, int], int] = {}
+        for record in records_in(answers):
+            if record.kind is Kind.ANSWER and record.body[0] == Kind.DATAGRAM and record.body[1]:
+                told[record.circuit, record.body[1]] = told.get((record.circuit, record.body[1]), 0) + 1
+        seen = {(row.number, code): count[0] for row in facts.rows.values()
+                for code, count in row.count().refused.items()}
+        self.assertEqual(seen, told)
+
+    def test_each_trouble_is_found(self) -> None:
+        program()
+        for name in TROUBLES:
+            with self.subTest(name):
+                given, answers, path = played(name)
+                kinds = [each.kind for each in findings(read(io.BytesIO(given), io.BytesIO(answers), read_config(path)))]
+                if name == 'sound':
+                    self.assertEqual(kinds, [])
+                else:
+                    self.assertIn(FOUND[name], kinds)
+
+    def test_clock_is_measured(self) -> None:
+        given, answers, path = played('slow-clock')
+        found = findings(read(io.BytesIO(given), io.BytesIO(answers), read_config(path)))
+        words = next(each.seen for each in found if each.kind == 'clock slower')
+        self.assertAlmostEqual(int(words.split(' ppm')[0].split()[-1]), 500, delta=10)
+
+    def test_gap_is_measured(self) -> None:
+        given, answers, path = played('gap')
+        found = findings(read(io.BytesIO(given), io.BytesIO(answers), read_config(path)))
+        self.assertIn('come 380 ms earlier', next(each.seen for each in found if each.kind == 'gap'))
+
+    def test_in_pieces_as_in_one(self) -> None:
+        given, answers, path = played('jump')
+        live, rng = Live(read_config(path), 60), random.Random(2)
+        at = [0, 0]
+        while at[0] < len(given) or at[1] < len(answers):
+            for n, (octets, take) in enumerate(((given, live.taped), (answers, live.answered))):
+                size = rng.randrange(1, 3000)
+                take(octets[at[n]:at[n] + size])
+                at[n] += size
+        live.reading.flush()
+        self.assertFalse(live.ended)
+        whole, cell = read(io.BytesIO(given), io.BytesIO(answers), read_config(path)).rows[3].count(), \
+            live.facts.rows[3].count()
+        for name in Cell.__slots__:
+            self.assertEqual(getattr(whole, name), getattr(cell, name), name)
+
+
+class Checker(html.parser.HTMLParser):
+    """Sees that what is opened is closed, and that nothing is fetched."""
+    EMPTY = {'meta', 'br', 'rect', 'path', 'circle'}
+
+    def __init__(self) -> None:
+        super().__init__()
+        self.open: list[str] = []
+        self.words: list[str] = []
+
+    def handle_starttag(self, tag: str, attrs: list[tuple[str, str | None]]) -> None:
+        assert tag not in ('script', 'link', 'img', 'iframe', 'object'), tag
+        assert not any(name in ('src', 'onclick', 'onload') for name, _ in attrs), attrs
+        assert all((value or '').startswith('#') for name, value in attrs if name == 'href'), attrs
+        if tag != 'meta':
+            self.open.append(tag)
+
+    def handle_endtag(self, tag: str) -> None:
+        assert self.open and self.open.pop() == tag, tag
+
+    def handle_data(self, data: str) -> None:
+        self.words.append(data)
+
+
+class Drawn(unittest.TestCase):
+    """The page."""
+
+    def busy(self) -> Facts:
+        """A day of thirty circuits with calls, datagrams and refused ones all the time."""
+        facts, rng = Facts(), random.Random(4)
+        states = ('idle', 'seized', 'acked', 'answered', 'releasing')
+        for second in range(0, 86_400, 40):
+            place = second * OCTETS_A_SECOND
+            facts.turn(place)
+            for row in facts.rows.values():
+                row.state(place, states[(second // 40 + row.number) % 5])
+                row.cell.sent += 500
+                for _ in range(3):
+                    row.cell.admit(rng.randrange(0, 3000))
+                row.cell.refuse(rng.choice((11, 12, 13, 14, 16, 20)), rng.randrange(-400, 3200))
+                facts.command(row.number, place, 'seize', rng.choice(('', 'not idle')))
+            facts.alarms['here', 'frame'].put(place, rng.random() < 0.5)
+        return facts
+
+    def checked(self, text: str) -> str:
+        checker = Checker()
+        checker.feed(text)
+        self.assertEqual(checker.open, [])
+        return ' '.join(checker.words)
+
+    def test_under_two_megabytes_however_long(self) -> None:
+        text = draw(self.busy(), 'a day')
+        self.assertLess(len(text.encode()), 2_000_000)
+        self.checked(text)
+        self.assertLess(MOST_OCTETS, 2_000_000)
+
+    def test_says_what_was_counted(self) -> None:
+        session = Made(1.4, {3: {'prefill': 320, 'local_port': 24006, 'peer_port': 24106}})
+        session.call(3, 0.05, 9.0)
+        session.senders.append(Sender(3, 0.2, 1.0 - 0.001, kind=13))
+        records = list(session.given())
+        words = self.checked(page(b''.join(records), answered(records, [11] * 40), config_of(session)))
+        self.assertIn('40 of 40 datagrams were refused as PayloadType: type 13 came, the circuit has 8', words)
+        self.assertIn('0 sent, 0 admitted, 40 refused', words)
+        self.assertIn('127.0.0.1:24106', words)
+
+    def test_words_are_escaped(self) -> None:
+        text = draw(Facts(), '<b>&"')
+        self.assertNotIn('<b>&"', text)
+        self.checked(text)
+
+    def test_nothing_at_all(self) -> None:
+        words = self.checked(page(b'', b'', {}))
+        self.assertIn('No datagrams came', words)
+
+    def test_times_of_the_day(self) -> None:
+        facts = Facts()
+        facts.turn(90 * OCTETS_A_SECOND)
+        facts.begin = 1_700_000_000.0           # 2023-11-14 22:13:20 UTC
+        words = self.checked(draw(facts, 'x'))
+        self.assertIn('2023-11-14 22:13:20 UTC', words)
+        self.assertIn('22:14:00', words)
+
+    def test_drawn_apart(self) -> None:
+        live = Live({}, 60)
+        with open(live.drawn_apart(), 'rb') as drawn:
+            text = drawn.read().decode()
+        os.wait()
+        self.assertTrue(text.endswith('</html>\n'))
+        self.checked(text)
+
+    def test_small_things(self) -> None:
+        self.assertEqual(numbers([1, 2, 3, 4, 7, 9, 10]), '1 to 4, 7, 9, 10')
+        self.assertEqual(runs([1, 2, 4, 9], 2), [(1, 4), (9, 9)])
+        self.assertEqual(clock(59.9996, 3), '00:01:00.000')
+        ticks = Scale(0, 60 * OCTETS_A_SECOND, None).ticks()
+        self.assertEqual([words for _, words in ticks], [f'{10 * n} s' for n in range(7)])
+
+
+if __name__ == '__main__':
+    unittest.main()

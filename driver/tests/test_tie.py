@@ -1,0 +1,454 @@
+"""The tie with played drivers: what is told, the connection and its certificates, and calls from end to end."""
+import asyncio
+import json
+import os
+import shutil
+import subprocess
+import tempfile
+import time
+import unittest
+from contextlib import suppress
+from typing import Any, Callable
+from unittest import mock
+
+from e1gw.lines import Role, State
+from e1gw.session import CIRCUITS, Command
+from e1gw.tie import site as site_module
+from e1gw.tie.circuit import End
+from e1gw.tie.kept import Kept, read
+from e1gw.tie.main import parser
+from e1gw.tie.messages import All, Alive, BadMessage, Change, Dark, Greeting, message_of, spell
+from e1gw.tie.pairs import BadPairs, agreed, pairs_of
+from e1gw.tie.site import Site, context_of, has_name
+from e1gw.tie.tie import Options, Tie
+from tests.test_tie_circuit import CALLED, COLUMN, DONE, INCOMING, OUTGOING
+
+HERE = os.path.dirname(os.path.dirname(os.path.abspath(__file__)))
+IDLE, SEIZED, ANSWER, HELD = 0b10, 0b00, 0b01, 0b11         # bits a and b
+
+
+class Pairs(unittest.TestCase):
+    def test_text(self) -> None:
+        self.assertEqual(pairs_of('1 2 # here there\n\n3-5 7-9\n'), {1: 2, 3: 7, 4: 8, 5: 9})
+
+    def test_no_pairs(self) -> None:
+        for text in ('', '1', '1 2 3', '0 1', '1 31', 'a b', '1 2\n1 3', '1 2\n3 2', '1-2 3', '5-4 1-2', '1 2²'):
+            with self.subTest(text=text), self.assertRaises(BadPairs):
+                pairs_of(text)
+
+    def test_agreed(self) -> None:
+        self.assertEqual(agreed(None, None), {n: n for n in CIRCUITS})
+        self.assertEqual(agreed({1: 2}, None), {1: 2})
+        self.assertEqual(agreed(None, {1: 2}), {2: 1})
+        self.assertEqual(agreed({1: 2, 3: 4}, {2: 1, 4: 5}), {1: 2})
+
+
+class Messages(unittest.TestCase):
+    def test_there_and_back(self) -> None:
+        end = End(Role.INCOMING, State.ACKED, 'a.1', True, 'a.0')
+        for message in (Greeting('ab', None), Greeting('ab', {1: 30}), All(True, {30: end}), Change(1, end),
+                        Dark(False), Alive(), Change(2, End(Role.OUTGOING, State.FAULT, None))):
+            self.assertEqual(message_of(spell(message)), message)
+
+    def test_no_message(self) -> None:
+        for line in (b'', b'\xff\n', b'[]', b'{}', b'{"tie": 2, "run": "a", "pairs": null}', b'{"dark": 1}',
+                     b'{"tie": 1, "run": 7}', b'{"tie": 1, "run": "a", "pairs": {"1": 2, "2": 2}}', b'{"circuit": 1}',
+                     b'{"circuit": true, "end": {}}', b'{"circuit": 31, "end": {}}', b'{"all": [], "dark": true}',
+                     b'{"all": {"1": {"role": "both"}}, "dark": true}', b'[' * 100_000,
+                     b'{"tie": 1, "run": "' + b'a' * 200 + b'", "pairs": null}'):
+            with self.subTest(line=line[:60]), self.assertRaises(BadMessage):
+                message_of(line)
+
+
+class Help(unittest.TestCase):
+    def test_help(self) -> None:
+        said = subprocess.run([os.path.join(HERE, 'e1gw-tie'), '--help'], check=True, stdout=subprocess.PIPE).stdout
+        for option in ('--control', '--listen', '--connect', '--map', '--tls', '--peer', '--hold', '--congestion',
+                       '--state'):
+            self.assertIn(option.encode(), said)
+
+    def test_refused(self) -> None:
+        for words in ([], ['--control', 'a'], ['--control', 'a', '--listen', 'x'], ['--control', 'a', '--listen',
+                      '127.0.0.1:1', '--connect', '127.0.0.1:1'], ['--control', 'a', '--listen', '127.0.0.1:1',
+                      '--hold', '-1']):
+            with self.subTest(words=words), self.assertRaises(SystemExit) as end, mock.patch('sys.stderr'):
+                parser().parse_args(words)
+            self.assertEqual(end.exception.code, 2)
+
+
+class KeptFile(unittest.TestCase):
+    def test_file(self) -> None:
+        with tempfile.TemporaryDirectory() as folder:
+            path = os.path.join(folder, 'kept')
+            kept = Kept(path)
+            kept.put((3, 5))
+            kept.close()
+            self.assertEqual(read(path), {3, 5})
+            self.assertTrue(Kept(path).has(3))
+            with open(path, 'w', encoding='ascii') as file:
+                file.write('no list')
+            self.assertEqual(read(path), frozenset())
+            Kept(os.path.join(folder, 'none', 'kept')).put((1,))        # is not written, and ends nothing
+
+
+class Played:
+    """A driver at a control socket, whose lines go by the tables and whose exchange sends what the test sets."""
+
+    def __init__(self, path: str, roles: dict[int, Role]) -> None:
+        self.path, self.roles = path, roles
+        self.states = dict.fromkeys(CIRCUITS, State.IDLE)
+        self.pairs = dict.fromkeys(CIRCUITS, IDLE)
+        self.seizures = dict.fromkeys(CIRCUITS, 0)
+        self.alarm = self.acknowledges = False
+        self.octets = 0
+        self.asked: list[str] = []
+        self.clients: list[asyncio.StreamWriter] = []
+        self.server: asyncio.AbstractServer | None = None
+
+    async def start(self) -> None:
+        self.server = await asyncio.start_unix_server(self.client, self.path)
+
+    async def stop(self) -> None:
+        assert self.server
+        self.server.close()
+        for client in self.clients:
+            client.close()
+        self.clients = []
+
+    def tell(self, **event: Any) -> None:
+        for client in self.clients:
+            client.write(json.dumps(event).encode() + b'\n')
+
+    async def client(self, reader: asyncio.StreamReader, writer: asyncio.StreamWriter) -> None:
+        with suppress(ConnectionError, asyncio.CancelledError):
+            while line := await reader.readline():
+                words = line.decode().split()
+                if words == ['events']:
+                    self.clients.append(writer)
+                writer.write(f'{self.obey(words)}\n\n'.encode())
+        if writer in self.clients:
+            self.clients.remove(writer)
+
+    def obey(self, words: list[str]) -> str:
+        self.asked.append(' '.join(words))
+        if words[0] == 'status':
+            return json.dumps(self.status())
+        if words[0] in ('events', 'on-loss'):
+            return f'{words[0]}: done'
+        n, command = int(words[1]), next(each for each in Command if each.word == words[0])
+        of, to = DONE[command]
+        mine = (self.roles[n] is Role.OUTGOING) == (command in (Command.SEIZE, Command.CLEAR))
+        answer = 'done' if mine and self.states[n] in of else 'not idle'
+        if answer == 'done':
+            self.move(n, to)
+        self.tell(event='command', circuit=n, command=words[0], answer=answer)
+        return f'{words[0]} {n}: {answer}'
+
+    def status(self) -> dict[str, Any]:
+        self.octets += 256
+        none = {'frame': False, 'multiframe': False}
+        return {'octets': self.octets, 'alarm': {**none, 'frame': self.alarm}, 'remote_alarm': none, 'circuits': [
+            {'circuit': n, 'role': str(self.roles[n]), 'state': str(self.states[n]), 'seizures': self.seizures[n]}
+            for n in CIRCUITS]}
+
+    def move(self, n: int, state: State) -> None:
+        was, self.states[n] = self.states[n], state
+        self.seizures[n] += state in (State.ACKED, State.SEIZED) and was is State.IDLE
+        if state is not was:
+            self.tell(event='state', circuit=n, role=str(self.roles[n]), was=str(was), state=str(state))
+        if self.roles[n] is Role.OUTGOING and self.acknowledges:
+            self.pairs[n] = {State.SEIZED: HELD, State.RELEASING: IDLE}.get(state, self.pairs[n])
+
+    def send(self, n: int, pair: int) -> None:
+        """The exchange sends these bits on a circuit, and they are recognised."""
+        self.pairs[n] = pair
+        self.recognise()
+
+    def recognise(self) -> None:
+        for n in CIRCUITS:
+            table = INCOMING if self.roles[n] is Role.INCOMING else OUTGOING
+            self.move(n, table[self.states[n]][COLUMN[self.pairs[n]]])
+
+
+class Lines(unittest.IsolatedAsyncioTestCase):
+    """Two ties with played drivers: on odd circuits the west calls, on even ones the east."""
+
+    async def asyncSetUp(self) -> None:
+        self.folder = tempfile.TemporaryDirectory()
+        self.tasks: list[asyncio.Task[Any]] = []
+        self.events: dict[str, list[dict[str, Any]]] = {'west': [], 'east': []}
+        self.port = 0
+        asyncio.get_running_loop().set_exception_handler(lambda *_: None)
+        for patched, value in ((site_module, {'GONE': 0.4, 'ALIVE': 0.1, 'AGAIN': 0.05}),):
+            for name, number in value.items():
+                change = mock.patch.object(patched, name, number)
+                change.start()
+                self.addCleanup(change.stop)
+        self.west, self.east = (Played(os.path.join(self.folder.name, name), {
+            n: Role.INCOMING if n % 2 == odd else Role.OUTGOING for n in CIRCUITS})
+            for name, odd in (('west.ctl', 1), ('east.ctl', 0)))
+        for driver in (self.west, self.east):
+            driver.acknowledges = True
+            await driver.start()
+
+    async def asyncTearDown(self) -> None:
+        for task in self.tasks:
+            task.cancel()
+        await asyncio.gather(*self.tasks, return_exceptions=True)
+        for driver in (self.west, self.east):
+            await driver.stop()
+        self.folder.cleanup()
+
+    def tie(self, name: str, waits: bool = False, **more: Any) -> tuple[Tie, Site]:
+        driver = self.west if name == 'west' else self.east
+        told = self.events[name]
+        made = Tie(Options(driver.path, more.get('pairs'), 0.3, waits), f'run of {name} {time.monotonic()}',
+                   Kept(os.path.join(self.folder.name, f'{name}.kept')),
+                   lambda event, **fields: told.append({'event': event, **fields}))
+        if not self.port:
+            self.port = free_port()
+        made.site = Site(('127.0.0.1', self.port), name == 'west', more.get('context'), more.get('peer'), made)
+        return made, made.site
+
+    def run_tie(self, made: Tie, site: Site) -> list[asyncio.Task[Any]]:
+        made.start()
+        tasks = [asyncio.create_task(made.follow_trunk()), asyncio.create_task(site.run())]
+        self.tasks += tasks
+        return tasks
+
+    async def kill(self, tasks: list[asyncio.Task[Any]], site: Site) -> None:
+        """A tie ends at once."""
+        for task in tasks:
+            task.cancel()
+        await asyncio.gather(*tasks, return_exceptions=True)
+        site.close()
+
+    async def both(self, **more: Any) -> None:
+        self.sites = [self.tie(name, **more) for name in ('west', 'east')]
+        for made, site in self.sites:
+            self.run_tie(made, site)
+        await self.until(lambda: all(self.told(name, 'link') and self.told(name, 'link')[-1]['state'] == 'good'
+                                     for name in self.events))
+
+    def told(self, name: str, event: str) -> list[dict[str, Any]]:
+        return [each for each in self.events[name] if each['event'] == event]
+
+    async def until(self, holds: Callable[[], bool], seconds: float = 5.0) -> None:
+        end = time.monotonic() + seconds
+        while not holds():
+            self.assertLess(time.monotonic(), end, 'it does not come')
+            await asyncio.sleep(0.01)
+            self.west.recognise()
+            self.east.recognise()
+
+    def at(self, n: int, west: State, east: State) -> Callable[[], bool]:
+        return lambda: (self.west.states[n], self.east.states[n]) == (west, east)
+
+    async def test_call(self) -> None:
+        """Seized, answered, hung up, answered again, cleared: each is passed on."""
+        await self.both()
+        self.west.send(3, SEIZED)
+        await self.until(self.at(3, State.ACKED, State.ACKED))
+        self.east.send(3, ANSWER)
+        await self.until(self.at(3, State.ANSWERED, State.ANSWERED))
+        self.east.send(3, HELD)
+        await self.until(self.at(3, State.CLEAREDBACK, State.CLEAREDBACK))
+        self.east.send(3, ANSWER)
+        await self.until(self.at(3, State.ANSWERED, State.ANSWERED))
+        self.west.send(3, IDLE)
+        await self.until(self.at(3, State.IDLE, State.IDLE))
+        self.assertIn('on-loss clear 0.3', self.west.asked)
+        self.assertNotIn('seize 3', self.west.asked)
+
+    async def test_blocked(self) -> None:
+        """What the exchange blocks is blocked at the other end, and no longer than it does."""
+        await self.both()
+        self.east.send(5, HELD)
+        await self.until(self.at(5, State.BLOCKED, State.BLOCKED))
+        self.east.send(5, IDLE)
+        await self.until(self.at(5, State.IDLE, State.IDLE))
+
+    async def test_congestion(self) -> None:
+        """A seizure that is refused is told to the caller by an answer and a clear-back, and not tried again."""
+        await self.both()
+        self.east.acknowledges = False
+        self.west.send(1, SEIZED)
+        await self.until(lambda: self.east.states[1] is State.SEIZED)
+        self.east.move(1, State.RELEASING)
+        await self.until(self.at(1, State.CLEAREDBACK, State.IDLE))
+        await asyncio.sleep(0.3)
+        self.assertEqual(self.east.asked.count('seize 1'), 1)
+        self.assertEqual([each for each in self.west.asked if each.endswith(' 1')], ['answer 1', 'clear-back 1'])
+        self.west.send(1, IDLE)
+        await self.until(self.at(1, State.IDLE, State.IDLE))
+
+    async def test_caller_waits(self) -> None:
+        """Where no answer may be feigned the caller gets none."""
+        await self.both(waits=True)
+        self.east.acknowledges = False
+        self.west.send(1, SEIZED)
+        await self.until(lambda: self.east.states[1] is State.SEIZED)
+        self.east.move(1, State.RELEASING)
+        await self.until(lambda: self.east.states[1] is State.IDLE)
+        await asyncio.sleep(0.3)
+        self.assertIs(self.west.states[1], State.ACKED)
+        self.assertNotIn('answer 1', self.west.asked)
+
+    async def test_operator_blocks(self) -> None:
+        """A block of the operator stays, also where the tie is started anew; that of a tie does not."""
+        await self.both()
+        self.west.obey(['block', '7'])
+        await asyncio.sleep(0.1)
+        await self.kill(self.tasks[:2], self.sites[0][1])
+        self.west.obey(['block', '9'])          # with no tie there: nobody's
+        self.run_tie(*self.tie('west'))
+        await self.until(lambda: self.west.states[9] is State.IDLE)
+        self.assertIs(self.west.states[7], State.BLOCKED)
+
+    async def test_connection_broken(self) -> None:
+        """A call lives through a short break, and what happened meanwhile is made good; a long one ends it."""
+        await self.both()
+        self.west.send(3, SEIZED)
+        self.west.send(5, SEIZED)
+        await self.until(self.at(5, State.ACKED, State.ACKED))
+        await self.kill(self.tasks[2:], self.sites[1][1])
+        await self.until(lambda: bool(self.told('west', 'site gone')))
+        self.assertIs(self.west.states[3], State.ACKED)
+        await self.until(lambda: self.west.states[1] is State.BLOCKED)
+        self.east.send(3, ANSWER)
+        self.west.send(5, IDLE)
+        made, site = self.tie('east')
+        self.run_tie(made, site)
+        await self.until(self.at(3, State.ANSWERED, State.ANSWERED))
+        await self.until(self.at(5, State.IDLE, State.IDLE))
+        await self.until(self.at(1, State.IDLE, State.IDLE))
+        await self.kill(self.tasks[4:], site)
+        await self.until(lambda: self.west.states[3] is State.CLEAREDBACK)
+        await self.until(lambda: self.west.states[1] is State.BLOCKED)
+
+    async def test_outgoing_end_gives_up(self) -> None:
+        await self.both()
+        self.west.send(3, SEIZED)
+        await self.until(self.at(3, State.ACKED, State.ACKED))
+        await self.kill(self.tasks[:2], self.sites[0][1])
+        await self.until(lambda: self.east.states[3] not in CALLED)
+
+    async def test_dark(self) -> None:
+        """An alarm of one trunk blocks at once at the other end, and ends calls when it lasts."""
+        await self.both()
+        self.west.send(3, SEIZED)
+        await self.until(self.at(3, State.ACKED, State.ACKED))
+        self.east.alarm = True
+        self.east.tell(event='alarm', what='frame', on=True)
+        await self.until(lambda: self.west.states[1] is State.BLOCKED)
+        self.assertIs(self.east.states[3], State.ACKED)
+        await self.until(lambda: self.east.states[3] not in CALLED and self.west.states[3] is State.CLEAREDBACK)
+        self.east.alarm = False
+        self.west.send(3, IDLE)
+        await self.until(self.at(1, State.IDLE, State.IDLE))
+        await self.until(self.at(3, State.IDLE, State.IDLE))
+
+    async def test_driver_anew(self) -> None:
+        """A driver that ends and comes again: nobody can call meanwhile, and then all is as before."""
+        await self.both()
+        await self.east.stop()
+        await self.until(lambda: self.west.states[1] is State.BLOCKED)
+        await self.east.start()
+        await self.until(lambda: self.west.states[1] is State.IDLE)
+
+    async def test_map(self) -> None:
+        """One site's map suffices; circuits that it does not name are left alone."""
+        self.east.roles[2] = Role.OUTGOING
+        self.run_tie(*self.tie('west', pairs={1: 2}))
+        self.run_tie(*self.tie('east'))
+        await self.until(lambda: bool(self.told('east', 'link')))
+        self.west.send(1, SEIZED)
+        self.west.send(3, SEIZED)
+        await self.until(lambda: self.east.states[2] is State.ACKED)
+        self.assertIs(self.east.states[3], State.IDLE)
+
+    async def test_same_role(self) -> None:
+        """Two incoming ends cannot be joined: they are blocked, and it is told."""
+        self.east.roles[1] = Role.INCOMING
+        await self.both()
+        await self.until(self.at(1, State.BLOCKED, State.BLOCKED))
+        self.assertEqual(self.told('west', 'warning')[-1]['circuits'], [1])
+
+    async def test_strangers(self) -> None:
+        """What others send to the port ends nothing and takes nothing."""
+        await self.both()
+        for octets in (b'', b'\0' * 70_000, b'GET / HTTP/1.0\r\n\r\n', b'{"dark": true}\n',
+                       b'{"tie": 1, "run": "another", "pairs": null}\n'):
+            reader, writer = await asyncio.open_connection('127.0.0.1', self.port)
+            with suppress(ConnectionError, TimeoutError):
+                writer.write(octets)
+                await asyncio.sleep(0.05)
+                await asyncio.wait_for(reader.read(), 1)
+            writer.close()
+        self.assertFalse(self.told('west', 'site gone'))
+        self.west.send(3, SEIZED)
+        await self.until(self.at(3, State.ACKED, State.ACKED))
+
+
+def free_port() -> int:
+    import socket
+    with socket.socket() as line:
+        line.bind(('127.0.0.1', 0))
+        return int(line.getsockname()[1])
+
+
+@unittest.skipUnless(shutil.which('openssl'), 'openssl makes the certificates')
+class Certificates(Lines):
+    """The same connection by TLS, and who is let in."""
+
+    async def asyncSetUp(self) -> None:
+        await super().asyncSetUp()
+        for authority in ('ours', 'theirs'):
+            self.openssl('req', '-x509', '-newkey', 'ec', '-pkeyopt', 'ec_paramgen_curve:P-256', '-nodes', '-days',
+                         '2', '-subj', f'/CN={authority}', '-keyout', f'{authority}.key', '-out', f'{authority}.pem')
+        for name, authority in (('west', 'ours'), ('east', 'ours'), ('stranger', 'theirs')):
+            self.openssl('req', '-newkey', 'ec', '-pkeyopt', 'ec_paramgen_curve:P-256', '-nodes', '-subj',
+                         f'/CN={name}', '-addext', f'subjectAltName=DNS:{name}', '-keyout', f'{name}.key', '-out',
+                         f'{name}.csr')
+            self.openssl('x509', '-req', '-in', f'{name}.csr', '-CA', f'{authority}.pem', '-CAkey',
+                         f'{authority}.key', '-days', '2', '-copy_extensions', 'copy', '-out', f'{name}.pem')
+
+    def openssl(self, *words: str) -> None:
+        subprocess.run(['openssl', *words], cwd=self.folder.name, check=True, capture_output=True)
+
+    def context(self, name: str, authority: str, listens: bool) -> Any:
+        return context_of(*(os.path.join(self.folder.name, each)
+                            for each in (f'{name}.pem', f'{name}.key', f'{authority}.pem')), listens)
+
+    def tie(self, name: str, waits: bool = False, **more: Any) -> tuple[Tie, Site]:
+        more.setdefault('context', self.context(name, 'ours', name == 'west'))
+        more.setdefault('peer', 'east' if name == 'west' else 'west')
+        return super().tie(name, waits, **more)
+
+    async def refused(self, **more: Any) -> None:
+        self.run_tie(*self.tie('west'))
+        self.run_tie(*self.tie('east', **more))
+        await self.until(lambda: len(self.told('east', 'no connection') + self.told('east', 'site gone')) > 2)
+        self.assertFalse(self.told('west', 'site'))
+
+    async def test_another_authority(self) -> None:
+        await self.refused(context=self.context('stranger', 'ours', False))
+
+    async def test_another_name(self) -> None:
+        """A certificate of the authority, but not of that site: of the one that connects, and of the one that listens."""
+        await self.refused(context=self.context('west', 'ours', False))
+
+    async def test_another_name_of_the_listener(self) -> None:
+        await self.refused(peer='north')
+
+    async def test_without_tls(self) -> None:
+        await self.refused(context=None)
+
+    def test_names(self) -> None:
+        names: Any = {'subjectAltName': (('DNS', 'West.example'), ('IP Address', '0:0:0:0:0:0:0:1'))}
+        self.assertTrue(has_name(names, 'west.example') and has_name(names, '::1'))
+        self.assertFalse(has_name(names, 'east.example') or has_name(names, '127.0.0.1') or has_name(None, 'west'))
+
+
+if __name__ == '__main__':
+    unittest.main()

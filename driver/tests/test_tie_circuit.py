@@ -1,0 +1,396 @@
+"""The states of a tie line: whatever is lost and in whatever order things come, both ends of a circuit agree."""
+import unittest
+from collections import deque
+from dataclasses import dataclass, replace
+from itertools import product
+from random import Random
+from typing import Iterator
+
+from e1gw.lines import Role, State
+from e1gw.session import Command
+from e1gw.tie.circuit import NO_CALL, Circuit, End, Link
+
+S, GOOD, LOST, GIVEN_UP = State, Link.GOOD, Link.LOST, Link.GIVEN_UP
+IDLE, SEIZED, ACKED, ANSWERED = S.IDLE, S.SEIZED, S.ACKED, S.ANSWERED
+CLEAREDBACK, RELEASING, BLOCKED, FAULT = S.CLEAREDBACK, S.RELEASING, S.BLOCKED, S.FAULT
+SPEAKING = (ACKED, ANSWERED, CLEAREDBACK)
+CALLED = (SEIZED,) + SPEAKING
+
+# ITU-T Q.421: the next state by the recognised bits a and b, 10, 11, 01 and 00 in this order.
+OUTGOING = {
+    IDLE: (IDLE, BLOCKED, FAULT, FAULT), BLOCKED: (IDLE, BLOCKED, FAULT, FAULT), FAULT: (IDLE, BLOCKED, FAULT, FAULT),
+    SEIZED: (SEIZED, ACKED, FAULT, FAULT), ACKED: (FAULT, ACKED, ANSWERED, FAULT),
+    ANSWERED: (FAULT, CLEAREDBACK, ANSWERED, FAULT), CLEAREDBACK: (FAULT, CLEAREDBACK, ANSWERED, FAULT),
+    RELEASING: (IDLE, RELEASING, RELEASING, RELEASING)}
+INCOMING = {
+    IDLE: (IDLE, FAULT, FAULT, ACKED), ACKED: (IDLE, FAULT, FAULT, ACKED), ANSWERED: (IDLE, FAULT, FAULT, ANSWERED),
+    CLEAREDBACK: (IDLE, FAULT, FAULT, CLEAREDBACK), BLOCKED: (BLOCKED,) * 4, FAULT: (IDLE, FAULT, FAULT, FAULT)}
+COLUMN = {0b10: 0, 0b11: 1, 0b01: 2, 0b00: 3}
+
+# Of each command: the states in which it is done, and the one that it leads to.
+DONE = {Command.SEIZE: ((IDLE,), SEIZED), Command.CLEAR: (CALLED, RELEASING),
+        Command.ANSWER: ((ACKED, CLEAREDBACK), ANSWERED), Command.CLEAR_BACK: ((ANSWERED,), CLEAREDBACK),
+        Command.BLOCK: ((IDLE,), BLOCKED), Command.UNBLOCK: ((BLOCKED,), IDLE)}
+
+
+@dataclass(frozen=True)
+class Exchange:
+    """How the exchange at the outgoing end behaves once nothing else happens."""
+
+    acknowledges: bool = True
+    releases: bool = True
+    blocks: bool = False
+
+    def pair(self, state: State, pair: int) -> int:
+        if state in CALLED:
+            return 0b11 if pair == 0b10 and self.acknowledges else pair
+        if state is RELEASING:
+            return 0b10 if self.releases else pair
+        return 0b11 if self.blocks else 0b10
+
+
+@dataclass(frozen=True)
+class World:
+    """A circuit with both its ends, both exchanges and what is on the way."""
+
+    near: Circuit                       # the incoming end
+    far: Circuit                        # the outgoing end
+    forward: int = 0b10                 # the bits a and b that the caller's exchange sends
+    backward: int = 0b10                # and the called one's
+    up: bool = True                     # the connection
+    links: tuple[Link, Link] = (GOOD, GOOD)
+    on_way: tuple[End | None, End | None] = (None, None)           # to the outgoing end, to the incoming one
+    asked: tuple[tuple[Command, str] | None, ...] = (None, None)   # commands that are not done yet
+    calls: int = 0                      # that were begun
+
+    def ends(self) -> tuple[Circuit, Circuit]:
+        return self.near, self.far
+
+    def with_end(self, side: int, circuit: Circuit) -> 'World':
+        """With this end as it is now, which is on its way to the other one."""
+        if circuit == self.ends()[side]:
+            return self
+        told = circuit.end() != self.ends()[side].end() and self.up
+        on_way = put(self.on_way, side, circuit.end()) if told else self.on_way
+        return replace(self, on_way=on_way, **{('near', 'far')[side]: circuit})
+
+    # ---- what can happen ----
+
+    def line(self, side: int) -> 'World':
+        """The line recognises what the exchange sends."""
+        circuit, table = self.ends()[side], (INCOMING, OUTGOING)[side]
+        state = table[circuit.state][COLUMN[(self.forward, self.backward)[side]]]
+        if state is circuit.state:
+            return self
+        begins = side == 0 and circuit.state is IDLE and state is ACKED
+        world = replace(self, calls=self.calls + begins)
+        return world.with_end(side, circuit.moved(state, f'call {world.calls}' if begins else None))
+
+    def ask(self, side: int) -> 'World':
+        """An end that has no command on the way gives the one that it wants."""
+        circuit = self.ends()[side].settled(self.links[side])
+        world = self.with_end(side, circuit)
+        command = None if self.asked[side] else circuit.wants(self.links[side])
+        if command is None:
+            return world
+        call = circuit.far.call if circuit.far and command is Command.SEIZE else None
+        return replace(world, asked=put(world.asked, side, (command, call or NO_CALL)))
+
+    def do(self, side: int) -> 'World':
+        """The gateway does a command or refuses it."""
+        asked = self.asked[side]
+        if asked is None:
+            return self
+        command, call = asked
+        circuit, (of, to) = self.ends()[side], DONE[command]
+        if circuit.state in of:
+            circuit = circuit.moved(to)
+        if command is Command.SEIZE:
+            circuit = circuit.tried(call)
+        return replace(self, asked=put(self.asked, side, None)).with_end(side, circuit)
+
+    def deliver(self, side: int) -> 'World':
+        """What is on the way to an end comes there."""
+        told = self.on_way[1 - side]
+        if told is None:
+            return self
+        world = replace(self, on_way=put(self.on_way, 1 - side, None), links=put(self.links, side, GOOD))
+        return world.with_end(side, self.ends()[side].heard(told))
+
+    def broken(self) -> 'World':
+        return replace(self, up=False, on_way=(None, None))
+
+    def connected(self) -> 'World':
+        return replace(self, up=True, on_way=(self.near.end(), self.far.end()))
+
+    def noticed(self, side: int) -> 'World':
+        """An end gives the connection up, and later the call."""
+        if self.up or self.links[side] is GIVEN_UP:
+            return self
+        return replace(self, links=put(self.links, side, LOST if self.links[side] is GOOD else GIVEN_UP))
+
+    def forgotten(self, side: int) -> 'World':
+        """The tie of one end is started anew. The driver knows the calls of its incoming circuits."""
+        circuit = self.ends()[side]
+        fresh = Circuit(circuit.role, circuit.state, circuit.call if side == 0 else None)
+        world = replace(self.broken(), asked=put(self.asked, side, None), links=put(self.links, side, LOST))
+        return replace(world, **{('near', 'far')[side]: fresh})
+
+
+def put(pair, side, value):
+    return (value, pair[1]) if side == 0 else (pair[0], value)
+
+
+def happenings(world: World, most: int) -> Iterator[World]:
+    """All that can happen next, a command being done at once."""
+    for side in (0, 1):
+        yield world.ask(side).do(side)
+        yield world.deliver(side)
+        yield world.noticed(side)
+    yield from outside(world, most)
+
+
+def outside(world: World, most: int) -> Iterator[World]:
+    """What the exchanges and the connection do, in at most so many calls."""
+    yield world.broken() if world.up else world.connected()
+    if world.far.state is SEIZED:
+        yield world.with_end(1, world.far.moved(RELEASING))     # not acknowledged
+    if world.far.state is RELEASING:
+        yield world.with_end(1, replace(world.far, stuck=True))
+    if world.forward == 0b00:
+        yield replace(world, forward=0b10)
+    elif world.calls < most:
+        yield replace(world, forward=0b00)
+    for backward in (0b10, 0b11, 0b01):
+        if backward != world.backward:
+            yield replace(world, backward=backward)
+
+
+def recognised(world: World) -> World:
+    """With all that the exchanges send recognised."""
+    while True:
+        after_both = world.line(0).line(1)
+        if after_both is world:
+            return world
+        world = after_both
+
+
+def onward(world: World, exchange: Exchange) -> World:
+    """One round in which nothing but the two ties acts: the connection is there and all is delivered."""
+    before = world
+    world = replace(world, backward=exchange.pair(world.far.state, world.backward)).line(1).line(0)
+    for side in (0, 1):
+        world = world.ask(side).do(side)
+    world = world.deliver(0).deliver(1)
+    if world != before or world.far.state not in (SEIZED, RELEASING) or world.far.stuck:
+        return world
+    # The time of a seizure that is not acknowledged, or of a release that is not followed, is over.
+    stuck = world.far.state is RELEASING
+    return world.with_end(1, replace(world.far, stuck=True) if stuck else world.far.moved(RELEASING))
+
+
+class Rest:
+    """What comes of a world in the end."""
+
+    def __init__(self, exchange: Exchange) -> None:
+        self.exchange = exchange
+        self.known: dict[World, World] = {}
+
+    def of(self, world: World) -> World:
+        passed: list[World] = []
+        world = world if world.up else world.connected()
+        while world not in self.known:
+            if len(passed) > 60:
+                raise AssertionError(f'no rest: {world}')
+            passed.append(world)
+            then = onward(world, self.exchange)
+            if then == world:
+                self.known[world] = world
+            world = then
+        for each in passed:
+            self.known[each] = self.known[world]
+        return self.known[world]
+
+
+def disagreement(world: World, strictly: bool = True) -> str | None:
+    """What is wrong between two ends at rest that hear one another."""
+    near, far = world.near, world.far
+    if far.state in CALLED:
+        if near.state not in SPEAKING or near.call != far.call or near.over:
+            return 'a call stands at the outgoing end alone'
+        if far.state is ANSWERED and near.state is not ANSWERED:
+            return 'an answer is not passed on'
+        if far.state is CLEAREDBACK and near.state is not CLEAREDBACK:
+            return 'a clear-back is not passed on'
+        if strictly and far.state is not near.state and (far.state, near.state) != (SEIZED, ACKED):
+            return 'the ends of a call differ'
+        return None
+    if near.state in (ACKED, ANSWERED):
+        return 'a call stands at the incoming end alone'
+    if near.state is IDLE and far.state is not IDLE:
+        return 'a circuit that is out of use can be seized'
+    if near.state is BLOCKED and far.state is IDLE and not near.kept:
+        return 'a circuit is left blocked'
+    return None
+
+
+def anything() -> Iterator[World]:
+    """Both ends in any states and with any memory, as they are when they are connected."""
+    backward = {ACKED: 0b11, ANSWERED: 0b01, CLEAREDBACK: 0b11, BLOCKED: 0b11}
+    for near, over, passed in product(INCOMING, (False, True), (NO_CALL, 'call 1', 'call 2')):
+        one = Circuit(Role.INCOMING, near, 'call 2', over and near in SPEAKING, passed)
+        for far, call in product(OUTGOING, (None, NO_CALL, 'call 1', 'call 2')):
+            forward = 0b00 if near in SPEAKING else 0b10
+            yield World(one, Circuit(Role.OUTGOING, far, call), forward, backward.get(far, 0b10), False, (LOST, LOST))
+
+
+def everything(first: World, most: int) -> set[World]:
+    """All worlds that can come of one."""
+    found, todo = {first}, deque((first,))
+    while todo:
+        for world in happenings(todo.popleft(), most):
+            world = recognised(world)
+            if world not in found:
+                found.add(world)
+                todo.append(world)
+    return found
+
+
+def walk(chance: Random, steps: int) -> World:
+    """A world after so many things, commands taking their time and ties being started anew."""
+    world = START
+    for _ in range(steps):
+        inside = [step(side) for side in (0, 1) for step in (world.line, world.ask, world.do, world.deliver,
+                                                             world.noticed)]
+        then = inside * 2 + list(outside(world, 3)) + [replace(world, backward=0b00)]
+        if chance.random() < 0.02:
+            then = [world.forgotten(side) for side in (0, 1)]
+        world = chance.choice([each for each in then if each is not world] or [world])
+    return world
+
+
+START = World(Circuit(Role.INCOMING, IDLE, NO_CALL), Circuit(Role.OUTGOING, IDLE, NO_CALL), up=False,
+              links=(LOST, LOST))
+EXCHANGES = [Exchange(*each) for each in product((True, False), (True, False), (False, True))]
+
+
+class Agreement(unittest.TestCase):
+    def assert_agreed(self, start: World, rest: Rest, strictly: bool = True) -> None:
+        end = rest.of(start)
+        wrong = disagreement(end, strictly)
+        if wrong:
+            self.fail(f'{wrong}\nfrom {start}\nto {end}\n{rest.exchange}')
+
+    def test_every_pair_of_states(self) -> None:
+        """From any states and memories both ends come to agree once they hear one another."""
+        for exchange in EXCHANGES:
+            rest = Rest(exchange)
+            for world in anything():
+                self.assert_agreed(world, rest, strictly=False)
+
+    def test_every_loss(self) -> None:
+        """Whatever happens around a call, in any order, with the connection broken and messages lost at any moment:
+        both ends agree after it."""
+        found = everything(START, 1)
+        self.assertGreater(len(found), 50_000)
+        for exchange in (Exchange(), Exchange(acknowledges=False, releases=False)):
+            rest = Rest(exchange)
+            for world in found:
+                self.assert_agreed(world, rest)
+
+    def test_many_calls(self) -> None:
+        """The same for three calls, commands that take their time and ties that are started anew, by chance."""
+        chance = Random(1)
+        rests = [Rest(exchange) for exchange in EXCHANGES]
+        for _ in range(2000):
+            self.assert_agreed(walk(chance, chance.randrange(120)), chance.choice(rests), strictly=False)
+
+    def test_no_call_for_ever(self) -> None:
+        """Where the connection does not come again, no call stands and no circuit can be seized."""
+        for world in anything():
+            world = replace(world, links=(GIVEN_UP, GIVEN_UP))
+            for _ in range(4):
+                world = recognised(world).ask(0).do(0).ask(1).do(1)
+            self.assertNotIn(world.far.state, CALLED)
+            self.assertIn(world.near.state, (BLOCKED, FAULT, CLEAREDBACK))
+
+
+def incoming(state: State, far: End | None, call: str = 'call 2', **fields: bool) -> Circuit:
+    return Circuit(Role.INCOMING, state, call, far=far, **fields)
+
+
+def outgoing(state: State, far: End | None, call: str | None = 'call 1', **fields: bool) -> Circuit:
+    return Circuit(Role.OUTGOING, state, call, far=far, **fields)
+
+
+def caller(state: State, over: bool = False, passed: str = NO_CALL) -> End:
+    return End(Role.INCOMING, state, 'call 2', over, passed)
+
+
+def called(state: State, call: str | None = 'call 2') -> End:
+    return End(Role.OUTGOING, state, call)
+
+
+class Commands(unittest.TestCase):
+    ROWS = [
+        # A call goes on, in its order.
+        (outgoing(IDLE, caller(ACKED)), GOOD, Command.SEIZE),
+        (incoming(ACKED, called(SEIZED)), GOOD, None),
+        (incoming(ACKED, called(ANSWERED)), GOOD, Command.ANSWER),
+        (incoming(ANSWERED, called(CLEAREDBACK)), GOOD, Command.CLEAR_BACK),
+        (incoming(CLEAREDBACK, called(ANSWERED)), GOOD, Command.ANSWER),
+        (outgoing(ANSWERED, caller(IDLE), 'call 2'), GOOD, Command.CLEAR),
+        # One call is not another one.
+        (outgoing(ANSWERED, caller(ACKED), 'call 1'), GOOD, Command.CLEAR),
+        (incoming(ACKED, called(ANSWERED, 'call 1')), GOOD, None),
+        # What is over is not passed on, nor what was answered by somebody else.
+        (outgoing(IDLE, caller(ACKED, over=True)), GOOD, None),
+        (outgoing(IDLE, caller(ANSWERED)), GOOD, None),
+        (outgoing(IDLE, caller(ACKED), 'call 2'), GOOD, None),
+        # Congestion: an answer, and the clear-back that can only follow it.
+        (incoming(ACKED, called(IDLE)), GOOD, Command.ANSWER),
+        (incoming(ACKED, called(BLOCKED, 'call 1')), GOOD, Command.ANSWER),
+        (incoming(ANSWERED, called(IDLE)), GOOD, Command.CLEAR_BACK),
+        (incoming(ACKED, called(RELEASING, 'call 1')), GOOD, None),
+        # Without the other end calls wait and nobody can call.
+        (incoming(IDLE, called(IDLE)), LOST, Command.BLOCK),
+        (incoming(ANSWERED, called(IDLE)), LOST, None),
+        (outgoing(ANSWERED, caller(IDLE), 'call 2'), LOST, None),
+        (outgoing(ANSWERED, caller(ANSWERED), 'call 2'), GIVEN_UP, Command.CLEAR),
+        (incoming(ANSWERED, called(ANSWERED)), GIVEN_UP, Command.CLEAR_BACK),
+        # A block of the operator is his.
+        (incoming(BLOCKED, called(IDLE)), GOOD, Command.UNBLOCK),
+        (incoming(BLOCKED, called(IDLE), kept=True), GOOD, None),
+        (incoming(IDLE, called(FAULT)), GOOD, Command.BLOCK),
+    ]
+
+    def test_rows(self) -> None:
+        for circuit, link, command in self.ROWS:
+            with self.subTest(circuit=circuit, link=link):
+                self.assertIs(circuit.wants(link), command)
+
+    def test_caller_who_waits(self) -> None:
+        """Where no answer may be feigned, nothing is told before the answer; a call that was answered is ended."""
+        self.assertIsNone(incoming(ACKED, called(IDLE)).wants(GOOD, waits=True))
+        self.assertIs(incoming(ACKED, called(ANSWERED)).wants(GOOD, waits=True), Command.ANSWER)
+        self.assertIs(incoming(ANSWERED, called(IDLE)).wants(GOOD, waits=True), Command.CLEAR_BACK)
+
+    def test_given_up_stays_so(self) -> None:
+        """A call that was given up is not passed on when the other end comes back; the next one is."""
+        circuit = incoming(ACKED, called(IDLE, 'call 1')).settled(GIVEN_UP)
+        self.assertTrue(circuit.end().over)
+        self.assertIs(circuit.wants(GOOD), Command.ANSWER)
+        self.assertFalse(circuit.moved(IDLE).moved(ACKED, 'call 3').end().over)
+
+    def test_tie_started_anew(self) -> None:
+        """A tie that has forgotten which call it was given learns it from the other end, and the call goes on."""
+        circuit = incoming(ANSWERED, None).heard(called(ANSWERED)).heard(called(ANSWERED, None))
+        self.assertEqual(circuit.end().passed, 'call 2')
+        fresh = outgoing(ANSWERED, None, None).heard(circuit.end())
+        self.assertEqual(fresh.end().call, 'call 2')
+        self.assertIsNone(fresh.wants(GOOD))
+        self.assertIsNone(circuit.wants(GOOD))
+
+
+if __name__ == '__main__':
+    unittest.main()

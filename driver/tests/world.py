@@ -1,0 +1,178 @@
+"""A driver in service for tests: an exchange at the far end of its trunk, which goes in lock step, and its control."""
+from __future__ import annotations
+
+import json
+import os
+import socket
+import subprocess
+import sys
+import tempfile
+import time
+from typing import Any, Callable
+
+from . import support
+
+IDLE, SEIZED, ACKNOWLEDGED, ANSWERED = 2, 0, 3, 1
+LAUNCHER = os.path.join(support.TOP, 'driver', 'e1gw-trunk')
+SECONDS = 60
+ANSWERS_AFTER = 20          # multiframes
+
+
+def free_ports(count: int) -> list[int]:
+    """Even UDP ports at 127.0.0.1 that are free now."""
+    found: list[int] = []
+    for port in range(30_000 + os.getpid() % 500 * 40, 65_000, 2):
+        with socket.socket(socket.AF_INET, socket.SOCK_DGRAM) as end:
+            try:
+                end.bind(('127.0.0.1', port))
+            except OSError:
+                continue
+        found.append(port)
+        if len(found) == count:
+            return found
+    raise RuntimeError('no free ports')
+
+
+def config_of(circuits: range, codec: str = 'pcma', payload: int = 8, prefill: int = 160,
+              incoming: tuple[int, ...] = ()) -> str:
+    """A configuration in which each circuit speaks with its neighbour: 1 with 2, 3 with 4, .."""
+    ports = dict(zip(circuits, free_ports(len(circuits))))
+    text = ['law = "A"\n']
+    for n in circuits:
+        peer = ports.get(n + 1 if n % 2 else n - 1, ports[n])
+        text.append(f'[[circuit]]\nnumber = {n}\ncodec = "{codec}"\npayload = {payload}\nprefill = {prefill}\n'
+                    f'local_port = {ports[n]}\npeer_port = {peer}\n')
+        if n in incoming:
+            text.append('role = "incoming"\n')
+    return ''.join(text)
+
+
+class World:
+    """A driver at a Unix socket, with a folder of its own. The exchange acknowledges and answers what is seized."""
+
+    def __init__(self, config: str, *options: str, answers: bool = True, front: tuple[str, ...] = (),
+                 **streams: Any) -> None:
+        self._folder = tempfile.TemporaryDirectory()
+        self.folder = self._folder.name
+        self.config = self.path('trunk.toml')
+        with open(self.config, 'w', encoding='utf-8') as file:
+            file.write(config)
+        self.exchange = support.Exchange()
+        self.answers = answers
+        self.sent, self.heard = bytearray(), bytearray()
+        self._ages: dict[int, int] = {}
+        with socket.socket(socket.AF_UNIX) as door:
+            door.bind(self.path('card'))
+            door.listen(1)
+            streams = {'stdin': subprocess.DEVNULL, 'stdout': subprocess.DEVNULL, 'stderr': subprocess.PIPE} | streams
+            self.process = subprocess.Popen(
+                [*front, sys.executable, '-B', LAUNCHER, '--program', support.program(), '--config', self.config,
+                 '--unix', self.path('card'), '--control', self.path('ctl'),
+                 *(word.replace('@', self.folder) for word in options)], **streams)
+            door.settimeout(SECONDS)
+            self.line = door.accept()[0]
+        self.line.settimeout(SECONDS)
+
+    def path(self, name: str) -> str:
+        return os.path.join(self.folder, name)
+
+    def __enter__(self) -> World:
+        return self
+
+    def __exit__(self, *_: object) -> None:
+        self.line.close()
+        if self.process.poll() is None:
+            self.process.terminate()
+        self.process.wait(SECONDS)
+        if self.process.stderr:
+            self.process.stderr.close()
+        self._folder.cleanup()
+
+    def step(self, multiframes: int = 1) -> None:
+        """Multiframes to and fro."""
+        for _ in range(multiframes):
+            self.give(self.exchange.multiframe())
+            if self.answers:
+                self._answer()
+
+    def give(self, octets: bytes) -> bytes:
+        """Octets to the driver; as many that come back."""
+        self.line.sendall(octets)
+        back = b''
+        while len(back) < len(octets):
+            piece = self.line.recv(len(octets) - len(back))
+            if not piece:
+                raise EOFError
+            back += piece
+        self.sent += octets
+        self.heard += back
+        self.exchange.hear(back)
+        return back
+
+    def _answer(self) -> None:
+        pairs, ages = self.exchange.pairs, self._ages
+        for circuit, pair in self.exchange.signals.items():
+            if pair == SEIZED and pairs[circuit] in (IDLE, ACKNOWLEDGED):
+                ages[circuit] = ages.get(circuit, 0) + 1
+                pairs[circuit] = ACKNOWLEDGED if ages[circuit] <= ANSWERS_AFTER else ANSWERED
+            elif pair == IDLE and ages.pop(circuit, None):
+                pairs[circuit] = IDLE
+
+    def until(self, holds: Callable[[], bool], most: int = 2000) -> None:
+        """Steps until something holds."""
+        for _ in range(most):
+            if holds():
+                return
+            self.step()
+        raise AssertionError('it does not come to hold')
+
+    def ask(self, command: str | bytes) -> str:
+        """The answer to a command."""
+        with socket.socket(socket.AF_UNIX) as line:
+            line.settimeout(SECONDS)
+            line.connect(self.path('ctl'))
+            line.sendall((command.encode() if isinstance(command, str) else command) + b'\n')
+            answer = b''
+            while not answer.endswith(b'\n\n'):
+                piece = line.recv(65536)
+                if not piece:
+                    raise EOFError(answer)
+                answer += piece
+        return answer.decode().rstrip('\n')
+
+    def status(self) -> dict[str, Any]:
+        found: dict[str, Any] = json.loads(self.ask('status json'))
+        return found
+
+    def state(self, circuit: int) -> str:
+        return str(self.status()['circuits'][circuit - 1]['state'])
+
+    def settled(self) -> dict[str, Any]:
+        """The status once the shadow has answered all."""
+        until = time.monotonic() + SECONDS
+        while time.monotonic() < until:
+            status = self.status()
+            if status['counted'] == status['octets']:
+                return status
+            time.sleep(0.02)
+        raise AssertionError('the shadow does not answer')
+
+    def follow(self) -> Any:
+        """A stream of events."""
+        line = socket.socket(socket.AF_UNIX)
+        line.settimeout(SECONDS)
+        line.connect(self.path('ctl'))
+        line.sendall(b'events\n')
+        stream = line.makefile('r', encoding='utf-8')
+        assert stream.readline() == 'following\n' and stream.readline() == '\n'
+        line.close()
+        return stream
+
+    def quit(self) -> tuple[int, str]:
+        """Ends it; its status and what stands on standard error."""
+        self.ask('quit')
+        return self.wait()
+
+    def wait(self) -> tuple[int, str]:
+        said = self.process.stderr.read() if self.process.stderr else b''
+        return self.process.wait(SECONDS), said.decode()

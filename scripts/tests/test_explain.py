@@ -1,0 +1,86 @@
+"""scripts/explain: the faults of docs/CONFIGURATION.md, each at its key and line."""
+import os
+import socket
+import subprocess
+import sys
+import tempfile
+import unittest
+
+EXPLAIN = os.path.join(os.path.dirname(os.path.dirname(os.path.abspath(__file__))), 'explain')
+ONE = 'law = "A"\n[[circuit]]\nnumber = 1\n'
+
+# what is told of a text: the first line, the line in the file, and words of the explanation
+FAULTS = [
+    ('law = A', 'config 1 Syntax at 0', 1, 'no TOML'),
+    ('law = "A"\nlaw = "A"', 'config 1 Syntax at 0', 2, 'no TOML'),
+    (ONE + 'ssrc = 9223372036854775808', 'config 1 Syntax at 0', None, '64 bits'),
+    ('law = "A"\nlax = "A"', 'config 2 UnknownKey at 0', 2, 'lax is no key here'),
+    (ONE + '\nname = "x"', 'config 2 UnknownKey at 1', 5, 'number, role, codec'),
+    ('', 'config 3 Missing at 0', None, '"A" or "mu"'),
+    ('law = "A"\n[[circuit]]', 'config 3 Missing at 1', 2, 'a whole number from 1 to 30'),
+    (ONE + 'codec = "g726-32"', 'config 3 Missing at 1', 2, '96 to 127'),
+    (ONE + 'local_port = 24002', 'config 3 Missing at 1', 2, 'both or none'),
+    (ONE + 'peer_port = ""', 'config 3 Missing at 1', 2, 'local_port'),
+    ('law = "A"\n[[circuit]]\nnumber = "1"', 'config 4 WrongType at 1', 3, 'a whole number'),
+    ('law = "A"\n[circuit]\nnumber = 1', 'config 4 WrongType at 0', 2, '[[circuit]]'),
+    ('law = "A"\n[[circuit]]\nnumber = 31', 'config 5 OutOfRange at 1', 3, 'from 1 to 30'),
+    (ONE + 'payload = 9', 'config 5 OutOfRange at 1', 4, '8, or a whole number from 96 to 127'),
+    (ONE + 'ssrc = 4294967296', 'config 5 OutOfRange at 1', 4, '4294967295'),
+    (ONE + 'ptime = 25', 'config 5 OutOfRange at 1', 4, '10, 20 or 30'),
+    (ONE + '[[circuit]]\nnumber = 1', 'config 6 Twice at 2', 5, 'table 1'),
+    ('law = "mu"\n[[circuit]]\nnumber = 1\ncodec = "pcma"', 'config 7 LawCodec at 1', 4, 'other law'),
+    (' ' * 65537, 'config 8 TooLong at 0', None, '65536'),
+]
+
+
+class Explained(unittest.TestCase):
+    def explained(self, text: str, *words: str) -> tuple[int, list[str]]:
+        with tempfile.TemporaryDirectory() as folder:
+            path = os.path.join(folder, 'trunk.toml')
+            with open(path, 'w', encoding='utf-8') as file:
+                file.write(text)
+            ran = subprocess.run([sys.executable, '-B', EXPLAIN, *words, path], capture_output=True, text=True)
+        self.assertEqual(ran.stderr, '')
+        return ran.returncode, ran.stdout.replace(path, 'FILE').splitlines()
+
+
+class Faults(Explained):
+    def test_faults(self) -> None:
+        for text, told, line, words in FAULTS:
+            with self.subTest(text[:60]):
+                status, lines = self.explained(text)
+                self.assertEqual((status, lines[0]), (2, told))
+                self.assertTrue(lines[1].startswith(f'  FILE:{line}: ' if line else '  FILE: '), lines[1])
+                self.assertIn(words, lines[1])
+
+    def test_no_fault(self) -> None:
+        self.assertEqual(self.explained('\ufeff' + ONE, '--no-sockets'), (0, ['the configuration has no fault']))
+
+    def test_no_file(self) -> None:
+        ran = subprocess.run([sys.executable, '-B', EXPLAIN, '/'], capture_output=True, text=True)
+        self.assertEqual((ran.returncode, ran.stdout.split('\n')[0]), (2, 'cannot read the configuration'))
+
+
+class Sockets(Explained):
+    def test_a_port_in_use(self) -> None:
+        with socket.socket(socket.AF_INET, socket.SOCK_DGRAM) as held:
+            held.bind(('127.0.0.1', 0))
+            status, lines = self.explained(ONE + f'local_port = {held.getsockname()[1]}\npeer_port = 9')
+        self.assertEqual((status, lines[1]), (1, 'socket 1'))
+        self.assertIn('in use', lines[2])
+
+    def test_a_host_of_another_machine(self) -> None:
+        text = 'host = "192.0.2.1"\n' + ONE + 'local_port = 24002\npeer_port = 9'
+        self.assertIn('no address of this machine', self.explained(text)[1][2])
+
+    def test_two_families(self) -> None:
+        text = ONE + 'local_port = 24002\npeer_port = 9\npeer_host = "::1"'
+        self.assertIn('different address families', self.explained(text)[1][2])
+
+    def test_a_name_without_an_address(self) -> None:
+        text = ONE + 'local_port = 24002\npeer_port = 9\npeer_host = "nobody.invalid"'
+        self.assertIn('has no address', self.explained(text)[1][2])
+
+
+if __name__ == '__main__':
+    unittest.main()

@@ -1,0 +1,85 @@
+"""scripts/records over sessions whose octets are written out here."""
+import os
+import subprocess
+import sys
+import unittest
+
+RECORDS = os.path.join(os.path.dirname(os.path.dirname(os.path.abspath(__file__))), 'records')
+IDLE = 0xD5
+FAS, NFAS = 0x9B, 0xDF
+
+
+def ran(*words: str, given: bytes = b'') -> subprocess.CompletedProcess[bytes]:
+    return subprocess.run([sys.executable, '-B', RECORDS, *words], input=given, capture_output=True)
+
+
+def trunk(frames: int, slot: int, speech: bytes) -> bytes:
+    """Frames with speech in one slot."""
+    out = bytearray([IDLE]) * (32 * frames)
+    out[0::64], out[32::64] = bytes([FAS]) * len(out[0::64]), bytes([NFAS]) * len(out[32::64])
+    out[slot::32] = speech
+    return bytes(out)
+
+
+class Printing(unittest.TestCase):
+    def test_a_line_for_each_record(self) -> None:
+        given = bytes.fromhex('54000002D5D5 4301000101 4401000D 8088 0001 0000000A 00000007 D5 4B01000204 60'
+                              '5201000243 02 52010002 4B00')
+        self.assertEqual(ran(given=given).stdout.decode().splitlines(), [
+            'T    2 octets, from place 0 on', 'C  1 Seize',
+            'D  1 13 octets: payload type 8, sequence 1, timestamp 10, ssrc 7, marker',
+            'K  1 g726-32, payload type 96', 'R  1 C refused: 2 NotIdle', 'R  1 K done'])
+
+    def test_no_rtp(self) -> None:
+        self.assertEqual(ran(given=bytes.fromhex('4401000100')).stdout, b'D  1 1 octets, no RTP: short\n')
+
+    def test_a_session_that_ends_inside_a_record(self) -> None:
+        ended = ran(given=bytes.fromhex('54000002D5'))
+        self.assertEqual((ended.returncode, ended.stdout), (1, b''))
+        self.assertIn(b'4 Truncated', ended.stderr)
+
+
+class Octets(unittest.TestCase):
+    def test_octets_to_records_and_back(self) -> None:
+        octets = bytes(range(256)) * 2 + b'end'
+        made = ran('--from-raw', given=octets).stdout
+        self.assertEqual(made, b'T\0\1\0' + octets[:256] + b'T\0\1\0' + octets[256:512] + b'T\0\0\3end')
+        self.assertEqual(ran('--to-raw', given=made).stdout, octets)
+
+    def test_a_size_that_no_record_has(self) -> None:
+        self.assertEqual(ran('--from-raw', '--size', '65536').returncode, 2)
+
+
+class Circuits(unittest.TestCase):
+    SPEECH = bytes(range(200))
+
+    def heard(self, circuit: int, octets: bytes, *words: str) -> bytes:
+        given = ran('--from-raw', '--size', '100', given=octets).stdout
+        return ran('--circuit', str(circuit), *words, given=given).stdout
+
+    def test_a_wave_file(self) -> None:
+        wave = self.heard(3, trunk(200, 3, self.SPEECH))
+        # RIFF: the form WAVE, its chunks fmt (A-law, one channel, 8000 octets a second, 8 bits), fact and data
+        self.assertEqual(wave[:58], b'RIFF' + (250).to_bytes(4, 'little') + b'WAVE' + bytes.fromhex(
+            '666D7420 12000000 0600 0100 401F0000 401F0000 0100 0800 0000') + b'fact\4\0\0\0\xC8\0\0\0data\xC8\0\0\0')
+        self.assertEqual(wave[58:], self.SPEECH)
+
+    def test_circuit_16_is_slot_17(self) -> None:
+        self.assertEqual(self.heard(16, trunk(200, 17, self.SPEECH), '--law', 'mu')[20:22], b'\7\0')
+        self.assertEqual(self.heard(16, trunk(200, 17, self.SPEECH))[58:], self.SPEECH)
+
+    def test_a_session_that_begins_inside_a_frame(self) -> None:
+        self.assertEqual(self.heard(30, trunk(200, 31, self.SPEECH)[40:])[58:], self.SPEECH[2:])
+
+    def test_frames_are_found_again(self) -> None:
+        octets = trunk(100, 1, bytes(100)) + b'\xD5' * 5 + trunk(100, 1, bytes([7]) * 100)
+        self.assertTrue(self.heard(1, octets).endswith(bytes([7]) * 90))
+
+    def test_no_frame(self) -> None:
+        ended = ran('--circuit', '1', given=ran('--from-raw', given=b'\xD5' * 4096).stdout)
+        self.assertEqual((ended.returncode, ended.stdout), (1, b''))
+        self.assertIn(b'no frame', ended.stderr)
+
+
+if __name__ == '__main__':
+    unittest.main()

@@ -1,0 +1,74 @@
+"""scripts/words over small trees whose counts are known."""
+import os
+import subprocess
+import sys
+import tempfile
+import unittest
+
+WORDS = os.path.join(os.path.dirname(os.path.dirname(os.path.abspath(__file__))), 'words')
+
+LEMMAS = '''-- Lemmas.
+use Rattle.low.specs.Sums.{total}
+
+-- used below
+pub once : (n : ℕ) → total n ≡ n
+once n = refl
+
+pub twice : (n : ℕ) → total (total n) ≡ n
+twice n = rw (once n) (once n)
+
+-- a worked row
+row : total 2 ≡ 2
+row = refl
+'''
+
+
+def write(top: str, path: str, text: str) -> None:
+    os.makedirs(os.path.dirname(os.path.join(top, path)), exist_ok=True)
+    with open(os.path.join(top, path), 'w', encoding='utf-8') as file:
+        file.write(text)
+
+
+class Words(unittest.TestCase):
+    def setUp(self) -> None:
+        folder = tempfile.TemporaryDirectory()
+        self.addCleanup(folder.cleanup)
+        self.top = folder.name
+        write(self.top, 'crates/low/src/lib.rt', '')
+        write(self.top, 'crates/low/specs/Sums.antt', 'abbrev pub total : ℕ → ℕ\ntotal n = n\n')
+        write(self.top, 'crates/low/proofs/Lemmas.antt', LEMMAS)
+
+    def found(self) -> list[str]:
+        """The lines below the counts."""
+        ran = subprocess.run([sys.executable, WORDS, '--list', '--top', self.top], capture_output=True, text=True)
+        self.assertEqual(ran.stderr, '')
+        return [line.strip() for line in ran.stdout.splitlines() if line.startswith('  ')]
+
+    def test_dead_and_bare(self) -> None:
+        place = 'crates/low/proofs/Lemmas.antt:8: twice'
+        self.assertEqual(self.found(), [place, place])
+
+    def test_a_lemma_that_a_function_names_is_used(self) -> None:
+        write(self.top, 'crates/low/src/lib.rt', '#[tactic(auto, using(crate::proofs::Lemmas::twice))]\n')
+        self.assertEqual(len(self.found()), 1)
+
+    def test_a_lemma_that_another_file_reads_is_used(self) -> None:
+        write(self.top, 'crates/high/proofs/More.antt',
+              'use Rattle.low.proofs.Lemmas.{twice}\n\n-- more\nrow : (n : ℕ) → n ≡ n\nrow n = twice n\n')
+        self.assertNotIn('crates/low/proofs/Lemmas.antt:8: twice', self.found()[:-1])
+
+    def test_a_twin(self) -> None:
+        write(self.top, 'crates/high/proofs/More.antt',
+              '-- the same of another number\nrow : (m : ℕ) → total m ≡ m\nrow m = refl\n')
+        self.assertIn('crates/low/proofs/Lemmas.antt:5: once = crates/high/proofs/More.antt:2: row', self.found())
+
+    def test_a_word_of_two_crates_that_a_third_reads(self) -> None:
+        write(self.top, 'crates/other/specs/Sums.antt', 'unfoldable pub total : ℕ → ℕ\ntotal n = 0\n')
+        self.assertFalse([line for line in self.found() if line.startswith('total')])
+        write(self.top, 'crates/third/specs/Uses.antt', 'use Rattle.other.specs.Sums.{total}\n')
+        places = 'crates/low/specs/Sums.antt:1, crates/other/specs/Sums.antt:1'
+        self.assertIn(f'total: {places}; read in third', self.found())
+
+
+if __name__ == '__main__':
+    unittest.main()

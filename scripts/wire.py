@@ -1,0 +1,354 @@
+"""Looks at the built program with datagrams over UDP: what scripts/look runs beside its tables.
+
+Each look is a function of the program, a folder to work in and the addresses of this machine; it yields what is not
+as it must be. Circuits are in calls, and the exchange at the other end of the trunk is that of exchange.py. What must
+come is what the manual says: a circuit plays the datagrams of its own port, in order, after `prefill`, and its packets
+go to its own peer from its own port, numbered from `sequence` on.
+"""
+import contextlib
+import os
+import socket
+import struct
+import subprocess
+import threading
+
+from exchange import ACKNOWLEDGED, Exchange, Serve, slot_of
+
+SECONDS = 20                # for one session
+PCMA = 8
+IDLE = 0xD5
+PACKET = 80                 # octets of a packet of 10 ms
+CIRCUITS = (1, 2, 3, 17, 30)
+WIDE = 30                   # the circuit that is sent a datagram of the most speech that is taken
+MOST = 1600                 # octets of speech in it
+
+CONFIG = '''law = "A"
+host = "{host}"
+'''
+CIRCUIT = '''
+[[circuit]]
+number = {number}
+ptime = 10
+prefill = 160
+ssrc = {number}
+local_port = {local}
+peer_host = "{peer_host}"
+peer_port = {peer}
+'''
+
+
+class Call:
+    """Circuits of one gateway in calls over UDP, each with its own peer, and the exchange of their trunk."""
+
+    def __init__(self, program, room, circuits, host, *options, peer_host=None):
+        self.host, self.circuits = host, circuits
+        self.held = contextlib.ExitStack()
+        self.peers = {c: self.socket(peer_host or host) for c in circuits}
+        self.locals = {c: free_port(host) for c in circuits}
+        path = os.path.join(room, 'wire.toml')
+        with open(path, 'w', encoding='ascii') as text:
+            text.write(CONFIG.format(host=host))
+            for c in circuits:
+                text.write(CIRCUIT.format(number=c, local=self.locals[c], peer_host=peer_host or host,
+                                          peer=self.peers[c].getsockname()[1]))
+        self.serve = Serve(program, path, '--totals', *options, stderr=subprocess.PIPE)
+        self.guard = threading.Timer(SECONDS, self.serve.process.kill)
+        self.guard.start()
+        self.exchange, self.octets = Exchange(), 0
+
+    def __enter__(self):
+        return self
+
+    def __exit__(self, *_):
+        self.guard.cancel()
+        self.serve.process.kill()
+        self.serve.process.wait()
+        self.serve.process.stdin.close()
+        self.serve.process.stdout.close()
+        self.serve.process.stderr.close()
+        self.held.close()
+
+    def socket(self, host, port=0):
+        """A socket at this address, which is closed with the call."""
+        return self.held.enter_context(bound(host, port))
+
+    def multiframes(self, count):
+        """So many multiframes of the trunk, each way. Each circuit hears its own octet."""
+        for _ in range(count):
+            for c in self.circuits:
+                self.exchange.speech[c] = bytearray([spoken(c)] * 16)
+            octets = self.exchange.multiframe()
+            self.octets += len(octets)
+            self.exchange.hear(self.serve.trunk(octets))
+
+    def up(self):
+        """Calls on all circuits, from seizure to speech. Yields what is wrong."""
+        self.multiframes(12)
+        for c in self.circuits:
+            if self.serve.command(c, 'seize') != 0:
+                yield f'circuit {c} is not idle'
+        self.exchange.pairs.update({c: ACKNOWLEDGED for c in self.circuits})
+        self.multiframes(24)
+        self.exchange.heard.clear()
+
+    def played(self, circuit):
+        """What the circuit played since the calls are up: the octets beside idle ones."""
+        return bytes(octet for octet in self.exchange.heard[circuit] if octet != IDLE)
+
+    def end(self, sent):
+        """Ends the session, in which so many packets were sent. Yields what is wrong with its end."""
+        wanted = (f'records {len(self.serve.given)}\noctets {self.octets}\ndatagrams {sent}\n'
+                  'dropped 0\nport_faults 0\n')
+        self.serve.process.stdin.close()
+        said = self.serve.process.stderr.read().decode(errors='replace')
+        status = self.serve.process.wait()
+        if (status, said) != (0, wanted):
+            yield f'status {status}, on standard error {said!r}, wanted {wanted!r}'
+
+
+def spoken(circuit):
+    """The octet that a circuit hears."""
+    return 0x20 + circuit
+
+
+def family_of(host):
+    """The family of an address."""
+    return socket.AF_INET6 if ':' in host else socket.AF_INET
+
+
+def bound(host, port=0):
+    """A socket at this address."""
+    found = socket.socket(family_of(host), socket.SOCK_DGRAM)
+    found.bind((host, port))
+    return found
+
+
+def free_port(host):
+    """A port of UDP at this address that nothing holds."""
+    with bound(host) as found:
+        return found.getsockname()[1]
+
+
+def has_ipv6():
+    """Whether this machine has the address ::1."""
+    try:
+        bound('::1').close()
+    except OSError:
+        return False
+    return True
+
+
+def speech(octet, length=PACKET, at=0):
+    """A datagram of speech of one call, whose first octet has this place in it."""
+    return struct.pack('>BBHII', 0x80, PCMA, 1 + at // PACKET, 1000 + at, 7) + bytes([octet]) * length
+
+
+def packets(peer):
+    """The datagrams that wait at a peer, each with its sender."""
+    peer.setblocking(False)
+    with contextlib.suppress(BlockingIOError):
+        while True:
+            yield peer.recvfrom(65536)
+
+
+def wrong_packets(call, circuit):
+    """What is wrong with what the peer of a circuit got, and how many they were."""
+    got = list(packets(call.peers[circuit]))
+    wrong = []
+    for number, (packet, sender) in enumerate(got):
+        head = struct.unpack('>BBHII', packet[:12])
+        if sender[:2] != (call.host, call.locals[circuit]):
+            wrong.append(f'peer of circuit {circuit}: a packet from {sender[:2]}')
+        elif (head[0], head[1], head[2], head[4]) != (0x80, PCMA, number, circuit):
+            wrong.append(f'peer of circuit {circuit}: packet {number} is {packet[:12].hex(" ")}')
+        elif packet[12:] != bytes([spoken(circuit)]) * PACKET:
+            wrong.append(f'peer of circuit {circuit}: other speech in packet {number}')
+    if len(got) < (160 + MOST) // PACKET:
+        wrong.append(f'peer of circuit {circuit}: {len(got)} packets')
+    return wrong[:1], len(got)
+
+
+def calls_apart(program, room, host):
+    """Five calls at once: each circuit plays what came at its own port, and sends to its own peer."""
+    with Call(program, room, CIRCUITS, host) as call:
+        yield from call.up()
+        length = {c: MOST if c == WIDE else PACKET for c in CIRCUITS}
+        with bound(host) as sender:
+            for c in CIRCUITS:
+                sender.sendto(speech(0x60 + c, length[c]), (host, call.locals[c]))
+        call.multiframes((160 + MOST) // 16 + 2)
+        for c in CIRCUITS:
+            if call.played(c) != bytes([0x60 + c]) * length[c]:
+                yield f'circuit {c} plays {call.played(c)[:8].hex(" ")} .., {len(call.played(c))} octets'
+        sent = 0
+        for c in CIRCUITS:
+            wrong, got = wrong_packets(call, c)
+            sent += got
+            yield from wrong
+        yield from call.end(sent)
+
+
+def only_at_its_host(program, room):
+    """A gateway at 127.0.0.2: a datagram to the same port of 127.0.0.1 does not come."""
+    with Call(program, room, (1,), '127.0.0.2', peer_host='127.0.0.1') as call:
+        yield from call.up()
+        with bound('127.0.0.1') as sender:
+            sender.sendto(speech(0x61), ('127.0.0.1', call.locals[1]))
+            sender.sendto(speech(0x62, at=PACKET), ('127.0.0.2', call.locals[1]))
+        call.multiframes(30)
+        if call.played(1) != b'\x62' * PACKET:
+            yield f'played {call.played(1).hex(" ")}'
+        yield from call.end(len(list(packets(call.peers[1]))))
+
+
+# Who is let in by each choice of --senders: the peer, its address at another port, another address.
+LET_IN = {None: 'pho', 'any': 'pho', 'host': 'ph', 'peer': 'p'}
+
+
+def let_in(program, room, senders, host, other):
+    """A call to whose port the peer, another port of its address and, where there is one, another address send."""
+    options = () if senders is None else ('--senders', senders)
+    with Call(program, room, (1,), host, *options) as call:
+        yield from call.up()
+        froms = {'p': call.peers[1], 'h': call.socket(host), 'o': call.socket(other) if other else None}
+        wanted = b''
+        for place, (who, sender) in enumerate(froms.items()):
+            if sender:
+                octet = 0x61 + place
+                sender.sendto(speech(octet, at=place * PACKET), (host, call.locals[1]))
+                wanted += bytes([octet]) * PACKET * (who in LET_IN[senders])
+        call.multiframes(40)
+        if call.played(1) != wanted:
+            yield f'played {sorted(set(call.played(1)))}, {len(call.played(1))} octets'
+        yield from call.end(len(list(packets(call.peers[1]))))
+
+
+def strangers_first(program, room, senders):
+    """Forty datagrams of a stranger wait before the peer's: it is played, and none of theirs is counted."""
+    with Call(program, room, (1,), '127.0.0.1', '--senders', senders) as call:
+        yield from call.up()
+        stranger = call.socket('127.0.0.9')
+        for _ in range(40):
+            stranger.sendto(speech(0x61), ('127.0.0.1', call.locals[1]))
+        call.peers[1].sendto(speech(0x62), ('127.0.0.1', call.locals[1]))
+        call.multiframes(30)
+        if call.played(1) != b'\x62' * PACKET:
+            yield f'played {sorted(set(call.played(1)))}, {len(call.played(1))} octets'
+        yield from call.end(len(list(packets(call.peers[1]))))
+
+
+def absent_peer(program, room, senders):
+    """A peer that is not there is no fault of a socket; once it is there, its datagrams are played."""
+    with Call(program, room, (1,), '127.0.0.1', '--senders', senders) as call:
+        port = call.peers[1].getsockname()[1]
+        call.peers[1].close()
+        yield from call.up()
+        call.multiframes(20)
+        peer = call.socket('127.0.0.1', port)
+        peer.sendto(speech(0x62), ('127.0.0.1', call.locals[1]))
+        call.multiframes(30)
+        if call.played(1) != b'\x62' * PACKET:
+            yield f'played {sorted(set(call.played(1)))}, {len(call.played(1))} octets'
+        numbers = [struct.unpack('>H', packet[2:4])[0] for packet, _ in packets(peer)]
+        if not numbers or numbers != list(range(numbers[0], numbers[0] + len(numbers))):
+            yield f'the peer got packets {numbers}'
+        yield from call.end(numbers[-1] + 1 if numbers else 0)
+
+
+BAD_KIND = b'\x58'
+TWO_FRAMES = bytes([0x54, 0, 0, 0x40]) + bytes([IDLE]) * 64
+# What ends a session whose descriptor is closed: what it is given, its line on standard error, its status.
+SHUT = {0: (b'', b'fault 5 Read\n', 1), 1: (TWO_FRAMES, b'fault 6 Write\n', 1), 2: (BAD_KIND, b'', 1)}
+
+
+def one_circuit(room, peer):
+    """A configuration of one circuit with a free port and this peer: its path, and the port."""
+    path, port = os.path.join(room, 'wire.toml'), free_port('127.0.0.1')
+    with open(path, 'w', encoding='ascii') as text:
+        text.write(CONFIG.format(host='127.0.0.1')
+                   + CIRCUIT.format(number=1, local=port, peer_host='127.0.0.1', peer=peer.getsockname()[1]))
+    return path, port
+
+
+def run_shut(program, path, shut, *options):
+    """Runs serve with a descriptor closed; yields what is wrong with what it writes."""
+    given, said, status = SHUT[shut]
+    done = subprocess.run([program, 'serve', '--config', path, *options], input=given, capture_output=True,
+                          preexec_fn=lambda: os.close(shut), timeout=SECONDS, check=False)
+    if (done.stdout, done.stderr, done.returncode) != (b'', said, status):
+        yield f'status {done.returncode}, {done.stderr!r}, wrote {done.stdout[:40].hex(" ")}'
+
+
+def nothing_to_the_peer(program, room, shut):
+    """A socket that is connected to its peer takes no closed descriptor's place: nothing is written to it."""
+    with bound('127.0.0.1') as peer:
+        path, _ = one_circuit(room, peer)
+        yield from run_shut(program, path, shut, '--senders', 'peer')
+        for packet, _ in packets(peer):
+            yield f'the peer got {packet[:40]!r}'
+
+
+def nothing_from_a_stranger(program, room):
+    """Standard input is closed while datagrams that spell a record come to a circuit's port: none is read as one."""
+    with bound('127.0.0.1') as peer:
+        path, port = one_circuit(room, peer)
+        ended = threading.Event()
+        flood = threading.Thread(target=send_records, args=(port, ended))
+        flood.start()
+        try:
+            for _ in range(20):
+                yield from run_shut(program, path, 0)
+        finally:
+            ended.set()
+            flood.join()
+
+
+def send_records(port, ended):
+    """Sends datagrams that spell a record of the trunk to a port of this machine, until it is ended."""
+    with bound('127.0.0.1') as sender:
+        while not ended.is_set():
+            with contextlib.suppress(OSError):
+                sender.sendto(TWO_FRAMES, ('127.0.0.1', port))
+
+
+def config_in_pieces(program, room):
+    """A configuration comes through a FIFO in two pieces: both are read."""
+    path = os.path.join(room, 'pieces')
+    os.mkfifo(path)
+    started = subprocess.Popen([program, 'check', '--config', path], stdin=subprocess.DEVNULL, stdout=subprocess.PIPE,
+                               stderr=subprocess.STDOUT)
+    guard = threading.Timer(SECONDS, started.kill)
+    guard.start()
+    # the first piece is read before the second one is written
+    with open(path, 'wb', buffering=0) as pieces:
+        pieces.write(b'law = "A"\n')
+        guard.join(0.1)
+        pieces.write(b'[[circuit]]\nnumber = 30\nrole = "incoming"\n')
+    lines = started.communicate()[0].splitlines()
+    guard.cancel()
+    os.unlink(path)
+    if len(lines) != 30 or not lines[29].startswith(b'30 incoming '):
+        yield f'status {started.returncode}, {lines[-1:]}'
+
+
+def wire_looks():
+    """The looks: a name, and what yields what is wrong, given the program and a folder to work in."""
+    families = [('IPv4', '127.0.0.1', '127.0.0.9')]
+    if has_ipv6():
+        families.append(('IPv6', '::1', None))
+    else:
+        print('not looked at: IPv6, for which this machine has no address')
+    for name, host, other in families:
+        yield f'five calls over {name}', lambda p, r, h=host: calls_apart(p, r, h)
+        for senders in LET_IN:
+            yield (f'senders over {name}: {senders or "none named"}',
+                   lambda p, r, s=senders, h=host, o=other: let_in(p, r, s, h, o))
+    yield 'a datagram at another address', only_at_its_host
+    for senders in ('host', 'peer'):
+        yield f'strangers before the peer: {senders}', lambda p, r, s=senders: strangers_first(p, r, s)
+    for senders in ('any', 'peer'):
+        yield f'a peer that is not there: {senders}', lambda p, r, s=senders: absent_peer(p, r, s)
+    for shut in SHUT:
+        yield f'serve with descriptor {shut} closed', lambda p, r, s=shut: nothing_to_the_peer(p, r, s)
+    yield 'serve with descriptor 0 closed, in a flood of records', nothing_from_a_stranger
+    yield 'a configuration in pieces', config_in_pieces
