@@ -116,6 +116,20 @@ wrong_before-early c k h = rw (is_wrong-early c (k - 64) (omega arith)) refl
 third-early : (c : List ℕ) (k : ℕ) → k ≤ 64 → is_third_wrong c k ≡ false
 third-early c k h = and_left _ _ (is_wrong-early c k h)
 
+-- three octets that confirm one another begin an alignment, with no wrong one
+pub alignment-found : (c : List ℕ) → length c ≡ 65 → is_fas (get_or c 0 0) ≡ true → is_nfas (get_or c 32 0) ≡ true
+    → is_fas (get_or c 64 0) ≡ true → IsAlignment 1 0 0 c
+alignment-found c l f n g = record {
+  counted = rw l refl;
+  found = omega arith;
+  fas = f;
+  nfas = n;
+  confirmed = g;
+  kept = λ k lt. third-early c k (omega arith);
+  fas_count = λ k ge lt e. wrong_before-early c k (omega arith);
+  nfas_count = λ k ge lt e. wrong_before-early c k (omega arith);
+}
+
 -- and one that is confirmed
 pub candidate-found : (c : List ℕ) (x age : ℕ) → IsCandidate age c → is_refuted age x ≡ false → 64 ≤ age
     → IsAlignment 1 0 0 (c ++ x ∷ [])
@@ -123,16 +137,9 @@ candidate-found c x age h kept le =
     let n : length c ≡ 64 = (let a = h.counted in let y = h.young in omega arith) in
     let l : length (c ++ x ∷ []) ≡ 65 = omega (arith, length_push c x) in
     let y = h.young in
-    record {
-      counted = rw l refl;
-      found = omega arith;
-      fas = rw (push_at c x 0 (omega arith)) h.fas;
-      nfas = rw (push_at c x 32 (omega arith)) (h.nfas (omega arith));
-      confirmed = rw (get_or_push c x 0 64 n) (right_at_64 x age kept (omega arith));
-      kept = λ k lt. third-early (c ++ x ∷ []) k (omega arith);
-      fas_count = λ k ge lt e. wrong_before-early (c ++ x ∷ []) k (omega arith);
-      nfas_count = λ k ge lt e. wrong_before-early (c ++ x ∷ []) k (omega arith);
-    }
+    alignment-found (c ++ x ∷ []) l (rw (push_at c x 0 (omega arith)) h.fas)
+    (rw (push_at c x 32 (omega arith)) (h.nfas (omega arith)))
+    (rw (get_or_push c x 0 64 n) (right_at_64 x age kept (omega arith)))
 
 -- a count of wrong octets, past an octet that is none of its kind
 counts-other : (c : List ℕ) (x rest count : ℕ) → 0 < length c → CountsWrong rest count c → length c % 64 ≢ rest
@@ -270,9 +277,12 @@ module _ (c : List ℕ) (x age ws wd : ℕ) (h : IsAlignment age ws wd c) where
       alignment-more n wd r.1 r.0 (counts-other c x 32 wd begun h.nfas_count (not_at_rest 32 (omega arith)))
 
   -- which may be the third wrong one
+  pub fas-third : age ≡ 0 → None ≡ count_after ws (is_fas x) → is_third_wrong (c ++ x ∷ []) (length c) ≡ true
+  fas-third e counted = count-lost c x 0 ws h.found h.fas_count (at_rest 0 e) (is_fas x) (wrong-fas e) counted
+
+  -- and then all begins anew
   pub fas-lost : (b : Option ℕ) → age ≡ 0 → None ≡ count_after ws (is_fas x) → IsOver frame_alignment b (c ++ x ∷ [])
-  fas-lost b e counted =
-      lost_by b (count-lost c x 0 ws h.found h.fas_count (at_rest 0 e) (is_fas x) (wrong-fas e) counted)
+  fas-lost b e counted = lost_by b (fas-third e counted)
 
   -- of an odd frame
   pub nfas-more : (n : ℕ) → age ≡ 32 → Some n ≡ count_after wd (is_nfas x)
@@ -282,9 +292,12 @@ module _ (c : List ℕ) (x age ws wd : ℕ) (h : IsAlignment age ws wd c) where
       alignment-more ws n r.1 (counts-other c x 0 ws begun h.fas_count (not_at_rest 0 (omega arith))) r.0
 
   -- which may be the third wrong one
+  pub nfas-third : age ≡ 32 → None ≡ count_after wd (is_nfas x) → is_third_wrong (c ++ x ∷ []) (length c) ≡ true
+  nfas-third e counted = count-lost c x 32 wd h.found h.nfas_count (at_rest 32 e) (is_nfas x) (wrong-nfas e) counted
+
+  -- and then all begins anew
   pub nfas-lost : (b : Option ℕ) → age ≡ 32 → None ≡ count_after wd (is_nfas x) → IsOver frame_alignment b (c ++ x ∷ [])
-  nfas-lost b e counted =
-      lost_by b (count-lost c x 32 wd h.found h.nfas_count (at_rest 32 e) (is_nfas x) (wrong-nfas e) counted)
+  nfas-lost b e counted = lost_by b (nfas-third e counted)
 
   -- of another slot
   pub other-more : age ≢ 0 → age ≢ 32 → IsAlignment ((age + 1) % 64) ws wd (c ++ x ∷ [])

@@ -142,17 +142,20 @@ impl Aligner {
     }
 }
 
-// Whether the octet is right as a FAS octet.
+/// Whether the octet is right as a FAS octet: its last seven bits are the frame alignment signal (ITU-T
+/// G.704, 2.3.2).
+#[inline]
 #[tactic(auto, unfolding(crate::specs::Search::is_fas))]
-fn is_fas(octet: u8) -> bool
+pub fn is_fas(octet: u8) -> bool
     ensures { result ≡ is_fas octet }
 {
     octet & SIGNAL_BITS == SIGNAL
 }
 
-// Whether the octet is right as an NFAS octet.
+/// Whether the octet is right as an NFAS octet: its bit 2 is set (ITU-T G.704, 2.3.2).
+#[inline]
 #[tactic(auto, unfolding(crate::specs::Search::is_nfas))]
-fn is_nfas(octet: u8) -> bool
+pub fn is_nfas(octet: u8) -> bool
     ensures { result ≡ is_nfas octet }
 {
     octet & BIT_2 != 0
@@ -260,8 +263,10 @@ fn slot_at(age: u8) -> Place
     }
 }
 
-// The count of wrong octets in a row after one more octet of its kind; `None` where alignment is lost by it.
-fn count_after(count: u8, right: bool) -> Option<u8>
+/// The count of wrong octets in a row after one more octet of its kind, right or wrong; `None` where
+/// alignment is lost by it (ITU-T G.706, 4.1.1).
+#[inline]
+pub fn count_after(count: u8, right: bool) -> Option<u8>
     ensures { result ≡ count_after count right }
 {
     if right {

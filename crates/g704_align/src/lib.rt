@@ -4,4 +4,4 @@
 mod alignment;
 pub mod laws;
 
-pub use alignment::{Aligner, Place};
+pub use alignment::{Aligner, Place, count_after, is_fas, is_nfas};

@@ -1,11 +1,14 @@
-//! The worked figures of the laws, of G.726, of frame and multiframe alignment, of line signalling and of
-//! RTP: the tests of the crates below `gw_circuit`, in one crate, since a crate with tests is proved twice.
+//! The worked figures of the laws, of G.726, of frame and multiframe alignment, of line signalling, of RTP
+//! and of SAToP: the tests of the crates below `gw_circuit`, in one crate, since a crate with tests is proved
+//! twice.
 #![tactic(auto)]
 
 #[cfg(test)]
 mod e1_g711_tests;
 #[cfg(test)]
 mod g704_align_tests;
+#[cfg(test)]
+mod g704_bits_tests;
 #[cfg(test)]
 mod g704_cas_tests;
 #[cfg(test)]
@@ -24,3 +27,5 @@ mod rtp_pack_tests;
 mod rtp_packet_tests;
 #[cfg(test)]
 mod rtp_playout_tests;
+#[cfg(test)]
+mod satop_packet_tests;

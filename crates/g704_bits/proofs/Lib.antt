@@ -1,0 +1,9 @@
+pub mod Eighths
+pub mod Framing
+pub mod Steps
+pub mod Spans
+pub mod Hunts
+pub mod Standing
+pub mod Windows
+pub mod Octets
+pub mod Rows

@@ -1,0 +1,68 @@
+-- What the fields of an aligner say of the windows that it was given.
+use Rattle.std.specs.Prelude.{◌≡◌, ℕ, ◌+◌, ◌%◌, ◌<◌, ◌≤◌, Bool, true, false, ◌&&◌, nat_lt, nat_le}
+use Rattle.std.specs.Prelude.{if◌then◌else◌}
+use Rattle.std.specs.Prelude.{List, [], ◌∷◌, ◌++◌, length, slice_index}
+use Rattle.g704_framing.specs.Restart.{HoldsSince}
+use Rattle.g704_bits.specs.declared.aligner.Aligner.{Aligner}
+use Rattle.g704_bits.specs.declared.aligner.Phase.{Phase}
+use Rattle.g704_bits.specs.declared.aligner.Phase.TheVariants.{Hunting, Aligned}
+use Rattle.g704_align.specs.Search.{is_fas, is_nfas}
+use Rattle.g704_align.specs.Aligner as frames
+use Rattle.g704_bits.specs.Search.{is_confirmed}
+use Rattle.g704_bits.specs.Loss.{octets_of, is_lost_at, bit_alignment}
+use Rattle.g704_bits.specs.Bits.{offset_after}
+
+-- No window is confirmed yet; the count and the memory are those of these windows.
+pub record IsHunting (seen : ℕ) (memory windows : List ℕ) : Type 0 where
+  pub limit : seen < 1024
+  pub rest : seen % 512 ≡ length windows % 512
+  pub few : seen < 512 → length windows < 512
+  pub many : 512 ≤ seen → 512 ≤ length windows
+  pub room : length memory ≡ 512
+  pub kept : (position : ℕ) → position < length windows → length windows ≤ position + 512
+      → slice_index memory (position % 512) ≡ slice_index windows position
+  pub none : (position : ℕ) → is_confirmed windows position ≡ false
+
+-- the count after one window more
+abbrev pub next_seen : ℕ → ℕ
+next_seen seen = if nat_lt seen 1023 then seen + 1 else 512
+
+-- by the count and the memory: the window is the third of three that confirm one another
+abbrev pub confirms : ℕ → List ℕ → ℕ → Bool
+confirms seen memory window =
+    nat_le 512 seen
+    && (is_fas (slice_index memory (seen % 512))
+    && (is_nfas (slice_index memory ((seen + 256) % 512)) && is_fas window))
+
+-- The windows are an alignment that stands, the one of its first signal first: its octets are one.
+pub record IsAlignment (age wrong_fas wrong_nfas : ℕ) (windows : List ℕ) : Type 0 where
+  pub counted : age ≡ length windows % 512
+  pub found : 512 < length windows
+  pub octets : frames.IsAlignment (length (octets_of windows) % 64) wrong_fas wrong_nfas (octets_of windows)
+
+-- The alignment behind windows of which none is confirmed.
+pub record IsAligned (age wrong_fas wrong_nfas : ℕ) (windows : List ℕ) : Type 0 where
+  pub skipped : List ℕ
+  pub aligned : List ℕ
+  pub whole : windows ≡ skipped ++ aligned
+  pub none : (position : ℕ) → position < length skipped → is_confirmed windows position ≡ false
+  pub fields : IsAlignment age wrong_fas wrong_nfas aligned
+
+-- what the phase, and the memory where it hunts, say of the windows since all began anew
+abbrev pub Describes : Phase → List ℕ → List ℕ → Type 0
+Describes (Hunting seen) memory windows = IsHunting seen memory windows
+Describes (Aligned age wrong_fas wrong_nfas) memory windows = IsAligned age wrong_fas wrong_nfas windows
+
+-- the phase is that of the alignment with one window more, or the search after it is lost by that window
+abbrev pub FollowsAlignment : Phase → List ℕ → ℕ → Type 0
+FollowsAlignment (Hunting seen) windows window =
+    (seen ≡ 0) × (is_lost_at (windows ++ window ∷ []) (length windows) ≡ true)
+FollowsAlignment (Aligned age wrong_fas wrong_nfas) windows window =
+    IsAlignment age wrong_fas wrong_nfas (windows ++ window ∷ [])
+
+-- The aligner stands after these windows.
+pub record Stands (aligner : Aligner) (history : List ℕ) : Type 0 where
+  pub since : HoldsSince bit_alignment
+      (λ before windows. Describes aligner.phase aligner.memory windows) history
+  pub offset : aligner.offset ≡ offset_after history
+  pub room : length aligner.memory ≡ 512

@@ -1,0 +1,30 @@
+-- Losing frame alignment in a stream of bits, and the alignments of its windows.
+use Rattle.std.specs.Prelude.{ℕ, zero, suc, ◌/◌, ◌%◌, Bool, ◌&&◌, ◌==◌, List, [], ◌∷◌}
+use Rattle.g704_framing.specs.Alignment.{Framing}
+use Rattle.g704_align.specs.Loss.{is_third_wrong}
+use Rattle.g704_bits.specs.Search.{search}
+
+-- each eighth of these windows, from the one behind so many on
+unfoldable pub eighths_after : ℕ → List ℕ → List ℕ
+eighths_after skipped [] = []
+eighths_after zero (window ∷ windows) = window ∷ eighths_after 7 windows
+eighths_after (suc skipped) (window ∷ windows) = eighths_after skipped windows
+
+-- the octets of an alignment, of whose windows the first has the signal
+abbrev pub octets_of : List ℕ → List ℕ
+octets_of windows = eighths_after 0 windows
+
+-- of the windows of an alignment, its first one first: the one of this age is an octet by which frame
+-- alignment is lost, the third wrong one of its kind in a row
+unfoldable pub is_lost_at : List ℕ → ℕ → Bool
+is_lost_at windows age = (age % 8 == 0) && is_third_wrong (octets_of windows) (age / 8)
+
+-- Frame alignment in the windows of a stream: found by the third window of a search, 512 bits after the
+-- first, and kept and lost by its octets, as frame alignment in a stream of octets is.
+abbrev pub bit_alignment : Framing
+bit_alignment = record {
+  search = λ before windows from. search windows from;
+  found_at = 512;
+  period = 256;
+  is_lost = is_lost_at;
+}

@@ -1,0 +1,160 @@
+//! The aligner: one small machine, moved on by each window, which is the octet that ends at a bit.
+
+ghost use Rattle.std.specs.Prelude.{◌≡◌, ◌+◌, ◌%◌, ◌<◌, ◌≤◌, ◌&&◌, ℕ, nat_le, List, Option, [], ◌∷◌, ◌++◌};
+ghost use Rattle.std.specs.Prelude.{length, slice_index};
+ghost use Rattle.g704_bits.specs.Aligner.{Stands, IsAlignment, FollowsAlignment, confirms, next_seen};
+
+use g704_align::{count_after, is_fas, is_nfas};
+
+const FRAME: u16 = 256;
+
+const TWO_FRAMES: u16 = 512;
+
+// The last of the counts of windows seen: it goes on with two frames, so that it tells their remainder.
+const LAST_SEEN: u16 = 1023;
+
+// The bit of its octet, 0 to 7, at which windows end that are the octets as they come.
+const UNMOVED: u8 = 7;
+
+// How far alignment has come.
+#[derive(Clone, Copy, Debug, PartialEq, Eq)]
+pub(crate) enum Phase {
+    // Looked for, since so many windows: counted up to two frames, and from there modulo two frames.
+    Hunting {
+        seen: u16,
+    },
+    // Alignment stands. The age counts the windows from the first signal on, modulo two frames; the counts
+    // are those of wrong signals in a row.
+    Aligned {
+        age: u16,
+        wrong_fas: u8,
+        wrong_nfas: u8,
+    },
+}
+
+// Finds frame alignment in a stream of bits, given the window that ends at each.
+#[derive(Debug, Drop)]
+pub(crate) struct Aligner {
+    phase: Phase,
+    // At which bit of an octet the last alignment that was found has its windows.
+    offset: u8,
+    // While alignment is looked for: the last windows of two frames, each at its number modulo two frames.
+    memory: [u8; 512],
+}
+
+impl Aligner {
+    // An aligner that has seen no window.
+    pub(crate) fn new() -> Self
+        ensures { Stands result [] }
+    {
+        Aligner {
+            phase: Phase::Hunting { seen: 0 },
+            offset: UNMOVED,
+            memory: [0; 512],
+        }
+    }
+
+    // The bit of an octet, 0 to 7, at which the windows of the last alignment end.
+    pub(crate) fn offset(&self) -> u8
+        ensures { result ≡ self.now.offset }
+    {
+        self.offset
+    }
+
+    // Takes the window that ends at the next bit, which is this one of its octet.
+    pub(crate) fn window(&mut self, window: u8, bit: u8)
+        ensures stands { (history : List ℕ) → Stands self.old history → bit ≡ length history % 8
+            → Stands self.new (history ++ window ∷ []) }
+    {
+        match self.phase {
+            Phase::Hunting { seen } => self.hunt(seen, window, bit),
+            Phase::Aligned {
+                age,
+                wrong_fas,
+                wrong_nfas,
+            } => self.phase = after_aligned(age, wrong_fas, wrong_nfas, window),
+        }
+    }
+
+    // Takes a window while alignment is looked for.
+    fn hunt(&mut self, seen: u16, window: u8, bit: u8)
+        requires { self.old.phase ≡ Phase.Hunting seen }
+        ensures stands { (history : List ℕ) → Stands self.old history → bit ≡ length history % 8
+            → Stands self.new (history ++ window ∷ []) }
+    {
+        if self.confirms(seen, window) {
+            self.offset = bit;
+            self.phase = Phase::Aligned {
+                age: 1,
+                wrong_fas: 0,
+                wrong_nfas: 0,
+            };
+        } else {
+            self.memory[usize::from(seen % TWO_FRAMES)] = window;
+            self.phase = Phase::Hunting {
+                seen: next_seen(seen),
+            };
+        }
+    }
+
+    // Whether the window confirms the one two frames before it, as the one a frame before it does.
+    fn confirms(&self, seen: u16, window: u8) -> bool
+        ensures { result ≡ confirms seen self.now.memory window }
+    {
+        seen >= TWO_FRAMES
+            && is_fas(self.memory[usize::from(seen % TWO_FRAMES)])
+            && is_nfas(self.memory[usize::from(seen.wrapping_add(FRAME) % TWO_FRAMES)])
+            && is_fas(window)
+    }
+}
+
+// The count of the windows seen after one more.
+fn next_seen(seen: u16) -> u16
+    ensures { result ≡ next_seen seen }
+{
+    if seen < LAST_SEEN {
+        seen + 1
+    } else {
+        TWO_FRAMES
+    }
+}
+
+// The phase after a window in an alignment.
+fn after_aligned(age: u16, wrong_fas: u8, wrong_nfas: u8, window: u8) -> Phase
+    ensures { (windows : List ℕ) → IsAlignment age wrong_fas wrong_nfas windows
+        → FollowsAlignment result windows window }
+{
+    let next = next_age(age);
+    if age == 0 {
+        match count_after(wrong_fas, is_fas(window)) {
+            Some(wrong_fas) => Phase::Aligned {
+                age: next,
+                wrong_fas,
+                wrong_nfas,
+            },
+            None => Phase::Hunting { seen: 0 },
+        }
+    } else if age == FRAME {
+        match count_after(wrong_nfas, is_nfas(window)) {
+            Some(wrong_nfas) => Phase::Aligned {
+                age: next,
+                wrong_fas,
+                wrong_nfas,
+            },
+            None => Phase::Hunting { seen: 0 },
+        }
+    } else {
+        Phase::Aligned {
+            age: next,
+            wrong_fas,
+            wrong_nfas,
+        }
+    }
+}
+
+// The age of the next window, counted modulo two frames.
+fn next_age(age: u16) -> u16
+    ensures { age < 512 → result ≡ (age + 1) % 512 }
+{
+    age.wrapping_add(1) % TWO_FRAMES
+}

@@ -1,0 +1,65 @@
+//! Octets as they come, and the octets of the aligned stream, one for one.
+
+ghost use Rattle.std.specs.Prelude.{◌≡◌, ◌+◌, ◌<◌, ℕ, List, [], ◌∷◌, ◌++◌};
+ghost use Rattle.g704_bits.specs.Bits.{aligned_octet, window_at};
+ghost use Rattle.g704_bits.specs.Standing.{StandsAfter};
+
+use crate::aligner::Aligner;
+
+// The line before the first octet: ones, in which there is no signal.
+const BEFORE: u8 = 0xFF;
+
+/// Turns a stream of octets whose bits are not aligned to time slots into the octets of the time slots, one
+/// for one. Each is the eight bits that end at the offset of the last alignment found, in the octet and the
+/// one before it, and is so delayed by none to seven bits.
+///
+/// Before the first alignment octets pass as they come. While alignment is lost they pass at the offset that
+/// was the last.
+///
+/// ```text
+/// let mut aligner = BitAligner::new();
+/// // the far end's octets three bits late: once FAS, NFAS and FAS have come, 32 octets apart, ..
+/// for octet in first_66 { aligner.octet(octet); }
+/// aligner.octet(octet)      // .. its own octet, for each that comes
+/// ```
+#[derive(Debug, Drop)]
+pub struct BitAligner {
+    aligner: Aligner,
+    // The octet that came last.
+    before: u8,
+}
+
+impl BitAligner {
+    /// An aligner that has seen no octet.
+    pub fn new() -> Self
+        ensures { StandsAfter result [] }
+    {
+        BitAligner {
+            aligner: Aligner::new(),
+            before: BEFORE,
+        }
+    }
+
+    /// Takes the next octet of the stream and returns the next one of the aligned stream.
+    pub fn octet(&mut self, octet: u8) -> u8
+        ensures reply { (history : List ℕ) → StandsAfter self.old history
+            → result ≡ aligned_octet (history ++ octet ∷ []) }
+        ensures stands { (history : List ℕ) → StandsAfter self.old history
+            → StandsAfter self.new (history ++ octet ∷ []) }
+    {
+        let before = self.before;
+        self.before = octet;
+        for bit in 0..8u8 {
+            self.aligner.window(window_at(before, octet, bit), bit);
+        }
+        window_at(before, octet, self.aligner.offset())
+    }
+}
+
+// The window that ends at this bit of the second of two octets.
+fn window_at(before: u8, octet: u8, bit: u8) -> u8
+    ensures { bit < 8 → result ≡ window_at before octet bit }
+{
+    let pair = 256 * u16::from(before) + u16::from(octet);
+    ((pair >> (7 - bit.min(7))) % 256) as u8
+}

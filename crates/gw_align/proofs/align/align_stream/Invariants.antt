@@ -1,0 +1,15 @@
+use Rattle.std.proofs.Common.{◌≡◌, ◌+◌, ◌≤◌, List, ℕ, length}
+use Rattle.gw_records.specs.Outcome.{at_most}
+use Rattle.gw_align.proofs.Stages.{Stage}
+use Rattle.gw_align.proofs.align.align_stream.Given as goal
+
+-- the octets for all that was read are written
+abbrev pub invariant-reading : goal.invariant-reading
+invariant-reading g l = (given : List ℕ) × record {
+  stage : Stage (g.S.Source.tells l.initial.source) (g.S.Source.tells l.source)
+      (g.K.Sink.tells l.initial.sink) (g.K.Sink.tells l.sink) l.aligner given;
+  counted : l.octets ≡ at_most (length given);
+  room : length l.buffer ≡ 32768;
+  turns : l.turn ≤ length given;
+  calls : (g.S.Source.tells l.source).reads ≡ (g.S.Source.tells l.initial.source).reads + l.turn;
+}

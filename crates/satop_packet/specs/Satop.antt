@@ -1,0 +1,50 @@
+-- A packet of SAToP by its parts (RFC 4553; over UDP the RTP header, if any, stands before the control word).
+use Rattle.std.specs.Prelude.{◌≡◌, ◌+◌, ◌<◌, ◌^◌, ℕ, Bool, if◌then◌else◌, nat_lt}
+use Rattle.std.specs.Prelude.{List, [], ◌∷◌, ◌++◌, length}
+use Rattle.byteorder.specs.Endian.{big_bytes}
+use Rattle.satop_packet.specs.declared.Control.{Control}
+
+-- what a packet carries: the octets of a fixed RTP header or none, the control word, the octets of the trunk
+pub record Parts : Type 0 where
+  pub rtp : List ℕ
+  pub control : Control
+  pub payload : List ℕ
+
+-- the value of a flag that stands in this place of an octet
+abbrev pub flag : Bool → ℕ → ℕ
+flag b place = if b then place else 0
+
+-- the four octets of the control word: four zero bits, L, R and two reserved bits; FRG 0 and LEN; the
+-- sequence number
+abbrev pub control_word : Control → ℕ → ℕ → List ℕ
+control_word c reserved len =
+    (flag c.lost 8 + flag c.remote 4 + reserved) ∷ len ∷ big_bytes 2 c.sequence
+
+-- twelve octets of a fixed RTP header, with no padding, extension or sources, or none (RFC 3550, 5.1)
+abbrev pub IsRtp : List ℕ → Type 0
+IsRtp [] = Unit {0}
+IsRtp (first ∷ octets) = (first ≡ 128) × (length (first ∷ octets) ≡ 12)
+
+-- where there is to be one, it is there
+abbrev pub rtp_len : Bool → ℕ
+rtp_len rtp = if rtp then 12 else 0
+
+-- the octets are the join of these parts: the RTP header where there is to be one, the control word and the
+-- payload; LEN is 0 or the number of all octets
+pub record IsPacket (octets : List ℕ) (rtp : Bool) (p : Parts) (reserved len : ℕ) : Type 0 where
+  pub joined : octets ≡ p.rtp ++ (control_word p.control reserved len ++ p.payload)
+  pub header : IsRtp p.rtp
+  pub there : length p.rtp ≡ rtp_len rtp
+  pub sequence : p.control.sequence < 2 ^ 16
+  pub reserved_fits : reserved < 4
+  pub len_fits : len < 64
+  pub counted : (len ≡ 0 → ⊥) → len ≡ length octets
+
+-- LEN of a packet of so many octets, as it is written: their number where it is below 64
+abbrev pub length_said : ℕ → ℕ
+length_said size = if nat_lt size 64 then size else 0
+
+-- the octets of a packet as it is written: the reserved bits are zero
+unfoldable pub plain_packet : List ℕ → Control → List ℕ → List ℕ
+plain_packet rtp control payload =
+    rtp ++ (control_word control 0 (length_said (length rtp + 4 + length payload)) ++ payload)

@@ -1,0 +1,77 @@
+//! Packets of SAToP, which carry a trunk as bits over UDP (RFC 4553), written and read in place.
+#![tactic(auto)]
+
+mod fields;
+pub mod laws;
+mod reading;
+mod view;
+mod writing;
+
+ghost use Rattle.std.specs.Prelude.{◌≡◌};
+ghost use Rattle.satop_packet.specs.Fault.{fault_number};
+
+pub use reading::parse;
+use thiserror::Error;
+pub use view::SatopView;
+pub use writing::write;
+
+/// The octets of a fixed RTP header, which may stand before the control word.
+pub const RTP_LEN: usize = 12;
+
+/// The octets of the control word.
+pub const CONTROL_LEN: usize = 4;
+
+/// The most octets of payload that `write` takes: 40 frames of an E1, 5 ms.
+pub const MAX_PAYLOAD: usize = 1280;
+
+/// What the control word says.
+#[derive(Clone, Copy, Debug, PartialEq, Eq)]
+pub struct Control {
+    /// L: the payload is not valid, the far end's line is down.
+    pub lost: bool,
+    /// R: the far end misses packets.
+    pub remote: bool,
+    /// Counts the packets, modulo 2^16.
+    pub sequence: u16,
+}
+
+/// Why octets are no packet. Where more than one holds, the first of this list is told.
+#[derive(Clone, Copy, Debug, PartialEq, Eq, Error)]
+pub enum SatopFault {
+    /// 1: there are fewer octets than the control word has, and the RTP header where there is to be one.
+    #[error("fewer octets than the headers")]
+    Short,
+    /// 2: there is to be a fixed RTP header, and the first octet is not that of one: version 2, without
+    /// padding, extension and sources.
+    #[error("no fixed RTP header")]
+    NoRtp,
+    /// 3: the control word does not begin with four zero bits.
+    #[error("no control word")]
+    NoControl,
+    /// 4: FRG is not 0: the packet is a fragment.
+    #[error("a fragment")]
+    Fragment,
+    /// 5: LEN is neither 0 nor the number of all octets.
+    #[error("another length")]
+    OtherLength,
+}
+
+impl SatopFault {
+    /// The number of the fault, from 1 to 5, in the order in which they are told.
+    pub fn number(self) -> u8
+        ensures { result ≡ fault_number self }
+    {
+        match self {
+            SatopFault::Short => 1,
+            SatopFault::NoRtp => 2,
+            SatopFault::NoControl => 3,
+            SatopFault::Fragment => 4,
+            SatopFault::OtherLength => 5,
+        }
+    }
+}
+
+/// The payload has more than 1280 octets.
+#[derive(Clone, Copy, Debug, PartialEq, Eq, Error)]
+#[error("the payload is too long")]
+pub struct TooLong;

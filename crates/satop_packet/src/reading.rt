@@ -1,0 +1,62 @@
+//! Octets are read as a packet.
+
+ghost use Rattle.std.specs.Prelude.{◌≡◌, ◌+◌, ◌≤◌, None, Some, IfOk, IsOkAnd, MatchResult};
+ghost use Rattle.satop_packet.specs.Satop.{Parts};
+ghost use Rattle.satop_packet.specs.Fault.{fault};
+ghost use Rattle.satop_packet.specs.Laws.{IsPacketOf};
+ghost use Rattle.satop_packet.specs.Read.{read_of};
+
+use crate::fields::{control_in, start_of};
+use crate::{CONTROL_LEN, SatopFault, SatopView};
+
+// The first octet of a fixed RTP header: version 2, with no padding, extension or sources.
+const FIXED_RTP: u8 = 0x80;
+
+/// Reads a packet in place, behind a fixed RTP header where `rtp` says so: the view shows its parts. The two
+/// reserved bits are passed over.
+///
+/// # Errors
+///
+/// The first fault of the octets, where they are no packet.
+pub fn parse(octets: &[u8], rtp: bool) -> Result<SatopView<'_>, SatopFault>
+    ensures ok { IfOk result (λ parts. IsPacketOf rtp parts octets.now) }
+    ensures exact { (parts : Parts) → IsPacketOf rtp parts octets.now
+        → IsOkAnd result (λ view. view ≡ parts) }
+    ensures fault { MatchResult result
+        (λ _. fault rtp octets.now ≡ None) (λ f. fault rtp octets.now ≡ Some f) }
+
+    // the three above in one equation, for a caller that cites no more
+    ensures read { result ≡ read_of rtp octets.now }
+{
+    view_in(octets, rtp)
+}
+
+// The parts, or the first fault.
+#[tactic(auto, unfolding(crate::specs::Read::read_of, crate::specs::Read::parts_of))]
+fn view_in(octets: &[u8], rtp: bool) -> Result<SatopView<'_>, SatopFault>
+    ensures { result ≡ read_of rtp octets.now }
+{
+    let start = start_of(rtp);
+    let end = start + CONTROL_LEN;
+    if octets.len() < end {
+        return Err(SatopFault::Short);
+    }
+    if rtp && octets[0] != FIXED_RTP {
+        return Err(SatopFault::NoRtp);
+    }
+    if octets[start] / 16 != 0 {
+        return Err(SatopFault::NoControl);
+    }
+    if octets[start + 1] / 64 != 0 {
+        return Err(SatopFault::Fragment);
+    }
+    let len = usize::from(octets[start + 1] % 64);
+    if len != 0 && len != octets.len() {
+        return Err(SatopFault::OtherLength);
+    }
+    Ok(SatopView {
+        rtp: &octets[..start],
+        control: control_in(octets, start),
+        payload: &octets[end..],
+    })
+}

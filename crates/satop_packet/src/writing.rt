@@ -1,0 +1,65 @@
+//! A packet is written.
+
+ghost use Rattle.std.specs.Prelude.{◌≡◌, ◌<◌, ◌↔◌, length, IsErr, OnOk, OnErr};
+ghost use Rattle.satop_packet.specs.Satop.{IsRtp, control_word, length_said, plain_packet};
+
+use crate::{CONTROL_LEN, Control, MAX_PAYLOAD, TooLong};
+use arrayvec::ArrayVec;
+use byteorder::{BigEndian, ByteOrder};
+
+// Packets of fewer octets than this say how many they have.
+const LEAST_UNSAID: usize = 64;
+
+/// Makes `out` the packet of this control word and payload, behind the RTP header, whose octets are none or
+/// the twelve of a fixed one. The reserved bits are zero, and LEN is the number of all octets where they are
+/// fewer than 64, else 0. What `out` held before is gone.
+///
+/// ```text
+/// let control = Control { lost: false, remote: true, sequence: 7 };
+/// write(&[], &control, &[0xD5, 0xD5], &mut out)?;     // out: 04 06 00 07 D5 D5
+/// ```
+///
+/// # Errors
+///
+/// [`TooLong`] where the payload has more than 1280 octets; `out` is then as it was.
+#[tactic(auto, unfolding(crate::specs::Satop::plain_packet))]
+pub fn write(
+    rtp: &[u8],
+    control: &Control,
+    payload: &[u8],
+    out: &mut ArrayVec<u8, 1296>,
+) -> Result<(), TooLong>
+    requires { IsRtp rtp.now }
+    ensures ok { OnOk result (out.new.items ≡ plain_packet rtp.now control.now payload.now) }
+    ensures too_long { IsErr result ↔ (1280 < length payload.now) }
+    ensures err { OnErr result (out.new ≡ out.old) }
+{
+    if payload.len() > MAX_PAYLOAD {
+        return Err(TooLong);
+    }
+    let size = rtp.len() + CONTROL_LEN + payload.len();
+    // the parts fit, since 12, 4 and 1280 are 1296
+    out.clear();
+    let _ = out.try_extend_from_slice(rtp);
+    let _ = out.try_extend_from_slice(&control_octets(control, length_said(size)));
+    let _ = out.try_extend_from_slice(payload);
+    Ok(())
+}
+
+// LEN of a packet of so many octets.
+fn length_said(size: usize) -> u8
+    ensures { result ≡ length_said size }
+{
+    if size < LEAST_UNSAID { size as u8 } else { 0 }
+}
+
+// The control word.
+fn control_octets(control: &Control, len: u8) -> [u8; 4]
+    ensures { result ≡ control_word control.now 0 len }
+{
+    let mut octets = [0u8; CONTROL_LEN];
+    octets[0] = (if control.lost { 8 } else { 0 }) + (if control.remote { 4 } else { 0 });
+    octets[1] = len;
+    BigEndian::write_u16(&mut octets[2..4], control.sequence);
+    octets
+}
