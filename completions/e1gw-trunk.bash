@@ -4,7 +4,7 @@ _e1gw_trunk() {
   local cur=${COMP_WORDS[COMP_CWORD]} prev=${COMP_WORDS[COMP_CWORD - 1]}
   local options='--config --name --program --senders --totals --in --out --unix --tcp --satop --clear --most --reopen
     --satop-size --satop-jitter --satop-rtp --satop-fill --satop-clock --control --control-mode --control-group
-    --on-loss --http --metrics --json --watch --top --no-counts --session --keep --gap --dark --help'
+    --on-loss --http --picture --metrics --json --watch --top --no-counts --session --keep --gap --dark --help'
   COMPREPLY=()
   case $prev in
     --config | --program | --in | --out | --unix | --control | --metrics | --json | --session)
@@ -16,7 +16,7 @@ _e1gw_trunk() {
     --on-loss) mapfile -t COMPREPLY < <(compgen -W 'keep clear' -- "$cur") ;;
     --control-group) mapfile -t COMPREPLY < <(compgen -g -- "$cur") ;;
     --name | --tcp | --satop | --most | --satop-size | --satop-jitter | --satop-rtp | --control-mode | --http | \
-      --keep | --gap | --dark) ;;
+      --picture | --keep | --gap | --dark) ;;
     *) mapfile -t COMPREPLY < <(compgen -W "$options" -- "$cur") ;;
   esac
 }

@@ -83,8 +83,8 @@ class Counts:
             if kind == _TRUNK:
                 self.place += length
             elif kind == _DATAGRAM:
-                fields = _FIELDS.unpack_from(held, at + 6) if length >= 12 else (0, 0, 0)
-                asked.append((circuit, self.place, *fields))
+                sequence, timestamp, ssrc = _FIELDS.unpack_from(held, at + 6) if length >= 12 else (0, 0, 0)
+                asked.append((circuit, self.place, sequence, timestamp, ssrc))
             at = after
         self._tape = held[at:]
         return held[:at]

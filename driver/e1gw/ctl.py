@@ -74,7 +74,7 @@ def main() -> None:
     try:
         status = run(path_of(asked.path), asked.command)
     except BrokenPipeError:
-        sys.stdout = None
+        os.dup2(os.open(os.devnull, os.O_WRONLY), 1)
         status = 1
     except KeyboardInterrupt:
         status = 0

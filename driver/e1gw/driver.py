@@ -20,13 +20,14 @@ from .keep import OneFile, Ring, put_file
 from .lines import OPEN, Event, Lines, Role, State
 from .loop import READ, WRITE, Loop
 from .metrics import exposition, table
+from .pictures import Pictures
 from .outlets import Journal, Outlet, to_descriptor
 from .session import (SAMPLES_A_SECOND, Codec, Command, Kind, Record, codec_record, command_record,
                       trunk_record)
 from .trunks import Trunk
 from .web import Visitor
 
-BESIDE = ('shadow', 'recording', 'session', 'json', 'metrics')     # what may end without the calls
+BESIDE = ('shadow', 'recording', 'session', 'json', 'metrics', 'picture')     # what may end without the calls
 REOPEN_MOST = 30.0              # seconds between two tries to open the trunk
 DISPLACED = 0.02                # seconds by which a call's first datagram may be displaced
 WARNED = frozenset(('lost', 'gap', 'ahead', 'stalled', 'ended', 'trunk lost', 'cleared'))
@@ -58,6 +59,7 @@ class Options:
     dark: float | None = None
     on_loss: OnLoss = OnLoss()
     counts: bool = True
+    picture: float | None = None
 
 
 _WORDS: dict[str, Callable[[Event], str]] = {
@@ -119,10 +121,12 @@ class Driver:
         self._prom = Outlet('metrics', self._put_metrics, self._note) if options.metrics else None
         self.gateway = Gateway(loop, options.program, options.config, self._taped, self._said, self._resume,
                                self._gateway_ended, options.serve)
-        self.shadow = Shadow(loop, options.program, options.config, self.counts.answered,
+        self.shadow = Shadow(loop, options.program, options.config, self._replayed,
                              functools.partial(self._end_beside, 'shadow')) if options.counts else None
         if not options.counts:
             self.counts.ended = 'not asked for'
+        self.pictures = Pictures(loop, options.config, options.picture, options.name,
+                                 functools.partial(self._end_beside, 'picture')) if options.picture else None
 
     # ---- what is opened ----
 
@@ -282,6 +286,13 @@ class Driver:
             self._session.put(whole)
         if self.shadow:
             self.shadow.give(octets)
+        if self.pictures:
+            self.pictures.taped(octets)
+
+    def _replayed(self, octets: bytes) -> None:
+        self.counts.answered(octets)
+        if self.pictures:
+            self.pictures.answered(octets)
 
     def _said(self, line: str) -> None:
         """A line that the gateway prints."""
@@ -542,6 +553,8 @@ class Driver:
             self.status_code = 1
         if self.shadow:
             self.shadow.finish()
+        if self.pictures:
+            self.pictures.finish()
         for peer in list(self.peers):
             peer.close()
         for outlet in (self._session, self._json, self._prom, self._out):

@@ -10,7 +10,8 @@ import time
 from collections import deque
 from typing import Callable
 
-from .loop import READ, WRITE, Loop
+from .loop import READ, Loop
+from .pipes import Writer
 from .session import PIECE, BadSession, Kind, Reader, Record
 
 PATIENCE = 20               # milliseconds that an answer is waited for before other things are done
@@ -49,48 +50,6 @@ def _pipe_ends() -> tuple[int, int]:
     return reads, writes
 
 
-class _Writer:
-    """Octets on the way into a pipe that may be full."""
-
-    def __init__(self, loop: Loop, file: int, failed: Callable[[], None]) -> None:
-        self.loop, self.file, self.failed = loop, file, failed
-        self.waiting = bytearray()
-        self.closed = False
-        os.set_blocking(file, False)
-
-    def put(self, octets: bytes) -> None:
-        if self.closed:
-            return
-        if self.waiting:
-            self.waiting += octets
-            return
-        sent = self._some(octets)
-        if sent < len(octets) and not self.closed:
-            self.waiting += octets[sent:]
-            self.loop.watch(self.file, WRITE, lambda _: self._more())
-
-    def _some(self, octets: bytes | bytearray) -> int:
-        try:
-            return os.write(self.file, octets)
-        except BlockingIOError:
-            return 0
-        except OSError:
-            self.close()
-            self.failed()
-            return 0
-
-    def _more(self) -> None:
-        del self.waiting[:self._some(self.waiting)]
-        if not self.waiting and not self.closed:
-            self.loop.forget(self.file)
-
-    def close(self) -> None:
-        if not self.closed:
-            self.closed = True
-            self.loop.forget(self.file)
-            os.close(self.file)
-
-
 class Gateway:
     """An `e1gw serve`. `taped` is given its recording and `told` the lines that it prints; `idle` is called when all is
     answered, `ended` where it has ended by itself. `words` are further options of serve."""
@@ -106,7 +65,7 @@ class Gateway:
         finally:
             os.close(tape)
         assert self.process.stdin and self.process.stdout and self.process.stderr
-        self.to = _Writer(loop, os.dup(self.process.stdin.fileno()), self._gone)
+        self.to = Writer(loop, os.dup(self.process.stdin.fileno()), self._gone)
         self.process.stdin.close()
         self.answers, self.faults = self.process.stdout.fileno(), self.process.stderr.fileno()
         self.has_ended = False
@@ -249,7 +208,7 @@ class Shadow:
             os.setpriority(os.PRIO_PROCESS, self.process.pid, 10)
         except OSError:
             pass
-        self.to = _Writer(loop, os.dup(self.process.stdin.fileno()), lambda: self._end('it has ended'))
+        self.to = Writer(loop, os.dup(self.process.stdin.fileno()), lambda: self._end('it has ended'))
         self.process.stdin.close()
         self.answers = self.process.stdout.fileno()
         os.set_blocking(self.answers, False)
@@ -290,7 +249,7 @@ class Shadow:
         self._ended = lambda why: None
         while self.to.waiting and not self.has_ended and time.monotonic() < until:
             self.drain()
-            self.to._more()
+            self.to.more()
             time.sleep(0.005)
         self.to.close()
         while not self.has_ended and time.monotonic() < until:

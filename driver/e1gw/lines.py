@@ -258,7 +258,8 @@ class Lines:
 
     def aligned(self, what: Alignment = Alignment.MULTIFRAME) -> bool:
         """Whether the gateway has this alignment."""
-        return (self._frames if what is Alignment.FRAME else self._multi).start is not None
+        start = self._frames.start if what is Alignment.FRAME else self._multi.start
+        return start is not None
 
     def alarm(self) -> bool:
         """Whether the gateway sends an alarm."""

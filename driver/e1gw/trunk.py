@@ -121,7 +121,9 @@ def _add_control(words: argparse._ArgumentGroup) -> None:
     words.add_argument('--on-loss', nargs='+', default=['keep'], metavar='WORD',
                        help='keep, or clear SECONDS: what is done with the calls when the last control client that asked '
                        'for it is gone [default: keep]')
-    words.add_argument('--http', metavar='HOST:PORT', help='serves /metrics (Prometheus), /status (JSON) and / (table)')
+    words.add_argument('--http', metavar='HOST:PORT', help='serves /metrics (Prometheus), /status (JSON), /table and / (the table, or the picture)')
+    words.add_argument('--picture', type=_number(10, 3600, float), metavar='SECONDS',
+                       help='/ is a picture of the last seconds, 10 to 3600, drawn by a process of its own')
     words.add_argument('--metrics', metavar='FILE', help='a file of metrics for node_exporter, every 5 s')
     words.add_argument('--json', metavar='FILE', help='a line of JSON for each change; - is standard output')
     words.add_argument('--watch', action='store_true', help='tells each change on standard output')
@@ -151,13 +153,15 @@ def options_of(words: list[str]) -> Options:
         raise Usage(str(fault)) from None
     if keep is not None and not asked.session:
         raise Usage('--keep wants --session')
+    if asked.picture and not (http and asked.counts):
+        raise Usage('--picture wants --http, and the counts')
     name = asked.name or os.path.splitext(os.path.basename(asked.config))[0]
     return Options(
         config=asked.config, program=program_of(asked.program), name=name, open_trunk=opens, most=asked.most,
         serve=_serve_words(asked), reopen=asked.reopen, watch=asked.watch, top=asked.top, control=asked.control,
         control_mode=asked.control_mode, control_group=asked.control_group, http=http, metrics=asked.metrics,
         json=asked.json, session=asked.session, keep=keep, gap=asked.gap / 1000, dark=asked.dark, on_loss=on_loss,
-        counts=asked.counts)
+        counts=asked.counts, picture=asked.picture)
 
 
 def _serve_words(asked: argparse.Namespace) -> list[str]:

@@ -42,19 +42,29 @@ class Visitor(Peer):
         method, path, *_ = self._request.split(b' ') + [b'', b'']
         if method not in (b'GET', b'HEAD'):
             return self._page('405 Method Not Allowed', 'text/plain', 'there are GET and HEAD\n', True)
-        made = self._made(path.partition(b'?')[0])
+        path = path.partition(b'?')[0]
+        whole, pictures = method == b'GET', self.driver.pictures
+        if path == b'/' and pictures and not pictures.has_ended:
+            return pictures.ask(lambda page: self._picture(page, whole))
+        made = self._made(path)
         if made is None:
-            self._page('404 Not Found', 'text/plain', 'there are /, /metrics and /status\n', method == b'GET')
+            self._page('404 Not Found', 'text/plain', 'there are /, /table, /metrics and /status\n', whole)
         else:
             kind, text = made
-            self._page('200 OK', kind, text(), method == b'GET')
+            self._page('200 OK', kind, text(), whole)
+
+    def _picture(self, page: str | None, whole: bool) -> None:
+        if page is None:
+            self._page('200 OK', 'text/plain', self.driver.table(), whole)
+        else:
+            self._page('200 OK', 'text/html', page, whole)
 
     def _made(self, path: bytes) -> tuple[str, Callable[[], str]] | None:
         driver = self.driver
         return {
             b'/metrics': ('text/plain; version=0.0.4', lambda: exposition(driver.status(), driver.options.name)),
             b'/status': ('application/json', lambda: json.dumps(driver.status()) + '\n'),
-            b'/': ('text/plain', driver.table)}.get(path)
+            b'/': ('text/plain', driver.table), b'/table': ('text/plain', driver.table)}.get(path)
 
     def _page(self, status: str, kind: str, text: str, whole: bool) -> None:
         body = text.encode()

@@ -231,6 +231,9 @@ class Sites(unittest.IsolatedAsyncioTestCase):
             self.run_tie(made, site)
         await self.until(lambda: all(self.told(name, 'link') and self.told(name, 'link')[-1]['state'] == 'good'
                                      for name in self.events))
+        joined = [n for n in CIRCUITS if self.west.roles[n] is not self.east.roles[n]]
+        await self.until(lambda: all(self.at(n, State.IDLE, State.IDLE)() for n in joined))
+        self.west.asked = [each for each in self.west.asked if 'block' not in each or 'on-loss' in each]
 
     def told(self, name: str, event: str) -> list[dict[str, Any]]:
         return [each for each in self.events[name] if each['event'] == event]
@@ -310,6 +313,17 @@ class Lines(Sites):
         self.run_tie(*self.tie('west'))
         await self.until(lambda: self.west.states[9] is State.IDLE)
         self.assertIs(self.west.states[7], State.BLOCKED)
+
+    async def test_operator_is_second(self) -> None:
+        """A circuit that a tie has blocked already stays blocked where the operator wants that, too."""
+        await self.both()
+        self.east.send(5, HELD)
+        await self.until(self.at(5, State.BLOCKED, State.BLOCKED))
+        self.assertIn('not idle', self.west.obey(['block', '5']))
+        self.east.send(5, IDLE)
+        self.east.send(7, HELD)
+        await self.until(self.at(7, State.BLOCKED, State.BLOCKED))
+        self.assertIs(self.west.states[5], State.BLOCKED)
 
     async def test_connection_broken(self) -> None:
         """A call lives through a short break, and what happened meanwhile is made good; a long one ends it."""
@@ -435,8 +449,10 @@ class Certificates(Sites):
     async def refused(self, **more: Any) -> None:
         self.run_tie(*self.tie('west'))
         self.run_tie(*self.tie('east', **more))
-        await self.until(lambda: len(self.told('east', 'no connection') + self.told('east', 'site gone')) > 2)
+        await self.until(lambda: bool(self.told('east', 'no connection') + self.told('east', 'site gone')))
+        await asyncio.sleep(0.5)
         self.assertFalse(self.told('west', 'site'))
+        self.assertIs(self.east.states[2], State.BLOCKED)
 
     async def test_another_authority(self) -> None:
         await self.refused(context=self.context('stranger', 'ours', False))

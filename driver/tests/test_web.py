@@ -2,7 +2,9 @@
 from __future__ import annotations
 
 import json
+import os
 import re
+import signal
 import socket
 import time
 import unittest
@@ -10,7 +12,7 @@ import urllib.error
 import urllib.request
 
 from . import support
-from .test_driver import FOUR, aligned, call
+from .test_driver import FOUR, aligned, call, children, command_line
 from .world import SECONDS, World, config_of
 from e1gw.metrics import family
 
@@ -41,6 +43,30 @@ class Text(unittest.TestCase):
     def test_labels_are_escaped(self) -> None:
         text = family('a', 'gauge', 'b', [({'c': 'd"e\\f\ng'}, 1)], 'h="i"')
         self.assertEqual(text, '# HELP a b\n# TYPE a gauge\na{h="i",c="d\\"e\\\\f\\ng"} 1\n')
+
+
+class Picture(unittest.TestCase):
+    def setUp(self) -> None:
+        support.program()
+
+    def test_the_last_seconds(self) -> None:
+        port = free_port()
+        with World(config_of(FOUR), '--http', f'127.0.0.1:{port}', '--picture', '60', '--name', 'west') as world:
+            aligned(world)
+            call(world, 1)
+
+            def get(path: str) -> tuple[str, str]:
+                with urllib.request.urlopen(f'http://127.0.0.1:{port}{path}', timeout=SECONDS) as page:
+                    return page.headers['Content-Type'], page.read().decode()
+            kind, page = get('/')
+            self.assertEqual((kind, '</html>' in page, 'west' in page), ('text/html; charset=utf-8', True, True))
+            self.assertEqual(get('/table')[0], 'text/plain; charset=utf-8')
+            found = next(int(pid) for pid in children(world) if 'e1gw.pictures' in command_line(pid))
+            os.kill(found, signal.SIGKILL)
+            time.sleep(0.2)
+            call(world, 2)
+            self.assertEqual(get('/')[0], 'text/plain; charset=utf-8')
+            self.assertIsNotNone(world.status()['ended']['picture'])
 
 
 class Pages(unittest.TestCase):

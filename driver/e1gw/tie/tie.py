@@ -53,6 +53,7 @@ class Tie:
         self._tasks: set[asyncio.Task[None]] = set()
         self._moves: dict[int, int] = {}                # of each circuit, how often its state has changed
         self._lost_at = time.monotonic()
+        self._turned = ('', 0.0)                        # why nobody is connected, and when that was told
 
     def start(self) -> None:
         """From now on time counts."""
@@ -122,6 +123,7 @@ class Tie:
         self._join()
         self._stands(status)
         self._send_all()
+        self._look_at_all()
 
     def _call(self, n: int) -> str:
         """The name of the latest call of an incoming circuit."""
@@ -137,9 +139,12 @@ class Tie:
                        or any(status['alarm'].values()) or any(status['remote_alarm'].values()))
         for row in status['circuits']:
             n = int(row['circuit'])
-            if row['state'] != self.circuits[n].state and n not in self._busy:
-                self._seizures[n] = int(row['seizures']) - (State(row['state']) is State.ACKED)
-                self._state(n, State.IDLE, State(row['state']))
+            circuit = self.circuits[n]
+            if row['state'] != circuit.state and n not in self._busy:
+                self._seizures[n] = int(row['seizures'])
+                call = self._call(n) if circuit.role is Role.INCOMING else circuit.call
+                self._put(n, circuit.moved(State(row['state']), None if call == circuit.call else call))
+                self._moved(n)
 
     def _told(self, event: Event) -> None:
         """A change that the driver tells."""
@@ -150,6 +155,10 @@ class Tie:
             self._state(int(event['circuit']), State(event['was']), State(event['state']))
         elif name in ('alarm', 'remote alarm') and event.get('on') or name in ('trunk lost', 'stalled'):
             self._set_dark(True)
+        elif name == 'command' and event['command'] == Command.BLOCK.word:
+            n = int(event['circuit'])
+            if self._busy.get(n) is not Command.BLOCK:
+                self._keep(n)       # also where it was refused, since this program was first
 
     def _state(self, n: int, was: State, state: State) -> None:
         circuit, call = self.circuits[n], None
@@ -176,7 +185,7 @@ class Tie:
             self._put(n, replace(self.circuits[n], stuck=True))
 
     def _keep(self, n: int) -> None:
-        """The operator was first to block a circuit."""
+        """The operator wants a circuit to be blocked, and it is."""
         if self.circuits[n].state is State.BLOCKED:
             self._put(n, replace(self.circuits[n], kept=True))
 
@@ -268,6 +277,7 @@ class Tie:
         return self.own_greeting
 
     def came(self, greeting: Greeting) -> None:
+        self._turned = ('', 0.0)
         self.there = agreed(self.options.pairs, greeting.pairs)
         left = sorted(set(agreed(self.options.pairs, None)) - set(self.there)) if greeting.pairs else []
         self.tell('site', circuits=len(self.there), left=left)
@@ -294,7 +304,11 @@ class Tie:
         self._look_at_link()
 
     def turned_away(self, why: str) -> None:
-        self.tell('no connection', why=why)
+        """Told once a minute, where it is the same again."""
+        now = time.monotonic()
+        if why != self._turned[0] or now >= self._turned[1] + 60:
+            self._turned = (why, now)
+            self.tell('no connection', why=why)
 
     def _join(self) -> None:
         """Gives each circuit what the other site tells of its other end."""
@@ -323,4 +337,3 @@ class Tie:
         if self._far is not None:
             self._join()
             self._look_at_link()
-            self._look_at_all()
