@@ -159,8 +159,8 @@ TOPS = (60, 120, 240, 430)
 class Playout:
     """How long before its turn each datagram of a circuit came."""
 
-    def __init__(self, row: Row, scale: Scale, seen: Pixels) -> None:
-        self.row, self.scale, self.seen = row, scale, seen
+    def __init__(self, row: Row, scale: Scale, seen: Pixels, wide: float) -> None:
+        self.row, self.scale, self.seen, self.wide = row, scale, seen, wide
         whole = Cell()
         for cell in seen.values():
             whole.join(cell)
@@ -206,12 +206,15 @@ class Playout:
         sheet.path(f'M{LEFT} {self.y(self.row.prefill / 8):.1f}h{WIDE}', 'prefill', 'the prefill')
 
     def _admitted(self, sheet: Sheet) -> None:
+        """From the least to the most, column by column, where one is wider than a pixel as a box."""
         parts = []
         for x, cell in sorted(self.seen.items()):
             if cell.admitted:
                 top, bottom = self.y(cell.high / 8) - 0.9, self.y(cell.low / 8) + 0.9
-                parts.append(f'M{LEFT + x} {top:.1f}v{bottom - top:.1f}')
-        sheet.path(''.join(parts), 'p-admitted')
+                across = f'h{self.wide:.1f}' if self.wide > 1.5 else ''
+                parts.append(f'M{LEFT + x} {top:.1f}{across}v{bottom - top:.1f}'
+                             + (f'h-{self.wide:.1f}z' if across else ''))
+        sheet.path(''.join(parts), 'p-box' if self.wide > 1.5 else 'p-admitted')
 
     def _untimely(self, sheet: Sheet) -> None:
         """Late and Full, as triangles that point to where they are past the window."""

@@ -269,7 +269,7 @@ class Facts:
     def __init__(self, rows: dict[int, Row] | None = None, last: int | None = None, width: int = MULTIFRAME) -> None:
         self.rows = rows or {n: Row(n) for n in range(1, 31)}
         self.last = last
-        self.width = max(1, last // (MOST // 2) // MULTIFRAME) * MULTIFRAME if last else width
+        self.width = width
         self.column = 0
         self.place = 0
         self.start = 0                      # of what is to be shown
@@ -290,20 +290,17 @@ class Facts:
             if not row.cell.is_empty():
                 row.cells[self.column] = row.cell
                 row.cell = Cell()
-        if self.last:
-            self._forget(column)
-        elif column >= MOST:
-            while place // self.width >= MOST:
-                self._double()
-            column = place // self.width
-        self.column = column
+        if self.last and self.place > self.start + self.last:
+            self._forget(self.last)
+        while (self.place - self.start) // self.width >= MOST:
+            self._double()
+        self.column = column = place // self.width
         for row in self.rows.values():
             row.cell = row.cells.pop(column, row.cell)
 
-    def _forget(self, column: int) -> None:
+    def _forget(self, last: int) -> None:
         """Drops the columns that are too old."""
-        assert self.last
-        self.start = max(0, self.place - self.last)
+        self.start = self.place - last
         oldest = self.start // self.width
         for row in self.rows.values():
             while row.cells and (first := next(iter(row.cells))) < oldest:

@@ -2,10 +2,11 @@
 from __future__ import annotations
 
 import os
+import time
 from collections.abc import Mapping
 from typing import Any
 
-from ..session import OCTETS_A_SECOND, BadSession
+from ..session import OCTETS_A_SECOND
 from .facts import Facts
 from .page import draw
 from .reading import Reading, rows_of
@@ -53,8 +54,9 @@ class Live:
         self._held = 0
         try:
             self.reading.go_on()
-        except (BadSession, ValueError) as fault:
-            self.end(str(fault))
+        except Exception as fault:      # pylint: disable=broad-except
+            # Whatever it is, it must not end a call.
+            self.end(str(fault) or repr(fault))
         if len(self.reading.given.held) > MOST_HELD:
             self.end('the answers fell behind')
 
@@ -66,27 +68,29 @@ class Live:
             for pieces in self._waiting:
                 pieces.clear()
 
-    def page(self, begin: float | None = None, refresh: int | None = 5) -> str:
-        """The page; `begin` is the time of the session's first octet, in seconds since 1970."""
+    def page(self, refresh: int | None = 5) -> str:
+        """The page, with the times of this machine's clock."""
         self.look()
         if not self.ended:
             self.reading.flush()
-        self.facts.begin = begin
-        title = f'{self.title} (ended: {self.ended})' if self.ended else self.title
-        return draw(self.facts, title, refresh=refresh)
+            self.facts.begin = time.time() - self.facts.place / OCTETS_A_SECOND
+        notes = [f'It goes on no more: {self.ended}.'] if self.ended else []
+        return draw(self.facts, self.title, refresh=refresh, notes=notes)
 
-    def drawn_apart(self, begin: float | None = None, refresh: int | None = 5) -> int:
+    def drawn_apart(self, refresh: int | None = 5) -> tuple[int, int]:
         """Draws the page in a process of its own, so that nothing here waits. Returns a descriptor from which the page
-        can be read, up to its end; the process has to be waited for by `os.waitpid(-1, os.WNOHANG)` or SIGCHLD."""
+        can be read, up to its end, and the process, which has to be waited for then."""
+        self.look()
         reads, writes = os.pipe()
-        if os.fork():
+        process = os.fork()
+        if process:
             os.close(writes)
-            return reads
+            return reads, process
         try:
             os.nice(NICE)
             os.dup2(writes, 3)
-            os.closerange(4, 1 << 16)
+            os.closerange(4, os.sysconf('SC_OPEN_MAX'))
             with open(3, 'wb') as sink:
-                sink.write(self.page(begin, refresh).encode())
+                sink.write(self.page(refresh).encode())
         finally:
             os._exit(0)

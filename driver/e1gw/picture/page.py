@@ -121,8 +121,9 @@ class Page:
         return ' &middot; '.join(escape(part) for part in parts)
 
     def playouts(self, rows: list[Row]) -> str:
+        wide = self.facts.width / self.scale.octets
         drawn = (f'<div class="wide" id="c{row.number}">'
-                 f'{charts.Playout(row, self.scale, self.seen[row.number]).drawn()}</div>' for row in rows)
+                 f'{charts.Playout(row, self.scale, self.seen[row.number], wide).drawn()}</div>' for row in rows)
         return f'<div class="two">{"".join(drawn)}</div>'
 
     def datagrams(self) -> str:
@@ -154,7 +155,8 @@ class Page:
                       if whole.admitted else '')
             rows.append((row.number, row.role, charts.MEANS[states.value], whole.counts.get('calls', 0),
                          whole.counts.get('answers', 0), f'{opened / SECOND:.1f}', whole.sent, whole.admitted,
-                         sum(seen[0] for seen in whole.refused.values()), charts.refusals(whole), whole.lost, margin,
+                         sum(seen[0] for seen in whole.refused.values()), charts.refusals(whole),
+                         max(0, whole.lost), margin,
                          f'{row.codec} {row.payload}', row.local, row.peer))
         return table('Each circuit: counts, and how many ms before their turn datagrams came', (
             'circuit', 'role', 'at the end', 'calls', 'answered', 'open, s', 'sent', 'admitted', 'refused', 'causes',
@@ -203,7 +205,6 @@ class Page:
     def drawn(self) -> str:
         facts = self.facts
         quiet = f'<p class="note">Nothing but idle: circuits {numbers(self.quiet)}.</p>' if self.quiet else ''
-        shown = {row.number for row in self.troubled + self.even}
         trunk = f'<h2>The trunk</h2><div class="wide">{charts.trunk(facts, self.scale)}</div>' if facts.alarms else ''
         notes = ''.join(f'<p><b>{escape(note)}</b></p>' for note in self.notes)
         parts = [f'<h1>{escape(self.title)}</h1><p>{self.told()}</p>{notes}',

@@ -32,7 +32,8 @@ text{fill:var(--ink);font-size:11.5px}.tick{font-size:10.5px;fill:var(--soft)}.b
 .hatch{stroke:var(--bg);stroke-width:1.3;fill:none}.dot{fill:var(--bg)}
 .d-sent{fill:var(--sent)}.d-admitted{fill:var(--admitted)}.d-refused{fill:var(--refused)}
 .c-done{fill:var(--ink)}.c-refused{stroke:var(--refused);stroke-width:2;fill:none}
-.p-admitted{stroke:var(--admitted);stroke-width:1.5;fill:none}.p-refused,.p-strip{fill:var(--refused)}
+.p-admitted{stroke:var(--admitted);stroke-width:1.8;fill:none}.p-box{fill:var(--admitted)}
+.p-refused,.p-strip{fill:var(--refused)}
 .over{fill:transparent}.over:hover{fill:var(--line);fill-opacity:.18}
 table{border-collapse:collapse;margin:6px 0;font-variant-numeric:tabular-nums}caption{text-align:left;color:var(--soft)}
 td,th{border-bottom:1px solid var(--grid);padding:2px 12px 2px 0;text-align:left;vertical-align:top;white-space:nowrap;

@@ -36,7 +36,8 @@ class Scale:
     def words(self, place: int) -> str:
         """A moment, for reading."""
         if self.begin is None:
-            return f'{place / SECOND:.3f} s'
+            seconds = place / SECOND
+            return f'{seconds:.3f} s' if seconds < 300 else f'{int(seconds) // 60}:{seconds % 60:06.3f} min'
         return clock(self.begin + place / SECOND)
 
     def span(self, first: int, last: int) -> str:
@@ -65,11 +66,11 @@ class Scale:
 def duration(octets: float) -> str:
     """How long so many octets of the trunk last."""
     seconds = octets / SECOND
-    if seconds < 1:
+    if seconds < 0.9995:
         return f'{seconds * 1000:.4g} ms'
-    if seconds < 120:
+    if seconds < 119.995:
         return f'{seconds:.2f} s'
-    return f'{int(seconds) // 60} min {int(seconds) % 60} s'
+    return f'{round(seconds) // 60} min {round(seconds) % 60} s'
 
 
 class Sheet:
