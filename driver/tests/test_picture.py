@@ -6,7 +6,6 @@ import html.parser
 import io
 import os
 import random
-import time
 import unittest
 
 from .support import program, run
@@ -14,7 +13,6 @@ from .support import program, run
 from .picture_made import TROUBLES, Made, Sender, answered, recorded, rtp
 
 from e1gw.lines import Lines, read_config
-from e1gw.loop import Loop
 from e1gw.picture import Live, page
 from e1gw.picture.facts import MOST, Cell, Facts, Row, Spans, RANK
 from e1gw.picture.findings import findings
@@ -23,7 +21,6 @@ from e1gw.picture.page import MOST as MOST_OCTETS
 from e1gw.picture.page import draw, numbers
 from e1gw.picture.reading import read
 from e1gw.picture.svg import Scale, clock, runs
-from e1gw.picture.web import Shown
 from e1gw.session import OCTETS_A_SECOND, Kind, records_in, trunk_record
 
 # The columns of `e1gw check`: number, role, state, pairs sent and recognised, sent, admitted, refused, codec, type.
@@ -322,28 +319,6 @@ class Drawn(unittest.TestCase):
         words = self.checked(draw(facts, 'x'))
         self.assertIn('2023-11-14 22:13:20 UTC', words)
         self.assertIn('22:14:00', words)
-
-    def test_drawn_apart(self) -> None:
-        file, process = Live({}, 60).drawn_apart()
-        with open(file, 'rb') as drawn:
-            text = drawn.read().decode()
-        os.waitpid(process, 0)
-        self.assertTrue(text.endswith('</html>\n'))
-        self.checked(text)
-
-    def test_drawn_once_for_all_who_ask(self) -> None:
-        loop, pages = Loop(), list[bytes]()
-        shown = Shown(loop, Live({}, 60))
-        for _ in range(3):
-            shown.ask(pages.append)
-        self.assertEqual(pages, [])
-        until = time.monotonic() + 30
-        while not pages and time.monotonic() < until:
-            loop.turn(1.0)
-        shown.ask(pages.append)
-        self.assertEqual(len(pages), 4)
-        self.assertEqual(len(set(pages)), 1)
-        self.checked(pages[0].decode())
 
     def test_live_ends_at_what_cannot_be(self) -> None:
         live = Live({}, 60)

@@ -1,7 +1,6 @@
 """The picture of the last minutes of a trunk in service, gathered as it goes."""
 from __future__ import annotations
 
-import os
 import time
 from collections.abc import Mapping
 from typing import Any
@@ -13,7 +12,6 @@ from .reading import Reading, rows_of
 
 MOST_HELD = 8 << 20         # octets of the recording that wait for their answers
 AT_ONCE = 1 << 16           # octets that are looked at together, since pieces are small
-NICE = 10
 
 
 class Live:
@@ -76,21 +74,3 @@ class Live:
             self.facts.begin = time.time() - self.facts.place / OCTETS_A_SECOND
         notes = [f'It goes on no more: {self.ended}.'] if self.ended else []
         return draw(self.facts, self.title, refresh=refresh, notes=notes)
-
-    def drawn_apart(self, refresh: int | None = 5) -> tuple[int, int]:
-        """Draws the page in a process of its own, so that nothing here waits. Returns a descriptor from which the page
-        can be read, up to its end, and the process, which has to be waited for then."""
-        self.look()
-        reads, writes = os.pipe()
-        process = os.fork()
-        if process:
-            os.close(writes)
-            return reads, process
-        try:
-            os.nice(NICE)
-            os.dup2(writes, 3)
-            os.closerange(4, os.sysconf('SC_OPEN_MAX'))
-            with open(3, 'wb') as sink:
-                sink.write(self.page(refresh).encode())
-        finally:
-            os._exit(0)
