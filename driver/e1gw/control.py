@@ -191,8 +191,8 @@ class Console:
         if not octets:
             self.driver.loop.forget(0)
             self._typed.end()
-        else:
-            self._typed.took(octets)
+        elif not self._typed.took(octets):
+            self._typed.drop()
 
 
 def circuit_of(word: str) -> int | None:

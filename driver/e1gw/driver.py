@@ -158,13 +158,16 @@ class Driver:
         if options.control:
             door = listen_unix(options.control, options.control_mode, options.control_group)
             self._doors.append(Door(self.loop, door, lambda line: self.peers.add(Client(self, line)),
-                                    lambda: len(self.peers), options.control))
+                                    lambda: self._count_of(Client), options.control))
         if options.http:
             family = socket.AF_INET6 if ':' in options.http[0] else socket.AF_INET
             web = socket.create_server(options.http, family=family)
             self._doors.append(Door(self.loop, web, lambda line: self.peers.add(Visitor(self, line)),
-                                    lambda: len(self.peers)))
+                                    lambda: self._count_of(Visitor)))
         Console(self, lambda text: self._out.put(f'{text}\n'.encode()))
+
+    def _count_of(self, kind: type[Peer]) -> int:
+        return sum(isinstance(peer, kind) for peer in self.peers)
 
     def left(self, peer: Peer) -> None:
         """A client or a visitor is gone."""

@@ -5,7 +5,6 @@ import os
 import struct
 import subprocess
 import sys
-import time
 from typing import BinaryIO, Callable
 
 from .loop import READ, Loop
@@ -26,7 +25,7 @@ class Pictures:
     def __init__(self, loop: Loop, config: str, seconds: float, title: str, ended: Callable[[str], None]) -> None:
         self.loop, self._ended, self.has_ended = loop, ended, False
         self.process = subprocess.Popen(
-            [sys.executable, '-B', '-m', 'e1gw.pictures', config, str(seconds), title, str(time.time())],
+            [sys.executable, '-B', '-m', 'e1gw.pictures', config, str(seconds), title],
             stdin=subprocess.PIPE, stdout=subprocess.PIPE, stderr=subprocess.DEVNULL, start_new_session=True, bufsize=0,
             env=os.environ | {'PYTHONPATH': PACKAGE})
         assert self.process.stdin and self.process.stdout
@@ -101,7 +100,7 @@ def _serve(given: BinaryIO, pages: BinaryIO, words: list[str]) -> None:
     """In the process that draws: takes what the driver tells, and draws when it is asked."""
     from .lines import read_config
     from .picture.live import Live
-    config, seconds, title, begin = words
+    config, seconds, title = words
     live = Live(read_config(config), float(seconds), title)
     while len(head := given.read(HEAD.size)) == HEAD.size:
         what, length = HEAD.unpack(head)
@@ -111,7 +110,7 @@ def _serve(given: BinaryIO, pages: BinaryIO, words: list[str]) -> None:
         elif what == b'A':
             live.answered(octets)
         else:
-            page = live.page(float(begin)).encode()
+            page = live.page().encode()
             pages.write(LENGTH.pack(len(page)) + page)
             pages.flush()
 
