@@ -16,6 +16,7 @@ from .support import TOP, program, run
 from .picture_made import TROUBLES, Made, Sender, answered, recorded
 
 from e1gw.picture.capture import reckoned
+from e1gw.picture.main import parser
 from e1gw.picture.packets import BadCapture, datagrams
 from e1gw.session import OCTETS_A_SECOND, Kind, records_in
 
@@ -148,6 +149,41 @@ class Run(Folder):
         page, said = self.drawn('--answers', answers, folder)
         self.assertIn('begins in the middle', page)
         self.assertIn('begins in the middle', said)
+
+    def test_kept_in_several_files(self) -> None:
+        config, given, answers = self.small()
+        folder = os.path.join(self.folder, 'ring')
+        os.mkdir(folder)
+        with open(given, 'rb') as file:
+            octets = file.read()
+        # An earlier session of the same trunk, then two files of this one, the first packed where zstd is there.
+        files = (('20231114T220000Z', b'nonsense', 'start'), ('20231114T221320Z', octets[:7000], 'start'),
+                 ('20231114T221321Z', octets[7000:], 'middle'))
+        for name, part, begins in files:
+            front = os.path.join(folder, f'west-{name}')
+            with open(f'{front}.e1gw', 'wb') as file:
+                file.write(part)
+            with open(f'{front}.json', 'w', encoding='utf-8') as text:
+                json.dump({'config': config, 'time': BEGIN, 'place': 0, 'begins': begins}, text)
+            if begins == 'start' and shutil.which('zstd'):
+                subprocess.run(['zstd', '-q', '--rm', f'{front}.e1gw'], check=True)
+        # One that is being packed stands there twice.
+        with open(os.path.join(folder, 'west-20231114T221321Z.e1gw.zst'), 'wb') as file:
+            file.write(b'half')
+        page, said = self.drawn('--answers', answers, folder)
+        self.assertEqual(said, '')
+        self.assertIn('20 admitted, 0 refused', page)
+
+    def test_pages_name_the_options(self) -> None:
+        options = {word for action in parser()._actions for word in action.option_strings if word.startswith('--')}
+        with open(os.path.join(TOP, 'man', 'e1gw-picture.1'), encoding='utf-8') as file:
+            described = file.read().split('.Sh OPTIONS')[1]
+        items = {f'--{word}' for line in re.findall(r'^\.It Fl .*', described, re.M)
+                 for word in re.findall(r'Fl -([a-z]+)', line)}
+        self.assertEqual(items, options)
+        with open(os.path.join(TOP, 'completions', 'e1gw-picture.bash'), encoding='utf-8') as file:
+            offered = re.search(r"local options='(.*)'", file.read())
+        self.assertEqual(set(offered[1].split()) if offered else None, options)
 
     def test_what_cannot_be(self) -> None:
         config, given, answers = self.small()

@@ -35,15 +35,17 @@ def kept(path: str) -> Kept:
     """A session in one file, or what the driver has kept in a folder."""
     if not os.path.isdir(path):
         return _told(Kept([path]))
-    names = sorted(name for name in os.listdir(path) if name.endswith(ENDINGS))
+    every = {name for name in os.listdir(path) if name.endswith(ENDINGS)}
+    # While one is packed both are there, and the packed one is not whole.
+    names = sorted(name for name in every if name.removesuffix('.zst') == name or name.removesuffix('.zst') not in every)
     trunks = {name.rpartition('-')[0] for name in names}
     if not names:
         raise Trouble(f'{path} holds no session (files of NAME.e1gw)')
     if len(trunks) > 1:
         raise Trouble(f'{path} holds sessions of several trunks: {", ".join(sorted(trunks))}')
-    every = [os.path.join(path, name) for name in names]
-    begun = [n for n, file in enumerate(every) if beside(file).get('begins') == 'start']
-    return _told(Kept(every[begun[-1] if begun else 0:]))
+    files = [os.path.join(path, name) for name in names]
+    begun = [n for n, file in enumerate(files) if beside(file).get('begins') == 'start']
+    return _told(Kept(files[begun[-1] if begun else 0:]))
 
 
 def beside(path: str) -> dict[str, Any]:
@@ -72,7 +74,9 @@ def pieces(file: IO[bytes]) -> Iterator[bytes]:
 
 
 def octets_of(path: str) -> Iterator[bytes]:
-    """The octets of a file, unpacked where it is packed by zstd."""
+    """The octets of a file, unpacked where it is packed by zstd, or has been since it was found."""
+    if not os.path.exists(path) and os.path.exists(f'{path}.zst'):
+        path = f'{path}.zst'
     if not path.endswith('.zst'):
         with open(path, 'rb') as file:
             yield from pieces(file)
