@@ -37,7 +37,7 @@ def kept(path: str) -> Kept:
         return _told(Kept([path]))
     every = {name for name in os.listdir(path) if name.endswith(ENDINGS)}
     # While one is packed both are there, and the packed one is not whole.
-    names = sorted(name for name in every if name.removesuffix('.zst') == name or name.removesuffix('.zst') not in every)
+    names = sorted(name for name in every if not name.endswith('.zst') or name.removesuffix('.zst') not in every)
     trunks = {name.rpartition('-')[0] for name in names}
     if not names:
         raise Trouble(f'{path} holds no session (files of NAME.e1gw)')
