@@ -8,85 +8,29 @@ import socket
 import threading
 import time
 from collections import deque
-from dataclasses import dataclass, field
-from typing import Any, Callable
+from typing import Any
 
 from .clock import TICK, Clock, Finding
 from .control import Client, Console, Door, Peer, Say, listen_unix
 from .counts import Counts
+from .events import NOTICED, WARNED, words_of
 from .gateway import Gateway, Shadow
-from .guards import Guards, OnLoss
+from .guards import Guards
 from .keep import OneFile, Ring, put_file
 from .lines import OPEN, Event, Lines, Role, State
 from .loop import READ, WRITE, Loop
 from .metrics import exposition, table
-from .pictures import Pictures
+from .options import Options
 from .outlets import Journal, Outlet, to_descriptor
-from .session import (SAMPLES_A_SECOND, Codec, Command, Kind, Record, codec_record, command_record,
-                      trunk_record)
+from .pictures import Pictures
+from .session import SAMPLES_A_SECOND, Codec, Command, Kind, Record, codec_record, command_record, trunk_record
+from .sockets import sockets_of
 from .trunks import Trunk
 from .web import Visitor
 
 BESIDE = ('shadow', 'recording', 'session', 'json', 'metrics', 'picture')     # what may end without the calls
 REOPEN_MOST = 30.0              # seconds between two tries to open the trunk
 DISPLACED = 0.02                # seconds by which a call's first datagram may be displaced
-WARNED = frozenset(('lost', 'gap', 'ahead', 'stalled', 'ended', 'trunk lost', 'cleared'))
-NOTICED = frozenset(('aligned', 'alarm', 'remote alarm', 'flows', 'rate', 'renewed', 'satop', 'trunk'))
-
-
-@dataclass
-class Options:
-    """What the driver was asked for."""
-
-    config: str
-    program: str
-    name: str
-    open_trunk: Callable[[], Trunk]
-    most: int = 256
-    serve: list[str] = field(default_factory=list)      # further options of e1gw serve
-    reopen: bool = False
-    watch: bool = False
-    top: bool = False
-    control: str | None = None
-    control_mode: int = 0o660
-    control_group: str | None = None
-    http: tuple[str, int] | None = None
-    metrics: str | None = None
-    json: str | None = None
-    session: str | None = None
-    keep: int | None = None
-    gap: float = 0.1
-    dark: float | None = None
-    on_loss: OnLoss = OnLoss()
-    counts: bool = True
-    picture: float | None = None
-
-
-_WORDS: dict[str, Callable[[Event], str]] = {
-    'state': lambda e: f'{e["circuit"]}: {e["state"]}, was {e["was"]}',
-    'alarm': lambda e: f'alarm: no {e["what"]} alignment' if e['on'] else f'alarm over: {e["what"]} alignment',
-    'remote alarm': lambda e: f'remote alarm{"" if e["on"] else " over"}: {e["what"]} alignment',
-    'aligned': lambda e: f'{e["what"]} alignment found',
-    'lost': lambda e: f'{e["what"]} alignment lost',
-    'codec': lambda e: f'{e["circuit"]}: codec {e["codec"]}, payload type {e["payload"]}',
-    'command': lambda e: f'{e["circuit"]}: {e["command"]}: {e["answer"]}',
-    'renewed': lambda e: f'playout begun anew, {e["why"]}: circuits {", ".join(map(str, e["circuits"]))}',
-    'cleared': lambda e: f'calls cleared, {e["why"]}: circuits {", ".join(map(str, e["circuits"]))}',
-    'stalled': lambda e: f'no octets for {e["seconds"]} s',
-    'flows': lambda e: f'octets again after {e["seconds"]} s',
-    'gap': lambda e: f'gap: octets of {e["seconds"]} s were lost',
-    'ahead': lambda e: f'octets of {e["seconds"]} s came too early',
-    'rate': lambda e: f'rate: {e["ppm"]:+} ppm beside this machine\'s clock',
-    'ended': lambda e: f'{e["what"]} ended, the calls go on: {e["why"]}',
-    'trunk': lambda e: f'trunk open: {e.get("trunk", "")}',
-    'trunk lost': lambda e: f'trunk lost: {e["why"]}',
-    'satop': lambda e: f'satop: {e["what"]}{"" if e.get("on", True) else " over"}',
-}
-
-
-def words_of(event: Event) -> str:
-    """An event in words."""
-    return _WORDS[event['event']](event)
 
 
 class Driver:
@@ -482,7 +426,7 @@ class Driver:
     def status(self) -> dict[str, Any]:
         """All that is known, as plain values."""
         status = self.lines.status()
-        sockets = self._sockets()
+        sockets = sockets_of(self.lines.lines.values())
         status |= {
             'time': round(time.time(), 3), 'uptime': round(time.monotonic() - self.began, 3),
             'trunk_up': self.trunk is not None, 'transport': self.trunk.status() if self.trunk else {},
@@ -496,23 +440,6 @@ class Driver:
 
     def table(self) -> str:
         return table(self.status())
-
-    def _sockets(self) -> dict[int, dict[str, int]]:
-        """Of each circuit's socket: octets that wait, and datagrams for which the kernel had no room."""
-        ports = {line.port: n for n, line in self.lines.lines.items() if line.port}
-        found: dict[int, dict[str, int]] = {}
-        for name in ('/proc/self/net/udp', '/proc/self/net/udp6') if ports else ():
-            try:
-                with open(name, encoding='ascii') as file:
-                    rows = file.readlines()[1:]
-            except OSError:
-                continue
-            for row in rows:
-                words = row.split()
-                circuit = ports.get(int(words[1].rpartition(':')[2], 16))
-                if circuit:
-                    found[circuit] = {'waiting': int(words[4].partition(':')[2], 16), 'dropped': int(words[-1])}
-        return found
 
     # ---- the whole ----
 

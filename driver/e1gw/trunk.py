@@ -20,11 +20,12 @@ from typing import Callable, NoReturn
 from . import satop
 from .clear import Clear
 from .control import DoorTaken
-from .driver import Driver, Options
+from .driver import Driver
 from .gateway import ConfigRefused, check_config
 from .guards import OnLoss, on_loss_of
 from .keep import seconds_of
 from .loop import Loop
+from .options import Options
 from .outlets import Journal, hold_descriptors
 from .trunks import Trunk, host_and_port, open_files, open_tcp, open_unix
 

@@ -1,0 +1,35 @@
+"""Changes of a trunk in words, and which of them an operator is to read."""
+from __future__ import annotations
+
+from typing import Callable
+
+from .lines import Event
+
+WARNED = frozenset(('lost', 'gap', 'ahead', 'stalled', 'ended', 'trunk lost', 'cleared'))
+NOTICED = frozenset(('aligned', 'alarm', 'remote alarm', 'flows', 'rate', 'renewed', 'satop', 'trunk'))
+
+_WORDS: dict[str, Callable[[Event], str]] = {
+    'state': lambda e: f'{e["circuit"]}: {e["state"]}, was {e["was"]}',
+    'alarm': lambda e: f'alarm: no {e["what"]} alignment' if e['on'] else f'alarm over: {e["what"]} alignment',
+    'remote alarm': lambda e: f'remote alarm{"" if e["on"] else " over"}: {e["what"]} alignment',
+    'aligned': lambda e: f'{e["what"]} alignment found',
+    'lost': lambda e: f'{e["what"]} alignment lost',
+    'codec': lambda e: f'{e["circuit"]}: codec {e["codec"]}, payload type {e["payload"]}',
+    'command': lambda e: f'{e["circuit"]}: {e["command"]}: {e["answer"]}',
+    'renewed': lambda e: f'playout begun anew, {e["why"]}: circuits {", ".join(map(str, e["circuits"]))}',
+    'cleared': lambda e: f'calls cleared, {e["why"]}: circuits {", ".join(map(str, e["circuits"]))}',
+    'stalled': lambda e: f'no octets for {e["seconds"]} s',
+    'flows': lambda e: f'octets again after {e["seconds"]} s',
+    'gap': lambda e: f'gap: octets of {e["seconds"]} s were lost',
+    'ahead': lambda e: f'octets of {e["seconds"]} s came too early',
+    'rate': lambda e: f'rate: {e["ppm"]:+} ppm beside this machine\'s clock',
+    'ended': lambda e: f'{e["what"]} ended, the calls go on: {e["why"]}',
+    'trunk': lambda e: f'trunk open: {e.get("trunk", "")}',
+    'trunk lost': lambda e: f'trunk lost: {e["why"]}',
+    'satop': lambda e: f'satop: {e["what"]}{"" if e.get("on", True) else " over"}',
+}
+
+
+def words_of(event: Event) -> str:
+    """An event in words."""
+    return _WORDS[event['event']](event)
