@@ -215,7 +215,7 @@ class Beside(unittest.TestCase):
     def test_a_recording_that_nobody_reads_any_more(self) -> None:
         with World(config_of(FOUR)) as world:
             world.step(2)
-            found = next(int(pid) for pid in children(world) if 'replay' in command_line(pid))
+            found = child(world, 'replay')
             os.kill(found, signal.SIGKILL)
             time.sleep(0.1)
             self.goes_on(world, 'shadow')
@@ -224,7 +224,7 @@ class Beside(unittest.TestCase):
 
     def test_a_shadow_that_stands_still(self) -> None:
         with World(config_of(FOUR)) as world:
-            found = next(int(pid) for pid in children(world) if 'replay' in command_line(pid))
+            found = child(world, 'replay')
             os.kill(found, signal.SIGSTOP)
             aligned(world)
             call(world, 1)
@@ -292,7 +292,7 @@ class Beside(unittest.TestCase):
     def test_the_gateway_dies(self) -> None:
         with World(config_of(FOUR)) as world:
             aligned(world)
-            found = next(int(pid) for pid in children(world) if 'serve' in command_line(pid))
+            found = child(world, 'serve')
             os.kill(found, signal.SIGKILL)
             status, said = world.wait()
             self.assertEqual((status, 'the gateway ended by signal 9' in said), (1, True))
@@ -314,6 +314,17 @@ def children(world: World) -> list[str]:
 def command_line(pid: str) -> str:
     with open(f'/proc/{pid}/cmdline', encoding='utf-8') as file:
         return file.read().replace('\0', ' ')
+
+
+def child(world: World, word: str) -> int:
+    """The process that the driver started with this word."""
+    until = time.monotonic() + SECONDS
+    while time.monotonic() < until:
+        for pid in children(world):
+            if word in command_line(pid):
+                return int(pid)
+        time.sleep(0.02)
+    raise AssertionError(f'no process {word}')
 
 
 class Refused(unittest.TestCase):

@@ -12,7 +12,7 @@ import urllib.error
 import urllib.request
 
 from . import support
-from .test_driver import FOUR, aligned, call, children, command_line
+from .test_driver import FOUR, aligned, call, child
 from .world import SECONDS, World, config_of
 from e1gw.metrics import family
 
@@ -61,7 +61,7 @@ class Picture(unittest.TestCase):
             kind, page = get('/')
             self.assertEqual((kind, '</html>' in page, 'west' in page), ('text/html; charset=utf-8', True, True))
             self.assertEqual(get('/table')[0], 'text/plain; charset=utf-8')
-            found = next(int(pid) for pid in children(world) if 'e1gw.pictures' in command_line(pid))
+            found = child(world, 'e1gw.pictures')
             os.kill(found, signal.SIGKILL)
             time.sleep(0.2)
             call(world, 2)
