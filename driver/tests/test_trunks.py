@@ -14,6 +14,7 @@ import unittest
 from . import support
 from .test_driver import FOUR, aligned, call
 from .world import SECONDS, World, config_of
+from e1gw.session import Packet
 from e1gw.trunks import Stream, Trunk, host_and_port, open_files, open_tcp, open_unix
 
 OCTETS = bytes(range(256)) * 2
@@ -120,27 +121,79 @@ class Kinds(unittest.TestCase):
                 host_and_port(text)
 
 
+def speak(port: int, ended: threading.Event) -> None:
+    """Sends packets of 20 ms to a port, in real time."""
+    began = time.monotonic()
+    with socket.socket(socket.AF_INET, socket.SOCK_DGRAM) as end:
+        for n in range(100_000):
+            if ended.wait(max(0.0, began + 0.02 * n - time.monotonic())):
+                return
+            end.sendto(Packet(8, n & 0xFFFF, 160 * n, 7, b'\xD5' * 160).spelled(), ('127.0.0.1', port))
+
+
 class Service(unittest.TestCase):
     def setUp(self) -> None:
         support.program()
 
     def test_lost_octets_begin_the_playout_anew(self) -> None:
         with World(config_of(FOUR, prefill=160)) as world:
-            aligned(world)
             events = world.follow()
             self.addCleanup(events.close)
-            for n in (1, 2):
-                call(world, n)
-            self.in_time(world, 0.5)
-            time.sleep(0.7)
-            self.in_time(world, 1.0)
+            self.assertGreater(self.admitted_after_a_gap(world), 20)
             world.quit()
             told = [json.loads(line) for line in events]
-            gaps = [event for event in told if event['event'] == 'gap']
+            gaps = [event['seconds'] for event in told if event['event'] == 'gap']
             renewed = [event['circuits'] for event in told if event['event'] == 'renewed'
                        and event['why'].startswith('gap')]
-            self.assertTrue(gaps and max(gap['seconds'] for gap in gaps) > 0.4, told)
-            self.assertIn([1, 2], renewed)
+            self.assertTrue(gaps and max(gaps) > 0.4, told)
+            self.assertIn([1], renewed)
+
+    def test_without_that_the_call_stays_deaf(self) -> None:
+        with World(config_of(FOUR, prefill=160), '--gap', '10000') as world:
+            self.assertEqual(self.admitted_after_a_gap(world), 0)
+
+    def test_octets_that_waited_at_a_first_datagram(self) -> None:
+        with World(config_of(FOUR, prefill=160)) as world:
+            aligned(world)
+            call(world, 1)
+            self.in_time(world, 0.6)
+            with open(world.config, encoding='utf-8') as file:
+                port = int(file.read().split('local_port = ')[1].split()[0])
+            ended = threading.Event()
+            thread = threading.Thread(target=speak, args=(port, ended))
+            thread.start()
+            try:
+                time.sleep(0.09)
+                world.give(b''.join(world.exchange.multiframe() for _ in range(45)))
+                self.in_time(world, 0.8)
+                before = world.settled()['circuits'][0]['datagrams']['admitted']
+                self.in_time(world, 0.8)
+                after = world.settled()['circuits'][0]['datagrams']['admitted']
+            finally:
+                ended.set()
+                thread.join()
+            self.assertGreater(after - before, 20)
+
+    def admitted_after_a_gap(self, world: World) -> int:
+        """A sender speaks in a call; 0.7 s of the trunk are lost. How many packets are admitted in the last second."""
+        aligned(world)
+        call(world, 1)
+        with open(world.config, encoding='utf-8') as file:
+            port = int(file.read().split('local_port = ')[1].split()[0])
+        ended = threading.Event()
+        thread = threading.Thread(target=speak, args=(port, ended))
+        thread.start()
+        try:
+            self.in_time(world, 0.6)
+            time.sleep(0.7)
+            self.in_time(world, 1.0)
+            before = world.settled()['circuits'][0]['datagrams']['admitted']
+            self.in_time(world, 1.0)
+            after: int = world.settled()['circuits'][0]['datagrams']['admitted']
+        finally:
+            ended.set()
+            thread.join()
+        return after - before
 
     def in_time(self, world: World, seconds: float) -> None:
         """Multiframes at their rate."""
