@@ -12,7 +12,7 @@ import struct
 import subprocess
 import threading
 
-from exchange import ACKNOWLEDGED, Exchange, Serve, slot_of
+from exchange import ACKNOWLEDGED, Exchange, Serve
 
 SECONDS = 20                # for one session
 PCMA = 8
