@@ -256,10 +256,15 @@ def absent_peer(program, room, senders):
         yield from call.end(numbers[-1] + 1 if numbers else 0)
 
 
-BAD_KIND = b'\x58'
 TWO_FRAMES = bytes([0x54, 0, 0, 0x40]) + bytes([IDLE]) * 64
-# What ends a session whose descriptor is closed: what it is given, its line on standard error, its status.
-SHUT = {0: (b'', b'fault 5 Read\n', 1), 1: (TWO_FRAMES, b'fault 6 Write\n', 1), 2: (BAD_KIND, b'', 1)}
+ANSWER = bytes([0x54, 0, 0, 0x40]) + b''.join(bytes([slot]) + bytes([IDLE]) * 15 for slot in (0x9B, 0x0F, 0xFF, 0x99))
+# Sessions with a descriptor closed: the options, what is given, what is written, what is said, the status.
+# With 2 closed a line is said that nobody reads, while the sockets are open: that the recording has ended.
+SHUT = {
+    0: ((), b'', b'', b'fault 5 Read\n', 1),
+    1: ((), TWO_FRAMES, b'', b'fault 6 Write\n', 1),
+    2: (('--record', '/dev/full'), TWO_FRAMES, ANSWER, b'', 0),
+}
 
 
 def one_circuit(room, peer):
@@ -273,10 +278,10 @@ def one_circuit(room, peer):
 
 def run_shut(program, path, shut, *options):
     """Runs serve with a descriptor closed; yields what is wrong with what it writes."""
-    given, said, status = SHUT[shut]
-    done = subprocess.run([program, 'serve', '--config', path, *options], input=given, capture_output=True,
+    more, given, wrote, said, status = SHUT[shut]
+    done = subprocess.run([program, 'serve', '--config', path, *options, *more], input=given, capture_output=True,
                           preexec_fn=lambda: os.close(shut), timeout=SECONDS, check=False)
-    if (done.stdout, done.stderr, done.returncode) != (b'', said, status):
+    if (done.stdout, done.stderr, done.returncode) != (wrote, said, status):
         yield f'status {done.returncode}, {done.stderr!r}, wrote {done.stdout[:40].hex(" ")}'
 
 
@@ -320,36 +325,51 @@ def config_in_pieces(program, room):
                                stderr=subprocess.STDOUT)
     guard = threading.Timer(SECONDS, started.kill)
     guard.start()
-    # the first piece is read before the second one is written
-    with open(path, 'wb', buffering=0) as pieces:
-        pieces.write(b'law = "A"\n')
-        guard.join(0.1)
-        pieces.write(b'[[circuit]]\nnumber = 30\nrole = "incoming"\n')
-    lines = started.communicate()[0].splitlines()
-    guard.cancel()
-    os.unlink(path)
+    try:
+        # the first piece is read before the second one is written
+        with open(path, 'wb', buffering=0) as pieces:
+            pieces.write(b'law = "A"\n')
+            guard.join(0.1)
+            pieces.write(b'[[circuit]]\nnumber = 30\nrole = "incoming"\n')
+    finally:
+        lines = started.communicate()[0].splitlines()
+        guard.cancel()
+        os.unlink(path)
     if len(lines) != 30 or not lines[29].startswith(b'30 incoming '):
         yield f'status {started.returncode}, {lines[-1:]}'
 
 
+def to_its_end(look, program, room):
+    """What is wrong with a look, also where the program ended before it."""
+    try:
+        yield from look(program, room)
+    except (OSError, SystemExit, subprocess.TimeoutExpired) as ended:
+        yield f'ended before it: {ended}'
+
+
 def wire_looks():
     """The looks: a name, and what yields what is wrong, given the program and a folder to work in."""
+    for name, look, *values in rows():
+        yield name, lambda program, room, l=look, v=values: to_its_end(lambda p, r: l(p, r, *v), program, room)
+
+
+def rows():
+    """The looks: a name, its function, and what that is given beside the program and the folder."""
     families = [('IPv4', '127.0.0.1', '127.0.0.9')]
     if has_ipv6():
         families.append(('IPv6', '::1', None))
     else:
         print('not looked at: IPv6, for which this machine has no address')
     for name, host, other in families:
-        yield f'five calls over {name}', lambda p, r, h=host: calls_apart(p, r, h)
+        yield f'five calls over {name}', calls_apart, host
         for senders in LET_IN:
-            yield (f'senders over {name}: {senders or "none named"}',
-                   lambda p, r, s=senders, h=host, o=other: let_in(p, r, s, h, o))
+            yield f'senders over {name}: {senders or "none named"}', let_in, senders, host, other
     yield 'a datagram at another address', only_at_its_host
     for senders in ('host', 'peer'):
-        yield f'strangers before the peer: {senders}', lambda p, r, s=senders: strangers_first(p, r, s)
+        yield f'strangers before the peer: {senders}', strangers_first, senders
     for senders in ('any', 'peer'):
-        yield f'a peer that is not there: {senders}', lambda p, r, s=senders: absent_peer(p, r, s)
+        yield f'a peer that is not there: {senders}', absent_peer, senders
     for shut in SHUT:
-        yield f'serve with descriptor {shut} closed', lambda p, r, s=shut: nothing_to_the_peer(p, r, s)
+        yield f'serve with descriptor {shut} closed', nothing_to_the_peer, shut
     yield 'serve with descriptor 0 closed, in a flood of records', nothing_from_a_stranger
     yield 'a configuration in pieces', config_in_pieces
