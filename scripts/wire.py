@@ -11,8 +11,13 @@ import socket
 import struct
 import subprocess
 import threading
+from collections.abc import Callable, Iterator
+from functools import partial
+from typing import Any
 
 from exchange import ACKNOWLEDGED, Exchange, Serve
+
+Wrongs = Iterator[str]      # what is not as it must be
 
 SECONDS = 20                # for one session
 PCMA = 8
@@ -40,7 +45,8 @@ peer_port = {peer}
 class Call:
     """Circuits of one gateway in calls over UDP, each with its own peer, and the exchange of their trunk."""
 
-    def __init__(self, program, room, circuits, host, *options, peer_host=None):
+    def __init__(self, program: str, room: str, circuits: tuple[int, ...], host: str, *options: str,
+                 peer_host: str | None = None) -> None:
         self.host, self.circuits = host, circuits
         self.held = contextlib.ExitStack()
         self.peers = {c: self.socket(peer_host or host) for c in circuits}
@@ -56,23 +62,22 @@ class Call:
         self.guard.start()
         self.exchange, self.octets = Exchange(), 0
 
-    def __enter__(self):
+    def __enter__(self) -> 'Call':
         return self
 
-    def __exit__(self, *_):
+    def __exit__(self, *_: object) -> None:
         self.guard.cancel()
         self.serve.process.kill()
         self.serve.process.wait()
-        self.serve.process.stdin.close()
-        self.serve.process.stdout.close()
-        self.serve.process.stderr.close()
+        for stream in (self.serve.process.stdin, self.serve.process.stdout, self.serve.process.stderr):
+            stream.close()
         self.held.close()
 
-    def socket(self, host, port=0):
+    def socket(self, host: str, port: int = 0) -> socket.socket:
         """A socket at this address, which is closed with the call."""
         return self.held.enter_context(bound(host, port))
 
-    def multiframes(self, count):
+    def multiframes(self, count: int) -> None:
         """So many multiframes of the trunk, each way. Each circuit hears its own octet."""
         for _ in range(count):
             for c in self.circuits:
@@ -81,7 +86,7 @@ class Call:
             self.octets += len(octets)
             self.exchange.hear(self.serve.trunk(octets))
 
-    def up(self):
+    def up(self) -> Wrongs:
         """Calls on all circuits, from seizure to speech. Yields what is wrong."""
         self.multiframes(12)
         for c in self.circuits:
@@ -91,11 +96,11 @@ class Call:
         self.multiframes(24)
         self.exchange.heard.clear()
 
-    def played(self, circuit):
+    def played(self, circuit: int) -> bytes:
         """What the circuit played since the calls are up: the octets beside idle ones."""
         return bytes(octet for octet in self.exchange.heard[circuit] if octet != IDLE)
 
-    def end(self, sent, first=''):
+    def end(self, sent: int, first: str = '') -> Wrongs:
         """Ends the session, in which so many packets were sent. Yields what is wrong with its end, whose totals stand
         behind these lines."""
         wanted = (f'{first}records {len(self.serve.given)}\noctets {self.octets}\ndatagrams {sent}\n'
@@ -107,30 +112,30 @@ class Call:
             yield f'status {status}, on standard error {said!r}, wanted {wanted!r}'
 
 
-def spoken(circuit):
+def spoken(circuit: int) -> int:
     """The octet that a circuit hears."""
     return 0x20 + circuit
 
 
-def family_of(host):
+def family_of(host: str) -> socket.AddressFamily:
     """The family of an address."""
     return socket.AF_INET6 if ':' in host else socket.AF_INET
 
 
-def bound(host, port=0):
+def bound(host: str, port: int = 0) -> socket.socket:
     """A socket at this address."""
     found = socket.socket(family_of(host), socket.SOCK_DGRAM)
     found.bind((host, port))
     return found
 
 
-def free_port(host):
+def free_port(host: str) -> int:
     """A port of UDP at this address that nothing holds."""
     with bound(host) as found:
         return found.getsockname()[1]
 
 
-def has_ipv6():
+def has_ipv6() -> bool:
     """Whether this machine has the address ::1."""
     try:
         bound('::1').close()
@@ -139,12 +144,12 @@ def has_ipv6():
     return True
 
 
-def speech(octet, length=PACKET, at=0):
+def speech(octet: int, length: int = PACKET, at: int = 0) -> bytes:
     """A datagram of speech of one call, whose first octet has this place in it."""
     return struct.pack('>BBHII', 0x80, PCMA, 1 + at // PACKET, 1000 + at, 7) + bytes([octet]) * length
 
 
-def packets(peer):
+def packets(peer: socket.socket) -> Iterator[tuple[bytes, Any]]:
     """The datagrams that wait at a peer, each with its sender."""
     peer.setblocking(False)
     with contextlib.suppress(BlockingIOError):
@@ -152,7 +157,7 @@ def packets(peer):
             yield peer.recvfrom(65536)
 
 
-def wrong_packets(call, circuit):
+def wrong_packets(call: Call, circuit: int) -> tuple[list[str], int]:
     """What is wrong with what the peer of a circuit got, and how many they were."""
     got = list(packets(call.peers[circuit]))
     wrong = []
@@ -169,7 +174,7 @@ def wrong_packets(call, circuit):
     return wrong[:1], len(got)
 
 
-def calls_apart(program, room, host):
+def calls_apart(program: str, room: str, host: str) -> Wrongs:
     """Five calls at once: each circuit plays what came at its own port, and sends to its own peer."""
     with Call(program, room, CIRCUITS, host) as call:
         yield from call.up()
@@ -189,7 +194,7 @@ def calls_apart(program, room, host):
         yield from call.end(sent)
 
 
-def only_at_its_host(program, room):
+def only_at_its_host(program: str, room: str) -> Wrongs:
     """A gateway at 127.0.0.2: a datagram to the same port of 127.0.0.1 does not come."""
     with Call(program, room, (1,), '127.0.0.2', peer_host='127.0.0.1') as call:
         yield from call.up()
@@ -206,7 +211,7 @@ def only_at_its_host(program, room):
 LET_IN = {None: 'pho', 'any': 'pho', 'host': 'ph', 'peer': 'p'}
 
 
-def let_in(program, room, senders, host, other):
+def let_in(program: str, room: str, senders: str | None, host: str, other: str | None) -> Wrongs:
     """A call to whose port the peer, another port of its address and, where there is one, another address send."""
     options = () if senders is None else ('--senders', senders)
     with Call(program, room, (1,), host, *options) as call:
@@ -224,7 +229,7 @@ def let_in(program, room, senders, host, other):
         yield from call.end(len(list(packets(call.peers[1]))))
 
 
-def strangers_first(program, room, senders):
+def strangers_first(program: str, room: str, senders: str) -> Wrongs:
     """Forty datagrams of a stranger wait before the peer's: it is played, and none of theirs is counted."""
     with Call(program, room, (1,), '127.0.0.1', '--senders', senders) as call:
         yield from call.up()
@@ -238,7 +243,7 @@ def strangers_first(program, room, senders):
         yield from call.end(len(list(packets(call.peers[1]))))
 
 
-def absent_peer(program, room, senders):
+def absent_peer(program: str, room: str, senders: str) -> Wrongs:
     """A peer that is not there is no fault of a socket; once it is there, its datagrams are played."""
     with Call(program, room, (1,), '127.0.0.1', '--senders', senders) as call:
         port = call.peers[1].getsockname()[1]
@@ -256,13 +261,18 @@ def absent_peer(program, room, senders):
         yield from call.end(numbers[-1] + 1 if numbers else 0)
 
 
-BAD_KIND = b'\x58'
 TWO_FRAMES = bytes([0x54, 0, 0, 0x40]) + bytes([IDLE]) * 64
-# What ends a session whose descriptor is closed: what it is given, its line on standard error, its status.
-SHUT = {0: (b'', b'fault 5 Read\n', 1), 1: (TWO_FRAMES, b'fault 6 Write\n', 1), 2: (BAD_KIND, b'', 1)}
+ANSWER = bytes([0x54, 0, 0, 0x40]) + b''.join(bytes([slot]) + bytes([IDLE]) * 15 for slot in (0x9B, 0x0F, 0xFF, 0x99))
+# Sessions with a descriptor closed: the options, what is given, what is written, what is said, the status.
+# With 2 closed a line is said that nobody reads, while the sockets are open: that the recording has ended.
+SHUT = {
+    0: ((), b'', b'', b'fault 5 Read\n', 1),
+    1: ((), TWO_FRAMES, b'', b'fault 6 Write\n', 1),
+    2: (('--record', '/dev/full'), TWO_FRAMES, ANSWER, b'', 0),
+}
 
 
-def one_circuit(room, peer):
+def one_circuit(room: str, peer: socket.socket) -> tuple[str, int]:
     """A configuration of one circuit with a free port and this peer: its path, and the port."""
     path, port = os.path.join(room, 'wire.toml'), free_port('127.0.0.1')
     with open(path, 'w', encoding='ascii') as text:
@@ -271,16 +281,16 @@ def one_circuit(room, peer):
     return path, port
 
 
-def run_shut(program, path, shut, *options):
+def run_shut(program: str, path: str, shut: int, *options: str) -> Wrongs:
     """Runs serve with a descriptor closed; yields what is wrong with what it writes."""
-    given, said, status = SHUT[shut]
-    done = subprocess.run([program, 'serve', '--config', path, *options], input=given, capture_output=True,
+    more, given, wrote, said, status = SHUT[shut]
+    done = subprocess.run([program, 'serve', '--config', path, *options, *more], input=given, capture_output=True,
                           preexec_fn=lambda: os.close(shut), timeout=SECONDS, check=False)
-    if (done.stdout, done.stderr, done.returncode) != (b'', said, status):
+    if (done.stdout, done.stderr, done.returncode) != (wrote, said, status):
         yield f'status {done.returncode}, {done.stderr!r}, wrote {done.stdout[:40].hex(" ")}'
 
 
-def nothing_to_the_peer(program, room, shut):
+def nothing_to_the_peer(program: str, room: str, shut: int) -> Wrongs:
     """A socket that is connected to its peer takes no closed descriptor's place: nothing is written to it."""
     with bound('127.0.0.1') as peer:
         path, _ = one_circuit(room, peer)
@@ -289,7 +299,7 @@ def nothing_to_the_peer(program, room, shut):
             yield f'the peer got {packet[:40]!r}'
 
 
-def nothing_from_a_stranger(program, room):
+def nothing_from_a_stranger(program: str, room: str) -> Wrongs:
     """Standard input is closed while datagrams that spell a record come to a circuit's port: none is read as one."""
     with bound('127.0.0.1') as peer:
         path, port = one_circuit(room, peer)
@@ -304,7 +314,7 @@ def nothing_from_a_stranger(program, room):
             flood.join()
 
 
-def send_records(port, ended):
+def send_records(port: int, ended: threading.Event) -> None:
     """Sends datagrams that spell a record of the trunk to a port of this machine, until it is ended."""
     with bound('127.0.0.1') as sender:
         while not ended.is_set():
@@ -312,7 +322,7 @@ def send_records(port, ended):
                 sender.sendto(TWO_FRAMES, ('127.0.0.1', port))
 
 
-def config_in_pieces(program, room):
+def config_in_pieces(program: str, room: str) -> Wrongs:
     """A configuration comes through a FIFO in two pieces: both are read."""
     path = os.path.join(room, 'pieces')
     os.mkfifo(path)
@@ -320,36 +330,51 @@ def config_in_pieces(program, room):
                                stderr=subprocess.STDOUT)
     guard = threading.Timer(SECONDS, started.kill)
     guard.start()
-    # the first piece is read before the second one is written
-    with open(path, 'wb', buffering=0) as pieces:
-        pieces.write(b'law = "A"\n')
-        guard.join(0.1)
-        pieces.write(b'[[circuit]]\nnumber = 30\nrole = "incoming"\n')
-    lines = started.communicate()[0].splitlines()
-    guard.cancel()
-    os.unlink(path)
+    try:
+        # the first piece is read before the second one is written
+        with open(path, 'wb', buffering=0) as pieces:
+            pieces.write(b'law = "A"\n')
+            guard.join(0.1)
+            pieces.write(b'[[circuit]]\nnumber = 30\nrole = "incoming"\n')
+    finally:
+        lines = started.communicate()[0].splitlines()
+        guard.cancel()
+        os.unlink(path)
     if len(lines) != 30 or not lines[29].startswith(b'30 incoming '):
         yield f'status {started.returncode}, {lines[-1:]}'
 
 
-def wire_looks():
+def to_its_end(look: Callable[..., Wrongs], values: list[Any], program: str, room: str) -> Wrongs:
+    """What is wrong with a look, also where the program ended before it."""
+    try:
+        yield from look(program, room, *values)
+    except (OSError, SystemExit, subprocess.TimeoutExpired) as ended:
+        yield f'ended before it: {ended}'
+
+
+def wire_looks() -> Iterator[tuple[str, Callable[[str, str], Wrongs]]]:
     """The looks: a name, and what yields what is wrong, given the program and a folder to work in."""
+    for name, look, *values in rows():
+        yield name, partial(to_its_end, look, values)
+
+
+def rows() -> Iterator[tuple[Any, ...]]:
+    """The looks: a name, its function, and what that is given beside the program and the folder."""
     families = [('IPv4', '127.0.0.1', '127.0.0.9')]
     if has_ipv6():
         families.append(('IPv6', '::1', None))
     else:
         print('not looked at: IPv6, for which this machine has no address')
     for name, host, other in families:
-        yield f'five calls over {name}', lambda p, r, h=host: calls_apart(p, r, h)
+        yield f'five calls over {name}', calls_apart, host
         for senders in LET_IN:
-            yield (f'senders over {name}: {senders or "none named"}',
-                   lambda p, r, s=senders, h=host, o=other: let_in(p, r, s, h, o))
+            yield f'senders over {name}: {senders or "none named"}', let_in, senders, host, other
     yield 'a datagram at another address', only_at_its_host
     for senders in ('host', 'peer'):
-        yield f'strangers before the peer: {senders}', lambda p, r, s=senders: strangers_first(p, r, s)
+        yield f'strangers before the peer: {senders}', strangers_first, senders
     for senders in ('any', 'peer'):
-        yield f'a peer that is not there: {senders}', lambda p, r, s=senders: absent_peer(p, r, s)
+        yield f'a peer that is not there: {senders}', absent_peer, senders
     for shut in SHUT:
-        yield f'serve with descriptor {shut} closed', lambda p, r, s=shut: nothing_to_the_peer(p, r, s)
+        yield f'serve with descriptor {shut} closed', nothing_to_the_peer, shut
     yield 'serve with descriptor 0 closed, in a flood of records', nothing_from_a_stranger
     yield 'a configuration in pieces', config_in_pieces
