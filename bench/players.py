@@ -31,7 +31,7 @@ class Player:
         self.known: dict[int, int] = {}             # pairs that it has recognised
         self.recognised: list[tuple[float, int, int]] = []
         self.arrived: list[tuple[float, int]] = []  # when, and how many samples of a circuit were heard then
-        self._runs: dict[int, tuple[int, int]] = {}
+        self._runs: dict[int, tuple[int, int]] = {}     # the pair that is seen, and the multiframe that began it
         if os.path.exists(path):
             os.unlink(path)
         self.door = socket.socket(socket.AF_UNIX)
@@ -69,13 +69,14 @@ class Player:
 
     def _see(self) -> None:
         now = time.monotonic()
+        count = len(self.exchange.heard.get(1, b'')) // 16      # multiframes
         for circuit, pair in self.exchange.signals.items():
-            last, run = self._runs.get(circuit, (-1, 0))
+            last, first = self._runs.get(circuit, (-1, 0))
             if last != pair:
                 self.log.append((now, circuit, pair))
-            run = run + 1 if last == pair else 1
-            self._runs[circuit] = pair, run
-            if run == RECOGNISED and self.known.get(circuit) != pair:
+                first = count
+                self._runs[circuit] = pair, first
+            if count - first >= RECOGNISED - 1 and self.known.get(circuit) != pair:
                 self.known[circuit] = pair
                 self.recognised.append((now, circuit, pair))
         if 1 in self.exchange.heard:

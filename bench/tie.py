@@ -366,24 +366,33 @@ def stopped(bench: Bench) -> None:
         bench.caller(n).exchange.pairs[n] = IDLE
     bench.world.run(0.5)
     bench.ties['east'].kill()
-    began = time.monotonic()
-    cleared = [n for n in CIRCUITS if n > 4]
-    bench.until('one tie killed: its callers\' circuits blocked at its end', HOLD + 2,
-                bench.seen((2, 4), bench.caller, BLOCKED))
-    bench.until('and at the other end', HOLD + 2, bench.seen((1, 3), bench.caller, BLOCKED))
-    bench.world.run(max(0.0, began + HOLD + 2 - time.monotonic()),
-                    lambda: bench.seen(cleared, bench.caller, CLEARED_BACK)() and
-                    bench.seen(cleared, bench.called, IDLE)())
-    still = [sum(player.exchange.signals[n] == pair for n in cleared) for player, pair in
-             ((bench.west, ANSWERED), (bench.west, SEIZED), (bench.east, ANSWERED), (bench.east, SEIZED))]
-    bench.row(f'calls that stand {time.monotonic() - began:.2f} s after that, west / east',
-              f'{sum(still[:2])} / {sum(still[2:])}', f'none after {HOLD + 2:g} s', not any(still))
+    killed(bench)
     bench.hang_up_all()
     bench.world.run(0.3)
     bench.start_tie('east')
     bench.until('a new tie: all idle again', 2, bench.idle)
     bench.call_all()
     bench.until('thirty calls again', 2, lambda: bench.up() == 30)
+
+
+def killed(bench: Bench) -> None:
+    """What becomes of calls and of idle circuits at both ends once a tie is killed: all within the time."""
+    rest = range(5, 31)
+    holds = {'one tie killed: idle circuits blocked at the other end': bench.seen((1, 3), bench.caller, BLOCKED),
+             'and at its own end': bench.seen((2, 4), bench.caller, BLOCKED),
+             'all calls cleared back at their callers': bench.seen(rest, bench.caller, CLEARED_BACK),
+             'and cleared at the called exchanges': bench.seen(rest, bench.called, IDLE)}
+    began, came = time.monotonic(), dict[str, float]()
+
+    def look() -> None:
+        for what, there in holds.items():
+            if what not in came and there():
+                came[what] = time.monotonic() - began
+    bench.world.run(HOLD + 3, lambda: len(came) == len(holds), look)
+    for what in holds:
+        at = came.get(what)
+        bench.row(what, 'never' if at is None else f'{at:.2f} s', f'at most {HOLD + 2:g} s',
+                  at is not None and at <= HOLD + 2)
 
 
 def cut(bench: Bench) -> None:

@@ -200,6 +200,28 @@ def gap() -> Made:
     return made
 
 
+def gaps() -> Made:
+    """The device loses 30 ms of the trunk each two seconds."""
+    made = gap()
+    made.seconds = 30
+    for n in range(1, 7):
+        made.senders[n - 1].end = 29.5
+    made.events = []
+    for n in range(1, 7):
+        made.call(n, 0.1, 29.5)
+
+    def lose(now: float, octets: bytearray) -> None:
+        if now % 2 >= 1.97:
+            octets.clear()
+    made.change = lose
+    return made
+
+
+def double_rate() -> Made:
+    """The trunk runs at double the rate: a second of the sender is two of the trunk."""
+    return one_call(6, {'prefill': 160}, ppm=-500_000)
+
+
 def slips() -> Made:
     """The device loses an octet each half second."""
     made = one_call(6)
@@ -245,8 +267,8 @@ def sound() -> Made:
 TROUBLES: dict[str, Callable[[], Made]] = {
     'no-datagrams': no_datagrams, 'other-type': other_type, 'other-codec': other_codec, 'slow-clock': slow_clock,
     'fast-clock': fast_clock, 'hold': hold, 'jump': jump, 'jitter': jitter, 'stranger': stranger, 'lost': lost,
-    'burst': burst, 'gap': gap, 'slips': slips, 'all-ones': all_ones, 'silent-slot': silent_slot,
-    'unacknowledged': unacknowledged, 'sound': sound}
+    'burst': burst, 'gap': gap, 'gaps': gaps, 'double-rate': double_rate, 'slips': slips, 'all-ones': all_ones,
+    'silent-slot': silent_slot, 'unacknowledged': unacknowledged, 'sound': sound}
 
 
 @functools.cache

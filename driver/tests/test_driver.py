@@ -265,6 +265,17 @@ class Beside(unittest.TestCase):
             self.assertTrue(said.endswith('quit: done\n'))
             world.process.stdout.close()
 
+    def test_the_table_in_the_terminal(self) -> None:
+        with World(config_of(FOUR), '--top', stdout=subprocess.PIPE) as world:
+            aligned(world)
+            time.sleep(1.2)
+            world.quit()
+            assert world.process.stdout
+            shown = world.process.stdout.read().decode()
+            world.process.stdout.close()
+            self.assertGreaterEqual(shown.count('\x1b[H\x1b[2J'), 2)
+            self.assertIn(' 4 outgoing idle ', shown)
+
     def test_signals(self) -> None:
         with World(config_of(FOUR)) as world:
             for number in (signal.SIGHUP, signal.SIGPIPE, signal.SIGXFSZ, signal.SIGWINCH, signal.SIGCHLD):

@@ -28,8 +28,8 @@ NUMBER, STATE, SENT, ADMITTED, REFUSED = 0, 2, 5, 6, 7
 # What is found in a session with each trouble.
 FOUND = {'no-datagrams': 'none', 'other-type': 'type', 'other-codec': 'words', 'slow-clock': 'clock slower',
          'fast-clock': 'clock faster', 'hold': 'source', 'jump': 'jump', 'jitter': 'late', 'stranger': 'source',
-         'lost': 'lost', 'burst': 'late', 'gap': 'gap', 'slips': 'lost frame', 'all-ones': 'ones',
-         'silent-slot': 'silent sent', 'unacknowledged': 'unacknowledged'}
+         'lost': 'lost', 'burst': 'late', 'gap': 'gap', 'gaps': 'gap', 'double-rate': 'rate', 'slips': 'lost frame',
+         'all-ones': 'ones', 'silent-slot': 'silent sent', 'unacknowledged': 'unacknowledged'}
 
 
 def config_of(session: Made) -> dict[str, object]:

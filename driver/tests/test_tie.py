@@ -25,7 +25,7 @@ from e1gw.tie.tie import Options, Tie
 from tests.test_tie_circuit import CALLED, COLUMN, DONE, INCOMING, OUTGOING
 
 HERE = os.path.dirname(os.path.dirname(os.path.abspath(__file__)))
-HOLD = 1.5                  # seconds
+HOLD = 3.0                  # seconds
 IDLE, SEIZED, ANSWER, HELD = 0b10, 0b00, 0b01, 0b11         # bits a and b
 
 
@@ -266,7 +266,7 @@ class Lines(Sites):
         await self.until(self.at(3, State.ANSWERED, State.ANSWERED))
         self.west.send(3, IDLE)
         await self.until(self.at(3, State.IDLE, State.IDLE))
-        self.assertIn('on-loss block 1.5', self.west.asked)
+        self.assertIn('on-loss block 3', self.west.asked)
         self.assertNotIn('seize 3', self.west.asked)
 
     async def test_blocked(self) -> None:

@@ -161,9 +161,10 @@ class Service(unittest.TestCase):
                 port = int(file.read().split('local_port = ')[1].split()[0])
             ended = threading.Event()
             thread = threading.Thread(target=speak, args=(port, ended))
+            time.sleep(0.08)
             thread.start()
             try:
-                time.sleep(0.09)
+                time.sleep(0.01)
                 world.give(b''.join(world.exchange.multiframe() for _ in range(45)))
                 self.in_time(world, 0.8)
                 before = world.settled()['circuits'][0]['datagrams']['admitted']

@@ -9,6 +9,7 @@ from .facts import NOT_OPEN, OPEN, SECOND, Cell, Facts, Row
 from .slopes import Points, Step, points, slope, steps
 from .svg import Scale, duration
 
+RATE = 20_000               # parts in a million from which on it is no difference of clocks
 SHORT = SECOND // 50        # an alarm of the far end that is shorter is but a wrong bit
 
 
@@ -43,6 +44,12 @@ def _clock(row: Row, parts: list[Points], found: list[Step]) -> Iterator[Finding
             piece.append(point)
     if best:
         rate, gone, long = best
+        if abs(rate) > RATE:
+            yield Finding('rate', row.number,
+                          f'a second of the sender is {1 / max(0.001, 1 + rate / 1e6):.2f} s of the trunk',
+                          'the trunk runs at another rate than 256,000 octets a second, or the sender at another than '
+                          '8000 Hz; a file that is read faster than real time')
+            return
         side, way = ('slower', 'later') if rate < 0 else ('faster', 'earlier')
         yield Finding('clock ' + side, row.number,
                       f'datagrams come ever {way}: by {abs(gone) / 8:.0f} ms in {duration(long)}, so the sender\'s '
@@ -55,6 +62,7 @@ def _steps(facts: Facts, rows: list[Row], found: dict[int, list[Step]]) -> Itera
     """Steps of many circuits at one moment are the trunk's, others the sender's."""
     every = sorted(((step.place, row.number, step) for row in rows for step in found[row.number]),
                    key=lambda each: each[:2])
+    gaps: list[tuple[int, float, int]] = []
     while every:
         place = every[0][0]
         near = [each for each in every if each[0] - place < SECOND / 2 + 2 * facts.width]
@@ -63,17 +71,29 @@ def _steps(facts: Facts, rows: list[Row], found: dict[int, list[Step]]) -> Itera
                           row.states.between(0, facts.place)) for row in rows)
         circuits = {number for _, number, _ in near}
         ahead = median(step.samples for _, _, step in near)
-        words = f'{abs(ahead) / 8:.0f} ms {"earlier" if ahead > 0 else "later"}'
         if len(circuits) > 1 and len(circuits) * 2 >= talking and ahead > 0:
-            yield Finding('gap', 0, f'at {_moment(facts, place)} the datagrams of {len(circuits)} circuits come '
-                          f'{words} all at once: so much of the trunk was lost',
-                          'the device lost octets; `codec` for each call begins its playout anew')
+            gaps.append((place, ahead, len(circuits)))
             continue
         for at, number, step in near:
             words = f'{abs(step.samples) / 8:.0f} ms {"earlier" if step.samples > 0 else "later"}'
             yield Finding('jump', number, f'at {_moment(facts, at)} all datagrams come {words} from one to the next',
                           'the sender\'s timestamps jumped, or it went silent while they stood still (hold, transfer); '
                           'where many circuits have it, the trunk lost octets')
+    yield from _gaps(facts, gaps)
+
+
+def _gaps(facts: Facts, gaps: list[tuple[int, float, int]]) -> Iterator[Finding]:
+    """Moments at which octets of the trunk were lost: the place, the samples, and how many circuits show it."""
+    hint = 'the device lost octets; `codec` for each call begins its playout anew'
+    if len(gaps) == 1:
+        place, ahead, circuits = gaps[0]
+        yield Finding('gap', 0, f'at {_moment(facts, place)} the datagrams of {circuits} circuits come '
+                      f'{ahead / 8:.0f} ms earlier all at once: so much of the trunk was lost', hint)
+    elif gaps:
+        whole = sum(ahead for _, ahead, _ in gaps) / 8
+        yield Finding('gap', 0, f'{len(gaps)} times, first at {_moment(facts, gaps[0][0])}, the datagrams of up to '
+                      f'{max(circuits for _, _, circuits in gaps)} circuits come earlier all at once, by some '
+                      f'{whole:.0f} ms in all: so much of the trunk was lost', hint)
 
 
 def _moment(facts: Facts, place: int) -> str:
