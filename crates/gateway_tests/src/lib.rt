@@ -1,6 +1,6 @@
 //! The worked figures of one circuit, of the thirty together, of configurations and of the listing: the tests
-//! of `gw_circuit`, `gw_switch`, `gw_config` and `gw_listing`, in one crate, since a crate with tests is proved
-//! twice.
+//! of `gw_circuit`, `gw_switch`, `gw_config` and `gw_listing`, in one crate, since a crate with tests is
+//! proved twice.
 #![tactic(auto)]
 
 #[cfg(test)]

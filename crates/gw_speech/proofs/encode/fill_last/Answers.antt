@@ -1,4 +1,5 @@
-use Rattle.std.proofs.Common.{◌≡◌, ◌-◌, ◌∙◌, ◌<◌, ◌^◌, ℕ, length, take, drop, replicate, ap, length-take-le, length-drop, arith}
+use Rattle.std.proofs.Common.{◌≡◌, ◌-◌, ◌∙◌, ◌<◌, ◌^◌, ℕ, length, take, drop, replicate, ap, length-take-le}
+use Rattle.std.proofs.Common.{length-drop, arith}
 use Rattle.std.proofs.lemmas.List.{length-replicate}
 use Rattle.std.proofs.lemmas.Slice.{between-put_mid}
 use Rattle.e1_g711.specs.Law.{idle_code}
