@@ -5,7 +5,7 @@ use Rattle.std.specs.Prelude.{slice_index, ◌≢◌}
 use Rattle.std.proofs.lemmas.Bool.{eq-eqb, ne_eqb, cases_eq}
 use Rattle.g704_align.specs.Loss.{is_third_wrong}
 use Rattle.g704_align.proofs.Wrongs.{is_third_wrong-reads}
-use Rattle.g704_bits.specs.Loss.{eighths_after, octets_of, is_lost_at}
+use Rattle.g704_bits.specs.Loss.{eighths_after, octets_along, is_lost_at}
 
 -- how many they are
 length-eighths : (s : List ℕ) (k : ℕ) → k < 8 → length (eighths_after k s) ≡ (length s + 7 - k) / 8
@@ -15,7 +15,7 @@ length-eighths (w ∷ s) zero lt = let l = length-eighths s 7 (omega arith) in o
 length-eighths (w ∷ s) (suc k) lt = let l = length-eighths s k (omega arith) in omega arith
 
 -- the octets of an alignment
-pub length-octets : (s : List ℕ) → length (octets_of s) ≡ (length s + 7) / 8
+pub length-octets : (s : List ℕ) → length (octets_along s) ≡ (length s + 7) / 8
 length-octets s = let l = length-eighths s 0 (omega arith) in omega arith
 
 -- where they stand
@@ -31,7 +31,7 @@ eighths-at (w ∷ s) (suc k) n =
     eighths-at s k n ∙ sym (ap (slice_index (w ∷ s)) at)
 
 -- the octets of an alignment
-pub octet-at : (s : List ℕ) (n : ℕ) → slice_index (octets_of s) n ≡ slice_index s (8 * n)
+pub octet-at : (s : List ℕ) (n : ℕ) → slice_index (octets_along s) n ≡ slice_index s (8 * n)
 octet-at s n = let at : 0 + 8 * n ≡ 8 * n = omega arith in eighths-at s 0 n ∙ ap (slice_index s) at
 
 -- one window more, at the place of one of them
@@ -52,15 +52,15 @@ eighths-between (w ∷ s) x zero lt ne =
 eighths-between (w ∷ s) x (suc k) lt ne = eighths-between s x k (omega arith) (λ e. ne (omega (arith, e)))
 
 -- the window is an octet of the alignment
-pub octets-push : (s : List ℕ) (x : ℕ) → length s % 8 ≡ 0 → octets_of (s ++ x ∷ []) ≡ octets_of s ++ x ∷ []
+pub octets-push : (s : List ℕ) (x : ℕ) → length s % 8 ≡ 0 → octets_along (s ++ x ∷ []) ≡ octets_along s ++ x ∷ []
 octets-push s x e = eighths-push s x 0 (omega arith) e
 
 -- or lies between two of them
-pub octets-between : (s : List ℕ) (x : ℕ) → length s % 8 ≢ 0 → octets_of (s ++ x ∷ []) ≡ octets_of s
+pub octets-between : (s : List ℕ) (x : ℕ) → length s % 8 ≢ 0 → octets_along (s ++ x ∷ []) ≡ octets_along s
 octets-between s x ne = eighths-between s x 0 (omega arith) ne
 
 -- an alignment is lost by one of its octets
-pub lost-octet : (s : List ℕ) (k : ℕ) → k % 8 ≡ 0 → is_lost_at s k ≡ is_third_wrong (octets_of s) (k / 8)
+pub lost-octet : (s : List ℕ) (k : ℕ) → k % 8 ≡ 0 → is_lost_at s k ≡ is_third_wrong (octets_along s) (k / 8)
 unfolding is_lost_at
 lost-octet s k e = rw (eq-eqb (k % 8) 0 e) refl
 
@@ -76,6 +76,6 @@ pub lost-reads : (windows others : List ℕ) (k : ℕ)
 lost-reads windows others k same = elim (cases_eq (k % 8) 0) [
   | inr ne ↦ rw (lost-between windows k ne, lost-between others k ne) refl
   | inl e ↦ rw (lost-octet windows k e, lost-octet others k e)
-      (is_third_wrong-reads (octets_of windows) (octets_of others) (k / 8)
+      (is_third_wrong-reads (octets_along windows) (octets_along others) (k / 8)
       (λ j le at. rw (octet-at windows j, octet-at others j) (same (8 * j) (omega arith) (omega arith))))
 ]

@@ -1,11 +1,11 @@
 -- The definitions on worked examples, by computing.
-use Rattle.std.proofs.Common.{◌≡◌, ℕ, List, [], ◌∷◌, ◌++◌, Some, None, true, false, refl}
+use Rattle.std.proofs.Common.{◌≡◌, arith, ℕ, List, [], ◌∷◌, ◌++◌, Some, None, true, false, refl}
 use Rattle.std.specs.Prelude.{replicate}
 use Rattle.g704_framing.specs.Least.{least}
 use Rattle.g704_align.specs.Search.{is_fas, is_nfas}
-use Rattle.g704_align.specs.Loss.{is_wrong}
+use Rattle.g704_align.proofs.Wrongs.{is_wrong-fas, is_wrong-early}
 use Rattle.g704_bits.specs.Search.{is_confirmed, search}
-use Rattle.g704_bits.specs.Loss.{eighths_after, is_lost_at}
+use Rattle.g704_bits.specs.Loss.{eighths_after, octets_along, is_lost_at}
 use Rattle.g704_bits.specs.Bits.{windows_after, windows_of, delayed_after, offset_of}
 
 -- the windows of an octet behind the ones of the line: 1111 1111 1001 1011, eight bits at a time
@@ -50,9 +50,17 @@ octets : eighths_after 0 (1 ∷ 2 ∷ 3 ∷ 4 ∷ 5 ∷ 6 ∷ 7 ∷ 8 ∷ 9 ∷ 
 unfolding eighths_after
 octets = refl
 
+-- a stream of ones
+ones : List ℕ
+ones = replicate 2049 0xFF
+
 -- Ones have bit 2, and not the signal: the signals 128, 192 and 256 octets behind the first are wrong, and
 -- alignment is lost by the third of them, and by no other window there.
-lost : (is_lost_at (replicate 2049 0xFF) 1536 ≡ false) × (is_lost_at (replicate 2049 0xFF) 2047 ≡ false)
-    × (is_lost_at (replicate 2049 0xFF) 2048 ≡ true)
-unfolding is_lost_at eighths_after is_wrong is_fas is_nfas
-lost = (refl, refl, refl)
+lost : (is_lost_at ones 1536 ≡ false) × (is_lost_at ones 2047 ≡ false) × (is_lost_at ones 2048 ≡ true)
+unfolding is_lost_at eighths_after is_fas ones
+lost =
+    let first = is_wrong-fas (octets_along ones) 128 (omega arith) refl in
+    let second = is_wrong-fas (octets_along ones) 192 (omega arith) refl in
+    let third = is_wrong-fas (octets_along ones) 256 (omega arith) refl in
+    let early = is_wrong-early (octets_along ones) 64 (omega arith) in
+    (rw (second, first, early) refl, refl, rw (third, second, first) refl)

@@ -10,7 +10,7 @@ use Rattle.g704_align.specs.Aligner.{count_after}
 use Rattle.g704_align.specs.Aligner as frames
 use Rattle.g704_align.proofs.Steps as octets
 use Rattle.g704_bits.specs.Search.{is_confirmed}
-use Rattle.g704_bits.specs.Loss.{octets_of, is_lost_at}
+use Rattle.g704_bits.specs.Loss.{octets_along, is_lost_at}
 use Rattle.g704_bits.specs.Aligner.{IsAlignment}
 use Rattle.g704_bits.proofs.Eighths.{length-octets, octet-at, octets-push, octets-between, lost-octet, lost-between}
 
@@ -20,11 +20,11 @@ unfolding is_confirmed
 alignment-found c l sure =
     let one = and_parts (is_fas (slice_index c 0)) _ sure in
     let two = and_parts (is_nfas (slice_index c 256)) _ one.1 in
-    let n : length (octets_of c) ≡ 65 = omega (arith, length-octets c) in
+    let n : length (octets_along c) ≡ 65 = omega (arith, length-octets c) in
     record {
       counted = omega arith;
       found = omega arith;
-      octets = rw n (octets.alignment-found (octets_of c) n (rw (octet-at c 0) one.0) (rw (octet-at c 32) two.0)
+      octets = rw n (octets.alignment-found (octets_along c) n (rw (octet-at c 0) one.0) (rw (octet-at c 32) two.0)
           (rw (octet-at c 64) two.1));
     }
 
@@ -58,12 +58,12 @@ module _ (c : List ℕ) (x age ws wd : ℕ) (h : IsAlignment age ws wd c) where
 
   -- or is the next one
   next-octet : (ws' wd' : ℕ) → length c % 8 ≡ 0
-      → frames.IsAlignment ((length (octets_of c) % 64 + 1) % 64) ws' wd' (octets_of c ++ x ∷ [])
+      → frames.IsAlignment ((length (octets_along c) % 64 + 1) % 64) ws' wd' (octets_along c ++ x ∷ [])
       → IsAlignment ((age + 1) % 512) ws' wd' (c ++ x ∷ [])
   next-octet ws' wd' e more =
       let a = h.counted in let f = h.found in let l = length_push c x in
-      let n : length (octets_of c ++ x ∷ []) % 64 ≡ (length (octets_of c) % 64 + 1) % 64
-      = omega (arith, length_push (octets_of c) x) in
+      let n : length (octets_along c ++ x ∷ []) % 64 ≡ (length (octets_along c) % 64 + 1) % 64
+      = omega (arith, length_push (octets_along c) x) in
       record {
         counted = omega arith;
         found = omega arith;
@@ -71,14 +71,14 @@ module _ (c : List ℕ) (x age ws wd : ℕ) (h : IsAlignment age ws wd c) where
       }
 
   -- the age of the octet, where that of the window is whole octets
-  octet-age : (rest : ℕ) → age ≡ 8 * rest → rest < 64 → (length c % 8 ≡ 0) × (length (octets_of c) % 64 ≡ rest)
+  octet-age : (rest : ℕ) → age ≡ 8 * rest → rest < 64 → (length c % 8 ≡ 0) × (length (octets_along c) % 64 ≡ rest)
   octet-age rest e lt = let a = h.counted in let l = length-octets c in (omega arith, omega arith)
 
   -- the alignment is lost by the window, where it is by the octet
-  lost-by : length c % 8 ≡ 0 → is_third_wrong (octets_of c ++ x ∷ []) (length (octets_of c)) ≡ true
+  lost-by : length c % 8 ≡ 0 → is_third_wrong (octets_along c ++ x ∷ []) (length (octets_along c)) ≡ true
       → is_lost_at (c ++ x ∷ []) (length c) ≡ true
   lost-by e third =
-      let n : length c / 8 ≡ length (octets_of c) = omega (arith, length-octets c) in
+      let n : length c / 8 ≡ length (octets_along c) = omega (arith, length-octets c) in
       lost-octet (c ++ x ∷ []) (length c) e ∙ rw (octets-push c x e, n) third
 
   -- by the octet of slot 0 of an even frame
@@ -86,26 +86,26 @@ module _ (c : List ℕ) (x age ws wd : ℕ) (h : IsAlignment age ws wd c) where
       → IsAlignment ((age + 1) % 512) n wd (c ++ x ∷ [])
   fas-more n e counted =
       let at = octet-age 0 e (omega arith) in
-      next-octet n wd at.0 (octets.fas-more (octets_of c) x _ ws wd h.octets n at.1 counted)
+      next-octet n wd at.0 (octets.fas-more (octets_along c) x _ ws wd h.octets n at.1 counted)
 
   -- which may be the third wrong one
   pub fas-lost : age ≡ 0 → None ≡ count_after ws (is_fas x) → is_lost_at (c ++ x ∷ []) (length c) ≡ true
   fas-lost e counted =
       let at = octet-age 0 e (omega arith) in
-      lost-by at.0 (octets.fas-third (octets_of c) x _ ws wd h.octets at.1 counted)
+      lost-by at.0 (octets.fas-third (octets_along c) x _ ws wd h.octets at.1 counted)
 
   -- of an odd frame
   pub nfas-more : (n : ℕ) → age ≡ 256 → Some n ≡ count_after wd (is_nfas x)
       → IsAlignment ((age + 1) % 512) ws n (c ++ x ∷ [])
   nfas-more n e counted =
       let at = octet-age 32 e (omega arith) in
-      next-octet ws n at.0 (octets.nfas-more (octets_of c) x _ ws wd h.octets n at.1 counted)
+      next-octet ws n at.0 (octets.nfas-more (octets_along c) x _ ws wd h.octets n at.1 counted)
 
   -- which may be the third wrong one
   pub nfas-lost : age ≡ 256 → None ≡ count_after wd (is_nfas x) → is_lost_at (c ++ x ∷ []) (length c) ≡ true
   nfas-lost e counted =
       let at = octet-age 32 e (omega arith) in
-      lost-by at.0 (octets.nfas-third (octets_of c) x _ ws wd h.octets at.1 counted)
+      lost-by at.0 (octets.nfas-third (octets_along c) x _ ws wd h.octets at.1 counted)
 
   -- of another slot, or between two octets
   pub other-more : age ≢ 0 → age ≢ 256 → IsAlignment ((age + 1) % 512) ws wd (c ++ x ∷ [])
@@ -114,6 +114,6 @@ module _ (c : List ℕ) (x age ws wd : ℕ) (h : IsAlignment age ws wd c) where
     | inl e ↦
         let a = h.counted in
         let l = length-octets c in
-        next-octet ws wd e (octets.other-more (octets_of c) x _ ws wd h.octets
+        next-octet ws wd e (octets.other-more (octets_along c) x _ ws wd h.octets
         (λ z. p (omega (arith, z))) (λ z. q (omega (arith, z))))
   ]

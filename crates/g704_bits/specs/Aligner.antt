@@ -9,7 +9,7 @@ use Rattle.g704_bits.specs.declared.aligner.Phase.TheVariants.{Hunting, Aligned}
 use Rattle.g704_align.specs.Search.{is_fas, is_nfas}
 use Rattle.g704_align.specs.Aligner as frames
 use Rattle.g704_bits.specs.Search.{is_confirmed}
-use Rattle.g704_bits.specs.Loss.{octets_of, is_lost_at, bit_alignment}
+use Rattle.g704_bits.specs.Loss.{octets_along, is_lost_at, bit_alignment}
 use Rattle.g704_bits.specs.Bits.{offset_after}
 
 -- No window is confirmed yet; the count and the memory are those of these windows.
@@ -38,7 +38,8 @@ confirms seen memory window =
 pub record IsAlignment (age wrong_fas wrong_nfas : ℕ) (windows : List ℕ) : Type 0 where
   pub counted : age ≡ length windows % 512
   pub found : 512 < length windows
-  pub octets : frames.IsAlignment (length (octets_of windows) % 64) wrong_fas wrong_nfas (octets_of windows)
+  pub octets :
+      frames.IsAlignment (length (octets_along windows) % 64) wrong_fas wrong_nfas (octets_along windows)
 
 -- The alignment behind windows of which none is confirmed.
 pub record IsAligned (age wrong_fas wrong_nfas : ℕ) (windows : List ℕ) : Type 0 where

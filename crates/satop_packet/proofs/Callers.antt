@@ -5,9 +5,9 @@ use Rattle.std.specs.Prelude.{Result, Ok, Err, IfOk, IsOkAnd, MatchResult}
 use Rattle.std.proofs.lemmas.List.{length-append}
 use Rattle.std.proofs.lemmas.Bool.{cases_lt, lt-ltb, le-ltb}
 use Rattle.satop_packet.specs.declared.SatopFault.{SatopFault}
-use Rattle.satop_packet.specs.Satop.{Parts, control_word, length_said, plain_packet}
+use Rattle.satop_packet.specs.Satop.{Content, control_word, length_said, plain_packet}
 use Rattle.satop_packet.specs.Fault.{fault, has_fault, is_short, is_no_rtp, is_no_control, is_fragment, is_other_length}
-use Rattle.satop_packet.specs.Read.{parts_of, unless_fault, read_of}
+use Rattle.satop_packet.specs.Read.{content_of, unless_fault, reading_of}
 use Rattle.satop_packet.specs.Laws.{AreOctets, IsPacketOf, FaultlessIsPacket, PacketIsFaultless, PartsAreUnique}
 use Rattle.satop_packet.specs.Laws.{LeastFaultIsTold, PlainIsPacket, PlainIsRead}
 use Rattle.satop_packet.proofs.Joins.{is_told, joins}
@@ -15,7 +15,7 @@ use Rattle.satop_packet.proofs.Least.{least}
 
 -- octets without fault are the join of some parts
 pub faultless_is_packet : FaultlessIsPacket
-faultless_is_packet rtp octets each none = (parts_of rtp octets, joins rtp octets each none)
+faultless_is_packet rtp octets each none = (content_of rtp octets, joins rtp octets each none)
 
 -- the join of some parts has no fault
 pub packet_is_faultless : PacketIsFaultless
@@ -33,29 +33,30 @@ least_fault_is_told rtp o =
     (is_other_length rtp o) refl refl refl refl refl
 
 -- the join of some parts is read as these parts
-pub read_of-packet : (rtp : Bool) (octets : List ℕ) (parts : Parts) → IsPacketOf rtp parts octets
-    → read_of rtp octets ≡ Ok parts
-unfolding read_of
-read_of-packet rtp octets parts (reserved, len, d) =
+pub reading_of-packet : (rtp : Bool) (octets : List ℕ) (parts : Content) → IsPacketOf rtp parts octets
+    → reading_of rtp octets ≡ Ok parts
+unfolding reading_of
+reading_of-packet rtp octets parts (reserved, len, d) =
     let t = is_told rtp octets parts reserved len d in
     rw (t.faultless, t.parts) refl
 
 -- parts are read where there is no fault, and are those that stand at their places
-unless_fault-ok : (f : Option SatopFault) (at parts : Parts) → unless_fault f at ≡ Ok parts → (f ≡ None) × (parts ≡ at)
+unless_fault-ok : (f : Option SatopFault) (at parts : Content) → unless_fault f at ≡ Ok parts
+    → (f ≡ None) × (parts ≡ at)
 unless_fault-ok None at parts e = (refl, cc)
 unless_fault-ok (Some f) at parts e = absurd (cc)
 
 -- a fault is told where there is one
-unless_fault-err : (f : Option SatopFault) (at : Parts) (g : SatopFault) → unless_fault f at ≡ Err g → f ≡ Some g
+unless_fault-err : (f : Option SatopFault) (at : Content) (g : SatopFault) → unless_fault f at ≡ Err g → f ≡ Some g
 unless_fault-err None at g e = absurd (cc)
 unless_fault-err (Some f) at g e = cc
 
 -- octets that are read are the join of what they are read as
-read_of-ok : (rtp : Bool) (octets : List ℕ) (parts : Parts) → AreOctets octets → read_of rtp octets ≡ Ok parts
+reading_of-ok : (rtp : Bool) (octets : List ℕ) (parts : Content) → AreOctets octets → reading_of rtp octets ≡ Ok parts
     → IsPacketOf rtp parts octets
-unfolding read_of
-read_of-ok rtp octets parts each e =
-    let t = unless_fault-ok (fault rtp octets) (parts_of rtp octets) parts e in
+unfolding reading_of
+reading_of-ok rtp octets parts each e =
+    let t = unless_fault-ok (fault rtp octets) (content_of rtp octets) parts e in
     rw (t.1) (joins rtp octets each t.0)
 
 -- LEN, as it is written, fits
@@ -87,24 +88,24 @@ plain_is_packet rtp header control payload is there small =
 -- and is read as what was written
 pub plain_is_read : PlainIsRead
 plain_is_read rtp header control payload is there small =
-    read_of-packet rtp (plain_packet header control payload)
+    reading_of-packet rtp (plain_packet header control payload)
     (record { rtp = header; control = control; payload = payload })
     (0, length_said (length header + 4 + length payload), plain_is_packet rtp header control payload is there small)
 
 -- what was read is the join of its parts
-pub read-ok : (rtp : Bool) (octets : List ℕ) (r : Result Parts SatopFault) → AreOctets octets → r ≡ read_of rtp octets
-    → IfOk r (λ parts. IsPacketOf rtp parts octets)
-read-ok rtp octets (Ok parts) each e = read_of-ok rtp octets parts each (sym e)
+pub read-ok : (rtp : Bool) (octets : List ℕ) (r : Result Content SatopFault) → AreOctets octets
+    → r ≡ reading_of rtp octets → IfOk r (λ parts. IsPacketOf rtp parts octets)
+read-ok rtp octets (Ok parts) each e = reading_of-ok rtp octets parts each (sym e)
 read-ok rtp octets (Err f) each e = tt
 
 -- a join of parts was read as these
-pub read-exact : (rtp : Bool) (octets : List ℕ) (r : Result Parts SatopFault) → r ≡ read_of rtp octets
-    → (parts : Parts) → IsPacketOf rtp parts octets → IsOkAnd r (λ view. view ≡ parts)
-read-exact rtp octets r e parts d = rw (e ∙ read_of-packet rtp octets parts d) refl
+pub read-exact : (rtp : Bool) (octets : List ℕ) (r : Result Content SatopFault) → r ≡ reading_of rtp octets
+    → (parts : Content) → IsPacketOf rtp parts octets → IsOkAnd r (λ view. view ≡ parts)
+read-exact rtp octets r e parts d = rw (e ∙ reading_of-packet rtp octets parts d) refl
 
 -- what was read has no fault, and what was refused has the fault that was told
-pub read-fault : (rtp : Bool) (octets : List ℕ) (r : Result Parts SatopFault) → r ≡ read_of rtp octets
+pub read-fault : (rtp : Bool) (octets : List ℕ) (r : Result Content SatopFault) → r ≡ reading_of rtp octets
     → MatchResult r (λ _. fault rtp octets ≡ None) (λ f. fault rtp octets ≡ Some f)
-unfolding read_of
-read-fault rtp octets (Ok parts) e = (unless_fault-ok (fault rtp octets) (parts_of rtp octets) parts (sym e)).0
-read-fault rtp octets (Err f) e = unless_fault-err (fault rtp octets) (parts_of rtp octets) f (sym e)
+unfolding reading_of
+read-fault rtp octets (Ok parts) e = (unless_fault-ok (fault rtp octets) (content_of rtp octets) parts (sym e)).0
+read-fault rtp octets (Err f) e = unless_fault-err (fault rtp octets) (content_of rtp octets) f (sym e)

@@ -1,5 +1,5 @@
 -- A join of parts has no fault, and its parts stand at their places.
-use Rattle.std.proofs.Common.{◌≡◌, ◌≢◌, ◌+◌, ◌*◌, ◌/◌, ◌%◌, ◌<◌, ◌≤◌, ◌&&◌, not, ℕ, Bool}
+use Rattle.std.proofs.Common.{◌≡◌, ◌≢◌, ◌+◌, ◌/◌, ◌%◌, ◌<◌, ◌≤◌, ◌&&◌, not, ℕ, Bool}
 use Rattle.std.proofs.Common.{true, false, cond, eqb, List, [], ◌∷◌, ◌++◌, length, take, drop, slice_index}
 use Rattle.std.proofs.Common.{Option, Some, None, refl, sym, ap, ◌∙◌, arith, length-drop, length-append, inl, inr}
 use Rattle.std.proofs.lemmas.List.{drop-drop, get_or-drop, drop_at, take_at, take-append-drop, length-take-le}
@@ -8,27 +8,25 @@ use Rattle.std.specs.Int.{bytes_high_first}
 use Rattle.byteorder.specs.Endian.{big_number}
 use Rattle.satop_packet.specs.declared.Control.{Control}
 use Rattle.satop_packet.specs.declared.SatopFault.{SatopFault}
-use Rattle.satop_packet.specs.Satop.{Parts, IsRtp, IsPacket, control_word, rtp_len}
+use Rattle.satop_packet.specs.Satop.{Content, IsRtp, IsPacket, control_word, rtp_len}
 use Rattle.satop_packet.specs.Fault.{fault, is_short, is_no_rtp, is_no_control, is_fragment, is_other_length}
-use Rattle.satop_packet.specs.Read.{control_of, parts_of}
+use Rattle.satop_packet.specs.Read.{control_of, content_of}
 use Rattle.satop_packet.specs.Laws.{AreOctets, IsPacketOf}
 
 -- what stands at a place is the head of what stands from there on
 at_head : (s : ℕ) (o : List ℕ) → slice_index o s ≡ slice_index (drop s o) 0
 at_head s o = ap (slice_index o) (omega arith) ∙ sym (get_or-drop s o 0 0)
 
--- one bit, which is set or not
-bit : (n place : ℕ) (b : Bool) → n / place % 2 ≡ cond b 1 0 → eqb (n / place % 2) 1 ≡ b
-bit n place true e = eq-eqb (n / place % 2) 1 e
-bit n place false e = ne_eqb (n / place % 2) 1 (λ z. omega (arith, e))
-
 -- what the first octet of a control word says
 digits : (n r : ℕ) (l m : Bool) → r < 4 → n ≡ cond l 8 0 + cond m 4 0 + r
-    → (n / 16 ≡ 0) × (n / 8 % 2 ≡ cond l 1 0) × (n / 4 % 2 ≡ cond m 1 0)
-digits n r true true h e = (omega arith, omega arith, omega arith)
-digits n r true false h e = (omega arith, omega arith, omega arith)
-digits n r false true h e = (omega arith, omega arith, omega arith)
-digits n r false false h e = (omega arith, omega arith, omega arith)
+    → (n / 16 ≡ 0) × (eqb (n / 8 % 2) 1 ≡ l) × (eqb (n / 4 % 2) 1 ≡ m)
+digits n r true true h e = (omega arith, eq-eqb (n / 8 % 2) 1 (omega arith), eq-eqb (n / 4 % 2) 1 (omega arith))
+digits n r true false h e =
+    (omega arith, eq-eqb (n / 8 % 2) 1 (omega arith), ne_eqb (n / 4 % 2) 1 (λ z. omega (arith, z)))
+digits n r false true h e =
+    (omega arith, ne_eqb (n / 8 % 2) 1 (λ z. omega (arith, z)), eq-eqb (n / 4 % 2) 1 (omega arith))
+digits n r false false h e =
+    (omega arith, ne_eqb (n / 8 % 2) 1 (λ z. omega (arith, z)), ne_eqb (n / 4 % 2) 1 (λ z. omega (arith, z)))
 
 -- what is read of octets that begin with a control word
 record Word (q : List ℕ) (c : Control) (len : ℕ) (payload : List ℕ) : Type 0 where
@@ -47,8 +45,8 @@ word-of c reserved len payload few small =
     let first = cond c.lost 8 0 + cond c.remote 4 0 + reserved in
     let d = digits first reserved c.lost c.remote few refl in
     record {
-      lost = bit first 8 c.lost d.1;
-      remote = bit first 4 c.remote d.2;
+      lost = d.1;
+      remote = d.2;
       sequence = omega arith;
       zeros = d.0;
       said = refl;
@@ -93,13 +91,13 @@ untold false false false true e f1 f2 f3 f4 f5 h = cc
 untold false false false false true f1 f2 f3 f4 f5 h = cc
 
 -- what is read of a join
-pub record Told (rtp : Bool) (o : List ℕ) (p : Parts) : Type 0 where
-  pub parts : p ≡ parts_of rtp o
+pub record Told (rtp : Bool) (o : List ℕ) (p : Content) : Type 0 where
+  pub parts : p ≡ content_of rtp o
   pub faultless : fault rtp o ≡ None
 
 -- a join of parts has no fault, and its parts stand at their places
-pub is_told : (rtp : Bool) (o : List ℕ) (p : Parts) (reserved len : ℕ) → IsPacket o rtp p reserved len → Told rtp o p
-unfolding parts_of control_of
+pub is_told : (rtp : Bool) (o : List ℕ) (p : Content) (reserved len : ℕ) → IsPacket o rtp p reserved len → Told rtp o p
+unfolding content_of control_of
 is_told rtp o p reserved len d =
     let s = rtp_len rtp in
     let rest = control_word p.control reserved len ++ p.payload in
@@ -141,11 +139,11 @@ is_told rtp o p reserved len d =
           ∙ ap (λ n. not (eqb n 0) && not (eqb n (length o))) rest64 ∙ said-right len (length o) d.counted);
     }
 
--- two octets, and the number that they make
-two-spelled : (a b n : ℕ) → a < 256 → b < 256 → n ≡ a * 256 + b → bytes_high_first 2 n ≡ a ∷ b ∷ []
-two-spelled a b n p q e =
-    let high : n / 256 % 256 ≡ a = omega arith in
-    let low : n % 256 ≡ b = omega arith in
+-- the octets of the number that two octets make are these
+spelled-again : (a b : ℕ) → a < 256 → b < 256 → bytes_high_first 2 (big_number 2 (a ∷ b ∷ [])) ≡ a ∷ b ∷ []
+spelled-again a b p q =
+    let high : big_number 2 (a ∷ b ∷ []) / 256 % 256 ≡ a = omega arith in
+    let low : big_number 2 (a ∷ b ∷ []) % 256 ≡ b = omega arith in
     rw (high, low) refl
 
 -- the first octet of a control word, by what it says
@@ -168,7 +166,7 @@ spelled (a ∷ b ∷ c ∷ d ∷ rest) long fits zeros =
     let fc : c < 256 = fits 2 in
     let fd : d < 256 = fits 3 in
     let e0 = first-spelled a (eqb (a / 8 % 2) 1) (eqb (a / 4 % 2) 1) zeros refl refl in
-    let e2 = two-spelled c d (big_number 2 (take 2 (c ∷ d ∷ rest))) fc fd (omega arith) in
+    let e2 = spelled-again c d fc fd in
     cc
 spelled _ long fits zeros = absurd (omega arith)
 
@@ -201,8 +199,8 @@ said-true len size h ne =
     eqb-true len size (not-false _ (rw (ne_eqb len 0 ne) at h))
 
 -- octets without fault are the join of the parts at their places
-pub joins : (rtp : Bool) (o : List ℕ) → AreOctets o → fault rtp o ≡ None → IsPacketOf rtp (parts_of rtp o) o
-unfolding parts_of
+pub joins : (rtp : Bool) (o : List ℕ) → AreOctets o → fault rtp o ≡ None → IsPacketOf rtp (content_of rtp o) o
+unfolding content_of
 joins rtp o fits none =
     let t = untold
     (is_short rtp o) (is_no_rtp rtp o) (is_no_control rtp o) (is_fragment rtp o) (is_other_length rtp o)

@@ -3,16 +3,16 @@ use Rattle.std.proofs.Common.{◌≡◌, [], ◌∷◌, Some, None, true, false,
 use Rattle.satop_packet.specs.declared.SatopFault.TheVariants.{Short, NoRtp, NoControl, Fragment, OtherLength}
 use Rattle.satop_packet.specs.Satop.{plain_packet}
 use Rattle.satop_packet.specs.Fault.{fault}
-use Rattle.satop_packet.specs.Read.{parts_of, control_of}
+use Rattle.satop_packet.specs.Read.{content_of, control_of}
 
 -- L and R, LEN 6, sequence number 0x1234, two octets
-read : parts_of false (0x0C ∷ 6 ∷ 0x12 ∷ 0x34 ∷ 0xD5 ∷ 0x55 ∷ [])
+read : content_of false (0x0C ∷ 6 ∷ 0x12 ∷ 0x34 ∷ 0xD5 ∷ 0x55 ∷ [])
     ≡ record {
       rtp = [];
       control = record { lost = true; remote = true; sequence = 0x1234 };
       payload = 0xD5 ∷ 0x55 ∷ [];
     }
-unfolding parts_of control_of
+unfolding content_of control_of
 read = refl
 
 -- the same, as it is written

@@ -3,12 +3,12 @@ use Rattle.std.specs.Prelude.{◌≡◌, ◌+◌, ◌<◌, ◌≤◌, ◌^◌, �
 use Rattle.std.specs.Prelude.{None, Ok, MatchOption}
 use Rattle.satop_packet.specs.declared.Control.{Control}
 use Rattle.satop_packet.specs.declared.SatopFault.{SatopFault}
-use Rattle.satop_packet.specs.Satop.{Parts, IsRtp, IsPacket, rtp_len, length_said, plain_packet}
+use Rattle.satop_packet.specs.Satop.{Content, IsRtp, IsPacket, rtp_len, length_said, plain_packet}
 use Rattle.satop_packet.specs.Fault.{fault, has_fault, fault_number}
-use Rattle.satop_packet.specs.Read.{read_of}
+use Rattle.satop_packet.specs.Read.{reading_of}
 
 -- octets are the join of these parts, with some reserved bits and some LEN
-abbrev pub IsPacketOf : Bool → Parts → List ℕ → Type 0
+abbrev pub IsPacketOf : Bool → Content → List ℕ → Type 0
 IsPacketOf rtp parts octets = (reserved : ℕ) × (len : ℕ) × IsPacket octets rtp parts reserved len
 
 -- each is an octet
@@ -19,17 +19,17 @@ AreOctets octets = (index : ℕ) → slice_index octets index < 256
 abbrev pub FaultlessIsPacket : Type 0
 FaultlessIsPacket =
     (rtp : Bool) (octets : List ℕ) → AreOctets octets → fault rtp octets ≡ None
-    → (parts : Parts) × IsPacketOf rtp parts octets
+    → (parts : Content) × IsPacketOf rtp parts octets
 
 -- the join of some parts has no fault
 abbrev pub PacketIsFaultless : Type 0
 PacketIsFaultless =
-    (rtp : Bool) (octets : List ℕ) (parts : Parts) → IsPacketOf rtp parts octets → fault rtp octets ≡ None
+    (rtp : Bool) (octets : List ℕ) (parts : Content) → IsPacketOf rtp parts octets → fault rtp octets ≡ None
 
 -- octets are the join of at most one record of parts
 abbrev pub PartsAreUnique : Type 0
 PartsAreUnique =
-    (rtp : Bool) (octets : List ℕ) (parts others : Parts) → IsPacketOf rtp parts octets
+    (rtp : Bool) (octets : List ℕ) (parts others : Content) → IsPacketOf rtp parts octets
     → IsPacketOf rtp others octets → parts ≡ others
 
 -- the fault that is told holds, and has the least number of those that hold; none is told where none holds
@@ -54,5 +54,5 @@ abbrev pub PlainIsRead : Type 0
 PlainIsRead =
     (rtp : Bool) (header : List ℕ) (control : Control) (payload : List ℕ) → IsRtp header
     → length header ≡ rtp_len rtp → control.sequence < 2 ^ 16
-    → read_of rtp (plain_packet header control payload)
+    → reading_of rtp (plain_packet header control payload)
     ≡ Ok (record { rtp = header; control = control; payload = payload })

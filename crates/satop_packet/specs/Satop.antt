@@ -5,7 +5,7 @@ use Rattle.byteorder.specs.Endian.{big_bytes}
 use Rattle.satop_packet.specs.declared.Control.{Control}
 
 -- what a packet carries: the octets of a fixed RTP header or none, the control word, the octets of the trunk
-pub record Parts : Type 0 where
+pub record Content : Type 0 where
   pub rtp : List ℕ
   pub control : Control
   pub payload : List ℕ
@@ -31,7 +31,7 @@ rtp_len rtp = if rtp then 12 else 0
 
 -- the octets are the join of these parts: the RTP header where there is to be one, the control word and the
 -- payload; LEN is 0 or the number of all octets
-pub record IsPacket (octets : List ℕ) (rtp : Bool) (p : Parts) (reserved len : ℕ) : Type 0 where
+pub record IsPacket (octets : List ℕ) (rtp : Bool) (p : Content) (reserved len : ℕ) : Type 0 where
   pub joined : octets ≡ p.rtp ++ (control_word p.control reserved len ++ p.payload)
   pub header : IsRtp p.rtp
   pub there : length p.rtp ≡ rtp_len rtp

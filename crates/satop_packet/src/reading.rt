@@ -1,10 +1,10 @@
 //! Octets are read as a packet.
 
 ghost use Rattle.std.specs.Prelude.{◌≡◌, ◌+◌, ◌≤◌, None, Some, IfOk, IsOkAnd, MatchResult};
-ghost use Rattle.satop_packet.specs.Satop.{Parts};
+ghost use Rattle.satop_packet.specs.Satop.{Content};
 ghost use Rattle.satop_packet.specs.Fault.{fault};
 ghost use Rattle.satop_packet.specs.Laws.{IsPacketOf};
-ghost use Rattle.satop_packet.specs.Read.{read_of};
+ghost use Rattle.satop_packet.specs.Read.{reading_of};
 
 use crate::fields::{control_in, start_of};
 use crate::{CONTROL_LEN, SatopFault, SatopView};
@@ -20,21 +20,21 @@ const FIXED_RTP: u8 = 0x80;
 /// The first fault of the octets, where they are no packet.
 pub fn parse(octets: &[u8], rtp: bool) -> Result<SatopView<'_>, SatopFault>
     ensures ok { IfOk result (λ parts. IsPacketOf rtp parts octets.now) }
-    ensures exact { (parts : Parts) → IsPacketOf rtp parts octets.now
+    ensures exact { (parts : Content) → IsPacketOf rtp parts octets.now
         → IsOkAnd result (λ view. view ≡ parts) }
     ensures fault { MatchResult result
         (λ _. fault rtp octets.now ≡ None) (λ f. fault rtp octets.now ≡ Some f) }
 
     // the three above in one equation, for a caller that cites no more
-    ensures read { result ≡ read_of rtp octets.now }
+    ensures read { result ≡ reading_of rtp octets.now }
 {
     view_in(octets, rtp)
 }
 
 // The parts, or the first fault.
-#[tactic(auto, unfolding(crate::specs::Read::read_of, crate::specs::Read::parts_of))]
+#[tactic(auto, unfolding(crate::specs::Read::reading_of, crate::specs::Read::content_of))]
 fn view_in(octets: &[u8], rtp: bool) -> Result<SatopView<'_>, SatopFault>
-    ensures { result ≡ read_of rtp octets.now }
+    ensures { result ≡ reading_of rtp octets.now }
 {
     let start = start_of(rtp);
     let end = start + CONTROL_LEN;
