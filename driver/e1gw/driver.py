@@ -431,7 +431,8 @@ class Driver:
             'time': round(time.time(), 3), 'uptime': round(time.monotonic() - self.began, 3),
             'trunk_up': self.trunk is not None, 'transport': self.trunk.status() if self.trunk else {},
             'slowest_turn': round(max(self._slowest), 6), 'clock': self.clock.status(),
-            'counted': self.counts.answered_place, 'stale': self.counts.stale(), 'ended': dict(self.ended), 'renewed': self.renewed,
+            'counted': self.counts.answered_place, 'stale': self.counts.stale(), 'ended': dict(self.ended),
+            'renewed': self.renewed,
             'commands': [{'command': name, 'answer': answer, 'count': n}
                          for (name, answer), n in sorted(self.done.items())]}
         for row in status['circuits']:
