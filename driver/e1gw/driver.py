@@ -300,8 +300,9 @@ class Driver:
         self.done[key] = self.done.get(key, 0) + 1
         self.tell({'event': 'command', 'circuit': circuit, 'command': words, 'answer': text})
 
-    def clear_all(self, why: str) -> None:
-        """Ends all calls that this end can end: clear at the outgoing end, clear-back at the incoming one."""
+    def clear_all(self, why: str, blocks: bool = False) -> None:
+        """Ends all calls that this end can end: clear at the outgoing end, clear-back at the incoming one. `blocks`
+        blocks idle circuits at the incoming end, too."""
         cleared = []
         for n, line in self.lines.lines.items():
             if line.role is Role.OUTGOING and (line.state in OPEN or line.state is State.SEIZED):
@@ -310,6 +311,8 @@ class Driver:
             elif line.role is Role.INCOMING and line.state is State.ANSWERED:
                 self.command(command_record(n, Command.CLEAR_BACK), n, 'clear-back', lambda text: None)
                 cleared.append(n)
+            elif blocks and line.role is Role.INCOMING and line.state is State.IDLE:
+                self.command(command_record(n, Command.BLOCK), n, 'block', lambda text: None)
         if cleared:
             self.tell({'event': 'cleared', 'why': why, 'circuits': cleared})
 
