@@ -1,5 +1,5 @@
-"""The far end of an emulated circuit for bench/satop: an exchange, and a multiplexer that carries the bits of its line in
-packets of SAToP. Nothing of the driver's own SAToP is used here."""
+"""The far end of an emulated circuit for bench/satop: an exchange, and a multiplexer that carries the bits of its line
+in packets of SAToP. Nothing of the driver's own SAToP is used here."""
 from __future__ import annotations
 
 import os

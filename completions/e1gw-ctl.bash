@@ -15,7 +15,7 @@ _e1gw_ctl() {
   case $COMP_CWORD:${COMP_WORDS[2]} in
     2:*) mapfile -t COMPREPLY < <(compgen -W "$commands" -- "$cur") ;;
     3:status) mapfile -t COMPREPLY < <(compgen -W 'json' -- "$cur") ;;
-    3:on-loss) mapfile -t COMPREPLY < <(compgen -W 'keep clear' -- "$cur") ;;
+    3:on-loss) mapfile -t COMPREPLY < <(compgen -W 'keep clear block' -- "$cur") ;;
     3:seize | 3:clear | 3:answer | 3:clear-back | 3:block | 3:unblock | 3:codec)
       mapfile -t COMPREPLY < <(compgen -W "$(seq -s ' ' 30)" -- "$cur") ;;
     4:codec)

@@ -13,7 +13,7 @@ _e1gw_trunk() {
     --satop-fill) mapfile -t COMPREPLY < <(compgen -W 'again ones' -- "$cur") ;;
     --satop-clock) mapfile -t COMPREPLY < <(compgen -W 'packets own' -- "$cur") ;;
     --senders) mapfile -t COMPREPLY < <(compgen -W 'any host peer' -- "$cur") ;;
-    --on-loss) mapfile -t COMPREPLY < <(compgen -W 'keep clear' -- "$cur") ;;
+    --on-loss) mapfile -t COMPREPLY < <(compgen -W 'keep clear block' -- "$cur") ;;
     --control-group) mapfile -t COMPREPLY < <(compgen -g -- "$cur") ;;
     --name | --tcp | --satop | --most | --satop-size | --satop-jitter | --satop-rtp | --control-mode | --http | \
       --picture | --keep | --gap | --dark) ;;

@@ -1,7 +1,8 @@
 """The trunk's time beside this machine's: stalls, gaps and the rate.
 
 An octet is behind by the time since the first one less its place at 256,000 octets a second. What it is behind by more
-than is usual is the displacement. It is measured where octets flow steadily; a slow change of it is the rate of a clock.
+than is usual is the displacement. It is measured where octets flow steadily; a slow change of it is the rate of a
+clock.
 """
 from __future__ import annotations
 
@@ -23,8 +24,8 @@ NOTED = 0.01                # seconds of displacement from which places are kept
 
 @dataclass(frozen=True)
 class Finding:
-    """What was found: `stalled` and `flows` (with the seconds without octets), `gap` and `ahead` (with those that octets
-    were displaced by) or `rate` (with parts in a million)."""
+    """What was found: `stalled` and `flows` (with the seconds without octets), `gap` and `ahead` (with those that
+    octets were displaced by) or `rate` (with parts in a million)."""
 
     what: str
     value: float

@@ -7,6 +7,7 @@ A line is answered by one or more lines and an empty one:
   status, status json        the table, or all of it as one line of JSON
   events                     `following`; from then on a line of JSON for each change
   on-loss clear SECONDS      when the last client that asked for it is gone so long, calls are cleared
+  on-loss block SECONDS      the same, and idle incoming circuits are blocked
   on-loss keep               takes that back
   quit                       ends the trunk
   help                       these lines

@@ -18,7 +18,7 @@ _ANSWER = int(Kind.ANSWER)
 
 @dataclass(slots=True)
 class Stream:
-    """What the receiver of a stream can tell of it (RFC 3550): lost packets by sequence number, and jitter in samples."""
+    """What the receiver of a stream can tell of it (RFC 3550): lost packets by sequence number, jitter in samples."""
 
     ssrc: int = -1
     last: int = 0

@@ -300,8 +300,9 @@ class Driver:
         self.done[key] = self.done.get(key, 0) + 1
         self.tell({'event': 'command', 'circuit': circuit, 'command': words, 'answer': text})
 
-    def clear_all(self, why: str) -> None:
-        """Ends all calls that this end can end: clear at the outgoing end, clear-back at the incoming one."""
+    def clear_all(self, why: str, blocks: bool = False) -> None:
+        """Ends all calls that this end can end: clear at the outgoing end, clear-back at the incoming one. `blocks`
+        blocks idle circuits at the incoming end, too."""
         cleared = []
         for n, line in self.lines.lines.items():
             if line.role is Role.OUTGOING and (line.state in OPEN or line.state is State.SEIZED):
@@ -310,6 +311,8 @@ class Driver:
             elif line.role is Role.INCOMING and line.state is State.ANSWERED:
                 self.command(command_record(n, Command.CLEAR_BACK), n, 'clear-back', lambda text: None)
                 cleared.append(n)
+            elif blocks and line.role is Role.INCOMING and line.state is State.IDLE:
+                self.command(command_record(n, Command.BLOCK), n, 'block', lambda text: None)
         if cleared:
             self.tell({'event': 'cleared', 'why': why, 'circuits': cleared})
 
@@ -431,7 +434,8 @@ class Driver:
             'time': round(time.time(), 3), 'uptime': round(time.monotonic() - self.began, 3),
             'trunk_up': self.trunk is not None, 'transport': self.trunk.status() if self.trunk else {},
             'slowest_turn': round(max(self._slowest), 6), 'clock': self.clock.status(),
-            'counted': self.counts.answered_place, 'stale': self.counts.stale(), 'ended': dict(self.ended), 'renewed': self.renewed,
+            'counted': self.counts.answered_place, 'stale': self.counts.stale(), 'ended': dict(self.ended),
+            'renewed': self.renewed,
             'commands': [{'command': name, 'answer': answer, 'count': n}
                          for (name, answer), n in sorted(self.done.items())]}
         for row in status['circuits']:

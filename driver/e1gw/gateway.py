@@ -1,5 +1,5 @@
-"""The gateway, `e1gw serve`, as a process whose answers and whose recording are read here; and its shadow, `e1gw replay`
-over that recording, whose answers are those of the gateway and say of each datagram what became of it."""
+"""The gateway, `e1gw serve`, as a process whose answers and whose recording are read here; and its shadow, `e1gw
+replay` over that recording, whose answers are those of the gateway and say of each datagram what became of it."""
 from __future__ import annotations
 
 import fcntl
@@ -196,7 +196,7 @@ class Gateway:
 
 
 class Shadow:
-    """An `e1gw replay` over the recording. `answered` is given the octets that it answers, `ended` why it is no more."""
+    """An `e1gw replay` over the recording. `answered` is given the octets that it answers, `ended` why it ended."""
 
     def __init__(self, loop: Loop, program: str, config: str, answered: Callable[[bytes], None], ended: Ended) -> None:
         self.loop, self.answered, self._ended = loop, answered, ended

@@ -7,36 +7,38 @@ from typing import Callable
 
 @dataclass(frozen=True)
 class OnLoss:
-    """After so many seconds calls are cleared; None keeps them."""
+    """After so many seconds calls are cleared, and idle circuits blocked where that is asked too; None keeps them."""
 
     seconds: float | None = None
+    blocks: bool = False
 
 
 def on_loss_of(words: list[str]) -> OnLoss:
-    """`keep`, or `clear SECONDS`. ValueError where it is neither."""
+    """`keep`, `clear SECONDS` or `block SECONDS`. ValueError where it is none."""
     if words == ['keep']:
         return OnLoss()
-    if len(words) == 2 and words[0] == 'clear':
+    if len(words) == 2 and words[0] in ('clear', 'block'):
         seconds = float(words[1])
         if 0 <= seconds <= 86400:
-            return OnLoss(seconds)
-    raise ValueError('keep, or clear SECONDS (0 to 86400)')
+            return OnLoss(seconds, words[0] == 'block')
+    raise ValueError('keep, or clear or block SECONDS (0 to 86400)')
 
 
 class Guards:
     """The clients that asked for something to be done when the last of them is gone."""
 
-    def __init__(self, usual: OnLoss, clear: Callable[[str], None]) -> None:
+    def __init__(self, usual: OnLoss, clear: Callable[[str, bool], None]) -> None:
         self._usual, self._clear = usual, clear
         self._asked: dict[object, OnLoss] = {}
         self._due: float | None = None
+        self._blocks = False
 
     def asked(self, client: object, words: list[str]) -> str:
         """A client asks with these words, or, without any, for what is usual on this trunk."""
         try:
             wish = on_loss_of(words) if words else self._usual
         except ValueError:
-            return 'on-loss: wants keep, or clear and seconds'
+            return 'on-loss: wants keep, or clear or block and seconds'
         if wish.seconds is None:
             self._asked.pop(client, None)
         else:
@@ -48,10 +50,10 @@ class Guards:
         """A client is gone."""
         wish = self._asked.pop(client, None)
         if wish and wish.seconds is not None and not self._asked:
-            self._due = now + wish.seconds
+            self._due, self._blocks = now + wish.seconds, wish.blocks
 
     def look(self, now: float) -> None:
         """To be called now and then."""
         if self._due is not None and now >= self._due:
             self._due = None
-            self._clear('the last control client is gone')
+            self._clear('the last control client is gone', self._blocks)

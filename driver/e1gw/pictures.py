@@ -11,7 +11,8 @@ from .loop import READ, Loop
 from .pipes import Writer
 from .session import PIECE
 
-HEAD = struct.Struct('>cI')         # before what goes there: T recording, A answers of its replay, P a page is asked for
+# before what goes there: T recording, A answers of its replay, P a page is asked for
+HEAD = struct.Struct('>cI')
 LENGTH = struct.Struct('>I')        # before a page
 MOST_WAITING = 8 << 20              # octets on the way there, before it is given up
 PACKAGE = os.path.dirname(os.path.dirname(os.path.abspath(__file__)))

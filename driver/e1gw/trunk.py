@@ -120,9 +120,10 @@ def _add_control(words: argparse._ArgumentGroup) -> None:
                        help='its mode, in octal [default: 660]')
     words.add_argument('--control-group', metavar='GROUP', help='its group')
     words.add_argument('--on-loss', nargs='+', default=['keep'], metavar='WORD',
-                       help='keep, or clear SECONDS: what is done with the calls when the last control client that asked '
-                       'for it is gone [default: keep]')
-    words.add_argument('--http', metavar='HOST:PORT', help='serves /metrics (Prometheus), /status (JSON), /table and / (the table, or the picture)')
+                       help='keep, or clear SECONDS: what is done with the calls when the last control client that '
+                       'asked for it is gone [default: keep]')
+    words.add_argument('--http', metavar='HOST:PORT',
+                       help='serves /metrics (Prometheus), /status (JSON), /table and / (the table, or the picture)')
     words.add_argument('--picture', type=_number(10, 3600, float), metavar='SECONDS',
                        help='/ is a picture of the last seconds, 10 to 3600, drawn by a process of its own')
     words.add_argument('--metrics', metavar='FILE', help='a file of metrics for node_exporter, every 5 s')

@@ -94,7 +94,7 @@ class Commands(unittest.TestCase):
         self.answers(('seize', 'seize: wants a circuit'), ('seize 1 2', 'seize: wants a circuit'),
                      ('seize 0', 'seize 0: circuits are 1 to 30'), ('seize 31', 'seize 31: circuits are 1 to 30'),
                      ('seize x', 'seize x: circuits are 1 to 30'), ('seize ٣', 'seize ٣: circuits are 1 to 30'),
-                     ('on-loss drop', 'on-loss: wants keep, or clear and seconds'), ('on-loss keep', 'on-loss: done'))
+                     ('on-loss drop', 'on-loss: wants keep, or clear or block and seconds'), ('on-loss keep', 'on-loss: done'))
         self.assertIn('no such command', world.ask('hello'))
         self.assertIn('no such command', world.ask(b'\xff\xfe\x80'))
         self.assertIn('seize N', world.ask('help'))
@@ -434,6 +434,14 @@ class OnLoss(unittest.TestCase):
             time.sleep(0.3)
             world.step(30)
             self.assertEqual(world.state(1), 'idle')
+
+    def test_idle_circuits_are_blocked_too(self) -> None:
+        with World(config_of(FOUR, incoming=(2, 4))) as world:
+            aligned(world)
+            self.guard(world, 'block 0.1').close()
+            time.sleep(0.3)
+            world.step(30)
+            self.assertEqual([world.state(n) for n in FOUR], ['idle', 'blocked', 'idle', 'blocked'])
 
     def test_calls_are_kept(self) -> None:
         with World(config_of(FOUR)) as world:
