@@ -21,17 +21,7 @@ use Rattle.g704_align.proofs.Searches.{search-found}
 push_at : (c : List ℕ) (x k : ℕ) → k < length c → get_or (c ++ x ∷ []) k 0 ≡ get_or c k 0
 push_at c x k h = get_or_append_left c (x ∷ []) 0 k h
 
--- a FAS octet that a search meets
-pub first_fas : (x : ℕ) → is_fas x ≡ true → IsCandidate 1 (x ∷ [])
-first_fas x h = record {
-  counted = refl;
-  begun = omega arith;
-  young = omega arith;
-  fas = h;
-  nfas = λ lt. absurd (omega arith);
-}
-
--- and another octet
+-- an octet that a search meets, and that is no FAS octet
 pub IsOver-no_fas : (b : Option ℕ) (x : ℕ) → is_fas x ≡ false → IsOver frame_alignment b (x ∷ [])
 unfolding search
 IsOver-no_fas b x h = IsOver-passed frame_alignment frame_is_framing b (x ∷ []) (λ t. rw h refl)

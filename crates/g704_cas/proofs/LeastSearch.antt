@@ -4,6 +4,7 @@ use Rattle.std.proofs.Common.{Option, Some, None, refl, sym, ap, ◌∙◌, arit
 use Rattle.std.specs.Prelude.{nat_le, nat_lt, ◌&&◌, slice_index}
 use Rattle.std.proofs.lemmas.Bool.{cases_Bool, le-leb, lt-leb, lt-ltb, le-ltb, and_left, and_right}
 use Rattle.g704_framing.proofs.Leasts.{IsLeast, least_equals, least_alike, le-suc, least-later, reach}
+use Rattle.g704_framing.proofs.Agrees.{within_reach}
 use Rattle.g704_cas.specs.Search.{is_mfas, is_not_zero, search, is_found_at, SearchIsLeast}
 
 -- the octet before a position, in octets that come after this one, if any
@@ -50,15 +51,10 @@ finds-is s from (suc k) lt =
     let one : suc k - 1 ≡ k = omega arith in
     rw (after, one, octet_before-at None s k (omega arith)) refl
 
--- what is as far as the least that passes is in range
-in_range : (passes : ℕ → Bool) (k n : ℕ) (o : Option ℕ) → IsLeast passes n o → k < reach o n → k < n
-in_range passes k n None l lt = lt
-in_range passes k n (Some m) l lt = let below = l.0 in omega arith
-
 -- the law
 pub search_is_least : SearchIsLeast
 search_is_least s from =
     let is = search-least None s from in
     sym (least_equals (λ k. nat_le from k && is_found_at s k) (length s) (search None s from)
     (least_alike (finds None s from) (λ k. nat_le from k && is_found_at s k) (length s) (search None s from)
-    (λ k lt. finds-is s from k (in_range (finds None s from) k (length s) (search None s from) is lt)) is))
+    (λ k lt. finds-is s from k (within_reach (finds None s from) k (length s) (search None s from) is lt)) is))

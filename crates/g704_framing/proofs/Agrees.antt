@@ -19,7 +19,7 @@ up_to_loss-earlier m n None le up = tt
 up_to_loss-earlier m n (Some q) le up = omega arith
 
 -- what is as far as the least that passes is in range, and up to the loss that it makes
-within_reach : (passes : ℕ → Bool) (k n : ℕ) (o : Option ℕ) → IsLeast passes n o → k < reach o n → k < n
+pub within_reach : (passes : ℕ → Bool) (k n : ℕ) (o : Option ℕ) → IsLeast passes n o → k < reach o n → k < n
 within_reach passes k n None l lt = lt
 within_reach passes k n (Some m) l lt = let in_range = l.0 in omega arith
 

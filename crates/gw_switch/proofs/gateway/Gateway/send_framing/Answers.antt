@@ -2,9 +2,9 @@ use Rattle.std.proofs.Common.{◌≡◌, ◌/◌, ◌%◌, ◌++◌, ◌∷◌, 
 use Rattle.gw_switch.specs.Events.{Event, octets}
 use Rattle.gw_switch.specs.Whole.{octet_reply}
 use Rattle.gw_switch.specs.Standing.{Stands}
-use Rattle.gw_switch.proofs.Rounds.{none_in_zero, none_in_first}
+use Rattle.gw_switch.proofs.Rounds.{none_in_zero, none_in_first, frame_with-not0}
 use Rattle.gw_switch.proofs.Sendings.{sent_at, sends_frame, sends_multiframe}
-use Rattle.gw_switch.proofs.Sendings.{slot_of-not16, slot_of-not0, frame_with-not0}
+use Rattle.gw_switch.proofs.Sendings.{slot_of-not16, slot_of-not0}
 use Rattle.gw_switch.proofs.Views.{stay, octets-append, sees_nothing, sees_no_abcd}
 use Rattle.gw_switch.proofs.gateway.Gateway.send_framing.Goals as goal
 
