@@ -94,7 +94,8 @@ class Commands(unittest.TestCase):
         self.answers(('seize', 'seize: wants a circuit'), ('seize 1 2', 'seize: wants a circuit'),
                      ('seize 0', 'seize 0: circuits are 1 to 30'), ('seize 31', 'seize 31: circuits are 1 to 30'),
                      ('seize x', 'seize x: circuits are 1 to 30'), ('seize ٣', 'seize ٣: circuits are 1 to 30'),
-                     ('on-loss drop', 'on-loss: wants keep, or clear or block and seconds'), ('on-loss keep', 'on-loss: done'))
+                     ('on-loss drop', 'on-loss: wants keep, or clear or block and seconds'),
+                     ('on-loss keep', 'on-loss: done'))
         self.assertIn('no such command', world.ask('hello'))
         self.assertIn('no such command', world.ask(b'\xff\xfe\x80'))
         self.assertIn('seize N', world.ask('help'))
