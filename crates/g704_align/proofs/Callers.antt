@@ -13,6 +13,7 @@ slot_zero : (age : Option ℕ) → IsRead frame_alignment age → number_of (pla
 slot_zero None read = refl
 slot_zero (Some age) read = read
 
+-- the slots of frames are places as the laws need them
 frames_are_placed : IsPlacing frames
 frames_are_placed = record {
   framing = frame_is_framing;
@@ -21,11 +22,14 @@ frames_are_placed = record {
   zero = slot_zero;
 }
 
+-- no later octet moves the slot of an octet, or changes the alarm that stood
 pub place-append : PlacesAreSettled frames
 place-append = places_are_settled frames frames_are_placed
 
+-- streams that are aligned alike have the same alignments, slots and alarms
 pub place-alike : PlacesAreAlike frames
 place-alike = places_are_alike frames frames_are_placed
 
+-- no search and no loss reads an octet of another slot than 0: streams that differ there alone are placed alike
 pub alike-kept : OtherPlacesAreNotRead frames
 alike-kept = other_places_are_not_read frames frames_are_placed

@@ -13,6 +13,7 @@ frame_zero : (age : Option ℕ) → IsRead multiframe_alignment age → frame_of
 frame_zero None read = refl
 frame_zero (Some age) read = read
 
+-- the frames of a multiframe are places as the laws need them
 multiframes_are_placed : IsPlacing multiframes
 multiframes_are_placed = record {
   framing = multiframe_is_framing;
@@ -21,11 +22,14 @@ multiframes_are_placed = record {
   zero = frame_zero;
 }
 
+-- no later octet moves the frame of an octet, or changes the alarm that stood
 pub place-append : PlacesAreSettled multiframes
 place-append = places_are_settled multiframes multiframes_are_placed
 
+-- streams that are aligned alike have the same alignments, frames and alarms
 pub place-alike : PlacesAreAlike multiframes
 place-alike = places_are_alike multiframes multiframes_are_placed
 
+-- no search and no loss reads an octet of another frame than 0: streams that differ there alone are placed alike
 pub alike-kept : OtherPlacesAreNotRead multiframes
 alike-kept = other_places_are_not_read multiframes multiframes_are_placed

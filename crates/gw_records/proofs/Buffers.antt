@@ -67,10 +67,12 @@ pub held_fits : (r : Reader) → length (held r) ≤ 131078
 unfolding held
 held_fits r = let f = r.within in grind (arith, common_steps)
 
+-- nothing behind a list leaves it as it is
 pub nothing : (xs ys : List ℕ) → length ys ≡ 0 → xs ++ ys ≡ xs
 nothing xs [] e = append-nil xs
 nothing xs (y ∷ ys) e = absurd (omega arith)
 
+-- the first items of two lists, as many as the first list has, are that list
 pub kept : (len : ℕ) (xs ys : List ℕ) → length xs ≡ len → take len (xs ++ ys) ≡ xs
 kept len xs ys e = take-append-le len xs ys (omega arith) ∙ take_all len xs (omega arith)
 

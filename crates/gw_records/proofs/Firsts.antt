@@ -25,6 +25,7 @@ Found none few kind circuit len cut command (Some endings.BadCommand) =
     (kind ≡ false) × ((len ≡ true) ⊎ (command ≡ true))
 Found none few kind circuit len cut command (Some _) = Unit {0}
 
+-- the end that the tests give, taken in this order, says this of them
 first_found : (none few kind circuit len cut command : Bool) → Found none few kind circuit len cut command
     (cond none (Some endings.End) (cond few (Some endings.Truncated) (cond kind (Some endings.BadKind) (cond circuit
     (Some endings.BadCircuit) (cond len (Some endings.BadCommand) (cond cut (Some endings.Truncated) (cond command
@@ -58,6 +59,7 @@ pub kinds_are : (kinds : Kinds) (octets : List ℕ) → has_bad_kind kinds octet
 unfolding has_bad_kind
 kinds_are kinds octets h = grind (arith, nat_tests)
 
+-- a good kind that is no trunk, datagram or command is a codec
 pub kind_left : (kinds : Kinds) (octets : List ℕ) → has_bad_kind kinds octets ≡ false → slice_index octets 0 ≢ 84
     → slice_index octets 0 ≢ 68 → slice_index octets 0 ≢ 67 → slice_index octets 0 ≡ 75
 kind_left kinds octets h p q r = elim (kinds_are kinds octets h) [
@@ -65,46 +67,56 @@ kind_left kinds octets h p q r = elim (kinds_are kinds octets h) [
   | inr s ↦ elim s [ inl e ↦ absurd (q e.0) | inr t ↦ elim t [ inl e ↦ absurd (r e.0) | inr e ↦ e.0 ] ]
 ]
 
+-- a good circuit, but of a trunk record, is from 1 to 30
 circuit_is : (octets : List ℕ) → has_bad_circuit octets ≡ false → slice_index octets 0 ≢ 84
     → (1 ≤ slice_index octets 1) × (slice_index octets 1 ≤ 30)
 unfolding has_bad_circuit
 circuit_is octets h p = (grind (arith, nat_tests), grind (arith, nat_tests))
 
+-- a good circuit of a trunk record is 0
 circuit_none : (octets : List ℕ) → has_bad_circuit octets ≡ false → slice_index octets 0 ≡ 84 → slice_index octets 1 ≡ 0
 unfolding has_bad_circuit
 circuit_none octets h p = grind (arith, nat_tests)
 
+-- a good length of a command is one octet
 length_is : (octets : List ℕ) → has_bad_length octets ≡ false → slice_index octets 0 ≡ 67 → body_len octets ≡ 1
 unfolding has_bad_length
 length_is octets h p = grind (arith, nat_tests)
 
+-- a good length of a codec is two octets
 two_long : (octets : List ℕ) → has_bad_length octets ≡ false → slice_index octets 0 ≡ 75 → body_len octets ≡ 2
 unfolding has_bad_length
 two_long octets h p = grind (arith, nat_tests)
 
+-- a good command is from 1 to 6
 command_is : (octets : List ℕ) → has_bad_command octets ≡ false → slice_index octets 0 ≡ 67
     → (1 ≤ slice_index octets 4) × (slice_index octets 4 ≤ 6)
 unfolding has_bad_command
 command_is octets h p = (grind (arith, nat_tests), grind (arith, nat_tests))
 
+-- a good codec is from 1 to 5, and its payload type at most 127
 codec_is : (octets : List ℕ) → has_bad_command octets ≡ false → slice_index octets 0 ≡ 75
     → (1 ≤ slice_index octets 4) × (slice_index octets 4 ≤ 5) × (slice_index octets 5 ≤ 127)
 unfolding has_bad_command
 codec_is octets h p = (grind (arith, nat_tests), grind (arith, nat_tests), grind (arith, nat_tests))
 
+-- the head of a trunk record
 head_trunk : (octets : List ℕ) → slice_index octets 0 ≡ 84 → head_of octets ≡ heads.Trunk
 unfolding head_of
 head_trunk octets e = rw e refl
 
+-- the head of a datagram, with its circuit
 head_datagram : (octets : List ℕ) → slice_index octets 0 ≡ 68 → head_of octets ≡ heads.Datagram (slice_index octets 1)
 unfolding head_of
 head_datagram octets e = rw e refl
 
+-- the head of a command, with its circuit and command
 head_command : (octets : List ℕ) → slice_index octets 0 ≡ 67
     → head_of octets ≡ heads.Command (slice_index octets 1) (slice_index octets 4)
 unfolding head_of
 head_command octets e = rw e refl
 
+-- the head of a codec record, with its circuit, codec and payload type
 head_codec : (octets : List ℕ) → slice_index octets 0 ≡ 75
     → head_of octets ≡ heads.Codec (slice_index octets 1) (slice_index octets 4) (slice_index octets 5)
 unfolding head_of
@@ -127,10 +139,12 @@ firstly kinds head k c h l rest fits whole good =
     let both : P (4 + (h * 256 + l)) = subst P (sym e) (whole, good) in
     record { more = omega arith; fits = omega arith; whole = both.0; good = both.1 }
 
+-- a body of one octet is the first octet of the rest
 one_octet : (n : ℕ) (rest : List ℕ) → n ≡ 1 → n ≤ length rest → take n rest ≡ get_or rest 0 0 ∷ []
 one_octet n [] e h = absurd (omega arith)
 one_octet n (x ∷ rest) e h = rw e refl
 
+-- a body of two octets is the first two of the rest
 two_octets : (n : ℕ) (rest : List ℕ) → n ≡ 2 → n ≤ length rest
     → take n rest ≡ get_or rest 0 0 ∷ get_or rest 1 0 ∷ []
 two_octets n [] e h = absurd (omega arith)

@@ -19,6 +19,7 @@ said octets = named (head_of octets) (take (body_len octets) (drop 4 octets))
 abbrev after : List ℕ → List ℕ
 after octets = drop (body_len octets) (drop 4 octets)
 
+-- the octets of a good record are no end, say this record and leave the octets behind it
 unspelled : (kinds : Kinds) (r : Record) (x : List ℕ) → IsGood kinds r
     → (end_of kinds (spelled r ++ x) ≡ None) × (said (spelled r ++ x) ≡ r) × (after (spelled r ++ x) ≡ x)
 unfolding end_of has_bad_kind has_bad_circuit has_bad_length is_cut has_bad_command head_of
@@ -60,6 +61,7 @@ unspelled kinds (Record.Codec circuit codec payload_type) x good =
     let most : payload_type ≤ 127 = good.4 in
     (grind (arith, nat_tests), refl, refl)
 
+-- the octets of a record and of others, and the rest, grouped the other way
 pub regroup : (r : Record) (rs : List Record) (rest : List ℕ)
     → flat_map spelled (r ∷ rs) ++ rest ≡ spelled r ++ (flat_map spelled rs ++ rest)
 regroup r rs rest = append_assoc (spelled r) (flat_map spelled rs) rest
@@ -100,12 +102,14 @@ same_end kinds rs [] rest rest' ending ending' e g h h' = (
 same_end kinds rs (r ∷ others) rest rest' ending ending' e g h h' =
     absurd (no_end kinds r others rest rest' ending g.0 e h)
 
+-- octets are read as records in one way
 pub one_reading : AtMostOneReading
 one_reading kinds octets records records' ending ending' a b =
     let more = more_go kinds records records' a.rest b.rest ending' (sym a.whole ∙ b.whole) a.good b.good b.ends in
     let same = same_end kinds records more.0 a.rest b.rest ending ending' more.2 more.3 a.ends b.ends in
     (same.0 ∙ sym more.1, same.1)
 
+-- more octets keep the whole records that are there
 pub more_keeps : MoreKeepsRecords
 more_keeps kinds octets more records records' ending ending' a b =
     let all = more_go kinds records records' (a.rest ++ more) b.rest ending'

@@ -14,19 +14,23 @@ use Rattle.gw_records.specs.Laws.{EachIsRead}
 use Rattle.gw_records.proofs.Firsts.{good_first, found_in}
 use Rattle.gw_records.proofs.Readings.{regroup}
 
+-- octets that are not fewer than four are at least four
 long_enough : (octets : List ℕ) → nat_lt (length octets) 4 ≡ false → 4 ≤ length octets
 long_enough octets e = grind (arith, nat_tests)
 
+-- a record that is not cut is all there
 not_cut : (octets : List ℕ) → is_cut octets ≡ false → 4 + body_len octets ≤ length octets
 unfolding is_cut
 not_cut octets e = grind (arith, nat_tests)
 
+-- where octets are no end, a record stands first
 first_of_none : (kinds : Kinds) (octets : List ℕ) → ((i : ℕ) → slice_index octets i < 256) → end_of kinds octets ≡ None
     → IsFirst kinds (record { head = head_of octets; len = 4 + body_len octets }) octets
 first_of_none kinds octets bytes e =
     let t = found_in kinds octets None e in
     good_first kinds octets bytes (long_enough octets t.0) t.1 t.2 t.3 (not_cut octets t.4) t.5
 
+-- at most n octets that end in this way are read as records
 readings : (n : ℕ) (kinds : Kinds) (octets : List ℕ) (o : Option Ending) → end_of kinds octets ≡ o
     → length octets ≤ n → ((i : ℕ) → slice_index octets i < 256)
     → (records : List Record) × (ending : Ending) × Reads kinds octets records ending
@@ -58,5 +62,6 @@ readings (suc n) kinds octets None e h bytes =
       },
     )
 
+-- any octets are read as records
 pub each_is_read : EachIsRead
 each_is_read kinds octets bytes = readings (length octets) kinds octets (end_of kinds octets) refl (omega arith) bytes

@@ -19,6 +19,7 @@ pub Appends-none : (a : Option (List ℕ)) → Appends a a []
 Appends-none None = tt
 Appends-none (Some a) = let e : a ≡ a ++ [] = grind (arith, common_steps) in e
 
+-- what is kept as it was has nothing appended
 pub Appends-keeps : (a b : Option (List ℕ)) → Keeps a b → Appends a b []
 Appends-keeps None b p = tt
 Appends-keeps (Some a) None p = absurd p
@@ -38,6 +39,7 @@ pub Consumes-none : (a : Option (List ℕ)) → Consumes a a []
 Consumes-none None = tt
 Consumes-none (Some a) = let e : a ≡ [] ++ a = refl in e
 
+-- what is consumed, and then more
 pub Consumes-join : (a b c : Option (List ℕ)) (xs ys : List ℕ) → Consumes a b xs → Consumes b c ys
     → Consumes a c (xs ++ ys)
 Consumes-join None b c xs ys p q = tt
@@ -63,6 +65,7 @@ read_failed old start new e h n = omega arith
 pub Appends-same : (a b : Option (List ℕ)) (xs ys : List ℕ) → xs ≡ ys → Appends a b xs → Appends a b ys
 Appends-same a b xs ys e p = let P : List ℕ → Type 0 = λ zs. Appends a b zs in subst P e p
 
+-- what is kept as it was has nothing consumed
 pub Consumes-keeps : (a b : Option (List ℕ)) → Keeps a b → Consumes a b []
 Consumes-keeps None b p = tt
 Consumes-keeps (Some a) None p = absurd p
@@ -125,10 +128,12 @@ Breaks-join a b c waiting before more p e q = record {
 pub Breaks-same : (a b : SinkState) (xs ys : List ℕ) → xs ≡ ys → Breaks a b xs → Breaks a b ys
 Breaks-same a b xs ys e p = let P : List ℕ → Type 0 = λ zs. Breaks a b zs in subst P e p
 
+-- .. of what passes
 pub Passes-same : (a b : Option (List ℕ)) (waiting xs ys : List ℕ) → xs ≡ ys → Passes a b waiting xs
     → Passes a b waiting ys
 Passes-same a b waiting xs ys e p = let P : List ℕ → Type 0 = λ zs. Passes a b waiting zs in subst P e p
 
+-- .. of what is put, or broke off
 pub Puts-same : {T : Type 0} (a b : SinkState) (waiting xs ys : List ℕ) (r : Result T RunFault) → xs ≡ ys
     → Puts a b waiting xs r → Puts a b waiting ys r
 Puts-same a b waiting xs ys r e p = let P : List ℕ → Type 0 = λ zs. Puts a b waiting zs r in subst P e p
@@ -151,12 +156,14 @@ Breaks-waiting a b c waiting octets p e q = record {
 pub Gives-none : (a : SourceState) → Gives a a []
 Gives-none a = record { gave = Appends-none a.given; consumed = Consumes-none a.to_come }
 
+-- a source that gave octets, and then more
 pub Gives-join : (a b c : SourceState) (xs ys : List ℕ) → Gives a b xs → Gives b c ys → Gives a c (xs ++ ys)
 Gives-join a b c xs ys p q = record {
   gave = Appends-join a.given b.given c.given xs ys p.gave q.gave;
   consumed = Consumes-join a.to_come b.to_come c.to_come xs ys p.consumed q.consumed;
 }
 
+-- the same of an equal list
 pub Gives-same : (a b : SourceState) (xs ys : List ℕ) → xs ≡ ys → Gives a b xs → Gives a b ys
 Gives-same a b xs ys e p = let P : List ℕ → Type 0 = λ zs. Gives a b zs in subst P e p
 
@@ -179,6 +186,7 @@ Passes-empty a b waiting {octets} e p = record {
   appended = p;
 }
 
+-- a prefix of octets is one of an equal list
 pub AppendsPrefix-same : (a b : Option (List ℕ)) (xs ys : List ℕ) → xs ≡ ys → AppendsPrefix a b xs
     → AppendsPrefix a b ys
 AppendsPrefix-same a b xs ys e p = let P : List ℕ → Type 0 = λ zs. AppendsPrefix a b zs in subst P e p

@@ -70,6 +70,7 @@ trunk_on spells a b g g' t t' tape tape' r o s s' w w' body sent p recorded coun
       refl,
     )
 
+-- behind what waits, the packets of turns and the answer to their octets are what is put for the act
 trunk_put : (spells : Spells) (a b : PortsState) (g g' : Gateway) (t t' : Totals) (r o : ℕ) (s s' : SinkState)
     (w w' body front sent out : List ℕ)
     → (p : Exchanges spells a b g g' (record t { records = r; octets = o }) t' s s' w w' body sent)

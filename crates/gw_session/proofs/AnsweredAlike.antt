@@ -27,6 +27,7 @@ unfolding octets_for
 trunk_replayed config before records =
     all_of trunk_in octets_in trunk_is config before records
 
+-- the trunk octets in the records that answer an act are those that are sent for its events
 trunk_act : (config : GatewayConfig) (before : List Event) (act : Act)
     → flat_map trunk_in (answers_to config before act) ≡ octets_for config before (events_of act)
 unfolding octets_for
@@ -35,6 +36,7 @@ trunk_act config before (Act.Datagram circuit octets) = refl
 trunk_act config before (Act.Command circuit command) = refl
 trunk_act config before (Act.Codec circuit codec payload_type) = refl
 
+-- .. and so for acts one after another
 trunk_live : (config : GatewayConfig) (before : List Event) (acts : List Act)
     → flat_map trunk_in (all_answers config before acts) ≡ octets_for config before (events acts)
 unfolding octets_for
@@ -68,6 +70,7 @@ obeyed config before (Event.Codec circuit kind payload_type ∷ es) =
     (circuit, 0x4B, code_of (reply_to config before (Event.Codec circuit kind payload_type)))
     ∷ obeyed config (before ++ Event.Codec circuit kind payload_type ∷ []) es
 
+-- the events before are the same, in whichever way they are grouped
 later : (config : GatewayConfig) (before : List Event) (x : Event) (xs ys : List Event)
     → obeyed config (before ++ x ∷ []) (xs ++ ys)
     ≡ obeyed config (before ++ x ∷ []) xs ++ obeyed config ((before ++ x ∷ []) ++ xs) ys
@@ -77,6 +80,7 @@ later config before x xs ys e =
     e ∙ ap (λ (b : List Event). obeyed config (before ++ x ∷ []) xs ++ obeyed config b ys)
     (append_assoc before (x ∷ []) xs)
 
+-- the answers to the commands among events and more are those of the first, and then those of the others
 obeyed-append : (config : GatewayConfig) (before xs ys : List Event)
     → obeyed config before (xs ++ ys) ≡ obeyed config before xs ++ obeyed config (before ++ xs) ys
 unfolding obeyed
@@ -103,12 +107,14 @@ unfolding obeyed
 none_obeyed config before [] = refl
 none_obeyed config before (o ∷ octets) = none_obeyed config (before ++ Event.Octet o ∷ []) octets
 
+-- datagrams that come before events without commands add no answer to a command
 none_coming : (config : GatewayConfig) (before : List Event) (ds : List (ℕ × List ℕ)) (es : List Event)
     → ((b : List Event) → obeyed config b es ≡ []) → obeyed config before (coming ds ++ es) ≡ []
 unfolding obeyed
 none_coming config before [] es none = none before
 none_coming config before (d ∷ ds) es none = none_coming config (before ++ Event.Datagram d.0 d.1 ∷ []) ds es none
 
+-- the events of turns have no command to answer
 none_turns : (config : GatewayConfig) (before : List Event) (ts : List Turn)
     → obeyed config before (events_of_turns ts) ≡ []
 unfolding obeyed
@@ -118,6 +124,7 @@ none_turns config before (t ∷ ts) =
     ∙ none_coming config before (arrivals t) (Event.Octet t.octet ∷ events_of_turns ts)
     (λ b. none_turns config (b ++ Event.Octet t.octet ∷ []) ts)
 
+-- the answers to commands in what answers a record are those to the commands among its events
 commands_one : (config : GatewayConfig) (before : List Event) (r : Record)
     → flat_map command_in (answers r (whole_from config before (records_of.events_of r)))
     ≡ obeyed config before (records_of.events_of r)
@@ -132,6 +139,7 @@ commands_one config before (Record.Datagram circuit octets) = refl
 commands_one config before (Record.Command circuit command) = refl
 commands_one config before (Record.Codec circuit codec payload_type) = refl
 
+-- .. and so for records one after another
 commands_replayed : (config : GatewayConfig) (before : List Event) (records : List Record)
     → flat_map command_in (answered records (replies_to config before records))
     ≡ obeyed config before (records_of.events records)
@@ -146,6 +154,7 @@ commands_replayed config before (r ∷ records) =
     ∙ ap (λ (xs : List (ℕ × ℕ × ℕ)). obeyed config before es ++ xs) (commands_replayed config (before ++ es) records)
     ∙ sym (obeyed-append config before es (records_of.events records))
 
+-- the answers to commands in the records that answer an act are those to the commands among its events
 commands_act : (config : GatewayConfig) (before : List Event) (act : Act)
     → flat_map command_in (answers_to config before act) ≡ obeyed config before (events_of act)
 unfolding obeyed
@@ -154,6 +163,7 @@ commands_act config before (Act.Datagram circuit octets) = refl
 commands_act config before (Act.Command circuit command) = refl
 commands_act config before (Act.Codec circuit codec payload_type) = refl
 
+-- .. and so for acts one after another
 commands_live : (config : GatewayConfig) (before : List Event) (acts : List Act)
     → flat_map command_in (all_answers config before acts) ≡ obeyed config before (events acts)
 unfolding obeyed
@@ -176,6 +186,7 @@ written_act config before (Act.Datagram circuit octets) = refl
 written_act config before (Act.Command circuit command) = refl
 written_act config before (Act.Codec circuit codec payload_type) = refl
 
+-- what was written for acts is the records that answer them, written out
 written_live : (config : GatewayConfig) (before : List Event) (acts : List Act)
     → written config before acts ≡ flat_map written_out (all_answers config before acts)
 written_live config before [] = refl
@@ -186,6 +197,7 @@ written_live config before (act ∷ acts) =
     (written_live config (before ++ events_of act) acts)
     ∙ sym (flat_map-append written_out (answers_to config before act) rest)
 
+-- records of the same events as those of acts answer as the acts did: octets, datagrams and commands
 pub answer_alike : RecordingsAnswerAlike
 answer_alike config before acts records e = record {
   live = written_live config before acts;

@@ -45,6 +45,7 @@ good_in_all kinds (Record.Datagram circuit octets) good = (refl, good.1, good.2)
 good_in_all kinds (Record.Command circuit command) good = (refl, good.1, good.2, good.3)
 good_in_all kinds (Record.Codec circuit codec payload_type) good = (refl, good.1, good.2, good.3, good.4)
 
+-- what a list with one item more gives is what the list gives, and then what the item gives
 one_more_of : {X Y : Type 0} (f : X → List Y) (xs : List X) (x : X)
     → flat_map f (xs ++ x ∷ []) ≡ flat_map f xs ++ f x
 one_more_of {X} {Y} f xs x =
@@ -57,6 +58,7 @@ act_octets (Act.Datagram circuit bytes) = refl
 act_octets (Act.Command circuit command) = refl
 act_octets (Act.Codec circuit codec payload_type) = refl
 
+-- the octets of acts are as many as their turns
 acts_octets : (acts : List Act) → length (octets (events acts)) ≡ length (turns acts)
 acts_octets [] = refl
 acts_octets (act ∷ acts) =
@@ -64,6 +66,7 @@ acts_octets (act ∷ acts) =
     ∙ length-append (octets (events_of act)) (octets (events acts))
     ∙ omega (arith, act_octets act, acts_octets acts, length-append (turns_of act) (turns acts))
 
+-- acts that were done, and then the act of one record more
 does_more : (a b c : PortsState) (g g' g'' : Gateway) (t t' : Totals) {x y : TapeState} (acts : List Act) (r : Record)
     → Does a b g g' t acts → (q : ActsOn b c g' g'' t t' x y r) → Does a c g g'' t' (acts ++ q.act ∷ [])
 does_more a b c g g' g'' t t' {x} {y} acts r p q =
@@ -135,6 +138,7 @@ through_more {spells} {a} {b} {c} {g} {g'} {g''} {x} {y} {z} {t} {t'} {Took} {Mo
       (written_by spells config before p.acts) (p.took config before at));
 }
 
+-- records that were gone through, and then one more whose answer passes
 pub through_done : {spells : Spells} {a b c : PortsState} {g g' g'' : Gateway} {x y z : TapeState} {t t' : Totals}
     {o : Option (List ℕ)} {s' s'' : SinkState} {w w' : List ℕ} {records : List Record} {r : Record}
     → Through spells a b g g' x y (λ xs. Passes o s'.taken w xs) t records
@@ -143,6 +147,7 @@ pub through_done : {spells : Spells} {a b c : PortsState} {g g' g'' : Gateway} {
 through_done p q = through_more p q.acts
     (λ config now at xs took. Passes-join _ _ _ _ _ _ _ took (q.passes config now at))
 
+-- .. or one more at which a write failed: a prefix of all that is put was taken
 pub through_failed : {spells : Spells} {a b c : PortsState} {g g' g'' : Gateway} {x y z : TapeState} {t t' : Totals}
     {o : Option (List ℕ)} {s' s'' : SinkState} {w : List ℕ} {records : List Record} {r : Record}
     → Through spells a b g g' x y (λ xs. Passes o s'.taken w xs) t records
@@ -170,6 +175,7 @@ pub through_all : {spells : Spells} {a b : PortsState} {g g' : Gateway} {x y : T
     → Through spells a b g g' x y (Appends o q) t records
 through_all q h wrote = through_as (λ xs took. Passes-appended _ _ _ _ _ took wrote) h
 
+-- when what waits is written nothing waits, and the rest is as it was
 pub through_on : {spells : Spells} {a b : PortsState} {g g' : Gateway} {x y : TapeState} {t : Totals}
     {o p q : Option (List ℕ)} {w w' : List ℕ} {records : List Record}
     → Through spells a b g g' x y (λ xs. Passes o p w xs) t records → Appends p q w → w' ≡ []

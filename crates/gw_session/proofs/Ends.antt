@@ -9,6 +9,7 @@ use Rattle.gw_records.specs.Records.{Record}
 use Rattle.gw_records.specs.Streams.{SourceState, SinkState}
 use Rattle.gw_records.specs.Outcome.{Session, Ends, EndsAll, EndsUntil}
 
+-- what is known of the totals and records of a session, and what follows from it
 session_as : {kinds : Kinds} {a b : SourceState} {c d : SinkState} {P Q : Totals → List Record → Type 0}
     {ending : Ending} → ((t : Totals) (rs : List Record) → P t rs → Q t rs) → Session kinds a b c d P ending
     → Session kinds a b c d Q ending
@@ -22,6 +23,7 @@ session_as {kinds} {a} {b} {c} {d} {P} {Q} f s = record {
   no_write = s.no_write;
 }
 
+-- .. of one in which no read failed
 ends_as : {kinds : Kinds} {a b : SourceState} {c d : SinkState} {P Q : Totals → List Record → Type 0}
     {ending : Ending} → ((t : Totals) (rs : List Record) → P t rs → Q t rs) → Ends kinds a b c d P ending
     → Ends kinds a b c d Q ending
@@ -35,6 +37,7 @@ unfolding session_as ends_as
 all_as kinds a b c d (Ok t) f e = record { ends = ends_as f e.ends; ended = e.ended; totals_are = e.totals_are }
 all_as kinds a b c d (Err x) f e = tt
 
+-- a session that ended before the end of its source, and what follows from what is known of it
 fault_as : (kinds : Kinds) (a b : SourceState) (c d : SinkState) {P Q : Totals → List Record → Type 0}
     {B C : List Record → Type 0} {K L : Type 0} (e : RunFault) → (K → L)
     → ((t : Totals) (rs : List Record) → P t rs → Q t rs)

@@ -41,18 +41,22 @@ abbrev Plain : List Turn → Type 0
 Plain [] = Unit {0}
 Plain (t ∷ ts) = (t.came ≡ []) × Plain ts
 
+-- where nothing waits, the first four are none
 first_none : (v : Waiting) (circuit : Option ℕ) → ((c : ℕ) → v c ≡ []) → first_four v circuit ≡ []
 first_none v None e = refl
 first_none v (Some circuit) e = ap (take 4) (e circuit)
 
+-- of two lists that are empty either is empty
 either_none : (b : Bool) (xs ys : List (List ℕ)) → xs ≡ [] → ys ≡ [] → cond b xs ys ≡ []
 either_none true xs ys p q = p
 either_none false xs ys p q = q
 
+-- where nothing waits, nothing waits behind the first four
 behind_none : (v : Waiting) (circuit : Option ℕ) → ((c : ℕ) → v c ≡ []) → (c : ℕ) → behind_four v circuit c ≡ []
 behind_none v None e c = e c
 behind_none v (Some circuit) e c = either_none (c == circuit) (drop 4 (v c)) (v c) (ap (drop 4) (e c)) (e c)
 
+-- where nothing waits, nothing comes in any turn
 none_came : (v w : Waiting) (ts : List Turn) → ((c : ℕ) → v c ≡ []) → FirstFour v w ts → Plain ts
 none_came v w [] e h = tt
 none_came v w (t ∷ ts) e h = (
@@ -66,10 +70,12 @@ plain_trades ts p =
     none_came (λ c. []) (λ c. []) ts (λ c. refl)
     (p.firsts (unmoved 0 p.failed_receives (omega arith) (sym p.receives)))
 
+-- where nothing came in turns and in more, nothing came in either part
 plain_parts : (xs ys : List Turn) → Plain (xs ++ ys) → Plain xs × Plain ys
 plain_parts [] ys p = (tt, p)
 plain_parts (x ∷ xs) ys p = let r = plain_parts xs ys p.1 in ((p.0, r.0), r.1)
 
+-- .. and the other way about
 plain_join : (xs ys : List Turn) → Plain xs → Plain ys → Plain (xs ++ ys)
 plain_join [] ys p q = q
 plain_join (x ∷ xs) ys p q = (p.0, plain_join xs ys p.1 q)
@@ -78,14 +84,17 @@ plain_join (x ∷ xs) ys p q = (p.0, plain_join xs ys p.1 q)
 abbrev alone : ℕ → Turn
 alone octet = record { circuit = None; came = []; octet = octet }
 
+-- before such octets nothing came
 plain_alone : (octets : List ℕ) → Plain (map alone octets)
 plain_alone [] = tt
 plain_alone (o ∷ octets) = (refl, plain_alone octets)
 
+-- the octets of such turns are the octets they are of
 heard_alone : (octets : List ℕ) → map octet_of (map alone octets) ≡ octets
 heard_alone [] = refl
 heard_alone (o ∷ octets) = ap (λ (xs : List ℕ). o ∷ xs) (heard_alone octets)
 
+-- where no datagram came to a circuit, no event came
 of_none : (circuit : Option ℕ) (came : List (List ℕ)) → came ≡ [] → coming (of_circuit circuit came) ≡ []
 of_none None came e = refl
 of_none (Some circuit) came e = ap (λ (xs : List (List ℕ)). coming (of_circuit (Some circuit) xs)) e
@@ -97,12 +106,14 @@ turns_events (t ∷ ts) p =
     ap (λ (es : List Event). (es ++ Event.Octet t.octet ∷ []) ++ events_of_turns ts) (of_none t.circuit t.came p.0)
     ∙ ap (λ (es : List Event). Event.Octet t.octet ∷ es) (turns_events ts p.1)
 
+-- where nothing came before its octets, the events of an act are those of its record
 act_events : (act : Act) → Plain (turns_of act) → events_of act ≡ answers.events_of (told act)
 act_events (Act.Trunk ts) p = turns_events ts p
 act_events (Act.Datagram circuit octets) p = refl
 act_events (Act.Command circuit command) p = refl
 act_events (Act.Codec circuit codec payload_type) p = refl
 
+-- .. and so for acts one after another
 acts_events : (acts : List Act) → Plain (turns acts) → events acts ≡ answers.events (map told acts)
 acts_events [] p = refl
 acts_events (act ∷ acts) p =
@@ -134,6 +145,7 @@ act_written config before (Act.Datagram circuit octets) p = refl
 act_written config before (Act.Command circuit command) p = refl
 act_written config before (Act.Codec circuit codec payload_type) p = refl
 
+-- what is put for acts is what answers their records
 acts_written : (config : GatewayConfig) (before : List Event) (acts : List Act) → Plain (turns acts)
     → written_by in_record config before acts ≡ render (map told acts) (replies_to config before (map told acts))
 acts_written config before [] p = refl
@@ -155,12 +167,14 @@ acts_written config before (act ∷ acts) p =
 up_to : (t n m : ℕ) → t ≡ counted 0 n → n ≡ m → t ≡ min m (2 ^ 64 - 1)
 up_to t n m p q = let e = counted_is 0 n (omega arith) in omega (arith, e, p, q)
 
+-- an act has as many turns as its trunk record has octets
 act_octets : (act : Act) → length (turns_of act) ≡ length (trunk_octets (told act))
 act_octets (Act.Trunk ts) = sym (length-map ts octet_of)
 act_octets (Act.Datagram circuit octets) = refl
 act_octets (Act.Command circuit command) = refl
 act_octets (Act.Codec circuit codec payload_type) = refl
 
+-- .. and so for acts one after another
 acts_octets : (acts : List Act) → length (turns acts) ≡ length (flat_map trunk_octets (map told acts))
 acts_octets [] = refl
 acts_octets (act ∷ acts) = omega (
@@ -176,6 +190,7 @@ all_went : (n : ℕ) (xs ys : List (ℕ × List ℕ)) → n ≡ 0 → LeavesOut 
 all_went n xs ys e p =
     let P : ℕ → Type 0 = λ k. LeavesOut k xs ys in LeavesOut-all xs ys (subst P e p)
 
+-- the totals of acts are those of a session that had the replies to their records
 plain_totals : (g g' : Gateway) (t : Totals) (acts : List Act) → Does no_ports no_ports g g' t acts → Plain (turns acts)
     → (config : GatewayConfig) (before : List Event) → Stands config g before
     → t ≡ run_totals (map told acts) (replies_to config before (map told acts))
@@ -268,6 +283,7 @@ cut_rest config before acts heard rest =
     spelled_for in_record config ((before ++ events acts) ++ events_of_turns heard) (events_of_turns rest)
     ++ answer_to config (before ++ events acts) (Act.Trunk (heard ++ rest))
 
+-- what is put for acts and the turns that were heard, and then for the rest, is all that is put for them
 cut_written : (config : GatewayConfig) (before : List Event) (acts : List Act) (heard rest : List Turn)
     → (written_by in_record config before acts
     ++ spelled_for in_record config (before ++ events acts) (events_of_turns heard))
@@ -333,6 +349,7 @@ cut_until {g} {g'} {s} {s'} begun p =
           (AppendsPrefix-more _ _ _ (cut_rest config before p.acts p.turns rest) (p.took config before at)));
     }
 
+-- where a write failed, the records begun ran up to that write
 pub runs_until : {g g' : Gateway} {x y : TapeState} {s s' : SinkState} (records : List Record)
     → Begun in_record no_ports no_ports g g' x y s s' records → RunsUntilWrite g g' s s' records
 runs_until records (inl w) = whole_until records w.1 w.2

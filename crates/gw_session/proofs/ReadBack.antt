@@ -26,6 +26,7 @@ reads_all records good = record {
   ends = refl;
 }
 
+-- what is taken where nothing was, is what was appended
 from_nothing : (a b : Option (List ℕ)) (octets xs : List ℕ) → a ≡ Some [] → b ≡ Some octets → Appends a b xs
     → octets ≡ xs
 from_nothing a b octets xs e f p =
@@ -38,6 +39,7 @@ rest_none : (xs ys : List Record) → xs ≡ xs ++ ys → ys ≡ []
 rest_none xs [] e = refl
 rest_none xs (y ∷ ys) e = absurd (omega (arith, ap length e, length-append xs (y ∷ ys)))
 
+-- a recording that was begun empty is read back
 pub read_back : RecordingsAreReadBack
 read_back tape tape' happened octets records ending p none known reads =
     let all = reads_all p.records p.good in

@@ -35,6 +35,7 @@ refused_records = record {
   ends = refl;
 }
 
+-- .. and the refusals of both are written as two answers
 refusals_written : render (seize ∷ stray ∷ [])
     (Reply.Obeyed (Err line.NotIdle) ∷ Reply.Admitted (Err dropped.NotOpen) ∷ [])
     ≡ 0x52 ∷ 1 ∷ 0 ∷ 2 ∷ 0x43 ∷ 2 ∷ 0x52 ∷ 1 ∷ 0 ∷ 2 ∷ 0x44 ∷ 0x14 ∷ []
@@ -46,30 +47,37 @@ bad_kind : end_of all_kinds (0x58 ∷ 0 ∷ 0 ∷ 0 ∷ []) ≡ Some endings.Bad
 unfolding end_of has_bad_kind
 bad_kind = refl
 
+-- a single octet is cut, whatever its kind
 cut_kind : end_of all_kinds (0x58 ∷ []) ≡ Some endings.Truncated
 unfolding end_of
 cut_kind = refl
 
+-- a trunk record with a circuit has a bad circuit
 bad_circuit : end_of all_kinds (0x54 ∷ 1 ∷ 0 ∷ 0 ∷ []) ≡ Some endings.BadCircuit
 unfolding end_of has_bad_kind has_bad_circuit
 bad_circuit = refl
 
+-- a command record of two octets is a bad command
 bad_command_length : end_of all_kinds (0x43 ∷ 1 ∷ 0 ∷ 2 ∷ []) ≡ Some endings.BadCommand
 unfolding end_of has_bad_kind has_bad_circuit has_bad_length
 bad_command_length = refl
 
+-- a command of an unknown code is a bad command
 bad_command : end_of all_kinds (0x43 ∷ 1 ∷ 0 ∷ 1 ∷ 7 ∷ []) ≡ Some endings.BadCommand
 unfolding end_of has_bad_kind has_bad_circuit has_bad_length is_cut has_bad_command
 bad_command = refl
 
+-- a codec record of one octet is a bad command
 bad_codec_length : end_of all_kinds (0x4B ∷ 1 ∷ 0 ∷ 1 ∷ 4 ∷ []) ≡ Some endings.BadCommand
 unfolding end_of has_bad_kind has_bad_circuit has_bad_length
 bad_codec_length = refl
 
+-- a codec of an unknown code is a bad command
 bad_codec : end_of all_kinds (0x4B ∷ 1 ∷ 0 ∷ 2 ∷ 6 ∷ 0x60 ∷ []) ≡ Some endings.BadCommand
 unfolding end_of has_bad_kind has_bad_circuit has_bad_length is_cut has_bad_command
 bad_codec = refl
 
+-- a payload type above 127 is a bad command
 bad_payload_type : end_of all_kinds (0x4B ∷ 1 ∷ 0 ∷ 2 ∷ 4 ∷ 0x80 ∷ []) ≡ Some endings.BadCommand
 unfolding end_of has_bad_kind has_bad_circuit has_bad_length is_cut has_bad_command
 bad_payload_type = refl
@@ -84,10 +92,12 @@ codec_record = record {
   ends = refl;
 }
 
+-- a codec that is taken is answered with no fault
 codec_taken : render (Record.Codec 1 4 0x60 ∷ []) (Reply.Changed (Ok tt) ∷ [])
     ≡ 0x52 ∷ 1 ∷ 0 ∷ 2 ∷ 0x4B ∷ 0 ∷ []
 codec_taken = refl
 
+-- a codec that is refused is answered with the number of its fault
 codec_refused : render (Record.Codec 1 4 8 ∷ []) (Reply.Changed (Err codec.PayloadType) ∷ [])
     ≡ 0x52 ∷ 1 ∷ 0 ∷ 2 ∷ 0x4B ∷ 0x1F ∷ []
 codec_refused = refl
@@ -96,6 +106,7 @@ codec_refused = refl
 empty_trunk : render (Record.Trunk [] ∷ []) [] ≡ 0x54 ∷ 0 ∷ 0 ∷ 0 ∷ []
 empty_trunk = refl
 
+-- an empty datagram is refused with an answer, as others are
 empty_datagram : render (Record.Datagram 1 [] ∷ []) (Reply.Admitted (Err dropped.NotOpen) ∷ [])
     ≡ 0x52 ∷ 1 ∷ 0 ∷ 2 ∷ 0x44 ∷ 0x14 ∷ []
 empty_datagram = refl
@@ -105,6 +116,7 @@ abbrev two_frames : List ℕ
 two_frames =
     (0x9B ∷ replicate 15 0xD5) ++ (0x0F ∷ replicate 15 0xD5) ++ (0xFF ∷ replicate 15 0xD5) ++ (0x99 ∷ replicate 15 0xD5)
 
+-- .. replayed as one trunk record of their octets
 two_frames_replayed : render (Record.Trunk (replicate 64 0xD5) ∷ [])
     (map (λ o. Reply.Sent (record { octet = o; packet = None })) two_frames)
     ≡ 0x54 ∷ 0 ∷ 0 ∷ 0x40 ∷ two_frames
@@ -130,6 +142,7 @@ cut_to_each_length = (refl, refl, refl, refl, refl)
 abbrev later : List ℕ
 later = 0x44 ∷ 1 ∷ 0 ∷ 1 ∷ 0 ∷ []
 
+-- a datagram record cut to each length, and whole
 cut_datagram :
     (end_of all_kinds (take 0 later) ≡ Some endings.End)
     × (end_of all_kinds (take 1 later) ≡ Some endings.Truncated)

@@ -14,16 +14,19 @@ use Rattle.gw_session.specs.Exchange.{spelled_for, written_for, written_by, Thro
 use Rattle.gw_session.specs.Tape.{TapeState}
 use Rattle.gw_session.specs.Recording.{ServesRecorded}
 
+-- packets that put nothing give no octets
 nothing_put : (ps : List (ℕ × List ℕ)) → flat_map silent ps ≡ []
 nothing_put [] = refl
 nothing_put (p ∷ ps) = nothing_put ps
 
+-- where packets put nothing, what is put for an act is its answer alone
 answer_alone : (config : GatewayConfig) (before : List Event) (act : Act)
     → written_for silent config before act ≡ answer_to config before act
 unfolding written_for spelled_for
 answer_alone config before act =
     ap (λ (xs : List ℕ). xs ++ answer_to config before act) (nothing_put (packets_for config before (events_of act)))
 
+-- .. and so for acts one after another
 answers_alone : (config : GatewayConfig) (before : List Event) (acts : List Act)
     → written_by silent config before acts ≡ written config before acts
 answers_alone config before [] = refl
@@ -57,6 +60,7 @@ pub without_tape : {a b : PortsState} {g g' : Gateway} {x y : TapeState} {Took :
     (records : List Record) → ServesRecorded a b g g' x y Took t records → ServesThrough a b g g' Took t records
 without_tape t records p = p.0
 
+-- .. where the totals are not named beforehand
 pub until_without : {a b : PortsState} {g g' : Gateway} {x y : TapeState} {Took : List ℕ → Type 0}
     (records : List Record) → (totals : Totals) × ServesRecorded a b g g' x y Took totals records
     → (totals : Totals) × ServesThrough a b g g' Took totals records

@@ -25,9 +25,11 @@ use Rattle.gw_records.proofs.Writes.{Appends-none, Appends-join, Appends-same, A
 pub prefix_none : (a : Option (List ℕ)) (all : List ℕ) → AppendsPrefix a a all
 prefix_none a all = record { written = []; rest = all; whole = refl; appended = Appends-none a }
 
+-- all that was appended is a prefix of it
 pub prefix_all : (a b : Option (List ℕ)) (all : List ℕ) → Appends a b all → AppendsPrefix a b all
 prefix_all a b all p = record { written = all; rest = []; whole = sym (append-nil all); appended = p }
 
+-- nothing is both true and false
 not_both : {X : Type 0} (b : Bool) → b ≡ true → b ≡ false → X
 not_both {X} b t f = absurd (let e : true ≡ false = sym t ∙ f in cc)
 
@@ -74,6 +76,7 @@ long_first es fs h = record {
   long = h.long;
 }
 
+-- .. and behind other events
 long_second : (es fs : List Event) → HasLong fs → HasLong (es ++ fs)
 long_second es fs h = record {
   before = es ++ h.before;
@@ -157,10 +160,12 @@ joined a b c es fs false e p q =
       stays = λ s. not_both b.ended (ap (λ (t : TapeState). t.ended) (p.stays s) ∙ s) e;
     }
 
+-- events that were recorded, and then others
 pub recorded_join : (a b c : TapeState) (es fs : List Event) → Recorded a b es → Recorded b c fs
     → Recorded a c (es ++ fs)
 recorded_join a b c es fs p q = joined a b c es fs b.ended refl p q
 
+-- the same of an equal list
 pub recorded_same : (a b : TapeState) (es fs : List Event) → es ≡ fs → Recorded a b es → Recorded a b fs
 recorded_same a b es fs e p = let P : List Event → Type 0 = λ xs. Recorded a b xs in subst P e p
 
@@ -168,6 +173,7 @@ recorded_same a b es fs e p = let P : List Event → Type 0 = λ xs. Recorded a 
 one_event : (r : Record) → events_of r ≡ events (r ∷ []) ++ []
 one_event r = sym (append-nil (events_of r)) ∙ sym (append-nil (events_of r ++ []))
 
+-- a record was written whole: its events were recorded
 recorded_one : (a b : TapeState) (r : Record) → IsGood all_kinds r → a.ended ≡ false → b.ended ≡ false
     → b.failures ≡ a.failures → Appends a.taken b.taken (spelled r) → Recorded a b (events_of r)
 recorded_one a b r good going goes same p =
@@ -183,6 +189,7 @@ recorded_one a b r good going goes same p =
       stays = λ s. not_both a.ended s going;
     }
 
+-- a write of a record failed: its events were recorded up to there, and the tape ended
 recorded_cut : (a b : TapeState) (r : Record) → IsGood all_kinds r → a.ended ≡ false → b.ended ≡ true
     → a.failures < b.failures → AppendsPrefix a.taken b.taken (spelled r) → Recorded a b (events_of r)
 recorded_cut a b r good going ended failed p = record {
@@ -283,6 +290,7 @@ but_more a b c es fs fresh left p q = (
       ∙ ap (λ (xs : List Event). p.0 ++ xs) q.2 ∙ sym (append_assoc p.0 q.0 (map Event.Octet left)),
 )
 
+-- events with octets that were recorded later, and then these octets
 pub but_none : (a b c : TapeState) (es : List Event) (fresh : List ℕ) → RecordedBut a b es fresh
     → Recorded b c (map Event.Octet fresh) → Recorded a c es
 but_none a b c es fresh p q =

@@ -72,6 +72,7 @@ packets_begin s k i words (suc more) =
           ∙ append_assoc (records_from s k words i) before.0 last,
     )
 
+-- the records of the first i packets are the front of those of n, where i is at most n
 pub first_packets : (s : StreamSpec) (k : ℕ) (words : List ℕ) (i n : ℕ) → i ≤ n
     → (rest : List ℕ) × (records_from s k words n ≡ records_from s k words i ++ rest)
 first_packets s k words i n h =
@@ -183,6 +184,7 @@ left_over s octets count left e h =
     let whole : length octets ≡ count * packet_len s + left = omega (arith, e) in
     ap (λ (n : ℕ). n % packet_len s) whole ∙ mul-add-mod_self_right count (packet_len s) left ∙ mod-eq_of_lt h
 
+-- octets that fill whole packets need no idle octets
 none_filled : (s : StreamSpec) (octets : List ℕ) → length octets % packet_len s ≡ 0 → filled s octets ≡ octets
 none_filled s octets e =
     let none : (packet_len s - length octets % packet_len s) % packet_len s ≡ 0 =
@@ -190,6 +192,7 @@ none_filled s octets e =
     ∙ mod_self (packet_len s) in
     ap (λ (n : ℕ). octets ++ replicate n (idle_code s.law)) none ∙ append-nil octets
 
+-- the last packet is filled with idle octets, so many as it lacks
 some_filled : (s : StreamSpec) (octets : List ℕ) (left : ℕ) → length octets % packet_len s ≡ left → 0 < left
     → left < packet_len s
     → filled s octets ≡ octets ++ replicate (packet_len s - left) (idle_code s.law)
@@ -320,6 +323,7 @@ pub record MovesOn (s : StreamSpec) (codec : CodecState) (given sent window : Li
   pub records : records_from s 0 now_sent (count + more) ≡ records_from s 0 sent count ++ records_from s count window
       more
 
+-- the full packets of a window are sent, and what is left of it is held
 pub moves_on : (s : StreamSpec) (codec : CodecState) (given sent window : List ℕ) (count more left : ℕ)
     → IsUnderWay s codec given sent count window
     → length window ≡ packet_len s * more + left → MovesOn s codec given sent window count more left
@@ -360,6 +364,7 @@ pub record Left (s : StreamSpec) (codec : CodecState) (given sent window held : 
   pub records : records_from s 0 now_sent (count + full_packets s window) ≡ records_from s 0 sent count
       ++ records_from s count window (full_packets s window)
 
+-- the words left of a buffer stand at its front, and the full packets before them are sent
 pub words_left : (s : StreamSpec) (codec : CodecState) (given sent buffer moved : List ℕ) (end count left : ℕ)
     → end ≤ length buffer → IsUnderWay s codec given sent count (take end buffer)
     → All (λ w. w < 2 ^ word_bits s) (take end buffer)

@@ -77,6 +77,7 @@ record_breaks s a b c waiting records r words e first p same q =
     Breaks-same a c (speech_in s records ++ more) (speech_in s (records ++ r ∷ []))
     (sym (decoded_more s records r words e first)) (Breaks-join a b c waiting (speech_in s records) more p same q)
 
+-- the code words of a good record of datagrams are those of its body
 words_named : (s : StreamSpec) (head : Head) (body : List ℕ) → IsGood only_datagrams (named head body)
     → record_words s (named head body) ≡ datagram_words s body
 words_named s heads.Trunk body good = cc (good.0)
@@ -94,11 +95,13 @@ words_at s f held body first e =
     ap (λ (n : ℕ). drop 4 (take n held)) (sym len) ∙ drop-take 4 (f.len - 4) held ∙ sym e in
     words_named s f.head (drop 4 (take f.len held)) first.good ∙ ap (datagram_words s) same
 
+-- one datagram more: the count of those dropped goes up where it has no words, to the greatest u64 at most
 dropped_more : (t n : ℕ) (o : Option (List ℕ)) (b : Bool) → t ≡ min n (2 ^ 64 - 1) → b ≡ is_some o
     → cond b t (min (t + 1) (2 ^ 64 - 1)) ≡ min (n + cond (is_none o) 1 0) (2 ^ 64 - 1)
 dropped_more t n None b e d = rw d (omega (arith, e))
 dropped_more t n (Some ws) b e d = rw d (omega (arith, e))
 
+-- one record more: the count goes up, to the greatest u64 at most
 records_more : {X : Type 0} (t : ℕ) (xs : List X) (x : X) → t ≡ min (length xs) (2 ^ 64 - 1)
     → min (t + 1) (2 ^ 64 - 1) ≡ min (length (xs ++ x ∷ [])) (2 ^ 64 - 1)
 records_more t xs x e = omega (arith, e, length-append xs (x ∷ []))
@@ -114,16 +117,19 @@ totals_more s t records r is_decoded e d =
     (ap (λ (t : Totals). t.dropped) e) d ∙ ap (λ (n : ℕ). min n (2 ^ 64 - 1)) (sym (fold_push _ _ records r)))
     (ap (λ (t : Totals). t.port_faults) e)
 
+-- where datagrams alone are read, a record of no bad kind is a datagram
 is_datagram : (octets : List ℕ) → has_bad_kind only_datagrams octets ≡ false → slice_index octets 0 ≡ 68
 is_datagram octets h = elim (kinds_are only_datagrams octets h) [
   | inl t ↦ cc (t.1)
   | inr r ↦ elim r [ inl t ↦ t.0 | inr s ↦ elim s [ inl t ↦ cc (t.1) | inr t ↦ cc (t.1) ] ]
 ]
 
+-- a datagram has no bad length
 no_length : (octets : List ℕ) → slice_index octets 0 ≡ 68 → has_bad_length octets ≡ true → ⊥
 unfolding has_bad_length
 no_length octets d h = grind (arith, nat_tests)
 
+-- a datagram has no bad command
 no_order : (octets : List ℕ) → slice_index octets 0 ≡ 68 → has_bad_command octets ≡ true → ⊥
 unfolding has_bad_command
 no_order octets d h = grind (arith, nat_tests)

@@ -45,6 +45,7 @@ recognised-ten pair pairs ten =
     let enough : 9 ≤ run_of pair pairs = omega arith in
     rw (reverse-push pairs pair) (first-of-enough pair (reverse pairs) enough)
 
+-- a pair whose run is not yet ten leaves the pair that was recognised
 pub recognised-fewer : (pair run : ℕ) (pairs : List ℕ) → run ≡ min 10 (run_of pair (pairs ++ pair ∷ []))
     → (run ≡ 10 → ⊥) → recognised (pairs ++ pair ∷ []) ≡ recognised pairs
 unfolding recognised
