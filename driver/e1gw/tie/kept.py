@@ -1,6 +1,7 @@
 """The circuits that the operator has blocked, in a file, so that a tie that is started anew leaves them so."""
 from __future__ import annotations
 
+import functools
 import json
 from typing import Iterable
 
@@ -14,7 +15,7 @@ class Kept:
 
     def __init__(self, path: str | None) -> None:
         self._circuits = read(path) if path else frozenset()
-        self._outlet = Outlet('state', lambda text: put_file(path, text)) if path else None
+        self._outlet = Outlet('state', functools.partial(put_file, path)) if path else None
 
     def has(self, circuit: int) -> bool:
         return circuit in self._circuits

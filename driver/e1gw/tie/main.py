@@ -70,7 +70,8 @@ def site_of(options: argparse.Namespace, tie: Tie) -> Site:
     listens = options.listen is not None
     context: ssl.SSLContext | None = None
     if options.tls:
-        context = context_of(*options.tls, listens)
+        certificate, key, authority = options.tls
+        context = context_of(certificate, key, authority, listens)
     return Site(options.listen or options.connect, listens, context, options.peer, tie)
 
 

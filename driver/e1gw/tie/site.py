@@ -4,7 +4,7 @@ from __future__ import annotations
 import asyncio
 import ipaddress
 import ssl
-from typing import Protocol
+from typing import Any, Protocol
 
 from .messages import MOST, Alive, BadMessage, Greeting, Message, message_of, spell
 
@@ -49,7 +49,7 @@ def context_of(certificate: str, key: str, authority: str, listens: bool) -> ssl
     return context
 
 
-def has_name(certificate: dict[str, object] | None, name: str) -> bool:
+def has_name(certificate: dict[str, Any] | None, name: str) -> bool:
     """Whether a certificate is of that host or address."""
     names = certificate.get('subjectAltName', ()) if certificate else ()
     try:
@@ -88,7 +88,7 @@ class Site:
         """Keeps the connection up for ever. OSError where it cannot be listened at this place."""
         host, port = self.place
         if self.listens:
-            more = {'ssl': self.context, 'ssl_handshake_timeout': HANDSHAKE} if self.context else {}
+            more: dict[str, Any] = {'ssl': self.context, 'ssl_handshake_timeout': HANDSHAKE} if self.context else {}
             async with await asyncio.start_server(self._accepted, host, port, limit=MOST, **more) as server:
                 await server.serve_forever()
         while True:
