@@ -1,5 +1,5 @@
 //! Serving with a recorder, over memory.
-ghost use Rattle.std.specs.Prelude.{◌≡◌, ◌<◌};
+ghost use Rattle.std.specs.Prelude.{◌≡◌, ◌<◌, false, IfOk};
 
 use super::gateways::outgoing;
 use super::memory::{MemSink, MemSource};
