@@ -14,6 +14,7 @@ from typing import Any, Callable
 from .trunks import Trunk
 
 MOST_INSIDE = 8192          # octets that were read and have not come out: 32 ms of the trunk
+GRACE = 1.0                 # seconds between the end of the output and that of the process
 
 
 def align(opens: Callable[[], Trunk], program: str) -> Trunk:
@@ -116,11 +117,18 @@ class Aligned(Trunk):
         if octets:
             self._inside -= len(octets)
             return octets
-        self._process.kill()            # it has closed its output; where it ends by itself, that stands
-        status = self._process.wait()
+        status = self._status()
         if self._end and status == 0:
             raise self._end
         raise OSError(f'e1gw align ended {f"with status {status}" if status >= 0 else f"by signal {-status}"}')
+
+    def _status(self) -> int:
+        """What the process, whose output is closed, ends with."""
+        try:
+            return self._process.wait(GRACE)
+        except subprocess.TimeoutExpired:
+            self._process.kill()
+            return self._process.wait()
 
     def write(self, octets: bytes) -> None:
         self._device.write(octets)

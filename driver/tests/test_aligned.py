@@ -6,6 +6,8 @@ import os
 import select
 import signal
 import socket
+import subprocess
+import sys
 import tempfile
 import time
 import unittest
@@ -13,7 +15,8 @@ import unittest
 from . import support
 from .test_driver import FOUR, aligned, call
 from .test_satop_bits import expected, late
-from .world import SECONDS, World, config_of
+from .world import LAUNCHER, SECONDS, World, config_of
+from e1gw import session
 from e1gw.aligned import MOST_INSIDE, Aligned, align
 from e1gw.trunk import Usage, options_of
 from e1gw.trunks import Stream, Trunk, open_files
@@ -137,6 +140,15 @@ class Through(unittest.TestCase):
             with self.assertRaisesRegex(OSError, f'^e1gw align ended with status {status}$'):
                 self.octets(trunk, 600)
 
+    def test_a_process_that_closes_its_output_and_stays(self) -> None:
+        with tempfile.NamedTemporaryFile('w', delete=False) as script:
+            self.addCleanup(os.unlink, script.name)
+            script.write('#!/bin/sh\nexec sleep 60 >&-\n')
+            os.fchmod(script.fileno(), 0o700)
+        trunk, _ = self.opened(program=script.name)
+        with self.assertRaisesRegex(OSError, '^e1gw align ended by signal 9$'):
+            self.octets(trunk, 1)
+
     def test_no_program(self) -> None:
         reads, writes = os.pipe()
         self.addCleanup(os.close, writes)
@@ -199,6 +211,21 @@ class Service(unittest.TestCase):
             call(world, 1)
             status = world.status()
             self.assertEqual((status['octets'], status['transport']['aligning']), (len(world.sent), 0))
+
+    def test_a_file_from_end_to_end(self) -> None:
+        with tempfile.TemporaryDirectory() as folder:
+            toml, reads, writes, kept = (os.path.join(folder, name) for name in ('trunk.toml', 'in', 'out', 'kept'))
+            with open(toml, 'w', encoding='utf-8') as config, open(reads, 'wb') as file:
+                config.write(config_of(FOUR))
+                file.write(carried(6, 0, 20_001))
+            subprocess.run([sys.executable, '-B', LAUNCHER, '--program', support.program(), '--config', toml, '--align',
+                            '--in', reads, '--out', writes, '--session', kept], stdin=subprocess.DEVNULL, check=True,
+                           stderr=subprocess.DEVNULL, timeout=SECONDS)
+            with open(kept, 'rb') as file:
+                taken = b''.join(record.body for record in session.records_in(file.read())
+                                 if record.kind is session.Kind.TRUNK)
+            self.assertEqual(taken[65:], bytes(expected(6, place) for place in range(65, 20_001)))
+            self.assertEqual(os.path.getsize(writes), 20_001)
 
     def test_without_it_there_is_no_alignment(self) -> None:
         with Late(config_of(FOUR)) as world:
