@@ -165,9 +165,10 @@ def options_of(words: list[str]) -> Options:
         raise Usage('--picture wants --http, and the counts')
     name = asked.name or os.path.splitext(os.path.basename(asked.config))[0]
     program = program_of(asked.program)
+    if asked.align:
+        opens = functools.partial(align, opens, program)
     return Options(
-        config=asked.config, program=program, name=name, most=asked.most,
-        open_trunk=functools.partial(align, opens, program) if asked.align else opens,
+        config=asked.config, program=program, name=name, open_trunk=opens, most=asked.most,
         serve=_serve_words(asked), reopen=asked.reopen, watch=asked.watch, top=asked.top, control=asked.control,
         control_mode=asked.control_mode, control_group=asked.control_group, http=http, metrics=asked.metrics,
         json=asked.json, session=asked.session, keep=keep, gap=asked.gap / 1000, dark=asked.dark, on_loss=on_loss,
