@@ -3,6 +3,7 @@ from __future__ import annotations
 
 import errno
 import os
+import pty
 import select
 import signal
 import socket
@@ -10,6 +11,7 @@ import subprocess
 import sys
 import tempfile
 import time
+import tty
 import unittest
 
 from . import support
@@ -19,7 +21,7 @@ from .world import LAUNCHER, SECONDS, World, config_of
 from e1gw import session
 from e1gw.aligned import MOST_INSIDE, Aligned, align
 from e1gw.trunk import Usage, options_of
-from e1gw.trunks import Stream, Trunk, open_files
+from e1gw.trunks import Stream, Trunk, open_files, open_tcp
 
 
 def carried(bits: int, start: int, end: int) -> bytes:
@@ -170,6 +172,35 @@ class Through(unittest.TestCase):
         self.assertTrue(self.rests(trunk))
         os.kill(process, signal.SIGCONT)
         self.assertEqual(self.octets(trunk, len(given)), given)
+
+    def both_ways(self, device: Trunk, reads: int, writes: int) -> None:
+        """The other end writes and reads by these descriptors, which it then closes."""
+        trunk = align(lambda: device, support.program())
+        self.addCleanup(trunk.close)
+        os.write(writes, carried(3, 0, 600))
+        self.assertEqual(self.octets(trunk, 600)[65:], bytes(expected(3, place) for place in range(65, 600)))
+        trunk.write(b'sent')
+        self.assertEqual(os.read(reads, 1000), b'sent')
+        for file in {reads, writes}:
+            os.close(file)
+        self.assertRaises(EOFError, self.octets, trunk, 1)
+
+    def test_fifos(self) -> None:
+        (first, writes), (reads, second) = os.pipe(), os.pipe()
+        self.both_ways(Stream(first, second, 'fifos'), reads, writes)
+
+    def test_a_pseudo_terminal(self) -> None:
+        ours, theirs = pty.openpty()
+        tty.setraw(theirs)
+        device = open_files(os.ttyname(theirs), os.ttyname(theirs))
+        os.close(theirs)
+        self.both_ways(device, ours, ours)
+
+    def test_a_tcp_socket(self) -> None:
+        with socket.create_server(('127.0.0.1', 0)) as door:
+            device = open_tcp('127.0.0.1', door.getsockname()[1])
+            file = door.accept()[0].detach()
+        self.both_ways(device, file, file)
 
     def test_a_file(self) -> None:
         with tempfile.TemporaryDirectory() as folder:
