@@ -11,6 +11,7 @@ configuration.
 from __future__ import annotations
 
 import argparse
+import functools
 import os
 import shutil
 import subprocess
@@ -18,6 +19,7 @@ import sys
 from typing import Callable, NoReturn
 
 from . import satop
+from .aligned import align
 from .clear import Clear
 from .control import DoorTaken
 from .driver import Driver
@@ -52,6 +54,8 @@ def trunk_of(asked: argparse.Namespace) -> Callable[[], Trunk]:
     ways = [asked.unix, asked.tcp, asked.satop, asked.input and asked.out]
     if files == 1 or sum(map(bool, ways)) != 1:
         raise Usage('a trunk is --in and --out, or --unix, or --tcp, or --satop')
+    if asked.align and (asked.satop or asked.clear):
+        raise Usage('--align is for all 32 slots of a device or a socket; --satop aligns by itself')
     if asked.satop:
         return _satop_of(asked)
     if asked.unix:
@@ -109,6 +113,8 @@ def _add_trunk(words: argparse._ArgumentGroup) -> None:
     words.add_argument('--tcp', metavar='HOST:PORT', help='a TCP socket to connect to, in place of the two')
     words.add_argument('--satop', metavar='LOCAL,PEER', help='SAToP (RFC 4553) over UDP, each as HOST:PORT')
     words.add_argument('--clear', action='store_true', help='the device gives time slots 1 to 31 alone')
+    words.add_argument('--align', action='store_true',
+                       help='octets of the trunk may begin at any bit; e1gw align runs between it and the gateway')
     words.add_argument('--most', type=_number(1, 65535), default=256, metavar='OCTETS',
                        help='octets in a record at most, 1 to 65535; a frame has 32 [default: 256, 1 ms]')
     words.add_argument('--reopen', action='store_true', help='opens a trunk that ends or fails again, within 30 s')
@@ -158,8 +164,11 @@ def options_of(words: list[str]) -> Options:
     if asked.picture and not (http and asked.counts):
         raise Usage('--picture wants --http, and the counts')
     name = asked.name or os.path.splitext(os.path.basename(asked.config))[0]
+    program = program_of(asked.program)
+    if asked.align:
+        opens = functools.partial(align, opens, program)
     return Options(
-        config=asked.config, program=program_of(asked.program), name=name, open_trunk=opens, most=asked.most,
+        config=asked.config, program=program, name=name, open_trunk=opens, most=asked.most,
         serve=_serve_words(asked), reopen=asked.reopen, watch=asked.watch, top=asked.top, control=asked.control,
         control_mode=asked.control_mode, control_group=asked.control_group, http=http, metrics=asked.metrics,
         json=asked.json, session=asked.session, keep=keep, gap=asked.gap / 1000, dark=asked.dark, on_loss=on_loss,

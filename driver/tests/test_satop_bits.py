@@ -1,7 +1,9 @@
-"""Alignment over bits: rows that stand in the tests of the gateway's own, and the rules written out bit by bit."""
+"""Alignment over bits: rows that stand in the tests of the gateway's own, the rules written out bit by bit, and the
+program's."""
 import random
 import unittest
 
+from . import support
 from e1gw.satop_bits import BitAligner
 
 
@@ -155,6 +157,20 @@ class BitByBit(unittest.TestCase):
                 out += aligner.octets(piece)
                 at += len(piece)
             self.assertEqual(out, bytes(map(slow.octet, given)))
+            found, lost = found + aligner.found, lost + aligner.lost
+        self.assertGreater(found, 100)
+        self.assertGreater(lost, 80)
+
+
+class Program(unittest.TestCase):
+    def test_the_same_as_the_program(self) -> None:
+        support.program()
+        chance = random.Random(5)
+        found = lost = 0
+        for _ in range(12):
+            given = troubled(chance, 20_000)
+            aligner = BitAligner()
+            self.assertEqual(support.run('align', given=given), aligner.octets(given))
             found, lost = found + aligner.found, lost + aligner.lost
         self.assertGreater(found, 100)
         self.assertGreater(lost, 80)
