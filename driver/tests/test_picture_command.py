@@ -18,7 +18,7 @@ from .picture_made import TROUBLES, Made, Sender, answered, recorded
 from e1gw.picture.capture import reckoned
 from e1gw.picture.main import parser
 from e1gw.picture.packets import BadCapture, datagrams
-from e1gw.session import OCTETS_A_SECOND, Kind, records_in
+from e1gw.session import OCTETS_A_SECOND, Kind, records_in, trunk_record
 
 COMMAND = os.path.join(TOP, 'driver', 'e1gw-picture')
 BEGIN = 1_700_000_000           # 2023-11-14 22:13:20 UTC
@@ -303,6 +303,18 @@ class Captured(Folder):
                 # A microsecond of the capture's times can put a datagram into the frame before.
                 self.assertAlmostEqual(int(wanted[1]), int(found[1]), delta=3)
                 self.assertIn('2023-11-14 22:13:20 UTC', beside)
+
+    def test_short_records(self) -> None:
+        """Records of half a millisecond, as a device gives them: few octets of answers for as many pieces."""
+        path = program()
+        config, _, bare, capture = self.split('hold')
+        short = b''.join(trunk_record(record.body[at:at + 128]) if record.kind is Kind.TRUNK else record.spelled()
+                         for record in records_in(bare) for at in range(0, len(record.body), 128))
+        packed = self.file('call.pcap', capture)
+        pages = [self.drawn('--program', path, '--config', config, '--capture', packed, '-', given=given)[0]
+                 for given in (bare, short)]
+        wanted, found = (re.findall(r'(\d+) sent, (\d+) admitted, (\d+) refused', page)[0] for page in pages)
+        self.assertEqual(wanted, found)
 
     def test_alone(self) -> None:
         program()

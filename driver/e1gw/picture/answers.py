@@ -126,7 +126,8 @@ class Replayed:
         except OSError as fault:
             raise Trouble(f'{program}: {fault.strerror}') from fault
         assert self.process.stdout
-        self.given, self.answered = Source(iter(self.queue.get, b'')), self.process.stdout
+        # (what has come, and no more: to wait for a whole piece of answers would be to wait for ever)
+        self.given, self.answered = Source(iter(self.queue.get, b'')), Source(pieces(self.process.stdout))
         self.thread = threading.Thread(target=self._give, args=(octets,), daemon=True)
         self.thread.start()
 
