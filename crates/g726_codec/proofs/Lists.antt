@@ -12,7 +12,7 @@ use Rattle.g726_quant.specs.Blocks.{quan_magnitude, quantised, subtb, log}
 use Rattle.g726_quant.specs.Tables.{RateTables, tables16, tables24, tables32, tables40}
 use Rattle.g726_codec.specs.Codec.{Variables, at_reset, word_for, stepped, words_from, octets_from}
 use Rattle.g726_codec.specs.Kinds.{tables_of, words_by, octets_by, enc, dec, encoder_after, decoder_after}
-use Rattle.g726_codec.specs.Laws.{WordsAreCounted, WordsFit, PrefixesComeFirst, NothingIsCoded, OctetsAreWords}
+use Rattle.g726_codec.specs.Laws.{OneWordAnOctet, WordsFit, PrefixesComeFirst, NothingIsCoded, SpeechIsItsOwnWords}
 use Rattle.g726_codec.specs.Laws.{NothingIsKept}
 use Rattle.g726_codec.specs.declared.CodecKind.TheVariants.{G711, G16, G24, G32, G40}
 use Rattle.g726_codec.proofs.Histories.{words_more, octets_more}
@@ -43,7 +43,7 @@ octets_by_counted None law s words = refl
 octets_by_counted (Some r) law s words = octets_counted r law s words
 
 -- so a codec of any kind gives as many as it takes
-pub counted : WordsAreCounted
+pub counted : OneWordAnOctet
 unfolding enc dec
 counted law kind = (words_by_counted (tables_of kind) law at_reset, octets_by_counted (tables_of kind) law at_reset)
 
@@ -94,7 +94,7 @@ fit law G32 octets all = words_fit tables32 law (omega arith) at_reset octets
 fit law G40 octets all = words_fit tables40 law (omega arith) at_reset octets
 
 -- in G.711 words are octets, and no state is kept
-pub same_words : OctetsAreWords
+pub same_words : SpeechIsItsOwnWords
 unfolding enc dec
 same_words law octets = (refl, refl)
 

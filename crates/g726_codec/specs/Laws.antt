@@ -6,8 +6,8 @@ use Rattle.g726_codec.specs.declared.CodecKind.{CodecKind}
 use Rattle.g726_codec.specs.declared.CodecKind.TheVariants.{G711}
 
 -- a word for each octet, and an octet for each word
-abbrev pub WordsAreCounted : Type 0
-WordsAreCounted = (law : Law) (kind : CodecKind)
+abbrev pub OneWordAnOctet : Type 0
+OneWordAnOctet = (law : Law) (kind : CodecKind)
     → ((octets : List ℕ) → length (enc law kind octets) ≡ length octets)
     × ((words : List ℕ) → length (dec law kind words) ≡ length words)
 
@@ -27,8 +27,8 @@ abbrev pub NothingIsCoded : Type 0
 NothingIsCoded = (law : Law) (kind : CodecKind) → (enc law kind [] ≡ []) × (dec law kind [] ≡ [])
 
 -- in G.711 octets are their own words, and words their own octets
-abbrev pub OctetsAreWords : Type 0
-OctetsAreWords =
+abbrev pub SpeechIsItsOwnWords : Type 0
+SpeechIsItsOwnWords =
     (law : Law) (octets : List ℕ) → (enc law G711 octets ≡ octets) × (dec law G711 octets ≡ octets)
 
 -- a codec of G.711 keeps nothing of what it was given

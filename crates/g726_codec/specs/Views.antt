@@ -8,16 +8,17 @@ use Rattle.g726_codec.specs.declared.any.Codec.{Codec}
 use Rattle.g726_codec.specs.declared.any.Codec.TheVariants.{G711, G16, G24, G32, G40}
 
 -- the kind of a codec, the variables of its encoder and those of its decoder. Those of G.711 stay as at reset
-abbrev parts_of : Codec → CodecKind × Variables × Variables
-parts_of G711 = (kinds.G711, at_reset, at_reset)
-parts_of (G16 encoder decoder) = (kinds.G16, encoder, decoder)
-parts_of (G24 encoder decoder) = (kinds.G24, encoder, decoder)
-parts_of (G32 encoder decoder) = (kinds.G32, encoder, decoder)
-parts_of (G40 encoder decoder) = (kinds.G40, encoder, decoder)
+abbrev variables_of : Codec → CodecKind × Variables × Variables
+variables_of G711 = (kinds.G711, at_reset, at_reset)
+variables_of (G16 encoder decoder) = (kinds.G16, encoder, decoder)
+variables_of (G24 encoder decoder) = (kinds.G24, encoder, decoder)
+variables_of (G32 encoder decoder) = (kinds.G32, encoder, decoder)
+variables_of (G40 encoder decoder) = (kinds.G40, encoder, decoder)
 
 abbrev pub kind_of : Codec → CodecKind
-kind_of codec = (parts_of codec).0
+kind_of codec = (variables_of codec).0
 
 -- a codec in a law
 abbrev pub state_of : Law → Codec → CodecState
-state_of law codec = let p = parts_of codec in record { law = law; kind = p.0; encoder = p.1; decoder = p.2 }
+state_of law codec =
+    let p = variables_of codec in record { law = law; kind = p.0; encoder = p.1; decoder = p.2 }

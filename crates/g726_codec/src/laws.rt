@@ -1,10 +1,10 @@
 //! Laws of the definitions, each proved by a function that does nothing.
-ghost use Rattle.g726_codec.specs.Laws.{WordsAreCounted, WordsFit, PrefixesComeFirst, NothingIsCoded};
-ghost use Rattle.g726_codec.specs.Laws.{OctetsAreWords, NothingIsKept};
+ghost use Rattle.g726_codec.specs.Laws.{OneWordAnOctet, WordsFit, PrefixesComeFirst, NothingIsCoded};
+ghost use Rattle.g726_codec.specs.Laws.{SpeechIsItsOwnWords, NothingIsKept};
 
 /// There is a word for each octet and an octet for each word.
 pub fn words_are_counted()
-    ensures { WordsAreCounted }
+    ensures { OneWordAnOctet }
 {}
 
 /// Each word is below `2^bits`, where the octets are below 256.
@@ -24,6 +24,6 @@ pub fn nothing_is_coded()
 
 /// In G.711 the words are the octets themselves, and a codec is after any of them as it is at reset.
 pub fn octets_are_words()
-    ensures words { OctetsAreWords }
+    ensures words { SpeechIsItsOwnWords }
     ensures kept { NothingIsKept }
 {}

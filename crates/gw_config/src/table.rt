@@ -5,7 +5,7 @@ ghost use Rattle.toml.specs.Data.{as_integer};
 ghost use Rattle.toml.specs.View.{table_view};
 ghost use Rattle.rtp_pack.specs.PacketTime.{IsPacketTime};
 ghost use Rattle.gw_config.specs.Keys.{read_as, value_at};
-ghost use Rattle.gw_config.specs.Names.{payload_of, ptime_of, static_type};
+ghost use Rattle.gw_config.specs.Names.{payload_of, ptime_of, fixed_type};
 ghost use Rattle.gw_config.specs.Meaning.{speech_of, stream_of, port_at, ports_at, settings, entry_of};
 ghost use Rattle.gw_config.specs.Settings.{settings_view};
 ghost use Rattle.gw_config.specs.Views.{speech_view, stream_view, ports_view, entry_view};
@@ -13,7 +13,7 @@ ghost use Rattle.gw_config.specs.Views.{speech_view, stream_view, ports_view, en
 use crate::fault::Kind;
 use crate::keys::{choice_at, has_only, integer_at, look_up, whole_at, words_at};
 use crate::names::{
-    DEFAULT_PTIME, DEFAULT_ROLE, LOOPBACK, goes_with, payload_of, ptime_of, static_type,
+    DEFAULT_PTIME, DEFAULT_ROLE, LOOPBACK, goes_with, payload_of, ptime_of, fixed_type,
 };
 use e1_g711::Law;
 use g726_codec::{CodecKind, CodecName};
@@ -83,11 +83,11 @@ pub(crate) struct Entry<'a> {
 #[tactic(auto, unfolding(crate::specs::Keys::value_at))]
 fn payload_at(name: CodecName, table: &Table) -> Result<u8, Kind>
     ensures value { result
-        ≡ value_at as_integer (payload_of name) (static_type name) (codes "payload") (table_view table.now) }
+        ≡ value_at as_integer (payload_of name) (fixed_type name) (codes "payload") (table_view table.now) }
     ensures bound { IfOk result (λ n. n ≤ 127) }
 {
     match integer_at(table, "payload")? {
-        None => static_type(name).ok_or(Kind::Missing),
+        None => fixed_type(name).ok_or(Kind::Missing),
         Some(number) => payload_of(name, number).ok_or(Kind::OutOfRange),
     }
 }

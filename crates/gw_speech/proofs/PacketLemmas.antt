@@ -13,7 +13,7 @@ use Rattle.gw_speech.specs.declared.encode.Progress.{Progress}
 use Rattle.rtp_packet.specs.declared.Header.{Header}
 use Rattle.e1_g711.specs.Law.{idle_code}
 use Rattle.g726_codec.specs.Kinds.{CodecState, codec_after}
-use Rattle.g726_codec.specs.Laws.{WordsAreCounted, PrefixesComeFirst}
+use Rattle.g726_codec.specs.Laws.{OneWordAnOctet, PrefixesComeFirst}
 use Rattle.std.specs.List.{All, copy_within}
 use Rattle.std.proofs.lemmas.List.Elements.{All-append, All-drop}
 use Rattle.gw_speech.specs.Encode.{packet_len, word_bits, words_for, header_at, packet_record, packet_at, records_from}
@@ -156,18 +156,18 @@ records_from-behind s sent window count (suc k) e =
     (count + k)) (packet_at s window k))
 
 -- no octets have no words
-pub words_of_none : (s : StreamSpec) → WordsAreCounted → words_for s [] ≡ []
+pub words_of_none : (s : StreamSpec) → OneWordAnOctet → words_for s [] ≡ []
 words_of_none s counted = nil_from_length (words_for s []) ((counted s.law s.codec).0 [])
 
 -- how many octets were given, by the words that are sent and held
-pub given_len : (s : StreamSpec) (codec : CodecState) (given sent held : List ℕ) (count : ℕ) → WordsAreCounted
+pub given_len : (s : StreamSpec) (codec : CodecState) (given sent held : List ℕ) (count : ℕ) → OneWordAnOctet
     → IsUnderWay s codec given sent count held
     → length given ≡ packet_len s * count + length held
 given_len s codec given sent held count counted way =
     omega (arith, (counted s.law s.codec).0 given, ap length way.words, way.whole, length-append sent held)
 
 -- the records of the full packets, by those that are sent
-pub full_records_of-is : (s : StreamSpec) (codec : CodecState) (given sent held : List ℕ) (count : ℕ) → WordsAreCounted
+pub full_records_of-is : (s : StreamSpec) (codec : CodecState) (given sent held : List ℕ) (count : ℕ) → OneWordAnOctet
     → IsUnderWay s codec given sent count held → length held < packet_len s
     → full_records_of s given ≡ records_from s 0 sent count
 unfolding full_records_of
@@ -253,7 +253,7 @@ pub record Encoding (s : StreamSpec) (source source' : SourceState) (sink sink' 
 
 -- nothing more is read
 pub reads_no_more : {s : StreamSpec} {a b b' : SourceState} {c d : SinkState} {codec : CodecState} {held : ℕ}
-    {speech given sent : List ℕ} {count : ℕ} → WordsAreCounted → Encoding s a b c d codec held speech given sent count
+    {speech given sent : List ℕ} {count : ℕ} → OneWordAnOctet → Encoding s a b c d codec held speech given sent count
     → Gives b b' [] → GivesUp a b' given → EncodesUntilRead s a b' c d
 reads_no_more {s} {a} {b} {b'} {c} {d} {codec} {held} {speech} {given} {sent} {count} counted w none cause =
     let short : length (take held speech) < packet_len s = omega (
@@ -296,7 +296,7 @@ coded_way {s} {a} {b} {b'} {c} {d} {codec} {codec'} {held} {n} {count} {old} {gi
 -- where the last packet is filled in place with idle octets, and these are coded, the words of the filled octets are
 -- sent and held
 pub filled_way : {s : StreamSpec} {codec : CodecState} {given sent : List ℕ} {count held : ℕ}
-    (speech : List ℕ) (codec' : CodecState) (end : ℕ) (quiet coded : List ℕ) → WordsAreCounted
+    (speech : List ℕ) (codec' : CodecState) (end : ℕ) (quiet coded : List ℕ) → OneWordAnOctet
     → IsUnderWay s codec given sent count (take held speech) → held < packet_len s → 240 ≤ length speech
     → held ≤ end → end ≤ 240 → (held ≡ 0 → end ≡ 0) → (0 < held → end ≡ packet_len s)
     → quiet ≡ replicate (end - held) (idle_code s.law) → words_for s (given ++ quiet) ≡ words_for s given ++ coded
@@ -386,7 +386,7 @@ words_left s codec given sent buffer moved end count left h way fit w e =
     }
 
 -- where the words of the filled octets are sent and held, the full packets of those that are held are the last ones
-pub all_written : (s : StreamSpec) (codec : CodecState) (given sent window : List ℕ) (count : ℕ) → WordsAreCounted
+pub all_written : (s : StreamSpec) (codec : CodecState) (given sent window : List ℕ) (count : ℕ) → OneWordAnOctet
     → IsUnderWay s codec (filled s given) sent count window → 0 < packet_len s
     → (records_of s given ≡ records_from s 0 sent count ++ records_from s count window (full_packets s window))
     × (packets s given ≡ count + full_packets s window)
@@ -414,7 +414,7 @@ encoded_behind s octets count =
 
 -- where no octet came and the last packet is filled, its records end those of all the octets
 pub last_written : {s : StreamSpec} {a b b' : SourceState} {c d : SinkState} {codec codec' : CodecState}
-    {held n count : ℕ} {old given sent window : List ℕ} (new : List ℕ) → WordsAreCounted
+    {held n count : ℕ} {old given sent window : List ℕ} (new : List ℕ) → OneWordAnOctet
     → Encoding s a b c d codec held old given sent count → Refills (take held old) (take (held + n) new) b b' n → n ≡ 0
     → (IsUnderWay s codec given sent count (take held new) → IsUnderWay s codec' (filled s given) sent count window)
     → (records_of s given ≡ records_from s 0 sent count ++ records_from s count window (full_packets s window))
@@ -427,7 +427,7 @@ last_written {s} {a} {b} {b'} {c} {d} {codec} {codec'} {held} {n} {count} {old} 
 
 -- the records of the first packets, and then those behind, are all of them
 behind_is : (s : StreamSpec) (codec : CodecState) (given sent held : List ℕ) (count : ℕ) → PrefixesComeFirst
-    → WordsAreCounted
+    → OneWordAnOctet
     → IsUnderWay s codec given sent count held → 0 < packet_len s
     → records_of s given ≡ records_from s 0 sent count ++ encoded_behind s given count
 unfolding records_of full_records_of
@@ -454,7 +454,7 @@ behind_is s codec given sent held count first counted way some =
 
 -- what is written of a window, behind what is written before, begins the records of all octets
 pub window_begins : (s : StreamSpec) (codec : CodecState) (given sent window : List ℕ) (count more left : ℕ)
-    → PrefixesComeFirst → WordsAreCounted
+    → PrefixesComeFirst → OneWordAnOctet
     → IsUnderWay s codec given sent count window → 0 < packet_len s → length window ≡ packet_len s * more + left
     → (rest : List ℕ) × (records_of s given ≡ (records_from s 0 sent count ++ records_from s count window more) ++ rest)
 window_begins s codec given sent window count more left first counted way some w =

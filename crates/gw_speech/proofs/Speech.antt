@@ -6,7 +6,7 @@ use Rattle.std.specs.Prelude.{slice_index}
 use Rattle.std.proofs.lemmas.List.{nil_from_length}
 use Rattle.std.proofs.lemmas.List.Elements.{All-from_get_or}
 use Rattle.g726_codec.specs.Kinds.{bits_of, dec}
-use Rattle.g726_codec.specs.Laws.{WordsAreCounted, PrefixesComeFirst, OctetsAreWords}
+use Rattle.g726_codec.specs.Laws.{OneWordAnOctet, PrefixesComeFirst, SpeechIsItsOwnWords}
 use Rattle.g726_codec.specs.declared.CodecKind.{CodecKind}
 use Rattle.g726_codec.specs.declared.CodecKind.TheVariants.{G711}
 use Rattle.rtp_pack.specs.Payload.{words_of}
@@ -20,7 +20,7 @@ drop_front : (n : ℕ) (xs ys : List ℕ) → length xs ≡ n → drop n (xs ++ 
 drop_front n xs ys e = ap (λ (k : ℕ). drop k (xs ++ ys)) (sym e) ∙ drop-append_seam xs ys
 
 -- what words give behind others is the speech of these words
-pub speech_is : (s : StreamSpec) (before words octets : List ℕ) → WordsAreCounted
+pub speech_is : (s : StreamSpec) (before words octets : List ℕ) → OneWordAnOctet
     → speech_of s (before ++ words) ≡ speech_of s before ++ octets → speech_behind s before words ≡ octets
 unfolding speech_behind
 speech_is s before words octets counted e =
@@ -37,16 +37,16 @@ speech_splits s before words first =
     ∙ ap (λ (xs : List ℕ). xs ++ drop (length before) all) ((first s.law s.codec).1 before words)
 
 -- no words from reset give no speech
-pub speech_at_reset : (s : StreamSpec) → WordsAreCounted → speech_of s [] ≡ []
+pub speech_at_reset : (s : StreamSpec) → OneWordAnOctet → speech_of s [] ≡ []
 speech_at_reset s counted = nil_from_length (speech_of s []) ((counted s.law s.codec).1 [])
 
 -- no words more give no speech more
-pub speech_of_none : (s : StreamSpec) (before : List ℕ) → WordsAreCounted → speech_behind s before [] ≡ []
+pub speech_of_none : (s : StreamSpec) (before : List ℕ) → OneWordAnOctet → speech_behind s before [] ≡ []
 speech_of_none s before counted =
     speech_is s before [] [] counted (ap (speech_of s) (append-nil before) ∙ sym (append-nil (speech_of s before)))
 
 -- the speech of words and of more words behind them
-pub speech_joins : (s : StreamSpec) (before done more : List ℕ) → WordsAreCounted → PrefixesComeFirst
+pub speech_joins : (s : StreamSpec) (before done more : List ℕ) → OneWordAnOctet → PrefixesComeFirst
     → speech_behind s before (done ++ more) ≡ speech_behind s before done ++ speech_behind s (before ++ done) more
 speech_joins s before done more counted first =
     let behind = speech_behind s (before ++ done) more in
@@ -56,7 +56,7 @@ speech_joins s before done more counted first =
     ∙ append_assoc (speech_of s before) (speech_behind s before done) behind)
 
 -- the octet of one word more
-pub speech_more : (s : StreamSpec) (before done : List ℕ) (word octet : ℕ) → WordsAreCounted → PrefixesComeFirst
+pub speech_more : (s : StreamSpec) (before done : List ℕ) (word octet : ℕ) → OneWordAnOctet → PrefixesComeFirst
     → speech_of s ((before ++ done) ++ word ∷ []) ≡ speech_of s (before ++ done) ++ octet ∷ []
     → speech_behind s before (done ++ word ∷ []) ≡ speech_behind s before done ++ octet ∷ []
 speech_more s before done word octet counted first e =
@@ -66,7 +66,7 @@ speech_more s before done word octet counted first e =
 
 -- in G.711 the octets of a payload are their own speech
 pub speech_of_octets : (s : StreamSpec) (waiting before octets : List ℕ) → s.codec ≡ G711
-    → ((i : ℕ) → slice_index octets i < 256) → OctetsAreWords → SameOctets
+    → ((i : ℕ) → slice_index octets i < 256) → SpeechIsItsOwnWords → SameOctets
     → waiting ++ octets ≡ waiting ++ speech_behind s before (words_of (word_bits s) octets)
 unfolding speech_behind
 speech_of_octets s waiting before octets kind bytes same read =

@@ -5,10 +5,10 @@ use Rattle.q421_line.specs.declared.State.{State}
 use Rattle.q421_line.specs.declared.LineFault.{LineFault}
 use Rattle.q421_line.specs.Recognition.{recognised}
 use Rattle.q421_line.specs.Tables.{sent_pair}
-use Rattle.q421_line.specs.Commands.{command_outcome, answer_of}
+use Rattle.q421_line.specs.Commands.{command_outcome, told_of}
 use Rattle.q421_line.specs.Signalling.{Signalling, signalling, command, after_outcome}
-use Rattle.q421_line.specs.Laws.{PairsAreRecognisedByTen, SeizuresAreReleased, RefusalsChangeNothing}
-use Rattle.q421_line.specs.Laws.{SentNibblesFit, IncomingIsNeverSeized}
+use Rattle.q421_line.specs.Laws.{PairsAreRecognisedByTen, SeizuresAreReleased, RefusedCommandsChangeNothing}
+use Rattle.q421_line.specs.Laws.{SentPairsFit, IncomingIsNeverSeized}
 use Rattle.q421_line.proofs.Runs.{recognised-replicate, recognised-short}
 use Rattle.q421_line.proofs.Steps.{signalling-push}
 use Rattle.q421_line.proofs.Seizure.{seizure-short}
@@ -24,19 +24,19 @@ pub seizure-released : SeizuresAreReleased
 seizure-released = seizure-short
 
 -- an outcome that is answered by a fault changes nothing
-outcome-refused : (line : Signalling) (led : Result State LineFault) (fault : LineFault) → answer_of led ≡ Err fault
+outcome-refused : (line : Signalling) (led : Result State LineFault) (fault : LineFault) → told_of led ≡ Err fault
     → after_outcome line led ≡ line
 outcome-refused line (Ok state) fault refused = cc
 outcome-refused line (Err other) fault refused = refl
 
 -- a refused command leaves the signalling as it was
-pub signalling-refused : RefusalsChangeNothing
+pub signalling-refused : RefusedCommandsChangeNothing
 signalling-refused role items asked fault refused =
     signalling-push role items (command asked)
     ∙ outcome-refused (signalling role items) (command_outcome role asked (signalling role items).state) fault refused
 
 -- a nibble that is sent is four bits
-pub sent_nibble-fits : SentNibblesFit
+pub sent_nibble-fits : SentPairsFit
 unfolding sent_pair
 sent_nibble-fits = grind arith
 

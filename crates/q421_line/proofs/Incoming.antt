@@ -9,7 +9,7 @@ use Rattle.q421_line.specs.declared.Cmd.{Cmd}
 use Rattle.q421_line.specs.declared.Cmd.TheVariants.{Seize, Clear, Answer, ClearBack, Block, Unblock}
 use Rattle.q421_line.specs.declared.LineFault.{LineFault}
 use Rattle.q421_line.specs.Recognition.{recognised}
-use Rattle.q421_line.specs.Tables.{row, next_state, next_incoming}
+use Rattle.q421_line.specs.Tables.{by_pair, next_state, next_incoming}
 use Rattle.q421_line.specs.Commands.{command_outcome}
 use Rattle.q421_line.specs.Signalling.{Item, signal, command, Signalling, signalling, at_first}
 use Rattle.q421_line.specs.Signalling.{after_item, after_outcome}
@@ -22,9 +22,9 @@ IsOfIncoming Releasing = ⊥
 IsOfIncoming state = Unit {0}
 
 -- a row of such states leads to no other
-row-of : (at_10 at_11 at_01 at_00 : State) (pair : ℕ) → IsOfIncoming at_10 → IsOfIncoming at_11 → IsOfIncoming at_01
-    → IsOfIncoming at_00 → IsOfIncoming (row at_10 at_11 at_01 at_00 pair)
-row-of at_10 at_11 at_01 at_00 pair h_10 h_11 h_01 h_00 = go (pair == 2) (pair == 3) (pair == 1)
+by_pair-of : (at_10 at_11 at_01 at_00 : State) (pair : ℕ) → IsOfIncoming at_10 → IsOfIncoming at_11 → IsOfIncoming at_01
+    → IsOfIncoming at_00 → IsOfIncoming (by_pair at_10 at_11 at_01 at_00 pair)
+by_pair-of at_10 at_11 at_01 at_00 pair h_10 h_11 h_01 h_00 = go (pair == 2) (pair == 3) (pair == 1)
   where
     go : (is_10 is_11 is_01 : Bool) → IsOfIncoming (cond is_10 at_10 (cond is_11 at_11 (cond is_01 at_01 at_00)))
     go true is_11 is_01 = h_10
@@ -34,12 +34,12 @@ row-of at_10 at_11 at_01 at_00 pair h_10 h_11 h_01 h_00 = go (pair == 2) (pair =
 
 -- nor does a pair lead out of them
 next-of : (state : State) (pair : ℕ) → IsOfIncoming state → IsOfIncoming (next_incoming state pair)
-next-of Idle pair h = row-of Idle Fault Fault Acked pair tt tt tt tt
-next-of Acked pair h = row-of Idle Fault Fault Acked pair tt tt tt tt
-next-of Answered pair h = row-of Idle Fault Fault Answered pair tt tt tt tt
-next-of ClearedBack pair h = row-of Idle Fault Fault ClearedBack pair tt tt tt tt
-next-of Blocked pair h = row-of Blocked Blocked Blocked Blocked pair tt tt tt tt
-next-of Fault pair h = row-of Idle Fault Fault Fault pair tt tt tt tt
+next-of Idle pair h = by_pair-of Idle Fault Fault Acked pair tt tt tt tt
+next-of Acked pair h = by_pair-of Idle Fault Fault Acked pair tt tt tt tt
+next-of Answered pair h = by_pair-of Idle Fault Fault Answered pair tt tt tt tt
+next-of ClearedBack pair h = by_pair-of Idle Fault Fault ClearedBack pair tt tt tt tt
+next-of Blocked pair h = by_pair-of Blocked Blocked Blocked Blocked pair tt tt tt tt
+next-of Fault pair h = by_pair-of Idle Fault Fault Fault pair tt tt tt tt
 next-of Seized pair h = absurd h
 next-of Releasing pair h = absurd h
 

@@ -58,6 +58,6 @@ command_outcome role asked state =
     if is_for role asked then own_command_outcome asked state else Err WrongRole
 
 -- what is answered to a command: whether it is refused, and why
-abbrev pub answer_of : Result State LineFault → Result (Unit {0}) LineFault
-answer_of (Ok state) = Ok tt
-answer_of (Err fault) = Err fault
+abbrev pub told_of : Result State LineFault → Result (Unit {0}) LineFault
+told_of (Ok state) = Ok tt
+told_of (Err fault) = Err fault

@@ -9,7 +9,7 @@ use Rattle.q421_line.specs.declared.Cmd.{Cmd}
 use Rattle.q421_line.specs.declared.LineFault.{LineFault}
 use Rattle.q421_line.specs.Recognition.{run_of, recognised}
 use Rattle.q421_line.specs.Tables.{sent_pair, sent_nibble}
-use Rattle.q421_line.specs.Commands.{command_outcome, answer_of}
+use Rattle.q421_line.specs.Commands.{command_outcome, told_of}
 use Rattle.q421_line.specs.Signalling.{Item, signal, command, signalling}
 
 -- A pair is recognised when the last ten known pairs are it, and stays so until another one is. At first none
@@ -21,9 +21,9 @@ PairsAreRecognisedByTen = (recognised [] ≡ None)
     → recognised (pairs ++ pair ∷ []) ≡ recognised pairs)
 
 -- a command that is refused leaves a line's signalling as it was
-abbrev pub RefusalsChangeNothing : Type 0
-RefusalsChangeNothing = (role : Role) (items : List Item) (asked : Cmd) (fault : LineFault)
-    → answer_of (command_outcome role asked (signalling role items).state) ≡ Err fault
+abbrev pub RefusedCommandsChangeNothing : Type 0
+RefusedCommandsChangeNothing = (role : Role) (items : List Item) (asked : Cmd) (fault : LineFault)
+    → told_of (command_outcome role asked (signalling role items).state) ≡ Err fault
     → signalling role (items ++ command asked ∷ []) ≡ signalling role items
 
 -- the line is Seized after these items, and stays so with each of these signals
@@ -37,8 +37,8 @@ SeizuresAreReleased = (role : Role) (items : List Item) (signals : List (Option 
     → IsSeizedThrough role items signals → length signals < 100
 
 -- what is sent in a state is four bits
-abbrev pub SentNibblesFit : Type 0
-SentNibblesFit = (role : Role) (state : State) → sent_nibble (sent_pair role state) < 16
+abbrev pub SentPairsFit : Type 0
+SentPairsFit = (role : Role) (state : State) → sent_nibble (sent_pair role state) < 16
 
 -- only an outgoing line seizes and releases
 abbrev pub IncomingIsNeverSeized : Type 0

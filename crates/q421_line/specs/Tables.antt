@@ -34,8 +34,8 @@ abbrev pub sent_nibble : ℕ → ℕ
 sent_nibble pair = 4 * pair + 1
 
 -- a row of a table: the next state by the recognised pair, for 10, 11, 01 and 00 in this order
-abbrev pub row : State → State → State → State → ℕ → State
-row at_10 at_11 at_01 at_00 pair =
+abbrev pub by_pair : State → State → State → State → ℕ → State
+by_pair at_10 at_11 at_01 at_00 pair =
     if pair == 0b10 then at_10 else (if pair == 0b11 then at_11 else (if pair == 0b01 then at_01 else at_00))
 
 -- The next state of an outgoing line by the backward pair (ITU-T Q.421): 10 is idle; 11 blocking, seizing
@@ -43,29 +43,29 @@ row at_10 at_11 at_01 at_00 pair =
 -- fault, which the next idle or blocking ends; a release waits for idle alone, since whatever else is heard
 -- belongs to the call that is cleared.)
 abbrev pub next_outgoing : State → ℕ → State
-next_outgoing Idle = row Idle Blocked Fault Fault
-next_outgoing Blocked = row Idle Blocked Fault Fault
-next_outgoing Fault = row Idle Blocked Fault Fault
-next_outgoing Seized = row Seized Acked Fault Fault
-next_outgoing Acked = row Fault Acked Answered Fault
-next_outgoing Answered = row Fault ClearedBack Answered Fault
-next_outgoing ClearedBack = row Fault ClearedBack Answered Fault
-next_outgoing Releasing = row Idle Releasing Releasing Releasing
+next_outgoing Idle = by_pair Idle Blocked Fault Fault
+next_outgoing Blocked = by_pair Idle Blocked Fault Fault
+next_outgoing Fault = by_pair Idle Blocked Fault Fault
+next_outgoing Seized = by_pair Seized Acked Fault Fault
+next_outgoing Acked = by_pair Fault Acked Answered Fault
+next_outgoing Answered = by_pair Fault ClearedBack Answered Fault
+next_outgoing ClearedBack = by_pair Fault ClearedBack Answered Fault
+next_outgoing Releasing = by_pair Idle Releasing Releasing Releasing
 
 -- The next state of an incoming line by the forward pair (ITU-T Q.421): 10 is idle or clear-forward; 00
 -- seizing; 11 and 01, with bit b set, are unexpected. (Our choices: clear-forward is answered by idle
 -- at once, since nothing else is to be released; a failure is a fault, which idle ends; a block is lifted by
 -- the operator alone, so that a blocked line passes over all that it hears.)
 abbrev pub next_incoming : State → ℕ → State
-next_incoming Idle = row Idle Fault Fault Acked
-next_incoming Acked = row Idle Fault Fault Acked
-next_incoming Answered = row Idle Fault Fault Answered
-next_incoming ClearedBack = row Idle Fault Fault ClearedBack
-next_incoming Blocked = row Blocked Blocked Blocked Blocked
-next_incoming Fault = row Idle Fault Fault Fault
+next_incoming Idle = by_pair Idle Fault Fault Acked
+next_incoming Acked = by_pair Idle Fault Fault Acked
+next_incoming Answered = by_pair Idle Fault Fault Answered
+next_incoming ClearedBack = by_pair Idle Fault Fault ClearedBack
+next_incoming Blocked = by_pair Blocked Blocked Blocked Blocked
+next_incoming Fault = by_pair Idle Fault Fault Fault
 -- (no incoming line is ever in these two; they have the row of a fault)
-next_incoming Seized = row Idle Fault Fault Fault
-next_incoming Releasing = row Idle Fault Fault Fault
+next_incoming Seized = by_pair Idle Fault Fault Fault
+next_incoming Releasing = by_pair Idle Fault Fault Fault
 
 -- the next state of a line of this role
 unfoldable pub next_state : Role → State → ℕ → State

@@ -1,7 +1,8 @@
 //! Laws of line signals, over their definitions alone.
 
-ghost use Rattle.q421_line.specs.Laws.{PairsAreRecognisedByTen, SeizuresAreReleased, RefusalsChangeNothing};
-ghost use Rattle.q421_line.specs.Laws.{SentNibblesFit, IncomingIsNeverSeized};
+ghost use Rattle.q421_line.specs.Laws.{PairsAreRecognisedByTen, SeizuresAreReleased};
+ghost use Rattle.q421_line.specs.Laws.{RefusedCommandsChangeNothing};
+ghost use Rattle.q421_line.specs.Laws.{SentPairsFit, IncomingIsNeverSeized};
 
 /// A pair is recognised when the last ten known pairs are it, and stays so until another one is. At first
 /// none is.
@@ -16,12 +17,12 @@ pub fn seizures_are_released()
 
 /// A command that is refused leaves a line's signalling as it was.
 pub fn refusals_change_nothing()
-    ensures { RefusalsChangeNothing }
+    ensures { RefusedCommandsChangeNothing }
 {}
 
 /// What a line sends in any state is a nibble, below 16.
 pub fn sent_nibbles_fit()
-    ensures { SentNibblesFit }
+    ensures { SentPairsFit }
 {}
 
 /// No signals and commands lead an incoming line to `Seized` or `Releasing`.

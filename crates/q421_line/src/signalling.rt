@@ -3,7 +3,7 @@
 ghost use Rattle.std.specs.Prelude.{◌≡◌, ℕ, ◌<◌, List, [], ◌∷◌, ◌++◌, OnErr};
 ghost use Rattle.q421_line.specs.Recognition.{recognised};
 ghost use Rattle.q421_line.specs.Tables.{sent_pair, sent_nibble, is_open};
-ghost use Rattle.q421_line.specs.Commands.{command_outcome, answer_of};
+ghost use Rattle.q421_line.specs.Commands.{command_outcome, told_of};
 ghost use Rattle.q421_line.specs.Signalling.{Item, signal, command, signalling, next_by, after_count};
 ghost use Rattle.q421_line.specs.Line.{Stands};
 
@@ -67,7 +67,7 @@ impl Line {
     /// command's own fault where the state is none for it. A refused command changes nothing.
     pub fn command(&mut self, asked: Cmd) -> Result<(), LineFault>
         ensures answer { (role : Role) (items : List Item) → Stands self.old role items
-            → result ≡ answer_of (command_outcome role asked (signalling role items).state) }
+            → result ≡ told_of (command_outcome role asked (signalling role items).state) }
         ensures stands { (role : Role) (items : List Item) → Stands self.old role items
             → Stands self.new role (items ++ command asked ∷ []) }
         ensures err { OnErr result (self.new ≡ self.old) }

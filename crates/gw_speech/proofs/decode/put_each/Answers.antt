@@ -2,7 +2,7 @@ use Rattle.std.proofs.Common.{◌≡◌, ◌^◌, ◌<◌, ◌++◌, ◌∷◌, 
 use Rattle.std.proofs.Common.{append-nil}
 use Rattle.std.proofs.lemmas.List.Elements.{All-tail}
 use Rattle.g726_codec.specs.Kinds.{CodecState, codec_after}
-use Rattle.g726_codec.specs.Laws.{WordsAreCounted, PrefixesComeFirst}
+use Rattle.g726_codec.specs.Laws.{OneWordAnOctet, PrefixesComeFirst}
 use Rattle.gw_speech.specs.declared.spec.StreamSpec.{StreamSpec}
 use Rattle.gw_records.specs.Streams.{SinkState, Passes, Breaks}
 use Rattle.gw_speech.specs.Encode.{word_bits}
@@ -15,7 +15,7 @@ use Rattle.gw_speech.proofs.decode.put_each.Goals as goal
 
 -- the octet of one word more passes behind the speech of the words before it
 word_passes : (s : StreamSpec) (a b c : Option (List ℕ)) (waiting waiting' start before done : List ℕ) (word octet : ℕ)
-    → WordsAreCounted → PrefixesComeFirst
+    → OneWordAnOctet → PrefixesComeFirst
     → speech_of s ((before ++ done) ++ word ∷ []) ≡ speech_of s (before ++ done) ++ octet ∷ []
     → Passes a b waiting (start ++ speech_behind s before done) → Passes b c waiting' (waiting ++ octet ∷ [])
     → Passes a c waiting' (start ++ speech_behind s before (done ++ word ∷ []))
@@ -29,7 +29,7 @@ word_passes s a b c waiting waiting' start before done word octet counted first 
 
 -- where the octet of a word breaks off, so does the speech of all the words
 word_breaks : (s : StreamSpec) (a b c : SinkState) (waiting start before done rest words : List ℕ) (word octet : ℕ)
-    → WordsAreCounted → PrefixesComeFirst → words ≡ (done ++ word ∷ []) ++ rest
+    → OneWordAnOctet → PrefixesComeFirst → words ≡ (done ++ word ∷ []) ++ rest
     → speech_of s ((before ++ done) ++ word ∷ []) ≡ speech_of s (before ++ done) ++ octet ∷ []
     → Passes a.taken b.taken waiting (start ++ speech_behind s before done) → b.failures ≡ a.failures
     → Breaks b c (waiting ++ octet ∷ []) → Breaks a c (start ++ speech_behind s before words)
