@@ -121,4 +121,5 @@ told receive_failed send_failed = record {
   waiting = None;
   given = None;
   taken = None;
+  calls = None;
 }

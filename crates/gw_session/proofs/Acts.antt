@@ -19,7 +19,7 @@ use Rattle.gw_session.specs.Outlet.{Spells}
 use Rattle.gw_session.specs.Ports.{PortsState, counted}
 use Rattle.gw_session.specs.Answers.{Written, written_out, code_of}
 use Rattle.gw_session.specs.Serve.{Act, told, turns_of, events_of, events_of_turns, octet_of, answer_to}
-use Rattle.gw_session.specs.Serve.{packets_for, octets_for, dropped_for}
+use Rattle.gw_session.specs.Serve.{packets_for, sent_with_octets, octets_for, dropped_for}
 use Rattle.gw_session.specs.Exchange.{Takes, spelled_for, written_for, Exchanges, ActsOn, Acts}
 use Rattle.gw_session.specs.Tape.{TapeState, Recorded}
 use Rattle.gw_session.proofs.Turns.{Trades-none, counted_is}
@@ -60,7 +60,13 @@ trunk_on spells a b g g' t t' tape tape' r o s s' w w' body sent p recorded coun
           faults = p.goes.faults;
           hears = λ config before h.
               let y = p.goes.hears config before h in
-              record { stands = y.stands; in_turn = y.in_turn; packets = y.packets; dropped = y.dropped };
+              record {
+                stands = y.stands;
+                in_turn = y.in_turn;
+                packets = y.packets;
+                sends = y.sends;
+                dropped = y.dropped;
+              };
         };
         records = p.kept.0 ∙ counts;
         octets = p.kept.1 ∙ trunk ∙ counted_is t.octets (length body) fits
@@ -124,13 +130,14 @@ one_on : (p : PortsState) (g g' : Gateway) (t t' : Totals) (tape tape' : TapeSta
     (code : ℕ)
     → turns_of act ≡ [] → events_of act ≡ event ∷ []
     → ((config : GatewayConfig) (before : List Event) → packets_for config before (event ∷ []) ≡ [])
+    → ((config : GatewayConfig) (before : List Event) → sent_with_octets config before (event ∷ []) ≡ [])
     → Takes g g' event code
     → ((config : GatewayConfig) (before : List Event) → Stands config g before
     → t'.dropped ≡ counted t.dropped (dropped_for config before (event ∷ [])))
     → t' ≡ record t { records = one_more t.records; dropped = t'.dropped } → Recorded tape tape' (events_of act)
     → (q : ActsOn p p g g' t t' tape tape' (told act)) × (q.act ≡ act)
 unfolding Trades-none
-one_on p g g' t t' tape tape' act event code none one packets takes dropped same recorded = (
+one_on p g g' t t' tape tape' act event code none one packets places takes dropped same recorded = (
   record {
     act = act;
     told_is = refl;
@@ -142,6 +149,7 @@ one_on p g g' t t' tape tape' act event code none one packets takes dropped same
         stands = (takes config before h).0;
         in_turn = tt;
         packets = rw (packets config before) (refl, refl);
+        sends = sym (places config before);
         dropped = dropped config before h;
       };
     });
@@ -175,6 +183,7 @@ pub one_acts : (spells : Spells) (p : PortsState) (g g' : Gateway) (t t' : Total
     (s s' : SinkState) (w w' : List ℕ) (act : Act) (event : Event) (circuit kind code : ℕ)
     (result : Result (Unit {0}) RunFault) → turns_of act ≡ [] → events_of act ≡ event ∷ []
     → ((config : GatewayConfig) (before : List Event) → packets_for config before (event ∷ []) ≡ [])
+    → ((config : GatewayConfig) (before : List Event) → sent_with_octets config before (event ∷ []) ≡ [])
     → ((config : GatewayConfig) (before : List Event) → answer_to config before act
     ≡ flat_map (λ r. record_of 82 circuit (kind ∷ code_of r ∷ [])) (whole_from config before (events_of act)))
     → Takes g g' event code
@@ -184,18 +193,18 @@ pub one_acts : (spells : Spells) (p : PortsState) (g g' : Gateway) (t t' : Total
     → Puts s s' w' (w ++ written_out (Written.Answered circuit kind code)) result
     → Recorded tape tape' (events_of act)
     → Acts spells p p g g' t t' tape tape' s s' w w' (told act) result
-one_acts spells p g g' t t' tape tape' s s' w w' act event circuit kind code (Ok u) none one packets answer takes
+one_acts spells p g g' t t' tape tape' s s' w w' act event circuit kind code (Ok u) none one packets places answer takes
     dropped same puts recorded =
-    let on = one_on p g g' t t' tape tape' act event code none one packets takes dropped same recorded in
+    let on = one_on p g g' t t' tape tape' act event code none one packets places takes dropped same recorded in
     record {
       acts = on.0;
       passes = λ config before h. rw (on.1) (Passes-same _ _ _ _ _
           (one_written spells g g' act event circuit kind code w one packets answer takes config before h) puts.0);
       no_failure = puts.1;
     }
-one_acts spells p g g' t t' tape tape' s s' w w' act event circuit kind code (Err e) none one packets answer takes
+one_acts spells p g g' t t' tape tape' s s' w w' act event circuit kind code (Err e) none one packets places answer takes
     dropped same puts recorded =
-    let on = one_on p g g' t t' tape tape' act event code none one packets takes dropped same recorded in (
+    let on = one_on p g g' t t' tape tape' act event code none one packets places takes dropped same recorded in (
       puts.0,
       inl (record {
         acts = on.0;

@@ -26,7 +26,7 @@ use Rattle.gw_session.specs.Outlet.{in_record, no_ports}
 use Rattle.gw_session.specs.Ports.{Waiting, PortsState, counted}
 use Rattle.gw_session.specs.Serve.{Act, Turn, told, octet_of, turns_of, turns, events_of, events, events_of_turn}
 use Rattle.gw_session.specs.Serve.{events_of_turns, of_circuit, coming, arrivals, first_four, behind_four, FirstFour}
-use Rattle.gw_session.specs.Serve.{Trades, LeavesOut, packets_for, octets_for}
+use Rattle.gw_session.specs.Serve.{Stop, Trades, LeavesOut, packets_for, octets_for}
 use Rattle.gw_session.specs.Serve.{dropped_for, answer_to, Does}
 use Rattle.gw_session.specs.Tape.{TapeState}
 use Rattle.gw_session.specs.Exchange.{spelled_for, written_for, written_by, Through, CutThrough, Begun}
@@ -82,7 +82,8 @@ plain_join (x ∷ xs) ys p q = (p.0, plain_join xs ys p.1 q)
 
 -- the turns of octets before which nothing came
 abbrev alone : ℕ → Turn
-alone octet = record { circuit = None; came = []; octet = octet }
+alone octet =
+    record { circuit = None; came = []; stop = Stop.Enough; octet = octet; packet = None; went = true }
 
 -- before such octets nothing came
 plain_alone : (octets : List ℕ) → Plain (map alone octets)

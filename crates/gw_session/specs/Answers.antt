@@ -57,6 +57,11 @@ abbrev pub packets_in : Reply → List (ℕ × List ℕ)
 packets_in (Reply.Sent out) = packet_in out.packet
 packets_in _ = []
 
+-- .. with a place for each octet: the packet that is sent with it, or that there is none
+abbrev pub sent_with : Reply → List (Option (ℕ × List ℕ))
+sent_with (Reply.Sent out) = out.packet ∷ []
+sent_with _ = []
+
 abbrev pub octets_in : Reply → List ℕ
 octets_in (Reply.Sent out) = out.octet ∷ []
 octets_in _ = []

@@ -1,6 +1,6 @@
 -- What the parts of a session do, for the private functions of modules `exchange`, `act` and `attend`.
 use Rattle.std.specs.Prelude.{◌≡◌, ◌⊎◌, ◌+◌, ◌<◌, ◌≤◌, ◌++◌, ℕ, List, [], ◌∷◌, length, map, drop, Option}
-use Rattle.std.specs.Prelude.{Some}
+use Rattle.std.specs.Prelude.{Bool, Some}
 use Rattle.std.specs.Prelude.{Result, MatchResult}
 use Rattle.std.specs.List.{flat_map}
 use Rattle.gw_switch.specs.declared.GatewayConfig.{GatewayConfig}
@@ -18,7 +18,8 @@ use Rattle.gw_session.specs.Outlet.{Spells}
 use Rattle.gw_session.specs.Ports.{Waiting, PortsState, IfKnown, Grows, TakesOut, KeepsSends, KeepsReceives}
 use Rattle.gw_session.specs.Ports.{counted}
 use Rattle.gw_session.specs.Serve.{Act, Turn, told, octet_of, turns_of, events_of, events_of_turns, answer_to}
-use Rattle.gw_session.specs.Serve.{Goes, Trades, of_circuit, coming, first_four, behind_four}
+use Rattle.gw_session.specs.Serve.{Goes, Trades, Stop, StopsSo, as_call, receives_of, send_of, sent_with_octets}
+use Rattle.gw_session.specs.Serve.{of_circuit, coming, first_four, behind_four}
 use Rattle.gw_session.specs.Serve.{LeavesOut, packets_for, octets_for, dropped_for, Does, events}
 use Rattle.gw_session.specs.Tape.{TapeState, Recorded, RecordedBut}
 
@@ -64,6 +65,9 @@ pub record Comes (ports ports' : PortsState) (gateway gateway' : Gateway) (total
     (circuit : Option ℕ) : Type 0 where
   pub came : List (List ℕ)
   pub few : length came ≤ 4
+  pub stop : Stop
+  pub stops : StopsSo circuit came stop
+  pub calls : Grows ports.calls ports'.calls (receives_of circuit came stop)
   pub gave : Grows ports.given ports'.given (of_circuit circuit came)
   pub failed : ℕ
   pub receives : ports'.receive_failures ≡ counted ports.receive_failures failed
@@ -105,6 +109,8 @@ pub record SendsPacket (ports ports' : PortsState) (totals totals' : Totals) (pa
   pub failed : ℕ
   pub sends : ports'.send_failures ≡ counted ports.send_failures failed
   pub packets : LeavesOut failed took (packet_in packet)
+  pub went : Bool
+  pub calls : Grows ports.calls ports'.calls (send_of packet went)
   pub no_receives : KeepsReceives ports ports'
   pub faults : totals'.port_faults ≡ counted totals.port_faults failed
   pub datagrams : totals'.datagrams ≡ counted totals.datagrams (length took)
@@ -122,6 +128,7 @@ pub record Answers (spells : Spells) (ports ports' : PortsState) (gateway gatewa
         → (Stands config gateway' (before ++ Event.Octet octet ∷ []))
         × (packets_for config before (Event.Octet octet ∷ []) ≡ packet_in packet)
         × (octets_for config before (Event.Octet octet ∷ []) ≡ sent ∷ [])
+        × (sent_with_octets config before (Event.Octet octet ∷ []) ≡ packet ∷ [])
     pub passes : Passes sink.taken sink'.taken waiting' (waiting ++ flat_map spells (packet_in packet))
     pub no_failure : sink'.failures ≡ sink.failures
 
@@ -203,6 +210,7 @@ ExchangingAll spells ports ports' gateway gateway' totals totals' sink sink' wai
 pub record Receiving (ports ports' : PortsState) (gateway gateway' : Gateway) (totals totals' : Totals)
     (circuit : ℕ) (came : List (List ℕ)) : Type 0 where
   pub gave : Grows ports.given ports'.given (of_circuit (Some circuit) came)
+  pub calls : Grows ports.calls ports'.calls (map as_call (of_circuit (Some circuit) came))
   pub waits : TakesOut ports.waiting ports'.waiting circuit came
   pub receives : ports'.receive_failures ≡ ports.receive_failures
   pub no_sends : KeepsSends ports ports'

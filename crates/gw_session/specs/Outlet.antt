@@ -2,7 +2,7 @@
 use Rattle.std.specs.Prelude.{◌≡◌, ℕ, Bool, true, false, List, [], ◌∷◌, Some, None}
 use Rattle.gw_records.specs.Streams.{one_more}
 use Rattle.gw_records.specs.Records.{record_of}
-use Rattle.gw_session.specs.Ports.{PortsState, Grows}
+use Rattle.gw_session.specs.Ports.{PortsState, Call, Grows}
 
 -- the octets that a packet of a circuit puts in front of the answer
 abbrev pub Spells : Type 0
@@ -24,11 +24,14 @@ no_ports = record {
   waiting = Some (λ circuit. []);
   given = None;
   taken = None;
+  calls = None;
 }
 
 -- a packet went out, or its send failed
 abbrev pub Went : PortsState → PortsState → ℕ → Bool → List ℕ → Type 0
 Went old new circuit true packet =
     Grows old.taken new.taken ((circuit, packet) ∷ []) × (new.send_failures ≡ old.send_failures)
+    × Grows old.calls new.calls (Call.Took circuit packet ∷ [])
 Went old new circuit false packet =
     (new.taken ≡ old.taken) × (new.send_failures ≡ one_more old.send_failures)
+    × Grows old.calls new.calls (Call.SendFailed circuit packet ∷ [])

@@ -3,12 +3,12 @@ use Rattle.gw_switch.specs.Events.{Event}
 use Rattle.gw_records.specs.declared.outcome.Totals.{Totals}
 use Rattle.gw_session.specs.Answers.{command_of, codec_of}
 use Rattle.gw_session.specs.Exchange.{Takes}
-use Rattle.gw_session.specs.Serve.{Act, answer_to, packets_for, dropped_for}
+use Rattle.gw_session.specs.Serve.{Act, answer_to, packets_for, sent_with_octets, dropped_for}
 use Rattle.gw_session.proofs.Acts.{one_acts, counts_given}
 use Rattle.gw_session.proofs.exchange.Session.act.Goals as goal
 
 pub returns-in-Datagram-clause-acts : goal.returns-in-Datagram-clause-acts
-unfolding answer_to packets_for
+unfolding answer_to packets_for sent_with_octets
 returns-in-Datagram-clause-acts g c =
     let circuit = c.in-Datagram.circuit in
     let body = c.args.body.now in
@@ -19,26 +19,26 @@ returns-in-Datagram-clause-acts g c =
     rw c.in-Datagram.is (one_acts _ _ _ _ c.args.self.now.totals c.put_answer.new.self.totals _ _ _ _ _ _
     (Act.Datagram circuit body)
     (Event.Datagram circuit body) circuit 0x44 _ c.put_answer.result refl refl (λ config before. refl)
-    (λ config before. refl) takes (λ config before h. ap (λ (x : Totals). x.dropped) c.put_answer.ensures.counts
+    (λ config before. refl) (λ config before. refl) takes (λ config before h. ap (λ (x : Totals). x.dropped) c.put_answer.ensures.counts
     ∙ (given config before h).1) (counts_given c.args.self.now.totals c.give-code.new.totals
     c.put_answer.new.self.totals c.give-code.ensures.others c.put_answer.ensures.counts)
     c.put_answer.ensures.puts c.put.ensures)
 
 pub returns-in-Command-clause-acts : goal.returns-in-Command-clause-acts
-unfolding answer_to packets_for dropped_for
+unfolding answer_to packets_for sent_with_octets dropped_for
 returns-in-Command-clause-acts g c =
     let circuit = c.in-Command.circuit in
     let command = c.in-Command.command in
     rw c.in-Command.is (one_acts _ _ _ _ c.args.self.now.totals c.put_answer-in-Command.new.self.totals _ _ _ _ _ _
     (Act.Command circuit command)
     (Event.Command circuit (command_of command)) circuit 0x43 _ c.put_answer-in-Command.result refl refl
-    (λ config before. refl) (λ config before. refl) c.give_command-code.ensures
+    (λ config before. refl) (λ config before. refl) (λ config before. refl) c.give_command-code.ensures
     (λ config before h. ap (λ (x : Totals). x.dropped) c.put_answer-in-Command.ensures.counts)
     (counts_given c.args.self.now.totals c.args.self.now.totals c.put_answer-in-Command.new.self.totals refl
     c.put_answer-in-Command.ensures.counts) c.put_answer-in-Command.ensures.puts c.put-in-Command.ensures)
 
 pub returns-in-Codec-clause-acts : goal.returns-in-Codec-clause-acts
-unfolding answer_to packets_for dropped_for
+unfolding answer_to packets_for sent_with_octets dropped_for
 returns-in-Codec-clause-acts g c =
     let circuit = c.in-Codec.circuit in
     let codec = c.in-Codec.codec in
@@ -46,7 +46,7 @@ returns-in-Codec-clause-acts g c =
     rw c.in-Codec.is (one_acts _ _ _ _ c.args.self.now.totals c.put_answer-in-Codec.new.self.totals _ _ _ _ _ _
     (Act.Codec circuit codec payload_type)
     (Event.Codec circuit (codec_of codec) payload_type) circuit 0x4B _ c.put_answer-in-Codec.result refl refl
-    (λ config before. refl) (λ config before. refl) c.give_codec-code.ensures
+    (λ config before. refl) (λ config before. refl) (λ config before. refl) c.give_codec-code.ensures
     (λ config before h. ap (λ (x : Totals). x.dropped) c.put_answer-in-Codec.ensures.counts)
     (counts_given c.args.self.now.totals c.args.self.now.totals c.put_answer-in-Codec.new.self.totals refl
     c.put_answer-in-Codec.ensures.counts) c.put_answer-in-Codec.ensures.puts c.put-in-Codec.ensures)

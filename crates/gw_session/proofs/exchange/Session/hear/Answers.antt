@@ -2,7 +2,7 @@ use Rattle.std.proofs.Common.{◌++◌, ℕ, List, None, sym, ap, refl, append-n
 use Rattle.std.proofs.lemmas.Result.{err_from_is_err_and}
 use Rattle.gw_switch.specs.Whole.{sending_in}
 use Rattle.gw_records.proofs.Writes.{Passes-none, Passes-same}
-use Rattle.gw_session.proofs.PacketsSent.{packets_of_octet, octets_of_octet, sends_none}
+use Rattle.gw_session.proofs.PacketsSent.{packets_of_octet, octets_of_octet, sent_with_octet, sends_none}
 use Rattle.gw_session.proofs.exchange.Session.hear.Goals as goal
 
 pub returns-in_err-send_packet-clause-hears : goal.returns-in_err-send_packet-clause-hears
@@ -34,6 +34,7 @@ returns-in_ok-send_packet-clause-hears g c =
         c.octet_into-out.ensures.stands config before h,
         packets_of_octet config before _ _ (c.octet_into-out.ensures.reply config before h),
         octets_of_octet config before _ _ (c.octet_into-out.ensures.reply config before h),
+        sent_with_octet config before _ _ (c.octet_into-out.ensures.reply config before h),
       );
       passes = rw c.in-Some.is (Passes-same _ _ _ _ _ (ap (λ (xs : List ℕ). c.args.self.now.waiting.items ++ xs)
           (sym (append-nil (g.O.Outlet.spells (c.in-Some.circuit, c.octet_into-out.new.room.items))))) puts.0);
@@ -50,6 +51,7 @@ returns-in_default-clause-hears g c =
         c.octet_into-out.ensures.stands config before h,
         packets_of_octet config before _ _ (c.octet_into-out.ensures.reply config before h),
         octets_of_octet config before _ _ (c.octet_into-out.ensures.reply config before h),
+        sent_with_octet config before _ _ (c.octet_into-out.ensures.reply config before h),
       );
       passes = rw c.in_default.is (Passes-none _ _);
       no_failure = refl;
