@@ -3,7 +3,7 @@ use Rattle.std.proofs.Common.{◌≡◌, ℕ, zero, suc, ◌-◌, ◌<◌, List,
 use Rattle.std.proofs.Common.{Option, Some, None, refl, sym, ap, ◌∙◌, arith, get_or, inl, inr}
 use Rattle.std.specs.Prelude.{nat_le, nat_lt, ◌&&◌, slice_index}
 use Rattle.std.proofs.lemmas.Bool.{cases_Bool, le-leb, lt-leb, lt-ltb, le-ltb, and_left, and_right}
-use Rattle.g704_framing.proofs.Leasts.{IsLeast, least_equals, least_alike, le-suc, least-later, reach}
+use Rattle.g704_framing.proofs.Leasts.{IsLeast, least_equals, least_alike, le-suc, least-later}
 use Rattle.g704_framing.proofs.Agrees.{within_reach}
 use Rattle.g704_cas.specs.Search.{is_mfas, is_not_zero, search, is_found_at, SearchIsLeast}
 

@@ -7,4 +7,4 @@ pub mod laws;
 mod numbers;
 
 pub use alignment::{MfAligner, MfPlace};
-pub use numbers::{CircuitNo, Nibble, join, nibbles};
+pub use numbers::{CircuitNo, Nibble, SIGNALLING_SLOT, join, nibbles};

@@ -1,8 +1,8 @@
-//! The numbers of circuits, and the four signalling bits of one circuit.
+//! The numbers of circuits, where they stand on the trunk, and the four signalling bits of one circuit.
 
-ghost use Rattle.std.specs.Prelude.{◌≡◌, ◌+◌, ◌*◌, ◌/◌, ◌%◌, ◌<◌, ◌≤◌};
+ghost use Rattle.std.specs.Prelude.{◌≡◌, ◌↔◌, ◌⊎◌, ◌+◌, ◌*◌, ◌/◌, ◌%◌, ◌<◌, ◌≤◌, ℕ, Some, IsSomeAnd};
 ghost use Rattle.std.specs.Option.{SomeIff};
-ghost use Rattle.g704_cas.specs.Numbers.{slot_of};
+ghost use Rattle.g704_cas.specs.Numbers.{slot_of, circuit_in, IsSpeechSlot, frame_with};
 
 use std::marker::Model;
 
@@ -10,8 +10,14 @@ const FIRST_CIRCUIT: u8 = 1;
 
 const LAST_CIRCUIT: u8 = 30;
 
-// The time slot of signalling, which lies between those of the circuits 15 and 16.
-const SIGNALLING_SLOT: u8 = 16;
+/// The time slot of signalling, which lies between those of the circuits 15 and 16 (ITU-T G.704, 5.1.3.2).
+pub const SIGNALLING_SLOT: u8 = 16;
+
+// The last of the 32 time slots of a frame.
+const LAST_SLOT: u8 = 31;
+
+// Two circuits have their ABCD bits in one octet: that of the frame's number, and the one this far behind it.
+const LOW_NIBBLES: u8 = 15;
 
 const NIBBLES: u8 = 16;
 
@@ -40,6 +46,41 @@ impl CircuitNo {
     {
         if number >= FIRST_CIRCUIT && number <= LAST_CIRCUIT {
             Some(CircuitNo { number })
+        } else {
+            None
+        }
+    }
+
+    /// The circuit whose speech is in this time slot: 1 to 15 in these slots, 16 to 30 in the slots 17 to 31
+    /// (ITU-T G.704, 5.1.3.2). `None` for slot 0, of frame alignment, slot 16, of signalling, and above 31.
+    pub fn in_slot(slot: u8) -> Option<CircuitNo>
+        ensures reply { SomeIff result (IsSpeechSlot slot) (circuit_in slot) }
+        ensures inverse { (c : ℕ) → 1 ≤ c → c ≤ 30 → (result ≡ Some c) ↔ (slot ≡ slot_of c) }
+    {
+        if slot == 0 || slot == SIGNALLING_SLOT || slot > LAST_SLOT {
+            None
+        } else if slot < SIGNALLING_SLOT {
+            Some(CircuitNo { number: slot })
+        } else {
+            Some(CircuitNo { number: slot - 1 })
+        }
+    }
+
+    /// The two circuits whose ABCD bits are in time slot 16 of this frame of a multiframe: n in bits 1 to 4
+    /// and n + 15 in bits 5 to 8 of frame n, 1 to 15 (ITU-T G.704, 5.1.3.2). `None` for frame 0, of
+    /// multiframe alignment, and above 15.
+    pub fn of_frame(frame: u8) -> Option<(CircuitNo, CircuitNo)>
+        ensures reply { SomeIff result ((1 ≤ frame) × (frame ≤ 15)) (frame, frame + 15) }
+        ensures inverse { (c : ℕ) → 1 ≤ c → c ≤ 30
+            → IsSomeAnd result (λ both. (c ≡ both.0) ⊎ (c ≡ both.1)) ↔ (frame ≡ frame_with c) }
+    {
+        if frame >= FIRST_CIRCUIT && frame <= LOW_NIBBLES {
+            Some((
+                CircuitNo { number: frame },
+                CircuitNo {
+                    number: frame + LOW_NIBBLES,
+                },
+            ))
         } else {
             None
         }

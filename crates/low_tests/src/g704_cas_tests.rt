@@ -1,4 +1,4 @@
-use g704_cas::{MfAligner, MfPlace};
+use g704_cas::{CircuitNo, MfAligner, MfPlace};
 
 #[test]
 fn multiframe_found_and_lost(rt: HostRuntime) {
@@ -34,4 +34,36 @@ fn multiframe_after_lost(rt: HostRuntime) {
     assert!(rt; aligner.alarm());
     assert_eq!(rt; aligner.slot16(0x0B), MfPlace::Frame(0));
     assert!(rt; !aligner.alarm());
+}
+
+#[test]
+fn circuits_in_slots(rt: HostRuntime) {
+    for (slot, circuit) in [
+        (0u8, None),
+        (1, Some(1u8)),
+        (15, Some(15)),
+        (16, None),
+        (17, Some(16)),
+        (31, Some(30)),
+        (32, None),
+        (255, None),
+    ] {
+        let told = CircuitNo::in_slot(slot).map(|c| c.get());
+        assert_eq!(rt; told, circuit, "in slot {slot}");
+    }
+}
+
+#[test]
+fn circuits_of_frames(rt: HostRuntime) {
+    for (frame, circuits) in [
+        (0u8, None),
+        (1, Some((1u8, 16u8))),
+        (3, Some((3, 18))),
+        (15, Some((15, 30))),
+        (16, None),
+        (255, None),
+    ] {
+        let told = CircuitNo::of_frame(frame).map(|(high, low)| (high.get(), low.get()));
+        assert_eq!(rt; told, circuits, "in frame {frame}");
+    }
 }
