@@ -6,10 +6,11 @@ use Rattle.g704_align.specs.declared.alignment.Place.{Place}
 use Rattle.g704_align.specs.declared.alignment.Aligner.{Aligner}
 use Rattle.g704_align.specs.Placing.{place}
 use Rattle.g704_align.specs.Aligner as aligner
+use Rattle.g704_cas.specs.Numbers.{slot_of}
 use Rattle.gw_switch.specs.declared.trunk.Trunk.{Trunk}
 use Rattle.gw_switch.specs.Hearing.{latest, speech, abcd, slot16_octets}
-use Rattle.gw_switch.specs.Trunk.{since, nibble_turn, HasHeard, AwaitsTurn, HearsAt}
-use Rattle.gw_switch.proofs.Rounds.{next_in_round}
+use Rattle.gw_switch.specs.Trunk.{since, nibble_turn, HasHeard, AwaitsTurn, HasTurn, HearsAt}
+use Rattle.gw_switch.proofs.Rounds.{next_in_round, slot_at}
 use Rattle.gw_switch.proofs.HearingLemmas.{octet_mid, nibble_mid, slot16_octets_now}
 use Rattle.gw_switch.proofs.HearingLemmas.{remote_frame_stands, remote_multiframe_stands}
 
@@ -35,6 +36,10 @@ hears_next old new after p s o h placed stands at =
           remote_multiframe_stands s o _ _ _ _ placed refl h.remote_multiframe
           (at.signalling.remote_multiframe z h.multiframes);
     }
+
+-- the slot of a circuit that has the turn is that of the octet whose turn it is
+pub slot_of-turn : (t : Trunk) (s : List ℕ) (n c : ℕ) → AwaitsTurn t s n → HasTurn t c → n % 32 ≡ slot_of c
+slot_of-turn t s n c h turn = slot_at n t.position h.position ∙ turn
 
 -- a turn is over: what is kept of slots and nibbles is told, and all else is as it was
 pub turn_over : (t : Trunk) (s : List ℕ) (n : ℕ) (octets nibbles : List (Option ℕ)) → AwaitsTurn t s n

@@ -1,10 +1,11 @@
 -- What a gateway replies to each event, after the events before it.
-use Rattle.std.specs.Prelude.{ℕ, ◌+◌, ◌-◌, ◌*◌, ◌/◌, ◌%◌, ◌==◌, ◌||◌, nat_le, if◌then◌else◌, Bool}
+use Rattle.std.specs.Prelude.{ℕ, ◌+◌, ◌-◌, ◌*◌, ◌/◌, ◌%◌, ◌==◌, ◌||◌, if◌then◌else◌, Bool}
 use Rattle.std.specs.Prelude.{List, [], ◌∷◌, ◌++◌, length, slice_index_or}
 use Rattle.std.specs.Prelude.{Option, Some, None, option_map, Result}
 use Rattle.std.proofs.Common.{refl, lit<, lit≤}
 use Rattle.g704_align.specs.Placing as frames
 use Rattle.g704_cas.specs.Placing as multiframes
+use Rattle.g704_cas.specs.Numbers.{circuit_in}
 use Rattle.g726_codec.specs.declared.CodecKind.{CodecKind}
 use Rattle.g726_codec.specs.declared.CodecKind.TheVariants.{G711}
 use Rattle.q421_line.specs.declared.Role.TheVariants.{Outgoing}
@@ -56,10 +57,6 @@ spare_config = record {
 -- the configuration of a circuit, 1 to 30
 abbrev pub config_of : GatewayConfig → ℕ → CircuitConfig
 config_of config c = slice_index_or config.circuits (c - 1) spare_config
-
--- the circuit whose speech is in a slot
-abbrev pub circuit_in : ℕ → ℕ
-circuit_in slot = if nat_le slot 15 then slot else slot - 1
 
 -- slot 0: the frame alignment signal in even frames; in odd ones bit A is the alarm (ITU-T G.704, 2.3.2)
 abbrev pub slot_zero : ℕ → Bool → ℕ

@@ -1,4 +1,4 @@
-use Rattle.std.proofs.Common.{◌≡◌, ◌/◌, ◌%◌, ◌++◌, ◌∷◌, [], length, refl, sym, ◌∙◌, arith}
+use Rattle.std.proofs.Common.{◌≡◌, ℕ, ◌<◌, ◌≤◌, ◌/◌, ◌%◌, ◌++◌, ◌∷◌, [], length, refl, sym, ap, ◌∙◌, arith}
 use Rattle.gw_switch.specs.Events.{Event, octets}
 use Rattle.gw_switch.specs.Whole.{octet_reply}
 use Rattle.gw_switch.specs.Standing.{Stands}
@@ -7,6 +7,10 @@ use Rattle.gw_switch.proofs.Sendings.{sent_at, sends_frame, sends_multiframe}
 use Rattle.gw_switch.proofs.Sendings.{slot_of-not16, slot_of-not0}
 use Rattle.gw_switch.proofs.Views.{stay, octets-append, sees_nothing, sees_no_abcd}
 use Rattle.gw_switch.proofs.gateway.Gateway.send_framing.Goals as goal
+
+-- a frame of the multiframe in which no circuit has its bits is frame 0
+frame_zero : (frame : ℕ) → frame < 16 → ¬ ((1 ≤ frame) × (frame ≤ 15)) → frame ≡ 0
+frame_zero frame small none = grind (arith, none)
 
 -- slot 0
 pub returns-then-slot-eq0 : goal.returns-then-slot-eq0
@@ -31,16 +35,17 @@ returns-then-slot-eq0 c = λ config events o h divides room.
     }
 
 -- slot 16 of frame 0
-pub returns-then-frame-eq0 : goal.returns-then-frame-eq0
+pub returns-in-None : goal.returns-in-None
 unfolding octet_reply Stands
-returns-then-frame-eq0 c = λ config events o h divides room.
+returns-in-None c = λ config events o h divides room.
     let n = length (octets events) in
     let s = octets events ++ o ∷ [] in
     let sixteen : n % 32 ≡ 16 = omega (arith, c.slot.ensures.value s n h.trunk, divides, c.if-slot-eq0.false) in
-    let first : (n / 32) % 16 ≡ 0 = sym (c.frame-frame.ensures.value s n h.trunk) ∙ c.if-frame-eq0.true in
-    let passed = c.pass_turn-then-frame-eq0.ensures s n h.trunk (none_in_first n sixteen first) in
+    let first : (n / 32) % 16 ≡ 0 = sym (c.frame-frame.ensures.value s n h.trunk)
+    ∙ frame_zero _ c.frame-frame.ensures.in_multiframe c.in-None.ensures.reply in
+    let passed = c.pass_turn-in-None.ensures s n h.trunk (none_in_first n sixteen first) in
     record {
-      reply = rw (c.multiframe_signal.ensures, c.alarms-then-frame-eq0.ensures s passed)
+      reply = rw (c.multiframe_signal.ensures, c.alarms-in-None.ensures s passed)
           (sym (sends_multiframe config events s n _ _ sixteen first));
       kept = refl;
       stands = record {
@@ -53,10 +58,10 @@ returns-then-frame-eq0 c = λ config events o h divides room.
     }
 
 -- slot 16 of the other frames
-pub returns : goal.returns
-returns c = λ config events o h divides room.
+pub returns-in-Some : goal.returns-in-Some
+returns-in-Some c = λ config events o h divides room.
     let n = length (octets events) in
     let s = octets events ++ o ∷ [] in
     c.send_nibbles.ensures config events o h
     (omega (arith, c.slot.ensures.value s n h.trunk, divides, c.if-slot-eq0.false))
-    (c.frame-frame.ensures.value s n h.trunk) room
+    (ap (λ both. both.0) c.in-Some.ensures.reply.1 ∙ c.frame-frame.ensures.value s n h.trunk) room

@@ -24,24 +24,21 @@ sent_for config events s n c k nibble heard told is own =
 
 pub returns : goal.returns
 unfolding octet_reply Stands
-returns c = λ config events o h sixteen frame room.
+returns c = λ config events o h sixteen j-is room.
     let n = length (octets events) in
     let s = octets events ++ o ∷ [] in
     let f = (n / 32) % 16 in
-    let j = c.unwrap-first.result in
-    let k = c.unwrap-second.result in
-    let first = (rw c.unwrap-first.ensures at c.new.ensures).1 in
-    let second = (rw c.unwrap-second.ensures at c.new-2.ensures).1 in
-    let some : 1 ≤ f = omega (arith, frame, c.requires.first) in
-    let j-is : j ≡ f = first ∙ frame in
-    let k-is : k ≡ f + 15 = second ∙ ap (λ x. x + 15) frame in
-    let heard = c.take_nibbles-heard_high.ensures in
-    let high_is = heard.high s n h.trunk sixteen frame ∙ ap (λ x. signalled x s n) (sym first) in
-    let low_is = heard.low s n h.trunk sixteen frame ∙ ap (λ x. signalled x s n) (sym second) in
-    let j-frame : f ≡ frame_with j = sym (frame_with-low f (omega arith)) ∙ ap frame_with (sym j-is) in
-    let k-frame : f ≡ frame_with k = sym (frame_with-high f some) ∙ ap frame_with (sym k-is) in
+    let j = c.args.first in
+    let k = c.args.second in
     let is = c.send_nibble-high.ensures.number in
     let is2 = c.send_nibble-low.ensures.number in
+    let some : 1 ≤ f = omega (arith, j-is, is.0) in
+    let k-is : k ≡ f + 15 = c.requires ∙ ap (λ x. x + 15) j-is in
+    let heard = c.take_nibbles-heard_high.ensures in
+    let high_is = heard.high s n h.trunk sixteen j-is in
+    let low_is = heard.low s n h.trunk sixteen j-is in
+    let j-frame : f ≡ frame_with j = sym (frame_with-low f (omega arith)) ∙ ap frame_with (sym j-is) in
+    let k-frame : f ≡ frame_with k = sym (frame_with-high f some) ∙ ap frame_with (sym k-is) in
     let high = c.send_nibble-high.ensures in
     let low = c.send_nibble-low.ensures in
     let was : StandsAt k config.law (config_of config k) c.send_nibble-high.new.circuits.items (view k events)
@@ -51,11 +48,11 @@ returns c = λ config events o h sixteen frame room.
         c.join.ensures.value,
         sent_for config events s n j f _ _ (high.reply _ _ _ (h.circuits j is.0 is.1)) high_is j-is,
         sent_for config events s n k (f + 15) _ _ (low.reply _ _ _ was) low_is k-is,
-      ) (sym (sends_abcd config events s n f (omega (arith, frame, c.requires.first))))
+      ) (sym (sends_abcd config events s n f (omega (arith, some))))
           ∙ sent_at config events s n 16 f (sym sixteen) refl;
       kept = refl;
       stands = record {
-        trunk = rw (octets-append events (Event.Octet o ∷ [])) (heard.sent s n h.trunk sixteen frame);
+        trunk = rw (octets-append events (Event.Octet o ∷ [])) (heard.sent s n h.trunk sixteen j-is);
         circuits = CircuitsStand-push config _ _ events (Event.Octet o) h.circuits (λ i one most.
             both_go config _ _ _ events (Event.Octet o) j k
             (Item.Signal (signalled j s n)) (Item.Signal (signalled k s n))
