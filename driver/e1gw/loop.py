@@ -81,8 +81,11 @@ class Loop:
             pass
 
     def catch_signals(self, call: Callable[[int], None]) -> None:
-        """The signals that ask for the end end what waits, and nothing between."""
+        """The signals that ask for the end end what waits, and nothing between. Those that stop what is in the
+        background of a terminal stop nothing: a read of the terminal fails in their place."""
         signal.set_wakeup_fd(self._wake, warn_on_full_buffer=False)
+        for number in (signal.SIGTTIN, signal.SIGTTOU):
+            signal.signal(number, signal.SIG_IGN)
         for number in (signal.SIGINT, signal.SIGTERM, signal.SIGHUP):
             signal.signal(number, lambda which, _: call(which))
 

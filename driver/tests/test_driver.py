@@ -18,6 +18,14 @@ from e1gw import session
 from e1gw.session import Kind
 
 FOUR = range(1, 5)
+# Runs a command in the background of a terminal, as a shell does.
+BACKGROUND = """
+import fcntl, os, subprocess, sys, termios
+os.setsid()
+terminal = os.open(sys.argv[1], os.O_RDWR | os.O_NOCTTY)
+fcntl.ioctl(terminal, termios.TIOCSCTTY, 0)
+sys.exit(subprocess.run(sys.argv[2:], stdin=terminal, process_group=0).returncode)
+"""
 
 
 def aligned(world: World) -> World:
@@ -276,6 +284,18 @@ class Beside(unittest.TestCase):
             world.process.stdout.close()
             self.assertGreaterEqual(shown.count('\x1b[H\x1b[2J'), 2)
             self.assertIn(' 4 outgoing idle ', shown)
+
+    def test_a_line_typed_while_it_is_in_the_background(self) -> None:
+        keyboard, terminal = os.openpty()
+        front = (sys.executable, '-c', BACKGROUND, os.ttyname(terminal))
+        with World(config_of(FOUR), front=front) as world:
+            aligned(world)
+            os.write(keyboard, b'quit\n')
+            time.sleep(0.2)
+            self.goes_on(world)
+            self.assertEqual(world.quit()[0], 0)
+        os.close(keyboard)
+        os.close(terminal)
 
     def test_signals(self) -> None:
         with World(config_of(FOUR)) as world:
