@@ -61,6 +61,9 @@ class Clear(Trunk):
     def waiting(self) -> int:
         return self._device.waiting()
 
+    def unread(self) -> int:
+        return len(self._ready) + self._device.unread() * FRAME // (FRAME - 1)
+
     def flush(self) -> None:
         self._device.flush()
 

@@ -2,7 +2,8 @@
 
 An octet is behind by the time since the first one less its place at 256,000 octets a second. What it is behind by more
 than is usual is the displacement. It is measured where octets flow steadily; a slow change of it is the rate of a
-clock.
+clock. Octets that have come and wait to be read count as those that were read: where this machine stood still they are
+late, and none is lost.
 """
 from __future__ import annotations
 
@@ -51,17 +52,21 @@ class Clock:
         self._late_places: deque[int] = deque(maxlen=4096)
         self._late: deque[float] = deque(maxlen=4096)
 
-    def took(self, count: int, now: float) -> None:
-        """So many octets came."""
+    def took(self, count: int, now: float, unread: int = 0) -> None:
+        """So many octets were read, behind which so many others had come."""
         behind = now - self._began - self.octets / OCTETS_A_SECOND
         if self._base is not None and behind - self._base > NOTED:
             self._late_places.append(self.octets)
             self._late.append(behind - self._base)
         self.octets += count
-        behind -= count / OCTETS_A_SECOND
+        behind -= (count + unread) / OCTETS_A_SECOND
         self._last = now
         if self._low is None or behind < self._low:
             self._low = behind
+
+    def held(self, now: float) -> None:
+        """Until now nothing was read, whether octets came or not."""
+        self._last = now
 
     def late_at(self, place: int) -> float:
         """By how much the octet at a place was later than usual, as far as that is kept."""

@@ -169,6 +169,7 @@ class Driver:
         """Reads the trunk again, once the gateway has answered and what it answered is sent."""
         if self.trunk and self._paused and not self.trunk.waiting() and not self.gateway.busy():
             self._paused = False
+            self.clock.held(time.monotonic())
             self.loop.watch(self.trunk.fileno(), READ, lambda _: self._readable())
 
     def _readable(self) -> None:
@@ -185,7 +186,7 @@ class Driver:
         if octets:
             began = time.monotonic()
             if trunk.paced:
-                self.clock.took(len(octets), began)
+                self.clock.took(len(octets), began, trunk.unread())
             self.gateway.give(trunk_record(octets), functools.partial(self._answered, octets, began))
             self.gateway.settle()
             if self.gateway.busy() or trunk.waiting():
@@ -346,7 +347,7 @@ class Driver:
         self.gateway.drain()
         if self.shadow:
             self.shadow.drain()
-        if self.trunk and self.trunk.paced:
+        if self.trunk and self.trunk.paced and not self.gateway.busy():
             for finding in self.clock.look(now):
                 self._found(finding)
             if self._first:
@@ -469,7 +470,7 @@ class Driver:
             self.loop.every(0.5, self.show)
         self._open_trunk()
         while self.status_code is None:
-            deadline = self.trunk.deadline if self.trunk else None
+            deadline = self.trunk.deadline if self.trunk and not self._paused else None
             self.loop.turn(deadline)
             if deadline is not None and time.monotonic() >= deadline:
                 self._readable()
