@@ -8,6 +8,7 @@ from __future__ import annotations
 
 import os
 import select
+import signal
 import subprocess
 from typing import Any, Callable
 
@@ -27,19 +28,82 @@ def align(opens: Callable[[], Trunk], program: str) -> Trunk:
         raise
 
 
+class Process:
+    """An `e1gw align`: octets that it is given come out aligned, one for each. Nothing waits for it but `ended` and
+    `close`, and these not for long. OSError where it cannot be started."""
+
+    def __init__(self, program: str) -> None:
+        self._process = subprocess.Popen([program, 'align'], stdin=subprocess.PIPE, stdout=subprocess.PIPE,
+                                         stderr=subprocess.DEVNULL, start_new_session=True, bufsize=0)
+        assert self._process.stdin and self._process.stdout
+        self._to, self._of = self._process.stdin, self._process.stdout
+        self.to, self.of = self._to.fileno(), self._of.fileno()
+        for pipe in (self.to, self.of):
+            os.set_blocking(pipe, False)
+        self.unsent = bytearray()       # given, and not yet taken by the process
+        self.inside = 0                 # given, and not yet come out
+        self.open = True                # its input
+        self.deaf = False               # it takes no more
+
+    def give(self, octets: bytes) -> None:
+        self.unsent += octets
+        self.inside += len(octets)
+        self.send()
+
+    def send(self) -> None:
+        """Sends of the octets that wait what it takes; all go where it takes no more."""
+        if not (self.unsent and self.open):
+            return
+        try:
+            del self.unsent[:os.write(self.to, self.unsent)]
+        except BlockingIOError:
+            pass
+        except BrokenPipeError:
+            self.deaf = True
+            self.unsent.clear()
+
+    def end_input(self) -> None:
+        self.open = False
+        self._to.close()
+
+    def take(self, most: int) -> bytes | None:
+        """What has come out, at most so many octets; None once that was all."""
+        try:
+            octets = os.read(self.of, most)
+        except BlockingIOError:
+            return b''
+        self.inside -= len(octets)
+        return octets or None
+
+    def ended(self, grace: float = GRACE) -> int:
+        """The status of the process, whose output is closed; a negative one for a signal."""
+        try:
+            return self._process.wait(grace)
+        except subprocess.TimeoutExpired:
+            self._process.kill()
+            return -signal.SIGKILL
+
+    def close(self, grace: float = GRACE) -> None:
+        self._process.kill()
+        self._to.close()
+        self._of.close()
+        try:
+            self._process.wait(grace)
+        except subprocess.TimeoutExpired:
+            pass                # it dies once the kernel lets it
+
+
+def end_words(status: int) -> str:
+    """How a process has ended."""
+    return f'e1gw align ended {f"with status {status}" if status >= 0 else f"by signal {-status}"}'
+
+
 class Aligned(Trunk):
     """A device's trunk, its octets aligned to time slots. It fails where the process ends."""
 
     def __init__(self, device: Trunk, program: str) -> None:
         self._device, self.paced = device, device.paced
-        self._process = subprocess.Popen([program, 'align'], stdin=subprocess.PIPE, stdout=subprocess.PIPE,
-                                         stderr=subprocess.DEVNULL, start_new_session=True, bufsize=0)
-        assert self._process.stdin and self._process.stdout
-        self._to, self._of = self._process.stdin, self._process.stdout
-        for pipe in (self._to, self._of):
-            os.set_blocking(pipe.fileno(), False)
-        self._unsent = bytearray()      # read, and not yet taken by the process
-        self._inside = 0                # read, and not yet given by the process
+        self._process = Process(program)
         self._end: EOFError | OSError | None = None     # of the device
         self._ready = select.epoll()
         self._watched: dict[int, int] = {}
@@ -60,9 +124,10 @@ class Aligned(Trunk):
 
     def _watch(self) -> None:
         """Watches for what `read` can go on with, and for nothing else."""
-        wanted = {self._of.fileno(): select.EPOLLIN}
-        if self._unsent or self._may_read() and self._always:
-            wanted[self._to.fileno()] = select.EPOLLOUT
+        process = self._process
+        wanted = {process.of: select.EPOLLIN}
+        if process.unsent or self._may_read() and self._always:
+            wanted[process.to] = select.EPOLLOUT
         elif self._may_read():
             wanted[self._device.fileno()] = select.EPOLLIN
         for file in self._watched.keys() - wanted.keys():
@@ -72,63 +137,44 @@ class Aligned(Trunk):
         self._watched = wanted
 
     def _may_read(self) -> bool:
-        return not (self._end or self._to.closed or self._unsent) and self._inside < MOST_INSIDE
+        process = self._process
+        return process.open and not (self._end or process.unsent) and process.inside < MOST_INSIDE
 
     def read(self, most: int) -> bytes:
+        process = self._process
         if self._may_read():
-            self._read_device(min(most, MOST_INSIDE - self._inside))
-        if not self._to.closed:
-            self._give()
+            self._read_device(min(most, MOST_INSIDE - process.inside))
+        else:
+            process.send()
+        if process.open and (process.deaf or self._end and not process.unsent):
+            self._end_input()
         octets = self._take(most)
         self._watch()
         return octets
 
     def _read_device(self, most: int) -> None:
         try:
-            self._unsent += self._device.read(most)
+            octets = self._device.read(most)
         except (EOFError, OSError) as fault:
             self._end = fault
-        self._inside += len(self._unsent)
-
-    def _give(self) -> None:
-        """Gives the process what it takes; after the last octet of the device its input ends."""
-        try:
-            if self._unsent:
-                del self._unsent[:os.write(self._to.fileno(), self._unsent)]
-        except BlockingIOError:
-            return
-        except BrokenPipeError:
-            self._unsent.clear()
-            return self._end_input()
-        if self._end and not self._unsent:
-            self._end_input()
+        else:
+            self._process.give(octets)
 
     def _end_input(self) -> None:
-        if self._watched.pop(self._to.fileno(), None):
-            self._ready.unregister(self._to.fileno())
-        self._to.close()
+        """After the last octet of the device, or where the process takes no more."""
+        if self._watched.pop(self._process.to, None):
+            self._ready.unregister(self._process.to)
+        self._process.end_input()
 
     def _take(self, most: int) -> bytes:
         """What the process has given; once that was all, what the device or the process ended with."""
-        try:
-            octets = os.read(self._of.fileno(), most)
-        except BlockingIOError:
-            return b''
-        if octets:
-            self._inside -= len(octets)
+        octets = self._process.take(most)
+        if octets is not None:
             return octets
-        status = self._status()
+        status = self._process.ended()
         if self._end and status == 0:
             raise self._end
-        raise OSError(f'e1gw align ended {f"with status {status}" if status >= 0 else f"by signal {-status}"}')
-
-    def _status(self) -> int:
-        """What the process, whose output is closed, ends with."""
-        try:
-            return self._process.wait(GRACE)
-        except subprocess.TimeoutExpired:
-            self._process.kill()
-            return self._process.wait()
+        raise OSError(end_words(status))
 
     def write(self, octets: bytes) -> None:
         self._device.write(octets)
@@ -139,16 +185,16 @@ class Aligned(Trunk):
     def waiting(self) -> int:
         return self._device.waiting()
 
+    def unread(self) -> int:
+        return self._process.inside + self._device.unread()
+
     def flush(self) -> None:
         self._device.flush()
 
     def close(self) -> None:
-        self._process.kill()
-        self._process.wait()
+        self._process.close()
         self._ready.close()
-        self._to.close()
-        self._of.close()
         self._device.close()
 
     def status(self) -> dict[str, Any]:
-        return {**self._device.status(), 'aligning': self._inside}
+        return {**self._device.status(), 'aligning': self._process.inside}

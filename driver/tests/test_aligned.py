@@ -17,7 +17,7 @@ import unittest
 from . import support
 from .test_driver import FOUR, aligned, call
 from .test_satop_bits import expected, late
-from .world import LAUNCHER, SECONDS, World, config_of
+from .world import LAUNCHER, SECONDS, World, aligner_of, config_of
 from e1gw import session
 from e1gw.aligned import MOST_INSIDE, Aligned, align
 from e1gw.trunk import Usage, options_of
@@ -27,18 +27,6 @@ from e1gw.trunks import Stream, Trunk, open_files, open_tcp
 def carried(bits: int, start: int, end: int) -> bytes:
     """These octets of the far end's trunk, so many bits late."""
     return bytes(late(bits, place) for place in range(start, end))
-
-
-def aligner_of(parent: int) -> int:
-    """The `e1gw align` that a process has started, as its number."""
-    for name in os.listdir('/proc'):
-        try:
-            with open(f'/proc/{name}/stat', encoding='utf-8') as stat, open(f'/proc/{name}/cmdline', 'rb') as words:
-                if int(stat.read().rpartition(')')[2].split()[1]) == parent and words.read().endswith(b'\0align\0'):
-                    return int(name)
-        except (OSError, ValueError):
-            pass
-    raise AssertionError('no e1gw align')
 
 
 class Broken(Stream):

@@ -33,6 +33,18 @@ def free_ports(count: int) -> list[int]:
     raise RuntimeError('no free ports')
 
 
+def aligner_of(parent: int) -> int:
+    """The `e1gw align` that a process has started, as its number."""
+    for name in os.listdir('/proc'):
+        try:
+            with open(f'/proc/{name}/stat', encoding='utf-8') as stat, open(f'/proc/{name}/cmdline', 'rb') as words:
+                if int(stat.read().rpartition(')')[2].split()[1]) == parent and words.read().endswith(b'\0align\0'):
+                    return int(name)
+        except (OSError, ValueError):
+            pass
+    raise AssertionError('no e1gw align')
+
+
 def config_of(circuits: range, codec: str = 'pcma', payload: int = 8, prefill: int = 160,
               incoming: tuple[int, ...] = ()) -> str:
     """A configuration in which each circuit speaks with its neighbour: 1 with 2, 3 with 4, .."""
