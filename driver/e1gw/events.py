@@ -26,8 +26,12 @@ _WORDS: dict[str, Callable[[Event], str]] = {
     'ended': lambda e: f'{e["what"]} ended, the calls go on: {e["why"]}',
     'trunk': lambda e: f'trunk open: {e.get("trunk", "")}',
     'trunk lost': lambda e: f'trunk lost: {e["why"]}',
-    'satop': lambda e: f'satop: {e["what"]}{"" if e.get("on", True) else " over"}',
+    'satop': lambda e: f'satop: {e["what"]}{"" if e.get("on", True) else " over"}{_why(e)}',
 }
+
+
+def _why(event: Event) -> str:
+    return f': {event["why"]}' if 'why' in event else ''
 
 
 def words_of(event: Event) -> str:

@@ -15,13 +15,15 @@ from collections import Counter
 from dataclasses import asdict, dataclass
 from typing import Any, Callable
 
-from .satop_bits import BitAligner
+from .satop_align import SlotAligner
 from .satop_packet import SEQUENCES, Fault, Packet, parse, rtp_header, spell
 from .satop_playout import Fill, Playout
 from .session import FRAME, OCTETS_A_SECOND, SAMPLES_A_SECOND
 from .trunks import Trunk, host_and_port
 
 GONE = 0.100                # seconds without a packet of the stream
+WOKEN = 0.020               # seconds by which a read is later than it should be, where this process stood still; and
+#                             those in which what came meanwhile may still be on its way to the socket
 CLOSE = 1e-6                # seconds; a moment so near has come
 MOST_BEHIND = 1.0           # seconds that are made up for at once, after this process stood still
 MOST_DATAGRAMS = 1000       # of one read
@@ -83,16 +85,19 @@ class Satop(Trunk):
 
     tell: Tell | None = None
 
-    def __init__(self, end: socket.socket, circuit: Circuit, clock: Callable[[], float] = time.monotonic) -> None:
+    def __init__(self, end: socket.socket, circuit: Circuit, clock: Callable[[], float] = time.monotonic,
+                 program: str | None = None) -> None:
         end.setblocking(False)
         self._socket, self._circuit, self._clock = end, circuit, clock
-        self._bits = BitAligner()
+        self._slots = SlotAligner(program, self._missing)
+        self._bits = self._slots.bits
         reach = max(2 * circuit.jitter, int(1.25 * GONE / circuit.seconds))
         self._playout = Playout(circuit.size, circuit.jitter, reach, circuit.fill)
-        self._ready, self._rest = bytearray(), bytearray()
+        self._raw, self._ready, self._rest = bytearray(), bytearray(), bytearray()  # due; aligned; to be sent
         self._sequence, self._timestamp = secrets.randbelow(SEQUENCES), secrets.randbits(32)
         self._ssrc = secrets.randbits(32)
         self._heard = self._reached = clock()   # the last packet; up to when octets were given
+        self._listens_until = self._heard       # before that no silence is judged
         self._allowed, self._counted = MOST_BEHIND / circuit.seconds, self._heard   # packets, and when they were
         self.silent = False
         self._remote, self._fault = Flag(), Flag()
@@ -106,22 +111,34 @@ class Satop(Trunk):
         return self._socket.fileno()
 
     def close(self) -> None:
+        self._slots.close()
         self._socket.close()
 
     # ---- what comes ----
 
     def read(self, most: int) -> bytes:
-        if len(self._ready) < most:
-            now = self._clock()
-            self._allow(now)
-            self._receive(now)
-            self._play_due()
-            self._keep_time(now)
-            self._tell_changes(now)
+        now = self._clock()
+        if self.deadline is not None and now - self.deadline > WOKEN:
+            self._listens_until = now + WOKEN
+        self._allow(now)
+        # All that waits in the socket, before silence is judged or this machine's clock gives anything.
+        self._receive(now)
+        self._play_due()
+        self._keep_time(now)
+        self._align()
+        self._tell_changes(now)
         octets = bytes(self._ready[:most])
         del self._ready[:most]
         self._plan()
         return octets
+
+    def unread(self) -> int:
+        return len(self._ready)
+
+    def _align(self) -> None:
+        if self._raw:
+            self._ready += self._slots.octets(bytes(self._raw))
+            self._raw.clear()
 
     def _plan(self) -> None:
         """When `read` is to be called though nothing comes."""
@@ -132,7 +149,7 @@ class Satop(Trunk):
         elif self._playout.is_due():
             self.deadline = self._counted + (1 - self._allowed) * self._circuit.seconds / FASTEST
         else:
-            self.deadline = self._heard + GONE
+            self.deadline = max(self._heard + GONE, self._listens_until)
 
     def _allow(self, now: float) -> None:
         """Two ends that both answer packet for packet would drive each other ever faster; so there is a bound."""
@@ -145,7 +162,7 @@ class Satop(Trunk):
             return
         for each in self._playout.due(int(self._allowed + CLOSE)):
             self._allowed -= 1
-            self._ready += self._bits.octets(each)
+            self._raw += each
 
     def _receive(self, now: float) -> None:
         for _ in range(MOST_DATAGRAMS):
@@ -173,7 +190,9 @@ class Satop(Trunk):
         if self.silent:
             self.silent = False
             self._say('packets missing', on=False)
-        if not self._circuit.own_clock:
+        if self._circuit.own_clock:
+            self._keep_pace(now)
+        else:
             self._reached = now
             self._play_due()
 
@@ -185,9 +204,17 @@ class Satop(Trunk):
         if packet.remote and self._remote.seen(now):
             self._say('far end misses packets', on=True)
 
+    def _keep_pace(self, now: float) -> None:
+        """Plays what the buffer has too much while this machine's clock has octets due: where this process stood still
+        as many packets wait in the socket, and the last of them would be too far ahead."""
+        self._reached = max(self._reached, now - MOST_BEHIND)
+        while self._playout.waiting > self._circuit.jitter and now - self._reached + CLOSE >= self._circuit.seconds:
+            self._reached += self._circuit.seconds
+            self._raw += self._playout.tick()
+
     def _keep_time(self, now: float) -> None:
         """Gives what is due by this machine's clock."""
-        if not self.silent and now - self._heard > GONE - CLOSE:
+        if not self.silent and now - self._heard > GONE - CLOSE and now > self._listens_until - CLOSE:
             self.silent = True
             self.counts['silences'] += 1
             self._say('packets missing', on=True)
@@ -200,7 +227,7 @@ class Satop(Trunk):
         self.counts['ticks'] += count * self.silent
         take = self._playout.tick if self._circuit.own_clock else self._playout.play
         for _ in range(count):
-            self._ready += self._bits.octets(take())
+            self._raw += take()
         if self._circuit.own_clock:
             self._playout.trim()
 
@@ -232,6 +259,10 @@ class Satop(Trunk):
         if self.tell:
             self.tell({'event': 'satop', 'what': what, **more})
 
+    def _missing(self, why: str | None) -> None:
+        """The octets of `e1gw align` are missing for this reason, or there again."""
+        self._say('own alignment', on=why is not None, **({'why': why} if why else {}))
+
     def _tell_changes(self, now: float) -> None:
         if self._fault.gone(now):
             self._say('far end fault', on=False)
@@ -253,7 +284,9 @@ class Satop(Trunk):
             'fast': int(self._allowed < 1), 'silent': int(self.silent),
             'remote_lost': int(self._remote.up), 'remote_fault': int(self._fault.up),
             'offset': self._bits.offset, 'aligned': int(self._bits.aligned),
-            'searches': self._bits.found, 'alignment_lost': self._bits.lost}
+            'searches': self._bits.found, 'alignment_lost': self._bits.lost, 'aligning': self._slots.inside,
+            'align_stood_in': self._slots.stood_in, 'align_renewed': self._slots.renewed,
+            'align_differing': self._slots.differing}
 
 
 # ---- opening ----
@@ -281,9 +314,10 @@ def ends_of(text: str) -> tuple[tuple[str, int], tuple[str, int]]:
     return host_and_port(local), host_and_port(peer)
 
 
-def open_satop(local_and_peer: str, circuit: Circuit = Circuit()) -> Satop:
-    """The trunk at LOCAL:PORT,PEER:PORT. ValueError where that is none, OSError where no socket opens there."""
-    return Satop(connected(*ends_of(local_and_peer)), circuit)
+def open_satop(local_and_peer: str, circuit: Circuit = Circuit(), program: str | None = None) -> Satop:
+    """The trunk at LOCAL:PORT,PEER:PORT, aligned by this program. ValueError where that is none, OSError where no
+    socket opens there."""
+    return Satop(connected(*ends_of(local_and_peer)), circuit, program=program)
 
 
 def add_arguments(parser: argparse.ArgumentParser) -> None:

@@ -48,8 +48,8 @@ def program_of(asked: str | None) -> str:
     return shutil.which('e1gw') or 'e1gw'
 
 
-def trunk_of(asked: argparse.Namespace) -> Callable[[], Trunk]:
-    """What opens the trunk that was asked for."""
+def trunk_of(asked: argparse.Namespace) -> Callable[..., Trunk]:
+    """What opens the trunk that was asked for; one of --satop wants the program."""
     files = bool(asked.input) + bool(asked.out)
     ways = [asked.unix, asked.tcp, asked.satop, asked.input and asked.out]
     if files == 1 or sum(map(bool, ways)) != 1:
@@ -71,13 +71,13 @@ def trunk_of(asked: argparse.Namespace) -> Callable[[], Trunk]:
     return lambda: Clear(opens())
 
 
-def _satop_of(asked: argparse.Namespace) -> Callable[[], Trunk]:
+def _satop_of(asked: argparse.Namespace) -> Callable[[str], Trunk]:
     local, comma, peer = asked.satop.partition(',')
     if not comma:
         raise Usage('--satop wants LOCAL:PORT,PEER:PORT')
     host_and_port(local), host_and_port(peer)
     circuit = satop.circuit_of(asked)
-    return lambda: satop.open_satop(asked.satop, circuit)
+    return functools.partial(satop.open_satop, asked.satop, circuit)
 
 
 def _number(least: float, most: float, kind: type = int) -> Callable[[str], float]:
@@ -167,6 +167,8 @@ def options_of(words: list[str]) -> Options:
     program = program_of(asked.program)
     if asked.align:
         opens = functools.partial(align, opens, program)
+    if asked.satop:
+        opens = functools.partial(opens, program)
     return Options(
         config=asked.config, program=program, name=name, open_trunk=opens, most=asked.most,
         serve=_serve_words(asked), reopen=asked.reopen, watch=asked.watch, top=asked.top, control=asked.control,

@@ -241,9 +241,40 @@ class Silence(Timed):
         self.told(resyncs=1)
 
     def test_a_process_that_stood_still(self) -> None:
+        """Without packets it takes what may still be on its way to the socket before it makes up for a second."""
         self.numbers(*range(20))
         self.now += 3600
-        self.assertAlmostEqual(len(self.trunk.read(1 << 24)) / 256, 1000, delta=1)
+        self.assertEqual(self.trunk.read(1 << 24), b'')
+        self.assertAlmostEqual(len(self.wait(.021)) / 256, 1000, delta=2)
+
+    def test_packets_that_came_while_it_stood_still(self) -> None:
+        """Those that wait in the socket are read before silence is judged."""
+        self.numbers(*range(20))
+        self.now += .150
+        self.send(*(spell(Packet(False, False, number, piece(number))) for number in range(20, 170)))
+        self.assertTrue(self.trunk.read(1 << 20) == b''.join(map(piece, range(16, 166))))
+        self.told(silent=0, silences=0, lost=0, filled=0)
+
+    def test_packets_that_come_just_after_it_stood_still(self) -> None:
+        self.numbers(*range(20))
+        self.now += .130
+        self.assertEqual(self.trunk.read(1 << 20), b'')
+        self.assertEqual(self.wait(.019), b'')
+        self.send(*(spell(Packet(False, False, number, piece(number))) for number in range(20, 169)))
+        self.assertTrue(self.trunk.read(1 << 20) == b''.join(map(piece, range(16, 165))))
+        self.told(silent=0, silences=0, lost=0, filled=0)
+
+    def test_octets_that_are_due_and_not_read_yet(self) -> None:
+        self.numbers(*range(20))
+        self.now += .100
+        self.send(*(spell(Packet(False, False, number, piece(number))) for number in range(20, 120)))
+        self.trunk.read(256)
+        self.assertEqual(self.trunk.unread(), 99 * 256)
+        # What comes meanwhile is read too.
+        self.now += .001
+        self.send(spell(Packet(False, False, 120, piece(120))))
+        self.trunk.read(256)
+        self.assertEqual(self.trunk.unread(), 99 * 256)
 
     def test_nobody_listens(self) -> None:
         self.numbers(*range(20))
@@ -291,6 +322,16 @@ class OwnClock(Timed):
         out = self.each(*range(30000, 30020), *range(7, 207))
         self.assertIn(b''.join(map(piece, range(80, 200))), out)
         self.told(resyncs=1)
+
+    def test_a_process_that_stood_still(self) -> None:
+        """As many packets wait in the socket as this clock has due, more than the buffer reaches."""
+        self.each(*range(300))
+        self.now += .150
+        self.send(*(spell(Packet(False, False, number, piece(number))) for number in range(300, 450)))
+        out = self.trunk.read(1 << 20) + self.each(*range(450, 650))
+        self.assertTrue(b''.join(map(piece, range(300, 640))) in out)
+        self.assertAlmostEqual(len(out) / 256, 350, delta=2)
+        self.told(lost=0, late=0, astray=0, resyncs=0, silent=0)
 
     def test_a_far_end_that_is_faster(self) -> None:
         # Two packets in each millisecond: the buffer stays within its bound.

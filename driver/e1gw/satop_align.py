@@ -1,0 +1,132 @@
+"""The octets of an emulated circuit's time slots: those that `e1gw align` gives, a process beside the gateway.
+
+What is due goes in, and as much comes out in the same turn. The driver's own alignment sees the same bits: the process
+tells nothing but octets, so that one tells the bit offset, the searches and the losses. Where the process has ended, or
+is not there in time, the driver's own octets stand in, so that no call ends by it and nothing is late. A process that
+has ended, or stands still, is begun anew and aligned by what came last.
+"""
+from __future__ import annotations
+
+import select
+import time
+from typing import Callable
+
+from .aligned import MOST_INSIDE, Process, end_words
+from .satop_bits import BitAligner
+
+IN_TIME = 0.005             # seconds that octets are waited for
+STILL = 0.5                 # seconds without an octet that is due after which the process is begun anew
+AGAIN = 1.0                 # seconds between two begins
+HISTORY = 4096              # octets by which a process that is begun anew is aligned: 16 ms
+
+Missing = Callable[[str | None], None]
+
+
+class Gone(Exception):
+    """The process has ended, or stands still; in words."""
+
+
+class SlotAligner:
+    """Aligns a stream of bits; without a program the driver does it by itself. `missing` is called with what is wrong
+    with the process once its octets are missing, and with None once they are there again."""
+
+    def __init__(self, program: str | None = None, missing: Missing = lambda why: None) -> None:
+        self.bits = BitAligner()                # the driver's own
+        self.stood_in = self.renewed = self.differing = 0
+        self._program, self._missing = program, missing
+        self._history = bytearray()             # what came last
+        self._process: Process | None = None
+        self._poll = select.poll()
+        self._gave = self._begun = float('-inf')    # when all that was due was there, or some came; when it was begun
+        self._is_missing = False
+        if program:
+            self._begin(time.monotonic())
+
+    @property
+    def inside(self) -> int:
+        """Octets that the process was given, and that have not come out."""
+        return self._process.inside if self._process else 0
+
+    def octets(self, raw: bytes) -> bytes:
+        """As many octets of the time slots as there are in raw."""
+        return b''.join(self._piece(raw[at:at + MOST_INSIDE]) for at in range(0, len(raw), MOST_INSIDE))
+
+    def _piece(self, raw: bytes) -> bytes:
+        own = self.bits.octets(raw)
+        if not self._program:
+            return own
+        self._history += raw
+        del self._history[:-HISTORY]
+        given = self._given(raw, time.monotonic())
+        self.stood_in += len(own) - len(given)
+        if own.startswith(given):
+            return own
+        self.differing += 1
+        return given + own[len(given):]
+
+    def _given(self, raw: bytes, now: float) -> bytes:
+        """What the process gives of these octets in time, from the first one on."""
+        process = self._process
+        if process is None:
+            self._begin(now)
+            return b''
+        try:
+            in_step = self._is_in_step(process, now)
+            process.give(raw)
+            return self._in_time(process, len(raw), now + IN_TIME) if in_step else b''
+        except Gone as gone:
+            process.close(IN_TIME)
+            self._process = None
+            self._tell(str(gone))
+            self._begin(now)
+            return b''
+
+    def _begin(self, now: float) -> None:
+        """Begins the process; what came last is given to it, and thrown away when it comes out."""
+        if now - self._begun < AGAIN:
+            return
+        self.renewed += self._begun > 0
+        self._gave = self._begun = now
+        assert self._program
+        try:
+            self._process = Process(self._program)
+        except OSError as fault:
+            return self._tell(f'e1gw align cannot be started: {fault}')
+        self._poll = select.poll()
+        self._poll.register(self._process.of, select.POLLIN)
+        self._process.give(bytes(self._history))
+
+    def _is_in_step(self, process: Process, now: float) -> bool:
+        """Throws away what has come out, for which others stood in; whether that was all."""
+        process.send()
+        while process.inside and self._taken(process, process.inside):
+            self._gave = now
+        if process.inside and now - self._gave >= STILL:
+            raise Gone('e1gw align stands still')
+        if process.inside:
+            return False
+        self._gave = now
+        self._tell(None)
+        return True
+
+    def _in_time(self, process: Process, count: int, until: float) -> bytes:
+        """So many octets, or those that come until then."""
+        out = b''
+        while len(out) < count and self._poll.poll(max(0.0, until - time.monotonic()) * 1000):
+            out += self._taken(process, count - len(out))
+        return out
+
+    def _taken(self, process: Process, most: int) -> bytes:
+        octets = process.take(most)
+        if octets is None:
+            raise Gone(end_words(process.ended(IN_TIME)))
+        return octets
+
+    def _tell(self, why: str | None) -> None:
+        if self._is_missing != (why is not None):
+            self._is_missing = why is not None
+            self._missing(why)
+
+    def close(self) -> None:
+        if self._process:
+            self._process.close()
