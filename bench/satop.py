@@ -88,7 +88,7 @@ class Lock:
         self.network = Network(random.Random(7))
         self.far = Multiplexer(FAR, NEAR, self.network, trial.bits, trial.rtp)
         self.near = Satop(connected(NEAR, FAR), Circuit(jitter=trial.jitter, rtp=trial.rtp, fill=trial.fill),
-                          lambda: self.now)
+                          lambda: self.now, program)
         self.serve, self.lines = Serve(program, config), Lines(config)
         self.exchange = self.far.exchange
         self.alarms = 0             # multiframes in which the exchange was told of an alarm
@@ -248,6 +248,8 @@ def lock_step(program: str, folder: str, trial: Trial, bars: Bars) -> list[bytes
     bars.look('reordered, doubled, malformed', f'{status["reordered"]}, {status["doubled"]}, {status["malformed"]}',
               (status['reordered'], status['doubled'], status['malformed'])
               == (network.swapped, network.doubled, network.malformed), 'as on the way')
+    bars.look('octets not of e1gw align, and of another opinion', f'{status["align_stood_in"]}, '
+              f'{status["align_differing"]}', not status['align_differing'], 'told, 0')
     bars.look('states', ' '.join(lock.states()), lock.states() == ['answered'] * 2, 'answered answered')
     bars.look('packets there and back', f'{lock.far.sent}, {lock.far.heard}',
               0 <= lock.far.sent - lock.far.heard <= trial.jitter + 1 and not lock.far.gaps, 'but for the buffer')

@@ -1,17 +1,23 @@
-"""Thirty calls in real time: e1gw-trunk with a gateway, whose trunk is an emulated circuit, and the exchange."""
+"""Thirty calls in real time: e1gw-trunk with a gateway, whose trunk is an emulated circuit, and the exchange.
+
+The far end is a process of this machine too, and can stand still itself. It knows by how much it was late, and by how
+much what comes back was late beside that; so each is told apart.
+"""
 from __future__ import annotations
 
 import json
 import os
 import random
-import resource
+import signal
 import socket
 import subprocess
 import sys
 import threading
 import time
+from collections import Counter
 from typing import Any, Callable
 
+from e1gw.events import words_of
 from satop_far import Multiplexer, Network
 from exchange import ACKNOWLEDGED, ANSWERED, IDLE, SEIZED
 
@@ -21,6 +27,10 @@ FIRST_PORT = 27520
 STEP = 0.002                        # seconds of a multiframe
 OUTGOING, INCOMING = range(1, 16), range(16, 31)    # circuit n speaks with n + 15
 PATIENCE = 20
+NOTED = 0.020                       # seconds that somebody stands still for before it is kept
+SILENCE = 0.1                       # seconds of the far end's that the driver has to take for silence
+BEFORE = 2.0                        # seconds before something is told in which its cause may lie
+QUIET = ('state', 'command', 'codec', 'trunk', 'aligned')   # events that are no trouble
 Look = Callable[[str, object, bool, str], None]
 
 
@@ -55,6 +65,10 @@ class Voice:
             self._look(bytes(octets[at:at + 160]))
         del octets[:len(octets) // 160 * 160]
 
+    def begin(self) -> None:
+        """Counts from now on."""
+        self.right = self.wrong = self.moves = 0
+
     def _look(self, piece: bytes) -> None:
         if self.place >= 0:
             due = self.twice[self.place:self.place + 160]
@@ -83,6 +97,45 @@ class Called:
                 pairs[n] = IDLE
 
 
+class Stood:
+    """When each end stood still, by time.time(), and for how long: the far end by its own clock, the near end by what
+    it sends back beside that."""
+
+    def __init__(self) -> None:
+        self.far: list[tuple[float, float]] = []
+        self.near: list[tuple[float, float]] = []
+        self._back = time.monotonic()
+
+    def step(self, late: float, heard: bool) -> None:
+        """The far end was late by so much, and then heard something or nothing."""
+        now = time.monotonic()
+        if late >= NOTED:
+            self.far.append((time.time(), late))
+        if heard:
+            still = now - self._back - max(0.0, late)
+            if still >= NOTED:
+                self.near.append((time.time(), still))
+            self._back = now
+
+    def longest(self) -> tuple[float, float]:
+        """Of each end."""
+        far, near = (max((seconds for _, seconds in each), default=0.0) for each in (self.far, self.near))
+        return far, near
+
+    def words(self) -> str:
+        far, near = self.longest()
+        return f'{far * 1000:.0f} ms without the far end, {near * 1000:.0f} ms without what comes back'
+
+    def before(self, moment: float) -> str:
+        """What stood still before a moment, in words."""
+        found = []
+        for name, each in (('the near end', self.near), ('the far end', self.far)):
+            longest = max((seconds for at, seconds in each if moment - BEFORE <= at <= moment + .1), default=0.0)
+            if longest:
+                found.append(f'{name} {longest * 1000:.0f} ms')
+        return f'stood still before: {", ".join(found) or "nobody"}'
+
+
 class World:
     """The far end and its time."""
 
@@ -93,8 +146,21 @@ class World:
         self.voices = [Voice(n, n + 15 if n in OUTGOING else n - 15) for n in range(1, 31)]
         self.speaking = False
         self.due = time.monotonic()
-        self.longest, self.alarms, self.changes, self.steps = 0.0, 0, 0, 0
+        self.alarms = self.changes = self.steps = 0
+        self.stood, self.others = Stood(), Counter[int]()       # octets that are others, by second of time.time()
         self._before: dict[int, int] = {}
+
+    def begin(self) -> None:
+        """Counts from now on."""
+        self.alarms = self.changes = 0
+        self.stood = Stood()
+        self.others.clear()
+        for voice in self.voices:
+            voice.begin()
+
+    def octets(self) -> tuple[int, int]:
+        """Of speech since the begin: those that came as they were spoken, and the others."""
+        return sum(voice.right for voice in self.voices), sum(voice.wrong for voice in self.voices)
 
     def step(self) -> None:
         self.far.send()
@@ -102,8 +168,9 @@ class World:
         wait = self.due - time.monotonic()
         if wait > 0:
             time.sleep(wait)
-        self.longest = max(self.longest, -wait)
+        heard = self.far.heard
         self.far.hear()
+        self.stood.step(time.monotonic() - self.due, self.far.heard > heard)
         self.called.step(self.exchange.signals, self.exchange.pairs)
         self.alarms += self.exchange.remote_alarms
         self.changes += self.exchange.signals != self._before
@@ -112,7 +179,10 @@ class World:
         for voice in self.voices if self.speaking else []:
             voice.speak(self.exchange.speech)
             if self.steps % 100 == voice.circuit:
+                wrong = voice.wrong
                 voice.hear(self.exchange.heard)
+                if voice.wrong > wrong:
+                    self.others[int(time.time())] += voice.wrong - wrong
 
     def run(self, seconds: float) -> None:
         """What is behind is made up for: the line's clock does not wait."""
@@ -181,19 +251,33 @@ def set_up(world: World, control: Control) -> None:
     world.run(1)
 
 
-def measure(world: World, control: Control, seconds: float, look: Look) -> None:
-    """Thirty calls for so long."""
-    begun = control.status()
-    world.longest, world.alarms, world.changes = 0.0, 0, 0
-    for voice in world.voices:
-        voice.right = voice.wrong = voice.moves = 0
+def told(path: str, since: float) -> list[dict[str, Any]]:
+    """The events of the driver since then that are trouble."""
+    with open(path, encoding='utf-8') as file:
+        events = [json.loads(line) for line in file]
+    return [event for event in events if event['time'] >= since and event['event'] not in QUIET]
+
+
+def refused(status: dict[str, Any]) -> Counter[str]:
+    """What became of datagrams."""
+    found: Counter[str] = Counter()
+    for row in status['circuits']:
+        found.update(row['datagrams'])
+    return found
+
+
+def measure(world: World, control: Control, seconds: float, look: Look, path: str, near: 'Near') -> None:
+    """Thirty calls for so long. At `path` are the events of the driver."""
+    print(f'thirty calls in real time for {seconds:g} s:')
+    begun, since, used = control.status(), time.time(), near.processor()
+    world.begin()
     world.run(seconds)
-    status = control.status()
+    status, stood = control.status(), world.stood
+    spent = {name: f'{100 * (each - used[name]) / seconds:.1f} %' for name, each in near.processor().items()}
     before, after = begun['transport'], status['transport']
-    more = {name: after[name] - before[name] for name in ('received', 'sent', 'lost', 'late', 'malformed', 'silences',
-                                                          'alignment_lost', 'unsent', 'resyncs')}
-    print(f'  the far end stood still for at most {world.longest * 1000:.0f} ms')
-    right, wrong = (sum(getattr(voice, name) for voice in world.voices) for name in ('right', 'wrong'))
+    more = {name: after[name] - before[name] for name in after if isinstance(after[name], int)}
+    print(f'  at most {stood.words()}')
+    right, wrong = world.octets()
     up = sum(row['state'] == 'answered' for row in status['circuits'])
     look('calls up at the end, and changes of line signals', f'{up}, {world.changes}', up == 30 and not world.changes,
          '30, 0')
@@ -209,6 +293,15 @@ def measure(world: World, control: Control, seconds: float, look: Look) -> None:
     look('octets of speech that are others', f'{wrong} of {right + wrong}', 0 < right and wrong * 1000 <= right + wrong,
          'at most one in 1000')
     look('packets out of order at the far end', world.far.gaps, world.far.gaps == 0, '0')
+    look('octets not of e1gw align, and of another opinion', f'{more["align_stood_in"]}, {more["align_differing"]}',
+         not more['align_differing'], 'told, 0')
+    print(f'  of a core: {", ".join(f"{name} {share}" for name, share in spent.items())}')
+    print(f'  datagrams: {dict(refused(status) - refused(begun))}; playouts begun anew: '
+          f'{status["renewed"] - begun["renewed"]}')
+    for event in told(path, since):
+        print(f'  {event["time"] - since:7.2f} s  {words_of(event)}; {stood.before(event["time"])}')
+    for second, octets in sorted(world.others.items()):
+        print(f'  {second - since:7.0f} s  {octets} octets are others; {stood.before(second + 1)}')
 
 
 def hurry() -> None:
@@ -219,29 +312,98 @@ def hurry() -> None:
         pass
 
 
+def child_of(parent: int, word: str) -> int:
+    """The process of the program that another one has started with this word."""
+    with open(f'/proc/{parent}/task/{parent}/children', encoding='ascii') as file:
+        children = file.read().split()
+    for child in children:
+        with open(f'/proc/{child}/cmdline', 'rb') as file:
+            if file.read().split(b'\0')[1:2] == [word.encode()]:
+                return int(child)
+    raise SystemExit(f'real time: no e1gw {word}')
+
+
+class Near:
+    """The processes of the near end."""
+
+    def __init__(self, driver: int) -> None:
+        self.processes = {'driver': driver} | {word: child_of(driver, word) for word in ('serve', 'align', 'replay')}
+
+    def processor(self) -> dict[str, float]:
+        """Seconds of processor time."""
+        found = {}
+        for name, process in self.processes.items():
+            with open(f'/proc/{process}/stat', encoding='ascii') as file:
+                words = file.read().rpartition(')')[2].split()
+            found[name] = (int(words[11]) + int(words[12])) / os.sysconf('SC_CLK_TCK')
+        return found
+
+
+def stands_still(world: World, look: Look, what: str, process: int, seconds: float) -> None:
+    """A process of the near end is stopped for so long."""
+    world.begin()
+    os.kill(process, signal.SIGSTOP)
+    world.run(seconds)
+    os.kill(process, signal.SIGCONT)
+    world.run(2.0)
+    told_others(world, look, f'{what} stopped for {seconds * 1000:.0f} ms')
+
+
+def is_slow(world: World, look: Look, what: str, process: int, share: float) -> None:
+    """A process of the near end is stopped for 150 ms, and has then for a second only this share of the time, so that
+    it comes back to the time of the trunk slowly."""
+    world.begin()
+    os.kill(process, signal.SIGSTOP)
+    world.run(.15)
+    for _ in range(50):
+        os.kill(process, signal.SIGCONT)
+        world.run(.02 * share)
+        os.kill(process, signal.SIGSTOP)
+        world.run(.02 * (1 - share))
+    os.kill(process, signal.SIGCONT)
+    world.run(2.0)
+    told_others(world, look, f'{what}, which has {share:.0%} then')
+
+
+def told_others(world: World, look: Look, what: str) -> None:
+    _, wrong = world.octets()
+    look(f'others: {what}', wrong, wrong == 0 or world.stood.longest()[0] >= SILENCE, f'0; {world.stood.words()}')
+
+
+def on_purpose(world: World, near: Near, look: Look) -> None:
+    """What stands still or is slow on purpose, beside which no octet of speech is to be another one."""
+    print('octets of speech that are others where a process stands still on purpose:')
+    for what, word in (('gateway', 'serve'), ('driver', 'driver')):
+        for seconds in (.15, .3):
+            stands_still(world, look, what, near.processes[word], seconds)
+        for share in (.2, .3, .4, .5):
+            is_slow(world, look, what, near.processes[word], share)
+    stands_still(world, look, 'e1gw align', near.processes['align'], .3)
+    world.begin()
+    os.kill(near.processes['align'], signal.SIGKILL)
+    world.run(2.0)
+    told_others(world, look, 'e1gw align killed')
+
+
 def real_time(program: str, folder: str, seconds: float, nice: int, look: Look) -> bool:
     """Starts the driver, sets up the calls, and measures. False where the far end itself stood still for so long that
     the driver has to take it for silence."""
-    path, door = os.path.join(folder, 'real.toml'), os.path.join(folder, 'real.control')
+    path, door, events = (os.path.join(folder, f'real.{name}') for name in ('toml', 'control', 'json'))
     with open(path, 'w', encoding='utf-8') as file:
         file.write(config())
-    print(f'thirty calls in real time for {seconds:g} s:')
     world = World()
     words = [sys.executable, '-B', os.path.join(TOP, 'driver', 'e1gw-trunk'), '--config', path, '--program', program,
-             '--satop', f'{NEAR[0]}:{NEAR[1]},{FAR[0]}:{FAR[1]}', '--control', door]
-    begun = time.monotonic()
+             '--satop', f'{NEAR[0]}:{NEAR[1]},{FAR[0]}:{FAR[1]}', '--control', door, '--json', events]
     driver = subprocess.Popen(words, stdin=subprocess.DEVNULL)
     os.setpriority(os.PRIO_PROCESS, driver.pid, nice)
     hurry()
     try:
         control = Control(door, world)
         set_up(world, control)
-        measure(world, control, seconds, look)
+        on_purpose(world, Near(driver.pid), look)
+        measure(world, control, seconds, look, events, Near(driver.pid))
     finally:
         driver.terminate()
         status = driver.wait(30)
     look('status of the driver', status, status == 0, '0')
-    used = resource.getrusage(resource.RUSAGE_CHILDREN)
-    spent = (used.ru_utime + used.ru_stime) / (time.monotonic() - begun)
-    look('driver and gateway took of a core', f'{100 * spent:.0f} %', True, 'told')
-    return world.longest < .1
+    return world.stood.longest()[0] < SILENCE
