@@ -4,7 +4,7 @@ from __future__ import annotations
 import struct
 from collections import deque
 from dataclasses import dataclass, field
-from typing import Any, Callable
+from typing import Any, Callable, Iterator
 
 from .session import CIRCUITS, HEAD, OCTETS_A_SECOND, DatagramRefusal, Kind
 
@@ -52,6 +52,16 @@ class Circuit:
     admitted_at: int | None = None      # the place of the last one that was admitted
 
 
+def _records(held: bytes) -> Iterator[tuple[int, int, int, int]]:
+    """The whole records among octets: of each its kind, its circuit, and where its body begins and ends."""
+    at, size, unpack = 0, len(held), HEAD.unpack_from
+    while size - at >= 4:
+        kind, circuit, length = unpack(held, at)
+        if at + 4 + length > size:
+            return
+        yield kind, circuit, at + 4, (at := at + 4 + length)
+
+
 class Counts:
     """Counts datagrams. `taped` is given the octets of the recording and `answered` those of its replay, in pieces.
 
@@ -73,38 +83,26 @@ class Counts:
     def taped(self, octets: bytes) -> bytes:
         """Octets of the recording: notes each datagram and where on the trunk it came. Returns the records that are
         whole now."""
-        held, at, unpack, asked = self._tape + octets, 0, HEAD.unpack_from, self._asked
-        size = len(held)
-        while size - at >= 4:
-            kind, circuit, length = unpack(held, at)
-            after = at + 4 + length
-            if after > size:
-                break
+        held, at = self._tape + octets, 0
+        for kind, circuit, body, at in _records(held):
             if kind == _TRUNK:
-                self.place += length
+                self.place += at - body
             elif kind == _DATAGRAM:
-                sequence, timestamp, ssrc = _FIELDS.unpack_from(held, at + 6) if length >= 12 else (0, 0, 0)
-                asked.append((circuit, self.place, sequence, timestamp, ssrc))
-            at = after
+                sequence, timestamp, ssrc = _FIELDS.unpack_from(held, body + 2) if at - body >= 12 else (0, 0, 0)
+                self._asked.append((circuit, self.place, sequence, timestamp, ssrc))
         self._tape = held[at:]
         return held[:at]
 
     def answered(self, octets: bytes) -> None:
         """Octets of the replay: what was sent, and what became of each datagram."""
-        held, at, unpack, circuits = self._answers + octets, 0, HEAD.unpack_from, self.circuits
-        size = len(held)
-        while size - at >= 4:
-            kind, circuit, length = unpack(held, at)
-            after = at + 4 + length
-            if after > size:
-                break
+        held, at = self._answers + octets, 0
+        for kind, circuit, body, at in _records(held):
             if kind == _DATAGRAM:
-                circuits[circuit].counts['sent'] += 1
+                self.circuits[circuit].counts['sent'] += 1
             elif kind == _TRUNK:
-                self.answered_place += length
-            elif kind == _ANSWER and held[at + 4] == _DATAGRAM:
-                self._count(circuit, held[at + 5])
-            at = after
+                self.answered_place += at - body
+            elif kind == _ANSWER and held[body] == _DATAGRAM:
+                self._count(circuit, held[body + 1])
         self._answers = held[at:]
 
     def _count(self, circuit: int, code: int) -> None:

@@ -35,8 +35,21 @@ KINDS_SERVED = frozenset((Kind.TRUNK, Kind.COMMAND, Kind.CODEC))                
 KINDS_WRITTEN = frozenset((Kind.TRUNK, Kind.DATAGRAM, Kind.ANSWER))                 # by replay
 
 
-class Command(IntEnum):
-    """An operator's commands. `word` is what is typed, `label` the manual's name."""
+class _Named(IntEnum):
+    """Numbers with names: `label` is the manual's name."""
+
+    @property
+    def label(self) -> str:
+        return self.name.title().replace('_', '')
+
+
+def _typed(number: IntEnum) -> str:
+    """The name of a number as it is typed."""
+    return number.name.lower().replace('_', '-')
+
+
+class Command(_Named):
+    """An operator's commands. `word` is what is typed."""
 
     SEIZE = 1
     CLEAR = 2
@@ -47,11 +60,7 @@ class Command(IntEnum):
 
     @property
     def word(self) -> str:
-        return self.name.lower().replace('_', '-')
-
-    @property
-    def label(self) -> str:
-        return self.name.title().replace('_', '')
+        return _typed(self)
 
 
 class Codec(IntEnum):
@@ -65,7 +74,7 @@ class Codec(IntEnum):
 
     @property
     def label(self) -> str:
-        return self.name.lower().replace('_', '-')
+        return _typed(self)
 
     def word(self, law: str) -> str:
         """What is typed, and what the configuration says, on a trunk of that law."""
@@ -74,12 +83,8 @@ class Codec(IntEnum):
         return self.label
 
 
-class _Refusal(IntEnum):
-    """Why something was refused. `label` is the manual's name, `words` is what a user reads."""
-
-    @property
-    def label(self) -> str:
-        return self.name.title().replace('_', '')
+class _Refusal(_Named):
+    """Why something was refused. `words` is what a user reads."""
 
     @property
     def words(self) -> str:
@@ -127,8 +132,8 @@ def refusal_of(asked: int, code: int) -> Refusal | None:
     return REFUSALS[asked](code) if code else None
 
 
-class Fault(IntEnum):
-    """The faults of a session. `label` is the manual's name."""
+class Fault(_Named):
+    """The faults of a session."""
 
     BAD_KIND = 1
     BAD_CIRCUIT = 2
@@ -136,10 +141,6 @@ class Fault(IntEnum):
     TRUNCATED = 4
     READ = 5
     WRITE = 6
-
-    @property
-    def label(self) -> str:
-        return self.name.title().replace('_', '')
 
 
 class BadSession(Exception):
