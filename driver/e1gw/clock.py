@@ -32,6 +32,10 @@ class Finding:
     value: float
 
 
+def _spread(values: deque[float]) -> float:
+    return max(values) - min(values)
+
+
 class Clock:
     """Looks at the flow of octets. Times are of time.monotonic."""
 
@@ -44,8 +48,10 @@ class Clock:
         self.ppm: float | None = None
         self.off_rate = False
         self._began = self._last = self._stood = now
-        self._low: float | None = None      # the least that octets were behind since the last look
+        # The least that octets were behind since the last look: when they had come, and when they were read.
+        self._low: tuple[float, float] | None = None
         self._lows: deque[float] = deque(maxlen=WINDOW)
+        self._read_lows: deque[float] = deque(maxlen=WINDOW)
         self._base: float | None = None     # what octets are behind by as a rule
         self._steps = 0.0                   # of that, what gaps have added
         self._rates: deque[tuple[float, float]] = deque()
@@ -59,10 +65,10 @@ class Clock:
             self._late_places.append(self.octets)
             self._late.append(behind - self._base)
         self.octets += count
-        behind -= (count + unread) / OCTETS_A_SECOND
+        behind -= count / OCTETS_A_SECOND
+        came = behind - unread / OCTETS_A_SECOND
         self._last = now
-        if self._low is None or behind < self._low:
-            self._low = behind
+        self._low = (min(came, self._low[0]), min(behind, self._low[1])) if self._low else (came, behind)
 
     def held(self, now: float) -> None:
         """Until now nothing was read, whether octets came or not."""
@@ -77,7 +83,13 @@ class Clock:
 
     def steady(self) -> bool:
         """Whether octets flow at their rate."""
-        return not self.stalled and len(self._lows) == WINDOW and max(self._lows) - min(self._lows) < STEADY
+        return not self.stalled and len(self._lows) == WINDOW and _spread(self._lows) < STEADY
+
+    def late(self) -> float | None:
+        """By how much octets are read later than usual, where that does not change."""
+        if self._base is None or not self.steady() or _spread(self._read_lows) >= STEADY:
+            return None
+        return min(self._read_lows) - self._base
 
     def look(self, now: float) -> list[Finding]:
         """To be called each TICK: what has become of the flow since."""
@@ -102,8 +114,11 @@ class Clock:
             self.stalled, self._stood = True, self._last
             self.stalls += 1
             self._lows.clear()
+            self._read_lows.clear()
             return [Finding('stalled', quiet)]
-        self._lows.append(self._low)
+        came, read = self._low
+        self._lows.append(came)
+        self._read_lows.append(read)
         self._low = None
         if not self.stalled:
             return []

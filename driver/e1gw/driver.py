@@ -31,6 +31,7 @@ from .web import Visitor
 BESIDE = ('shadow', 'recording', 'session', 'json', 'metrics', 'picture')     # what may end without the calls
 REOPEN_MOST = 30.0              # seconds between two tries to open the trunk
 DISPLACED = 0.02                # seconds by which a call's first datagram may be displaced
+LOOKED_AT = 10.0                # seconds after it in which octets may come to be in time again
 
 
 class Driver:
@@ -52,7 +53,8 @@ class Driver:
         self._doors: list[Door] = []
         self._paused = False
         self._slowest: deque[float] = deque([0.0], maxlen=60)
-        self._first: dict[int, float] = {}          # of open circuits, how late the first datagram's octet was
+        # Of open circuits: how late the octet of the first datagram was, and until when that is looked at.
+        self._first: dict[int, tuple[float, float]] = {}
         self._dark_since: float | None = None
         self._dark_cleared = False
         self._notes: deque[tuple[str, str]] = deque()   # from other threads: what has ended, and why
@@ -337,7 +339,7 @@ class Driver:
 
     def _admitted(self, circuit: int, place: int) -> None:
         if circuit not in self._first:
-            self._first[circuit] = self.clock.late_at(place)
+            self._first[circuit] = self.clock.late_at(place), time.monotonic() + LOOKED_AT
 
     # ---- time ----
 
@@ -367,15 +369,15 @@ class Driver:
             self.renew(self._open_circuits(), f'{finding.what} of {seconds} s')
 
     def _look_at_first(self) -> None:
-        """Calls whose first datagram came with octets that had waited: all later ones would be late."""
-        lines = self.lines.lines
+        """Calls whose first datagram came with octets that had waited, where octets are in time again: all later ones
+        would be late."""
+        lines, now, late = self.lines.lines, time.monotonic(), self.clock.late()
         for n in [n for n in self._first if lines[n].state not in OPEN]:
             del self._first[n]
-        if self.clock.steady():
-            late = [n for n, behind in self._first.items()
-                    if behind > max(DISPLACED, lines[n].prefill / SAMPLES_A_SECOND / 2)]
-            self._first = {n: 0.0 for n in self._first}
-            self.renew(late, 'octets had waited')
+        if late is not None:
+            self.renew([n for n, (behind, until) in self._first.items() if now < until
+                        and behind - late > max(DISPLACED, lines[n].prefill / SAMPLES_A_SECOND / 2)],
+                       'octets had waited')
 
     def _look_at_dark(self, now: float) -> None:
         if self.dark_words() is None and not self.clock.stalled:

@@ -56,6 +56,11 @@ class Trunk:
             self.found += self.clock.look(self._look)
             self._look += TICK
 
+    def late(self) -> float:
+        late = self.clock.late()
+        assert late is not None
+        return late
+
     def words(self) -> list[str]:
         return [finding.what for finding in self.found]
 
@@ -102,6 +107,26 @@ class Flow(unittest.TestCase):
         trunk.go(1)
         self.assertEqual(trunk.words(), ['gap'])
         self.assertAlmostEqual(trunk.found[0].value, 0.3, delta=0.02)
+
+    def test_how_late_octets_are_now(self) -> None:
+        trunk = Trunk()
+        trunk.go(2)
+        self.assertAlmostEqual(trunk.late(), 0.0, delta=0.005)
+        # 60 ms are lost, which is no gap: all octets are later from then on.
+        trunk.quiet(0.06)
+        trunk.go(1)
+        self.assertAlmostEqual(trunk.late(), 0.06, delta=0.005)
+        # 50 ms wait from here on: those that are read are later by that too, until they are worked off.
+        trunk.stand_still(0.05)
+        for _ in range(500):
+            trunk._wait(RECORD)
+            trunk.clock.took(256, trunk.now, 12_800)
+        self.assertAlmostEqual(trunk.late(), 0.11, delta=0.005)
+        trunk.catch_up(0.05, 1.5)
+        self.assertIsNone(trunk.clock.late())
+        trunk.go(1)
+        self.assertAlmostEqual(trunk.late(), 0.06, delta=0.005)
+        self.assertEqual(trunk.words(), [])
 
     def test_nothing_is_read_while_it_is_held(self) -> None:
         trunk = Trunk()

@@ -121,6 +121,12 @@ class Kinds(unittest.TestCase):
                 host_and_port(text)
 
 
+def port_of(world: World) -> int:
+    """That of the first circuit."""
+    with open(world.config, encoding='utf-8') as file:
+        return int(file.read().split('local_port = ')[1].split()[0])
+
+
 def speak(port: int, ended: threading.Event) -> None:
     """Sends packets of 20 ms to a port, in real time."""
     began = time.monotonic()
@@ -157,10 +163,8 @@ class Service(unittest.TestCase):
             aligned(world)
             call(world, 1)
             self.in_time(world, 0.6)
-            with open(world.config, encoding='utf-8') as file:
-                port = int(file.read().split('local_port = ')[1].split()[0])
             ended = threading.Event()
-            thread = threading.Thread(target=speak, args=(port, ended))
+            thread = threading.Thread(target=speak, args=(port_of(world), ended))
             time.sleep(0.08)
             thread.start()
             try:
@@ -175,14 +179,31 @@ class Service(unittest.TestCase):
                 thread.join()
             self.assertGreater(after - before, 20)
 
+    def test_octets_that_stay_late_begin_nothing_anew(self) -> None:
+        """A loss that is no gap: the first datagram after it comes with octets that are late, and stay so."""
+        with World(config_of(FOUR, prefill=160)) as world:
+            aligned(world)
+            call(world, 1)
+            self.in_time(world, 0.8)
+            time.sleep(0.06)
+            self.in_time(world, 0.4)
+            begun = world.status()['renewed']
+            ended = threading.Event()
+            thread = threading.Thread(target=speak, args=(port_of(world), ended))
+            thread.start()
+            try:
+                self.in_time(world, 1.5)
+            finally:
+                ended.set()
+                thread.join()
+            self.assertLessEqual(world.settled()['renewed'] - begun, 1)
+
     def admitted_after_a_gap(self, world: World) -> int:
         """A sender speaks in a call; 0.7 s of the trunk are lost. How many packets are admitted in the last second."""
         aligned(world)
         call(world, 1)
-        with open(world.config, encoding='utf-8') as file:
-            port = int(file.read().split('local_port = ')[1].split()[0])
         ended = threading.Event()
-        thread = threading.Thread(target=speak, args=(port, ended))
+        thread = threading.Thread(target=speak, args=(port_of(world), ended))
         thread.start()
         try:
             self.in_time(world, 0.6)
