@@ -252,7 +252,8 @@ def lock_step(program: str, folder: str, trial: Trial, bars: Bars) -> list[bytes
               f'{status["align_differing"]}', not status['align_differing'], 'told, 0')
     bars.look('states', ' '.join(lock.states()), lock.states() == ['answered'] * 2, 'answered answered')
     bars.look('packets there and back', f'{lock.far.sent}, {lock.far.heard}',
-              0 <= lock.far.sent - lock.far.heard <= trial.jitter + 1 and not lock.far.gaps, 'but for the buffer')
+              0 <= lock.far.sent - lock.far.heard <= trial.jitter + 1 and not (lock.far.gaps or lock.far.losses),
+              'but for the buffer')
     lock.end()
     return lock.far.packets
 

@@ -78,7 +78,7 @@ class Multiplexer:
         self.socket.connect(peer)
         self.socket.setblocking(False)
         self.sequence, self._before = 65500, 0xFF
-        self.sent = self.heard = self.remote = self.gaps = 0
+        self.sent = self.heard = self.remote = self.gaps = self.losses = 0
         self.packets: list[bytes] = []          # the first ones that came and went, with who sent them
         self._next: int | None = None
 
@@ -128,4 +128,10 @@ class Multiplexer:
         self._next = (sequence + 1) % 65536
         self.heard += 1
         self.remote += flags == 4
-        self.exchange.hear(packet[4:])
+        try:
+            self.exchange.hear(packet[4:])
+        except SystemExit:
+            # It looks for the frames anew.
+            self.losses += 1
+            self.exchange.aligned, self.exchange.remote_alarms = False, True
+            self.exchange.received.clear()

@@ -136,6 +136,12 @@ class Stood:
         return f'stood still before: {", ".join(found) or "nobody"}'
 
 
+def stolen() -> float:
+    """Seconds of processors that a host took from this machine while it had work."""
+    with open('/proc/stat', encoding='ascii') as file:
+        return int(file.readline().split()[8]) / os.sysconf('SC_CLK_TCK')
+
+
 class World:
     """The far end and its time."""
 
@@ -147,13 +153,14 @@ class World:
         self.speaking = False
         self.due = time.monotonic()
         self.alarms = self.changes = self.steps = 0
-        self.stood, self.others = Stood(), Counter[int]()       # octets that are others, by second of time.time()
+        self.stood, self.stolen = Stood(), stolen()
+        self.others = Counter[int]()        # octets that are others, by second of time.time()
         self._before: dict[int, int] = {}
 
     def begin(self) -> None:
         """Counts from now on."""
-        self.alarms = self.changes = 0
-        self.stood = Stood()
+        self.alarms = self.changes = self.far.gaps = self.far.losses = 0
+        self.stood, self.stolen = Stood(), stolen()
         self.others.clear()
         for voice in self.voices:
             voice.begin()
@@ -276,7 +283,9 @@ def measure(world: World, control: Control, seconds: float, look: Look, path: st
     spent = {name: f'{100 * (each - used[name]) / seconds:.1f} %' for name, each in near.processor().items()}
     before, after = begun['transport'], status['transport']
     more = {name: after[name] - before[name] for name in after if isinstance(after[name], int)}
-    print(f'  at most {stood.words()}')
+    print(f'  at most {stood.words()}; load {os.getloadavg()[0]:.1f}, {os.getloadavg()[1]:.1f}, '
+          f'{os.getloadavg()[2]:.1f} on {os.cpu_count()} processors, of which a host took '
+          f'{100 * (stolen() - world.stolen) / seconds:.0f} % of one away')
     right, wrong = world.octets()
     up = sum(row['state'] == 'answered' for row in status['circuits'])
     look('calls up at the end, and changes of line signals', f'{up}, {world.changes}', up == 30 and not world.changes,
@@ -292,7 +301,8 @@ def measure(world: World, control: Control, seconds: float, look: Look, path: st
     look('gaps of the trunk, by the driver\'s clock', status['clock']['gaps'] - begun['clock']['gaps'], True, 'told')
     look('octets of speech that are others', f'{wrong} of {right + wrong}', 0 < right and wrong * 1000 <= right + wrong,
          'at most one in 1000')
-    look('packets out of order at the far end', world.far.gaps, world.far.gaps == 0, '0')
+    look('gaps in what comes back, losses of its alignment', f'{world.far.gaps}, {world.far.losses}',
+         not (world.far.gaps or world.far.losses), '0, 0')
     look('octets not of e1gw align, and of another opinion', f'{more["align_stood_in"]}, {more["align_differing"]}',
          not more['align_differing'], 'told, 0')
     print(f'  of a core: {", ".join(f"{name} {share}" for name, share in spent.items())}')
