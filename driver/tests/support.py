@@ -1,4 +1,4 @@
-"""What the tests share: the program that is looked at, an exchange, and folders."""
+"""What the tests share: the program that is looked at, an exchange, and a trunk in service."""
 from __future__ import annotations
 
 import os
@@ -11,8 +11,9 @@ sys.dont_write_bytecode = True
 sys.path[:0] = [os.path.join(TOP, 'driver'), os.path.join(TOP, 'scripts')]
 
 from exchange import Exchange       # noqa: E402
+from service import Service         # noqa: E402
 
-__all__ = ['Exchange', 'TOP', 'program', 'run']
+__all__ = ['Exchange', 'Service', 'TOP', 'program', 'run']
 
 
 def program() -> str:

@@ -1,4 +1,4 @@
-"""The octets of an emulated circuit through `e1gw align`: at each offset, and where the process ends or stands still."""
+"""The octets of an emulated circuit by `e1gw align`: at each offset, and where the process ends or stands still."""
 from __future__ import annotations
 
 import os

@@ -1,19 +1,17 @@
 """Two drivers with their gateways at one another over an emulated circuit, in real time."""
 from __future__ import annotations
 
-import json
 import os
+import signal
 import socket
-import subprocess
-import sys
 import tempfile
 import time
 import unittest
-from typing import Any, Callable
+from typing import Callable
 
 from . import support
+from .world import aligner_of
 
-LAUNCHER = os.path.join(support.TOP, 'driver', 'e1gw-trunk')
 PATIENCE = 30
 
 
@@ -28,42 +26,17 @@ def free_ports(count: int) -> list[int]:
     return ports
 
 
-class End:
+class End(support.Service):
     """A driver of which circuit 1 is the only one with a role of its own."""
 
     def __init__(self, folder: str, name: str, role: str, satop: str, *options: str) -> None:
-        config, self.control = os.path.join(folder, f'{name}.toml'), os.path.join(folder, f'{name}.control')
+        config = os.path.join(folder, f'{name}.toml')
         with open(config, 'w', encoding='utf-8') as file:
             file.write(f'law = "A"\n[[circuit]]\nnumber = 1\nrole = "{role}"\n')
-        self.log = open(os.path.join(folder, f'{name}.log'), 'w+', encoding='utf-8')
-        self.driver = subprocess.Popen(
-            [sys.executable, '-B', LAUNCHER, '--config', config, '--program', support.program(), '--satop', satop,
-             '--control', self.control, *options], stdin=subprocess.DEVNULL, stdout=self.log, stderr=self.log)
+        super().__init__(folder, name, support.program(), config, '--satop', satop, *options)
 
-    def ask(self, command: str) -> str:
-        with socket.socket(socket.AF_UNIX) as line:
-            line.settimeout(PATIENCE)
-            line.connect(self.control)
-            line.sendall(command.encode() + b'\n')
-            return line.makefile('rb').readline().decode().strip()
-
-    def status(self) -> dict[str, Any]:
-        try:
-            found: dict[str, Any] = json.loads(self.ask('status json'))
-            return found
-        except (OSError, ValueError):
-            return {}
-
-    def state(self) -> str:
-        status = self.status()
-        return str(status['circuits'][0]['state']) if status else ''
-
-    def end(self) -> int:
-        if self.driver.poll() is None:
-            self.driver.terminate()
-        status = self.driver.wait(PATIENCE)
-        self.log.close()
-        return status
+    def transport(self, name: str) -> int:
+        return int(self.status()['transport'][name])
 
 
 class Call(unittest.TestCase):
@@ -75,17 +48,21 @@ class Call(unittest.TestCase):
         # 60 ms of buffer for what the other driver stands still; with 200 ms an acknowledgement would be too late.
         self.west = End(folder.name, 'west', 'outgoing', f'{west},{east}', '--satop-clock', 'own',
                         '--satop-jitter', '30', '--satop-rtp', '97', '--satop-size', '512')
-        self.addCleanup(self.west.end)
+        self.addCleanup(self.end, self.west)
         self.east = End(folder.name, 'east', 'incoming', f'{east},{west}', '--satop-rtp', '97', '--satop-size', '512')
-        self.addCleanup(self.east.end)
+        self.addCleanup(self.end, self.east)
+
+    def end(self, each: End) -> int:
+        status = each.end()
+        each.log.close()
+        return status
 
     def until(self, what: str, holds: Callable[[], bool]) -> None:
         end = time.monotonic() + PATIENCE
         while not holds():
             for each in (self.west, self.east):
                 if each.driver.poll() is not None or time.monotonic() > end:
-                    each.log.seek(0)
-                    self.fail(f'{what}: {each.log.read()}')
+                    self.fail(f'{what}: {each.said()}')
             time.sleep(.05)
 
     def seized(self) -> bool:
@@ -94,15 +71,45 @@ class Call(unittest.TestCase):
             self.west.ask('seize 1')
         return self.west.state() == self.east.state() == 'acked'
 
-    def test_a_call(self) -> None:
+    def answered(self) -> None:
+        """A call that is answered."""
         west, east = self.west, self.east
         self.until('idle', lambda: west.state() == east.state() == 'idle')
         self.until('acknowledged', self.seized)
         self.assertEqual(east.ask('answer 1'), 'answer 1: done')
         self.until('answered', lambda: west.state() == 'answered')
+
+    def test_a_call(self) -> None:
+        west, east = self.west, self.east
+        self.answered()
         transport = east.status()['transport']
         self.assertEqual((transport['malformed'], transport['offset'], transport['aligned']), (0, 0, 1))
+        self.assertEqual((transport['align_renewed'], transport['align_differing']), (0, 0))
         self.assertGreater(transport['received'], 0)
         self.assertEqual(west.ask('clear 1'), 'clear 1: done')
         self.until('idle again', lambda: west.state() == east.state() == 'idle')
-        self.assertEqual([west.end(), east.end()], [0, 0])
+        self.assertEqual([self.end(west), self.end(east)], [0, 0])
+
+    def test_the_aligning_process_goes_in_a_call(self) -> None:
+        """It is killed, and stopped for some time and for good; the call stays, and so does alignment."""
+        west, east = self.west, self.east
+        self.answered()
+        begun = {name: east.transport(name) for name in ('searches', 'alignment_lost')}
+        process = aligner_of(east.driver.pid)
+        os.kill(process, signal.SIGKILL)
+        self.until('begun anew', lambda: east.transport('align_renewed') == 1)
+        self.until('in step', lambda: 'own alignment over' in east.said())
+        process = aligner_of(east.driver.pid)
+        before = east.transport('align_stood_in')
+        os.kill(process, signal.SIGSTOP)
+        time.sleep(.2)
+        os.kill(process, signal.SIGCONT)
+        self.until('stood in', lambda: east.transport('align_stood_in') > before)
+        self.until('in step', lambda: east.transport('aligning') == 0)
+        os.kill(aligner_of(east.driver.pid), signal.SIGSTOP)
+        self.until('begun anew', lambda: east.said().count('own alignment over') == 2)
+        self.assertEqual((west.state(), east.state()), ('answered', 'answered'))
+        self.assertEqual(begun, {name: east.transport(name) for name in begun})
+        self.assertEqual(east.transport('align_differing'), 0)
+        for why in ('ended by signal 9', 'stands still'):
+            self.assertEqual(east.said().count(f'satop: own alignment: e1gw align {why}'), 1)

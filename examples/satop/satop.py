@@ -7,15 +7,13 @@ and hears what comes.
 from __future__ import annotations
 
 import bisect
-import json
 import math
 import os
 import socket
-import subprocess
 import sys
 import tempfile
 import time
-from typing import Any, Callable
+from typing import Callable
 
 sys.dont_write_bytecode = True
 HERE = os.path.dirname(os.path.abspath(__file__))
@@ -23,6 +21,7 @@ TOP = os.path.dirname(os.path.dirname(HERE))
 sys.path[:0] = [os.path.join(TOP, 'driver'), os.path.join(TOP, 'scripts')]
 from e1gw.session import Packet, packet_of  # noqa: E402
 from exchange import VALUES  # noqa: E402
+from service import Service  # noqa: E402
 
 SECONDS, PACKET = 2, 160            # of speech; samples, 20 ms
 PACKETS = 8000 * SECONDS // PACKET
@@ -68,34 +67,16 @@ class Phone:
             pass
 
 
-class Gateway:
+class Gateway(Service):
     """A driver with its gateway, and its control."""
 
     def __init__(self, name: str, program: str, folder: str) -> None:
-        self.name, self.path = name, os.path.join(folder, f'{name}.control')
-        words = [sys.executable, '-B', os.path.join(TOP, 'driver', 'e1gw-trunk'), '--program', program,
-                 '--config', os.path.join(HERE, f'{name}.toml'), '--satop', ENDS[name], '--control', self.path,
-                 *OPTIONS[name]]
-        self.log = open(os.path.join(folder, f'{name}.log'), 'w+', encoding='utf-8')
-        self.driver = subprocess.Popen(words, stdin=subprocess.DEVNULL, stdout=self.log, stderr=self.log)
+        super().__init__(folder, name, program, os.path.join(HERE, f'{name}.toml'), '--satop', ENDS[name],
+                         *OPTIONS[name])
         try:
             os.setpriority(os.PRIO_PROCESS, self.driver.pid, -5)    # as the unit of the driver has it
         except PermissionError:
             pass
-
-    def ask(self, command: str) -> str:
-        with socket.socket(socket.AF_UNIX) as line:
-            line.settimeout(PATIENCE)
-            line.connect(self.path)
-            line.sendall(command.encode() + b'\n')
-            return line.makefile('rb').readline().decode().strip()
-
-    def status(self) -> dict[str, Any]:
-        try:
-            found: dict[str, Any] = json.loads(self.ask('status json'))
-            return found
-        except (OSError, ValueError):
-            return {}
 
     def state(self) -> str:
         """That of circuit 1, as long as there is no alarm at either end."""
@@ -103,10 +84,6 @@ class Gateway:
         if not status or any(status['alarm'].values()) or any(status['remote_alarm'].values()):
             return 'alarm'
         return str(status['circuits'][0]['state'])
-
-    def end(self) -> int:
-        self.driver.terminate()
-        return self.driver.wait(20)
 
 
 class Call:
@@ -192,8 +169,7 @@ def main() -> int:
             statuses = [end.end() for end in ends]
             if not good or any(statuses):
                 for end in ends:
-                    end.log.seek(0)
-                    print(f'{end.name}:\n{end.log.read()}', file=sys.stderr)
+                    print(f'{end.name}:\n{end.said()}', file=sys.stderr)
     print('the call came through' if good and statuses == [0, 0] else f'NOT as it should be, statuses {statuses}')
     return 0 if good and statuses == [0, 0] else 1
 
