@@ -47,7 +47,7 @@ class Clock:
         self.stalled = False
         self.ppm: float | None = None
         self.off_rate = False
-        self._began = self._last = self._stood = now
+        self._began = self._last = self._stood = self._looked = now
         # The least that octets were behind since the last look: when they had come, and when they were read.
         self._low: tuple[float, float] | None = None
         self._lows: deque[float] = deque(maxlen=WINDOW)
@@ -93,6 +93,9 @@ class Clock:
 
     def look(self, now: float) -> list[Finding]:
         """To be called each TICK: what has become of the flow since."""
+        if now - self._looked >= self.gap:
+            self.held(now)      # this process stood still
+        self._looked = now
         found = self._look_at_flow(now)
         if not self.steady():
             return found

@@ -131,10 +131,20 @@ class Flow(unittest.TestCase):
     def test_nothing_is_read_while_it_is_held(self) -> None:
         trunk = Trunk()
         trunk.go(2)
+        for _ in range(24):
+            trunk._wait(TICK)
+            trunk.clock.held(trunk.now)
+        self.assertEqual(trunk.words(), [])
+
+    def test_a_look_that_is_late_says_nothing_of_octets(self) -> None:
+        trunk = Trunk()
+        trunk.go(2)
         trunk.now += 0.5
-        trunk.clock.held(trunk.now)
-        trunk.go(1)
-        self.assertNotIn('stalled', trunk.words())
+        trunk.found += trunk.clock.look(trunk.now)
+        self.assertEqual(trunk.words(), [])
+        trunk.stand_still(0)
+        trunk.quiet(0.2)
+        self.assertEqual(trunk.words(), ['stalled'])
 
     def test_small_gaps_add_up(self) -> None:
         trunk = Trunk()
