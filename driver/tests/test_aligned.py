@@ -3,7 +3,6 @@ from __future__ import annotations
 
 import errno
 import os
-import pty
 import select
 import signal
 import socket
@@ -11,17 +10,16 @@ import subprocess
 import sys
 import tempfile
 import time
-import tty
 import unittest
 
-from . import support
+from . import devices, support
 from .test_driver import FOUR, aligned, call
 from .test_satop_bits import expected, late
 from .world import LAUNCHER, SECONDS, World, aligner_of, config_of
 from e1gw import session
 from e1gw.aligned import MOST_INSIDE, Aligned, align
 from e1gw.trunk import Usage, options_of
-from e1gw.trunks import Stream, Trunk, open_files, open_tcp
+from e1gw.trunks import Stream, Trunk, open_files
 
 
 def carried(bits: int, start: int, end: int) -> bytes:
@@ -161,34 +159,19 @@ class Through(unittest.TestCase):
         os.kill(process, signal.SIGCONT)
         self.assertEqual(self.octets(trunk, len(given)), given)
 
-    def both_ways(self, device: Trunk, reads: int, writes: int) -> None:
-        """The other end writes and reads by these descriptors, which it then closes."""
-        trunk = align(lambda: device, support.program())
-        self.addCleanup(trunk.close)
-        os.write(writes, carried(3, 0, 600))
-        self.assertEqual(self.octets(trunk, 600)[65:], bytes(expected(3, place) for place in range(65, 600)))
-        trunk.write(b'sent')
-        self.assertEqual(os.read(reads, 1000), b'sent')
-        for file in {reads, writes}:
-            os.close(file)
-        self.assertRaises(EOFError, self.octets, trunk, 1)
-
-    def test_fifos(self) -> None:
-        (first, writes), (reads, second) = os.pipe(), os.pipe()
-        self.both_ways(Stream(first, second, 'fifos'), reads, writes)
-
-    def test_a_pseudo_terminal(self) -> None:
-        ours, theirs = pty.openpty()
-        tty.setraw(theirs)
-        device = open_files(os.ttyname(theirs), os.ttyname(theirs))
-        os.close(theirs)
-        self.both_ways(device, ours, ours)
-
-    def test_a_tcp_socket(self) -> None:
-        with socket.create_server(('127.0.0.1', 0)) as door:
-            device = open_tcp('127.0.0.1', door.getsockname()[1])
-            file = door.accept()[0].detach()
-        self.both_ways(device, file, file)
+    def test_each_kind(self) -> None:
+        with tempfile.TemporaryDirectory() as folder:
+            for device, reads, writes in (devices.fifos(folder), devices.pseudo_terminal(), devices.tcp_socket()):
+                trunk = align(lambda: device, support.program())
+                self.addCleanup(trunk.close)
+                os.write(writes, carried(3, 0, 600))
+                self.assertEqual(self.octets(trunk, 600)[65:], bytes(expected(3, place) for place in range(65, 600)))
+                self.assertEqual(trunk.unread(), 0)
+                trunk.write(b'sent')
+                self.assertEqual(os.read(reads, 1000), b'sent')
+                for file in {reads, writes}:
+                    os.close(file)
+                self.assertRaises(EOFError, self.octets, trunk, 1)
 
     def test_a_file(self) -> None:
         with tempfile.TemporaryDirectory() as folder:
@@ -263,18 +246,12 @@ class Service(unittest.TestCase):
             aligned(world)
             call(world, 1)
             world.line.close()
-            os.unlink(world.path('card'))
-            with socket.socket(socket.AF_UNIX) as door:
-                door.bind(world.path('card'))
-                door.listen()
-                door.settimeout(SECONDS)
-                world.line = door.accept()[0]
-                world.line.settimeout(SECONDS)
+            with world.new_door() as door:
+                world.take(door)
                 world.step(50)
                 os.kill(aligner_of(world.process.pid), signal.SIGKILL)
                 world.line.close()
-                world.line = door.accept()[0]
-            world.line.settimeout(SECONDS)
+                world.take(door)
             world.step(50)
             self.assertEqual((world.status()['trunk_up'], world.state(1)), (True, 'answered'))
             status, said = world.quit()

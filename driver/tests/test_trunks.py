@@ -3,19 +3,17 @@ from __future__ import annotations
 
 import json
 import os
-import pty
 import socket
 import tempfile
 import threading
 import time
-import tty
 import unittest
 
-from . import support
+from . import devices, support
 from .test_driver import FOUR, aligned, call
 from .world import SECONDS, World, config_of
 from e1gw.session import Packet
-from e1gw.trunks import Stream, Trunk, host_and_port, open_files, open_tcp, open_unix
+from e1gw.trunks import Stream, Trunk, host_and_port, open_files
 
 OCTETS = bytes(range(256)) * 2
 
@@ -33,11 +31,13 @@ class Kinds(unittest.TestCase):
 
     def both_ways(self, trunk: Trunk, reads: int, writes: int) -> None:
         """The other end writes and reads by these descriptors, which it then closes."""
-        self.assertEqual(trunk.read(100), b'')
+        self.assertEqual((trunk.read(100), trunk.unread()), (b'', 0))
         os.write(writes, OCTETS)
         read = b''
         while len(read) < len(OCTETS):
             read += trunk.read(100)
+            if read:
+                self.assertEqual(trunk.unread(), len(OCTETS) - len(read))
         trunk.write(OCTETS)
         back = b''
         while len(back) < len(OCTETS):
@@ -52,36 +52,16 @@ class Kinds(unittest.TestCase):
         trunk.close()
 
     def test_fifos(self) -> None:
-        for name in ('in', 'out'):
-            os.mkfifo(self.path(name))
-        opened: list[Stream] = []
-        thread = threading.Thread(target=lambda: opened.append(open_files(self.path('in'), self.path('out'))))
-        thread.start()
-        writes = os.open(self.path('in'), os.O_WRONLY)
-        reads = os.open(self.path('out'), os.O_RDONLY)
-        thread.join(SECONDS)
-        self.both_ways(opened[0], reads, writes)
+        self.both_ways(*devices.fifos(self.folder))
 
     def test_a_pseudo_terminal(self) -> None:
-        ours, theirs = pty.openpty()
-        tty.setraw(theirs)
-        trunk = open_files(os.ttyname(theirs), os.ttyname(theirs))
-        os.close(theirs)
-        self.both_ways(trunk, ours, ours)
+        self.both_ways(*devices.pseudo_terminal())
 
     def test_a_unix_socket(self) -> None:
-        with socket.socket(socket.AF_UNIX) as door:
-            door.bind(self.path('card'))
-            door.listen()
-            trunk = open_unix(self.path('card'))
-            file = door.accept()[0].detach()
-        self.both_ways(trunk, file, file)
+        self.both_ways(*devices.unix_socket(self.folder))
 
     def test_a_tcp_socket(self) -> None:
-        with socket.create_server(('127.0.0.1', 0)) as door:
-            trunk = open_tcp('127.0.0.1', door.getsockname()[1])
-            file = door.accept()[0].detach()
-        self.both_ways(trunk, file, file)
+        self.both_ways(*devices.tcp_socket())
 
     def test_a_file(self) -> None:
         with open(self.path('in'), 'wb') as file:
@@ -234,13 +214,8 @@ class Service(unittest.TestCase):
             while world.status()['trunk_up'] and time.monotonic() < until:
                 time.sleep(0.05)
             self.assertEqual(world.ask('seize 2'), 'seize 2: no trunk')
-            os.unlink(world.path('card'))
-            with socket.socket(socket.AF_UNIX) as door:
-                door.bind(world.path('card'))
-                door.listen()
-                door.settimeout(SECONDS)
-                world.line = door.accept()[0]
-            world.line.settimeout(SECONDS)
+            with world.new_door() as door:
+                world.take(door)
             world.step(50)
             self.assertEqual((world.status()['trunk_up'], world.state(1)), (True, 'answered'))
 

@@ -73,20 +73,33 @@ class World:
         self.answers = answers
         self.sent, self.heard = bytearray(), bytearray()
         self._ages: dict[int, int] = {}
-        with socket.socket(socket.AF_UNIX) as door:
-            door.bind(self.path('card'))
-            door.listen(1)
+        with self._door() as door:
             streams = {'stdin': subprocess.DEVNULL, 'stdout': subprocess.DEVNULL, 'stderr': subprocess.PIPE} | streams
             self.process = subprocess.Popen(
                 [*front, sys.executable, '-B', LAUNCHER, '--program', support.program(), '--config', self.config,
                  '--unix', self.path('card'), '--control', self.path('ctl'),
                  *(word.replace('@', self.folder) for word in options)], **streams)
-            door.settimeout(SECONDS)
-            self.line = door.accept()[0]
-        self.line.settimeout(SECONDS)
+            self.take(door)
 
     def path(self, name: str) -> str:
         return os.path.join(self.folder, name)
+
+    def new_door(self) -> socket.socket:
+        """The socket anew, for a driver that opens its trunk again."""
+        os.unlink(self.path('card'))
+        return self._door()
+
+    def _door(self) -> socket.socket:
+        door = socket.socket(socket.AF_UNIX)
+        door.bind(self.path('card'))
+        door.listen(1)
+        door.settimeout(SECONDS)
+        return door
+
+    def take(self, door: socket.socket) -> None:
+        """Takes the driver that comes there."""
+        self.line = door.accept()[0]
+        self.line.settimeout(SECONDS)
 
     def __enter__(self) -> World:
         return self
