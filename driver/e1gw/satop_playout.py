@@ -6,11 +6,12 @@ from dataclasses import dataclass
 from enum import Enum
 
 from .satop_packet import SEQUENCES, distance
-from .session import MULTIFRAME
+from .session import MULTIFRAME, OCTETS_A_SECOND
 
 AGAIN_OCTETS = 2048         # 8 ms; what is missing for longer is ones, so that nobody takes it for a trunk
 REMEMBERED = 1024           # sequence numbers that were passed without their packet
 RUN_PACKETS, RUN_SECONDS = 8, 0.050
+FASTER = 1.5                # times the rate of a trunk
 SPARE = 16                  # packets
 
 
@@ -102,8 +103,12 @@ class Playout:
             self._run = Run(now, sequence)
             return False
         run.last, run.packets = sequence, run.packets + 1
-        # What was held back on the way comes in a burst; that is late, and no stream anew.
-        if run.packets < RUN_PACKETS or now - run.since < RUN_SECONDS:
+        lasted = now - run.since
+        if run.packets < RUN_PACKETS or lasted < RUN_SECONDS:
+            return False
+        if run.packets * self.size > FASTER * OCTETS_A_SECOND * lasted:
+            # What was held back on the way comes faster than a trunk goes; that is late, and no stream anew.
+            self._run = Run(now, sequence)
             return False
         self.counts.resyncs += 1
         self._begin(sequence)

@@ -150,6 +150,32 @@ class Streams(Case):
         self.assertEqual(self.take(*range(166, 171)), [octets(166)])
         self.told(late=146, filled=146)
 
+    def test_nor_where_it_comes_in_some_time(self) -> None:
+        """700 packets were missed and come within 140 ms, and then one in each millisecond."""
+        self.take(*range(20))
+        for _ in range(700):
+            self.now += .001
+            self.playout.play()
+        for number in range(20, 720):
+            self.now += .0002
+            # 716 packets were played; those from there on are in time.
+            self.assertEqual(self.playout.put(number, octets(number), self.now), number >= 716)
+        out = self.take(*range(720, 740))
+        self.assertEqual(out[-8:], [octets(number) for number in range(728, 736)])
+        self.assertEqual((self.playout.counts.resyncs, self.playout.counts.late), (0, 696))
+
+    def test_a_stream_anew_after_what_was_held_back(self) -> None:
+        self.take(*range(20))
+        for _ in range(700):
+            self.now += .001
+            self.playout.play()
+        for number in range(20, 600):
+            self.now += .0002
+            self.assertFalse(self.playout.put(number, octets(number), self.now))
+        out = self.take(*range(600, 700))
+        self.assertEqual(self.playout.counts.resyncs, 1)
+        self.assertEqual(out[-8:], [octets(number) for number in range(688, 696)])
+
     def test_the_number_goes_on_in_silence(self) -> None:
         self.take(*range(10, 20))
         for _ in range(1000):
