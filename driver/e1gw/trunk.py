@@ -55,7 +55,7 @@ def trunk_of(asked: argparse.Namespace) -> Callable[..., Trunk]:
     if files == 1 or sum(map(bool, ways)) != 1:
         raise Usage('a trunk is --in and --out, or --unix, or --tcp, or --satop')
     if asked.align and (asked.satop or asked.clear):
-        raise Usage('--align is for all 32 slots of a device or a socket; --satop aligns by itself')
+        raise Usage('--align is for all 32 slots of a device or a socket; --satop aligns in any case')
     if asked.satop:
         return _satop_of(asked)
     if asked.unix:

@@ -3,6 +3,7 @@ from __future__ import annotations
 
 import json
 import os
+import signal
 import socket
 import tempfile
 import threading
@@ -11,7 +12,7 @@ import unittest
 
 from . import devices, support
 from .test_driver import FOUR, aligned, call
-from .world import SECONDS, World, config_of
+from .world import SECONDS, World, child_of, config_of
 from e1gw.session import Packet
 from e1gw.trunks import Stream, Trunk, host_and_port, open_files
 
@@ -158,6 +159,19 @@ class Service(unittest.TestCase):
                 ended.set()
                 thread.join()
             self.assertGreater(after - before, 20)
+
+    def test_a_gateway_that_stands_still_is_no_stall_of_the_trunk(self) -> None:
+        with World(config_of(FOUR)) as world:
+            aligned(world)
+            self.in_time(world, 0.3)
+            gateway = child_of(world.process.pid, 'serve')
+            os.kill(gateway, signal.SIGSTOP)
+            wake = threading.Timer(0.4, os.kill, (gateway, signal.SIGCONT))
+            wake.start()
+            world.step()
+            wake.join()
+            self.in_time(world, 0.3)
+            self.assertEqual(world.status()['clock']['stalls'], 0)
 
     def test_octets_that_stay_late_begin_nothing_anew(self) -> None:
         """A loss that is no gap: the first datagram after it comes with octets that are late, and stay so."""

@@ -33,16 +33,22 @@ def free_ports(count: int) -> list[int]:
     raise RuntimeError('no free ports')
 
 
-def aligner_of(parent: int) -> int:
-    """The `e1gw align` that a process has started, as its number."""
+def child_of(parent: int, word: str) -> int:
+    """The process of the program that another one has started with this word, as its number."""
     for name in os.listdir('/proc'):
         try:
             with open(f'/proc/{name}/stat', encoding='utf-8') as stat, open(f'/proc/{name}/cmdline', 'rb') as words:
-                if int(stat.read().rpartition(')')[2].split()[1]) == parent and words.read().endswith(b'\0align\0'):
+                is_child = int(stat.read().rpartition(')')[2].split()[1]) == parent
+                if is_child and words.read().split(b'\0')[1:2] == [word.encode()]:
                     return int(name)
         except (OSError, ValueError):
             pass
-    raise AssertionError('no e1gw align')
+    raise AssertionError(f'no e1gw {word}')
+
+
+def aligner_of(parent: int) -> int:
+    """The `e1gw align` that a process has started."""
+    return child_of(parent, 'align')
 
 
 def config_of(circuits: range, codec: str = 'pcma', payload: int = 8, prefill: int = 160,
