@@ -1,5 +1,6 @@
-"""A trunk in service for scripts: `e1gw-trunk` as a process, and its control. Used by examples/satop and by tests of the
-driver. Python's standard library alone."""
+"""A trunk in service for scripts: `e1gw-trunk` as a process, and its control.
+
+Python's standard library alone. Used by examples/satop and by tests of the driver."""
 from __future__ import annotations
 
 import json
