@@ -21,7 +21,7 @@ HERE = os.path.dirname(os.path.abspath(__file__))
 TOP = os.path.dirname(HERE)
 sys.path.insert(0, HERE)
 from players import ANSWERED, CIRCUITS, IDLE, SEIZED, Player, World  # noqa: E402
-from exchange import ACKNOWLEDGED, a_law, decibels, delay, samples  # noqa: E402
+from exchange import ACKNOWLEDGED, VALUES, decibels, delay, samples  # noqa: E402
 
 BLOCKED = CLEARED_BACK = ACKNOWLEDGED       # the same two bits
 SITES = ('west', 'east')
@@ -231,7 +231,7 @@ def since(moment: float | None, began: float) -> float | None:
 
 def tones(chance: random.Random) -> bytes:
     """Sounds like speech in level and spectrum: voices whose pitch and loudness wander, in A-law."""
-    nearest = sorted((a_law(octet), octet) for octet in range(256))
+    nearest = sorted((value, octet) for octet, value in enumerate(VALUES['A']))
     values = [value for value, _ in nearest]
     pitch, phase, loud, out = chance.uniform(90, 220), 0.0, 0.0, bytearray()
     for at in range(SPOKEN):

@@ -10,6 +10,7 @@ from typing import Any, Sequence
 
 sys.dont_write_bytecode = True
 sys.path.insert(0, os.path.join(os.path.dirname(os.path.dirname(os.path.abspath(__file__))), 'driver'))
+from e1gw.g711 import VALUES  # noqa: E402
 from e1gw.session import FRAME, HEAD, MULTIFRAME, Command, command_record, trunk_record  # noqa: E402
 
 FAS, NFAS = 0x9B, 0xDF      # slot 0: the frame alignment signal, and the octet between two of them
@@ -138,24 +139,6 @@ def first_multiframe(octets: bytes | bytearray) -> int | None:
         if octets[at] & 0x7F == FAS & 0x7F and is_multiframe(octets, at):
             return at
     return None
-
-
-def a_law(octet: int) -> int:
-    """The value of an octet of A-law, from -4032 to 4032 (ITU-T G.711, Table 1)."""
-    t = octet ^ 0x55
-    segment, step = t >> 4 & 7, t & 15
-    size = 2 * step + 1 if segment == 0 else (2 * step + 33) << segment - 1
-    return size if t & 0x80 else -size
-
-
-def mu_law(octet: int) -> int:
-    """The value of an octet of mu-law, from -8031 to 8031 (ITU-T G.711, Table 2)."""
-    t = octet ^ 0xFF
-    size = ((2 * (t & 15) + 33) << (t >> 4 & 7)) - 33
-    return -size if t & 0x80 else size
-
-
-VALUES = {'A': [a_law(octet) for octet in range(256)], 'mu': [mu_law(octet) for octet in range(256)]}
 
 
 def samples(octets: bytes | bytearray, law: str = 'A') -> list[int]:

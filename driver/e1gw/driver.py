@@ -71,7 +71,7 @@ class Driver:
                              functools.partial(self._end_beside, 'shadow')) if options.counts else None
         if not options.counts:
             self.counts.ended = 'not asked for'
-        self.pictures = Pictures(loop, options.config, options.picture, options.name,
+        self.pictures = Pictures(loop, options.config, options.picture, options.name, options.program,
                                  functools.partial(self._end_beside, 'picture')) if options.picture else None
 
     # ---- what is opened ----

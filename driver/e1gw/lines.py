@@ -261,6 +261,10 @@ class Lines:
         start = self._frames.start if what is Alignment.FRAME else self._multi.start
         return start is not None
 
+    def frame_start(self) -> int | None:
+        """The place, modulo 64, of a frame alignment signal; None where there is no alignment."""
+        return self._frames.start
+
     def alarm(self) -> bool:
         """Whether the gateway sends an alarm."""
         return any(self.alarms.values())

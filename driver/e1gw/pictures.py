@@ -23,10 +23,11 @@ Got = Callable[[str | None], None]
 class Pictures:
     """The process that draws. `ended` is called with the reason where it is no more."""
 
-    def __init__(self, loop: Loop, config: str, seconds: float, title: str, ended: Callable[[str], None]) -> None:
+    def __init__(self, loop: Loop, config: str, seconds: float, title: str, program: str,
+                 ended: Callable[[str], None]) -> None:
         self.loop, self._ended, self.has_ended = loop, ended, False
         self.process = subprocess.Popen(
-            [sys.executable, '-B', '-m', 'e1gw.pictures', config, str(seconds), title],
+            [sys.executable, '-B', '-m', 'e1gw.pictures', config, str(seconds), title, program],
             stdin=subprocess.PIPE, stdout=subprocess.PIPE, stderr=subprocess.DEVNULL, start_new_session=True, bufsize=0,
             env=os.environ | {'PYTHONPATH': PACKAGE})
         assert self.process.stdin and self.process.stdout
@@ -101,8 +102,8 @@ def _serve(given: BinaryIO, pages: BinaryIO, words: list[str]) -> None:
     """In the process that draws: takes what the driver tells, and draws when it is asked."""
     from .lines import read_config
     from .picture.live import Live
-    config, seconds, title = words
-    live = Live(read_config(config), float(seconds), title)
+    config, seconds, title, program = words
+    live = Live(read_config(config), float(seconds), title, program)
     while len(head := given.read(HEAD.size)) == HEAD.size:
         what, length = HEAD.unpack(head)
         octets = given.read(length)

@@ -1,21 +1,24 @@
 """Sessions with a trouble each, for the tests of the picture and for the pictures in the documents."""
 from __future__ import annotations
 
+import bisect
 import functools
+import math
 import random
 import struct
 from collections.abc import Callable, Iterator
 from dataclasses import dataclass, field
 
-from .support import Exchange
+from .support import Exchange, run
 
-from e1gw.session import Command, Kind, command_record, datagram_record, spell, trunk_record
+from e1gw.g711 import TONES, VALUES
+from e1gw.session import Command, Kind, command_record, datagram_record, records_in, spell, trunk_record
 
 IDLE, SEIZED, ACKNOWLEDGED, ANSWERED = 0b10, 0b00, 0b11, 0b01        # the pairs ab of ITU-T Q.421
 MULTIFRAME, SECOND = 512, 256_000
-# ITU-T G.711, Table 5: eight octets of 1000 Hz at 0 dBm0.
-TONE = bytes([0x34, 0x21, 0x21, 0x34, 0xB4, 0xA1, 0xA1, 0xB4])
+TONE = TONES['A']
 PACKET = 160
+BITS = {'g726-16': 2, 'g726-24': 3, 'g726-32': 4, 'g726-40': 5}
 Event = tuple[float, str, int, int]
 
 
@@ -23,6 +26,53 @@ def rtp(sequence: int, stamp: int, ssrc: int, kind: int = 8, payload: bytes = TO
     """A datagram (RFC 3550, 5.1)."""
     return struct.pack('>BBHII', 0x80, kind, sequence & 0xFFFF, stamp & 0xFFFFFFFF, ssrc) + payload
 
+
+# ---- what sounds like speech ----
+
+@functools.cache
+def voice(seconds: float) -> list[float]:
+    """Harmonics of a pitch that glides, under two formants that move, louder and softer: between -1 and 1."""
+    out, turns = [], 0.0
+    for n in range(int(seconds * 8000)):
+        at = n / 8000
+        pitch = 130 + 30 * math.sin(4.4 * at) + 10 * math.sin(19.5 * at)
+        first, second = 500 + 250 * math.sin(8.2 * at), 1500 + 600 * math.sin(5.7 * at + 1)
+        turns += pitch / 8000
+        parts = (math.sin(2 * math.pi * k * turns + k * k) * (
+            math.exp(-((k * pitch - first) / 180) ** 2) + 0.4 * math.exp(-((k * pitch - second) / 220) ** 2) + 0.02)
+            for k in range(1, int(3400 / pitch)))
+        out.append(sum(parts) * max(0.0, math.sin(10.7 * at) + 0.4) / 5)
+    return out
+
+
+@functools.cache
+def coded(law: str, seconds: float = 3.0, loud: float = 0.5) -> bytes:
+    """The same in octets of G.711: of each sample the octet with the nearest value."""
+    values = sorted((value, octet) for octet, value in enumerate(VALUES[law]))
+    edges = [(a[0] + b[0]) / 2 for a, b in zip(values, values[1:])]
+    return bytes(values[bisect.bisect(edges, x * loud * values[-1][0])][1] for x in voice(seconds))
+
+
+def packets(octets: bytes) -> list[bytes]:
+    return [octets[at:at + PACKET] for at in range(0, len(octets), PACKET)]
+
+
+def g726(codec: str, octets: bytes) -> list[bytes]:
+    """The payloads that the program makes of octets of A-law."""
+    return [record.body[12:] for record in records_in(run('encode', '--codec', codec, given=octets))]
+
+
+def of_aal2(payload: bytes, bits: int) -> bytes:
+    """Words in the order of RFC 3551, put into that of AAL2: of eight words the first one highest."""
+    out = bytearray()
+    for at in range(0, len(payload), bits):
+        eight = int.from_bytes(payload[at:at + bits], 'little')
+        words = [eight >> bits * n & (1 << bits) - 1 for n in range(8)]
+        out += int(''.join(f'{word:0{bits}b}' for word in words), 2).to_bytes(bits, 'big')
+    return bytes(out)
+
+
+# ---- sessions ----
 
 @dataclass
 class Sender:
@@ -36,6 +86,7 @@ class Sender:
     jitter: float = 0.0                 # seconds
     lost: float = 0.0                   # the part that is lost
     payload: bytes = TONE * 20
+    payloads: list[bytes] | None = None         # one behind the other, and again from the first
     jump: tuple[float, int] | None = None       # when timestamps jump, by how many samples
     burst: float = 0.0                  # seconds of speech that are sent at once
 
@@ -47,7 +98,8 @@ class Sender:
             if self.burst:
                 when = self.begin + -(-(at - self.begin) // self.burst) * self.burst
             if rng.random() >= self.lost:
-                yield when, self.circuit, rtp(n, stamp, self.ssrc, self.kind, self.payload)
+                payload = self.payloads[n % len(self.payloads)] if self.payloads else self.payload
+                yield when, self.circuit, rtp(n, stamp, self.ssrc, self.kind, payload)
             n += 1
             at = self.begin + n * 0.02 / (1 + self.ppm / 1e6)
 
@@ -61,6 +113,8 @@ class Made:
     senders: list[Sender] = field(default_factory=list)
     change: Callable[[float, bytearray], None] | None = None        # of a multiframe, at a time
     silent: bool = False
+    speech: bytes = TONE * 2            # in each time slot, again and again
+    law: str = 'A'                      # of the exchange
 
     def call(self, circuit: int, begin: float, end: float, answered: float = 0.5, acknowledged: bool = True) -> None:
         """The operator seizes, the exchange acknowledges and answers, the operator clears."""
@@ -81,7 +135,8 @@ class Made:
 
     def given(self) -> Iterator[bytes]:
         """The records that the gateway is given, 2 ms at a time."""
-        exchange, rng = Exchange(), random.Random(1)
+        exchange, rng = Exchange(self.law), random.Random(1)
+        speech = self.speech + self.speech[:16]
         events = sorted(self.events)
         arrivals = sorted((each for sender in self.senders for each in sender.arrivals(rng)), key=lambda each: each[0])
         for step in range(round(self.seconds * 500)):
@@ -98,7 +153,8 @@ class Made:
             octets = bytearray(exchange.multiframe())
             if not self.silent:
                 for slot in [*range(1, 16), *range(17, 32)]:
-                    octets[slot::32] = TONE * 2
+                    at = 16 * step % len(self.speech)
+                    octets[slot::32] = speech[at:at + 16]
             if self.change:
                 self.change(now, octets)
             if octets:
@@ -145,6 +201,33 @@ def other_type() -> Made:
 def other_codec() -> Made:
     """G.726 at 32 kbit/s under the type of PCMA."""
     return one_call(6, payload=bytes(range(80)))
+
+
+def other_law() -> Made:
+    """The peer sends mu-law under the type of A-law."""
+    made = one_call(6, payloads=packets(coded('mu')))
+    made.speech = coded('A')
+    return made
+
+
+def other_law_trunk() -> Made:
+    """The exchange has mu-law, and the configuration A-law."""
+    made = one_call(6, payloads=packets(coded('A')))
+    made.speech, made.law = coded('mu'), 'mu'
+    return made
+
+
+def of_codec(codec: str, bits: int, aal2: bool) -> Made:
+    """A call in G.726, whose peer has this order of words."""
+    payloads = g726(codec, coded('A'))
+    made = one_call(6, {'codec': codec, 'payload': 96}, kind=96,
+                    payloads=[of_aal2(each, bits) for each in payloads] if aal2 else payloads)
+    made.speech = coded('A')
+    return made
+
+
+def other_order() -> Made:
+    return of_codec('g726-32', 4, True)
 
 
 def slow_clock() -> Made:
@@ -265,7 +348,8 @@ def sound() -> Made:
 
 
 TROUBLES: dict[str, Callable[[], Made]] = {
-    'no-datagrams': no_datagrams, 'other-type': other_type, 'other-codec': other_codec, 'slow-clock': slow_clock,
+    'no-datagrams': no_datagrams, 'other-type': other_type, 'other-codec': other_codec, 'other-law': other_law,
+    'other-law-trunk': other_law_trunk, 'other-order': other_order, 'slow-clock': slow_clock,
     'fast-clock': fast_clock, 'hold': hold, 'jump': jump, 'jitter': jitter, 'stranger': stranger, 'lost': lost,
     'burst': burst, 'gap': gap, 'gaps': gaps, 'double-rate': double_rate, 'slips': slips, 'all-ones': all_ones,
     'silent-slot': silent_slot, 'unacknowledged': unacknowledged, 'sound': sound}

@@ -29,7 +29,8 @@ NUMBER, STATE, SENT, ADMITTED, REFUSED = 0, 2, 5, 6, 7
 FOUND = {'no-datagrams': 'none', 'other-type': 'type', 'other-codec': 'words', 'slow-clock': 'clock slower',
          'fast-clock': 'clock faster', 'hold': 'source', 'jump': 'jump', 'jitter': 'late', 'stranger': 'source',
          'lost': 'lost', 'burst': 'late', 'gap': 'gap', 'gaps': 'gap', 'double-rate': 'rate', 'slips': 'lost frame',
-         'all-ones': 'ones', 'silent-slot': 'silent sent', 'unacknowledged': 'unacknowledged'}
+         'all-ones': 'ones', 'silent-slot': 'silent slot', 'other-law': 'came other', 'other-law-trunk': 'slot other',
+         'other-order': 'order other', 'unacknowledged': 'unacknowledged'}
 
 
 def config_of(session: Made) -> dict[str, object]:
@@ -179,7 +180,7 @@ class BesideTheProgram(unittest.TestCase):
         for name in TROUBLES:
             with self.subTest(name):
                 given, answers, path = played(name)
-                facts = read(io.BytesIO(given), io.BytesIO(answers), read_config(path))
+                facts = read(io.BytesIO(given), io.BytesIO(answers), read_config(path), program=program())
                 listing = [line.split() for line in run('check', '--config', path, given=given).decode().splitlines()]
                 for line in listing:
                     row = facts.rows[int(line[NUMBER])]
@@ -203,7 +204,7 @@ class BesideTheProgram(unittest.TestCase):
         for name in TROUBLES:
             with self.subTest(name):
                 given, answers, path = played(name)
-                facts = read(io.BytesIO(given), io.BytesIO(answers), read_config(path))
+                facts = read(io.BytesIO(given), io.BytesIO(answers), read_config(path), program=program())
                 kinds = [each.kind for each in findings(facts)]
                 if name == 'sound':
                     self.assertEqual(kinds, [])
@@ -212,13 +213,13 @@ class BesideTheProgram(unittest.TestCase):
 
     def test_clock_is_measured(self) -> None:
         given, answers, path = played('slow-clock')
-        found = findings(read(io.BytesIO(given), io.BytesIO(answers), read_config(path)))
+        found = findings(read(io.BytesIO(given), io.BytesIO(answers), read_config(path), program=program()))
         words = next(each.seen for each in found if each.kind == 'clock slower')
         self.assertAlmostEqual(int(words.split(' ppm')[0].split()[-1]), 500, delta=10)
 
     def test_gap_is_measured(self) -> None:
         given, answers, path = played('gap')
-        found = findings(read(io.BytesIO(given), io.BytesIO(answers), read_config(path)))
+        found = findings(read(io.BytesIO(given), io.BytesIO(answers), read_config(path), program=program()))
         self.assertIn('come 380 ms earlier', next(each.seen for each in found if each.kind == 'gap'))
 
     def test_in_pieces_as_in_one(self) -> None:
@@ -232,7 +233,7 @@ class BesideTheProgram(unittest.TestCase):
                 at[n] += size
         live.page()
         self.assertFalse(live.ended)
-        whole, cell = read(io.BytesIO(given), io.BytesIO(answers), read_config(path)).rows[3].count(), \
+        whole, cell = read(io.BytesIO(given), io.BytesIO(answers), read_config(path), program=program()).rows[3].count(), \
             live.facts.rows[3].count()
         for name in Cell.__slots__:
             self.assertEqual(getattr(whole, name), getattr(cell, name), name)

@@ -2,10 +2,12 @@
 from __future__ import annotations
 
 from ..session import DatagramRefusal
-from .facts import NOT_OPEN, SECOND, WINDOW, Cell, Facts, Row
+from .facts import NOT_OPEN, OPEN, SECOND, WINDOW, Cell, Facts, Row
 from .svg import LEFT, WIDE, Scale, Sheet, duration, runs
 
 ROW = 30                    # of the circuits
+NOTHING = 2 * SECOND        # for which nothing comes in the middle of a call until it is drawn
+MOST_GAPS = 80              # of a circuit
 MOST_RUNS = 160             # stretches of a lane
 MOST_SPANS = 220            # of a line
 MEANS = {'idle': 'idle', 'seized': 'seized', 'acked': 'acknowledged', 'answered': 'answered',
@@ -18,6 +20,8 @@ SHAPES = {'idle': (3, 4), 'seized': (7, 2), 'acked': (11, 0), 'answered': (11, 0
           'releasing': (7, 2), 'blocked': (11, 0), 'fault': (11, 0), 'unknown': (1, 5)}
 HATCHED = {'seized': 'dots', 'clearedback': 'bars', 'releasing': 'dots', 'blocked': 'slant', 'fault': 'cross'}
 Pixels = dict[int, Cell]
+# What reads like another law or order, by the way, in a word.
+LIKE = {'came': 'other law', 'slot': 'slot: other law', 'order': 'order of AAL2'}
 
 
 def name_of(code: int) -> str:
@@ -32,6 +36,11 @@ def refusals(cell: Cell) -> str:
     """The refused datagrams, most first."""
     ordered = sorted(cell.refused.items(), key=lambda each: -each[1][0])
     return ', '.join(f'{seen[0]} {name_of(code)}' for code, seen in ordered)
+
+
+def unlike(cell: Cell) -> list[str]:
+    """The ways in which a circuit reads like another law, or another order of words."""
+    return [way for way in LIKE if way in cell.heard and cell.heard[way].is_other()]
 
 
 def trunk(facts: Facts, scale: Scale) -> str:
@@ -78,6 +87,7 @@ def circuits(facts: Facts, rows: list[Row], scale: Scale, seen: dict[int, Pixels
         sheet.words(LEFT - 8, y + 9, f'{row.number} {row.role}', 'label', 'end')
         _line(sheet, row, scale, y)
         _lanes(sheet, row, facts, scale, seen[row.number], y + 13)
+        _unheard(sheet, row, facts, scale, seen[row.number], y + 13)
         _commands(sheet, row, scale, y)
     return sheet.drawn()
 
@@ -132,6 +142,37 @@ def _lanes(sheet: Sheet, row: Row, facts: Facts, scale: Scale, seen: Pixels, y: 
                       f'circuit {row.number}: {words}')
 
 
+def _gaps(row: Row, facts: Facts, scale: Scale, seen: Pixels) -> list[tuple[float, float]]:
+    """Stretches of the sheet in which the path is open and nothing comes: of two seconds or more, or from the begin of
+    a call to its end."""
+    came = sorted(x for x, cell in seen.items() if cell.admitted or cell.refused)
+    wide = max(1.0, facts.width / scale.octets)
+    found = []
+    for first, last, state in row.states.between(scale.start, scale.end):
+        begin, end = scale.x(first) - LEFT, scale.x(last) - LEFT
+        edges = [begin - wide, *(x for x in came if begin <= x <= end), end] if state in OPEN else []
+        least = max((NOTHING if len(edges) > 2 else SECOND / 2) / scale.octets, 2.0)
+        found += [(before + wide, after) for before, after in zip(edges, edges[1:]) if after - before - wide >= least]
+    while len(found) * scale.coarse > MOST_GAPS:
+        found = sorted(found, key=lambda gap: gap[0] - gap[1])[:len(found) // 2]
+    return found
+
+
+def _unheard(sheet: Sheet, row: Row, facts: Facts, scale: Scale, seen: Pixels, y: float) -> None:
+    """Dashes in the middle line where nothing comes, and marks on the line that reads like another law or order: the
+    upper one is what the time slot has, the middle one what came."""
+    gaps = ''.join(f'M{LEFT + first:.0f} {y + 4.5:g}H{LEFT + last:.0f}' for first, last in _gaps(row, facts, scale, seen))
+    sheet.path(gaps, 'nothing', f'circuit {row.number}: nothing comes, and the path is open')
+    whole = Cell()
+    for cell in seen.values():
+        whole.join(cell)
+    for way in unlike(whole):
+        top = y - 1 if way == 'slot' else y + 2.4
+        marks = runs(sorted(x for x, cell in seen.items() if way in cell.heard and cell.heard[way].other), 5)
+        sheet.path(''.join(f'M{LEFT + first} {top:g}h{last - first + 4}v4.2h-{last - first + 4}z'
+                           for first, last in marks), 'unlike', f'circuit {row.number}: {LIKE[way]}')
+
+
 def _commands(sheet: Sheet, row: Row, scale: Scale, y: float) -> None:
     """A triangle for a command that was done, a cross for one that was refused."""
     drawn: dict[tuple[int, bool], int] = {}
@@ -165,6 +206,7 @@ class Playout:
         for cell in seen.values():
             whole.join(cell)
         self.whole = whole
+        self.unlike = unlike(whole)
         self.others = [code for code in sorted(whole.refused, key=lambda code: -whole.refused[code][0])
                        if code not in (14, 16)]
         most = max(row.prefill, whole.high if whole.admitted else 0) / 8
@@ -179,13 +221,16 @@ class Playout:
 
     def drawn(self) -> str:
         row = self.row
-        sheet = Sheet(self.y0 + self.high + 6 + 13 * len(self.others), f'Datagrams of circuit {row.number} against the '
+        sheet = Sheet(self.y0 + self.high + 6 + 13 * (len(self.others) + len(self.unlike)), f'Datagrams of circuit {row.number} against the '
                       f'playout: {self.whole.admitted} admitted; refused: {refusals(self.whole) or "none"}')
         self._frame(sheet)
         self._admitted(sheet)
         self._untimely(sheet)
         for n, code in enumerate(self.others):
             self._strip(sheet, code, self.y0 + self.high + 8 + 13 * n)
+        for n, way in enumerate(self.unlike, len(self.others)):
+            columns = [x for x, cell in self.seen.items() if way in cell.heard and cell.heard[way].other]
+            self._row(sheet, columns, 4, LIKE[way], 'bad', self.y0 + self.high + 8 + 13 * n)
         self._hover(sheet)
         sheet.words(4, 30, f'circuit {row.number}', 'label strong')
         sheet.words(4, 44, f'prefill {row.prefill / 8:g} ms', 'tick')
@@ -233,12 +278,15 @@ class Playout:
 
     def _strip(self, sheet: Sheet, code: int, y: float) -> None:
         """Refused datagrams that have no place in the window."""
-        sheet.words(LEFT - 6, y + 8, f'{self.whole.refused[code][0]} {name_of(code)}',
-                    'tick' if code == NOT_OPEN else 'bad', 'end')
+        self._row(sheet, [x for x, cell in self.seen.items() if code in cell.refused], 1.4,
+                  f'{self.whole.refused[code][0]} {name_of(code)}', 'tick' if code == NOT_OPEN else 'bad', y)
+
+    def _row(self, sheet: Sheet, columns: list[int], least: float, words: str, kind: str, y: float) -> None:
+        """A row of marks at columns, at least so wide, and its words."""
+        sheet.words(LEFT - 6, y + 8, words, kind, 'end')
         sheet.path(f'M{LEFT} {y + 4.5}h{WIDE}', 'grid')
-        columns = sorted(x for x, cell in self.seen.items() if code in cell.refused)
-        parts = [f'M{LEFT + first} {y}h{max(last - first + 1, 1.4):g}v9h-{max(last - first + 1, 1.4):g}z'
-                 for first, last in runs(columns, 1)]
+        parts = [f'M{LEFT + first} {y}h{max(last - first + 1, least):g}v9h-{max(last - first + 1, least):g}z'
+                 for first, last in runs(sorted(columns), 1)]
         sheet.path(''.join(parts), 'p-strip')
 
     def _hover(self, sheet: Sheet) -> None:

@@ -11,6 +11,8 @@ from collections.abc import Iterator
 from dataclasses import dataclass, field
 from typing import Any
 
+from .sound import Heard, Turns
+
 SECOND = 256_000            # octets of the trunk
 FRAME, MULTIFRAME = 32, 512
 MOST = 2400                 # columns
@@ -27,16 +29,17 @@ HEADER = struct.Struct('>BBHII').unpack
 
 class Cell:
     """What happened to a circuit's datagrams in a column."""
-    __slots__ = ('sent', 'admitted', 'low', 'high', 'total', 'lost', 'uneven', 'refused', 'counts')
+    __slots__ = ('sent', 'admitted', 'low', 'high', 'total', 'lost', 'uneven', 'refused', 'counts', 'heard')
 
     def __init__(self) -> None:
         self.sent = self.admitted = self.lost = self.uneven = 0
         self.low = self.high = self.total = 0               # samples before their turn, of those admitted
         self.refused: dict[int, list[int]] = {}             # code: how many, least and most samples before their turn
         self.counts: dict[str, int] = {}                    # calls, answers, ..
+        self.heard: dict[str, Heard] = {}                   # by way: what came, its order of words, the time slot
 
     def is_empty(self) -> bool:
-        return not (self.sent or self.admitted or self.refused or self.counts or self.lost)
+        return not (self.sent or self.admitted or self.refused or self.counts or self.lost or self.heard)
 
     def admit(self, margin: int) -> None:
         if not self.admitted:
@@ -72,6 +75,12 @@ class Cell:
             seen[:] = seen[0] + count, min(seen[1], low), max(seen[2], high)
         for name, count in other.counts.items():
             self.counts[name] = self.counts.get(name, 0) + count
+        for way, more in other.heard.items():
+            self.hear(way, more)
+
+    def hear(self, way: str, more: Heard) -> None:
+        """Takes in what was heard one way."""
+        self.heard.setdefault(way, Heard()).join(more)
 
 
 class Spans:
@@ -142,6 +151,9 @@ class Stream:
     ssrc: int = 0
     sequence: int = -1
     stamp: int = 0
+    came: Turns = field(default_factory=Turns)          # when it is listened to: to datagrams, to the time slot
+    slot: Turns = field(default_factory=Turns)
+    stretch: list[bytes] | None = None                  # datagrams in a row that are to be decoded
 
 
 @dataclass
@@ -164,7 +176,6 @@ class Row:
     types: dict[int, int] = field(default_factory=dict)
     sources: dict[int, int] = field(default_factory=dict)
     mismatch: tuple[int, int] = (0, 0)          # words of a datagram, step of its timestamp
-    silent: dict[str, list[int]] = field(default_factory=lambda: {'came': [0, 0], 'sent': [0, 0]})
     begun: list[int] = field(default_factory=list)      # places where the playout began anew
     ssrc: int | None = None                             # of the last call's first datagram
     step: int = 0                                       # of the timestamp, where it fits the words of a datagram
@@ -232,12 +243,6 @@ class Row:
         if value in seen or len(seen) < 8:
             seen[value] = place
 
-    def hear(self, way: str, payload: bytes) -> None:
-        """Looks at whether a payload is of one octet alone, as silence is."""
-        seen = self.silent[way]
-        seen[0] += 1
-        seen[1] += payload.count(payload[:1]) == len(payload)
-
     def state(self, place: int, state: str) -> None:
         """The line's state from a place on."""
         was = self.states.value
@@ -279,6 +284,7 @@ class Facts:
         self.losses: dict[str, list[int]] = {'frame': [], 'multiframe': []}
         self.begin: float | None = None     # the time of place 0, in seconds since 1970, where it is known
         self.told = 'e1gw'                  # who told how datagrams were answered
+        self.law = 'A'                      # of the trunk
 
     def turn(self, place: int) -> None:
         """The trunk has come to a place."""
@@ -355,6 +361,11 @@ class Facts:
         places = self.losses[what]
         if len(places) < MOST:
             places.append(place)
+
+    def hear(self, circuit: int, place: int, way: str, more: Heard) -> None:
+        """What was heard at a place that is past."""
+        row = self.rows[circuit]
+        row.cells.get(place // self.width, row.cell).hear(way, more)
 
     def second(self, place: int) -> float:
         """The time of a place, in seconds from place 0, or since 1970 where that is known."""

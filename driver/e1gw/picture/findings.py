@@ -5,6 +5,7 @@ from collections.abc import Iterator
 from dataclasses import dataclass
 from statistics import median
 
+from ..g711 import NAMES, OTHER
 from .facts import NOT_OPEN, OPEN, SECOND, Cell, Facts, Row
 from .slopes import Points, Step, points, slope, steps
 from .svg import Scale, duration
@@ -155,16 +156,34 @@ def _silent(row: Row, whole: Cell, opened: int) -> Iterator[Finding]:
                       '`host`')
     for way, words, hint in (
             ('came', 'the datagrams that came carry one octet alone, as silence does', 'the far end is silent'),
-            ('sent', 'the datagrams that were sent carry one octet alone, as silence does',
-             'the exchange sends nothing in this time slot; is the circuit the same there?')):
-        seen = row.silent[way]
-        if seen[0] > 6 and seen[1] == seen[0]:
+            ('slot', 'the time slot carries one octet alone, as silence does, and so do the datagrams that are sent',
+             'the exchange speaks in another time slot, or not at all; is the circuit the same there?')):
+        seen = whole.heard.get(way)
+        if seen and seen.looks > 6 and seen.silent == seen.looks:
             yield Finding(f'silent {way}', row.number, words, hint, False)
     if whole.uneven > max(20, whole.admitted // 2):
         count, step = row.mismatch
         yield Finding('words', row.number,
                       f'a datagram has {count} words of {row.codec}, and timestamps go on by {step}',
                       'another codec under this payload type, or a clock other than 8000 Hz')
+
+
+def _sound(row: Row, whole: Cell, law: str) -> Iterator[Finding]:
+    """What reads like speech in another law, or in another order of words."""
+    here, there = NAMES[law], NAMES[OTHER[law]]
+    for way, what, hint in (
+            ('came', f'the datagrams that came read like {there}, not like {here}',
+             'the sender has the other law under this payload type: one law at both ends, or G.726; or `law` is not the '
+             'trunk\'s'),
+            ('slot', f'the time slot reads like {there}, not like {here}',
+             '`law` is not the trunk\'s: set it as the exchange has it, and the sender\'s payload type with it'),
+            ('order', 'the datagrams that came read like the order of AAL2, not like that of RFC 3551',
+             'the sender has the first word in the high bits: a name such as g726 for g726le, or AAL2-G726 for G726; '
+             'what it is sent it takes in its own order, too')):
+        seen = whole.heard.get(way)
+        if seen and seen.is_other():
+            yield Finding(f'{way} other', row.number, f'{what}, in {seen.other} of {seen.own + seen.other} looks that '
+                          'tell: harsh noise', hint)
 
 
 def _lines(row: Row, whole: Cell) -> Iterator[Finding]:
@@ -240,6 +259,7 @@ def findings(facts: Facts) -> list[Finding]:
     for row in rows:
         whole = row.count()
         out += _silent(row, whole, _open(row, facts))
+        out += _sound(row, whole, facts.law)
         clocks = list(_clock(row, parts[row.number], found[row.number]))
         out += clocks
         out += _refused(row, whole)

@@ -17,10 +17,11 @@ AT_ONCE = 1 << 16           # octets that are looked at together, since pieces a
 class Live:
     """Told of the recording and of what its replay answers, in pieces of any size."""
 
-    def __init__(self, config: Mapping[str, Any], seconds: float = 120.0, title: str = 'e1gw') -> None:
+    def __init__(self, config: Mapping[str, Any], seconds: float = 120.0, title: str = 'e1gw',
+                 program: str | None = None) -> None:
         self.title = title
         self.facts = Facts(rows_of(config), int(seconds * OCTETS_A_SECOND))
-        self.reading = Reading(self.facts, config)
+        self.reading = Reading(self.facts, config, program=program)
         self.ended = ''                 # why it goes on no more
         self._waiting: tuple[list[bytes], list[bytes]] = ([], [])
         self._held = 0
@@ -71,6 +72,7 @@ class Live:
         self.look()
         if not self.ended:
             self.reading.flush()
+            self.reading.listener.look()
             self.facts.begin = time.time() - self.facts.place / OCTETS_A_SECOND
         notes = [f'It goes on no more: {self.ended}.'] if self.ended else []
         return draw(self.facts, self.title, refresh=refresh, notes=notes)

@@ -101,13 +101,14 @@ def gathered(options: argparse.Namespace, session: Kept, config: str) -> tuple[F
         facts.told = 'placed by the times of the capture'
     if options.answers:
         with open(options.answers, 'rb') as answers:
-            reading = Reading(facts, read_config(config), Source(octets), answers)
+            reading = Reading(facts, read_config(config), Source(octets), answers, options.program)
             reading.read()
         return facts, '' if reading.whole else 'it ends inside a record, or its answers do'
-    replayed = Replayed(program_of(options.program), config, octets)
+    program = program_of(options.program)
+    replayed = Replayed(program, config, octets)
     fault = ''
     try:
-        Reading(facts, read_config(config), replayed.given, replayed.answered).read()
+        Reading(facts, read_config(config), replayed.given, replayed.answered, program).read()
     except BadSession as bad:
         fault = str(bad)
     return facts, replayed.end() or fault

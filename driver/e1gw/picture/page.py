@@ -2,13 +2,15 @@
 from __future__ import annotations
 
 import html
+import math
 import re
 import time
-from collections.abc import Iterable
+from collections.abc import Iterable, Mapping
 
 from . import charts
 from .facts import OPEN, SECOND, Cell, Facts, Row
 from .findings import Finding, findings
+from .sound import Heard
 from .style import CSS, PATTERNS
 from .svg import Scale, duration
 
@@ -38,6 +40,14 @@ def is_quiet(row: Row, whole: Cell) -> bool:
     """Nothing but idle, or a line that never left its first state."""
     states = [state for _, state in row.states.items]
     return whole.is_empty() and not row.commands and states in (['fault'], ['fault', 'idle'], ['idle'], ['unknown'])
+
+
+def loud(heard: Mapping[str, Heard], way: str) -> str:
+    """The levels of what was heard one way, as it is played and as it would be otherwise."""
+    seen = heard.get(way)
+    if not seen or not (seen.power and seen.under_other):
+        return ''
+    return ' / '.join(f'{10 * math.log10(power / seen.looks):.0f}' for power in (seen.power, seen.under_other))
 
 
 def numbers(circuits: Iterable[int]) -> str:
@@ -99,7 +109,7 @@ class Page:
         self.seen = {row.number: charts.pixels(row, facts, self.scale) for row in self.rows}
         self.found = [each for each in findings(facts) if not each.circuit or each.circuit in self.whole]
         troubled = {each.circuit for each in self.found if each.kind not in (
-            'silent came', 'silent sent', 'blocked', 'command', 'unacknowledged', 'fault', 'none')}
+            'silent came', 'silent slot', 'blocked', 'command', 'unacknowledged', 'fault', 'none')}
         busy = [row for row in self.rows if self.whole[row.number].admitted or self.whole[row.number].refused]
         self.troubled = [row for row in busy if row.number in troubled]
         self.even = [row for row in busy if row.number not in troubled]
@@ -157,10 +167,13 @@ class Page:
                          whole.counts.get('answers', 0), f'{opened / SECOND:.1f}', whole.sent, whole.admitted,
                          sum(seen[0] for seen in whole.refused.values()), charts.refusals(whole),
                          max(0, whole.lost), margin,
+                         loud(whole.heard, 'order' if 'order' in whole.heard else 'came'), loud(whole.heard, 'slot'),
                          f'{row.codec} {row.payload}', row.local, row.peer))
-        return table('Each circuit: counts, and how many ms before their turn datagrams came', (
+        return table('Each circuit: counts, how many ms before their turn datagrams came, and how loud it is in dBm0, '
+                     'as it is played / under the other law, or in the other order of G.726', (
             'circuit', 'role', 'at the end', 'calls', 'answered', 'open, s', 'sent', 'admitted', 'refused', 'causes',
-            'lost', 'least / mean / most ms', 'codec, type', 'receives at', 'sends to'), rows)
+            'lost', 'least / mean / most ms', 'came, dBm0', 'slot, dBm0', 'codec, type', 'receives at', 'sends to'),
+                     rows)
 
     def states(self) -> str:
         rows: list[tuple[object, ...]] = []
@@ -232,6 +245,10 @@ def key() -> str:
     for n, (kind, words) in enumerate((('sent', 'datagrams sent (upper line)'), ('admitted', 'admitted (middle)'),
                                        ('refused', 'refused (lower, thick)'))):
         out.append((f'<rect y="{2 + 3.4 * n}" width="26" height="{2.2 + (n == 2)}" class="d-{kind}"/>', words))
+    out.append(('<path d="M0 6.5H26" class="nothing"/>', 'open, and nothing comes'))
+    out.append(('<rect y="5.4" width="26" height="2.2" class="d-admitted"/><rect x="4" y="4.4" width="5" height="4.2" '
+                'class="unlike"/><rect x="16" y="4.4" width="5" height="4.2" class="unlike"/>',
+                'reads like another law or order'))
     out.append(('<path d="M13 11l5 -8h-10z" class="c-done"/>', 'command done'))
     out.append(('<path d="M9 3l8 8m0 -8l-8 8" class="c-refused"/>', 'command refused'))
     spans = ''.join(f'<span><svg viewBox="0 0 26 13" aria-hidden="true">{box}</svg>{words}</span>'

@@ -9,9 +9,12 @@ from ..lines import Event, law_of
 from ..session import MULTIFRAME, BadSession, Codec, Command, Fault, Kind, refusal_of
 from .facts import Facts, Row
 from .following import Follower
+from .listening import Listener
 
 PIECE = 1 << 16
 TRUNK, DATAGRAM, ANSWER = int(Kind.TRUNK), int(Kind.DATAGRAM), int(Kind.ANSWER)
+AT_LEAST = 10 * MULTIFRAME  # octets that are followed at once: as many samples of a time slot as are listened to
+MOST = 1 << 20              # octets
 ONES = re.compile(b'\xff{512,}')
 
 
@@ -91,8 +94,10 @@ class Reading:
     """A session as it is read. Datagrams wait until the octets before them were followed."""
 
     def __init__(self, facts: Facts, config: Mapping[str, Any], given: Readable | None = None,
-                 answered: Readable | None = None) -> None:
+                 answered: Readable | None = None, program: str | None = None) -> None:
         self.facts = facts
+        facts.law = law_of(config)
+        self.listener = Listener(facts, program)
         self.told: deque[Event] = deque()
         self.lines = Follower(config, self.told.append)
         self.tell = Told(facts)
@@ -108,9 +113,12 @@ class Reading:
 
     def read(self) -> None:
         """Reads all of it, or up to where one of the two ends. BadSession at what is no record."""
-        while self.go_on() and self.given.more():
-            pass
-        self.flush()
+        try:
+            while self.go_on() and self.given.more():
+                pass
+            self.flush()
+        finally:
+            self.listener.look()
         self.whole = not (self.given.is_cut() or self.answered.is_cut())
 
     def go_on(self) -> bool:
@@ -147,7 +155,7 @@ class Reading:
                     return False
                 data, at = stream.held, stream.at
             elif data[at] == DATAGRAM and data[at + 1] in self.sent:
-                self._sent(data, at, after)
+                self.sent[data[at + 1]] += 1
                 at = after
             else:
                 stream.at = at
@@ -169,13 +177,6 @@ class Reading:
         self.answered.at = at
         return self.answered.more()
 
-    def _sent(self, data: bytes, at: int, after: int) -> None:
-        """A datagram that was sent. Of some it is looked at whether they are silent."""
-        circuit = data[at + 1]
-        self.sent[circuit] += 1
-        if after - at > 16 and not data[at + 7] & 15:
-            self.facts.rows[circuit].hear('sent', data[at + 16:after])
-
     def _datagram(self, circuit: int, data: bytes, at: int, after: int) -> bool:
         """A datagram that came."""
         code = self._answer(DATAGRAM)
@@ -184,8 +185,10 @@ class Reading:
         if circuit not in self.sent:
             raise self.given.wrong(Fault.BAD_CIRCUIT)
         self.came.append((self.place, circuit, code, data[at:min(at + 12, after)], after - at))
-        if not code and after - at > 12 and not data[at + 3] & 15:
-            self.facts.rows[circuit].hear('came', data[at + 12:after])
+        if not code and after - at > 12:
+            row = self.facts.rows[circuit]
+            if row.stream.stretch is not None or self.place >= row.stream.came.due:
+                self.listener.came(row, self.place, data[at:after])
         return True
 
     def _answer(self, asked: int) -> int:
@@ -234,6 +237,9 @@ class Reading:
             given, sends = b''.join(self.trunk), b''.join(self.sends)
             size = upto - self.followed
             self.lines.trunk(given[:size], sends[:size])
+            start = self.lines.frame_start()
+            if start is not None and size >= AT_LEAST:
+                self.listener.trunk(given, start - self.followed, upto)
             for run in ONES.finditer(given, 0, size):
                 self.facts.ones.put(self.followed + run.start(), True)
                 self.facts.ones.put(self.followed + run.end(), False)
@@ -255,7 +261,7 @@ class Reading:
             if count:
                 rows[circuit].cell.sent += count
                 self.sent[circuit] = 0
-        self.due = upto // facts.width * facts.width + max(facts.width, 4 * MULTIFRAME)
+        self.due = min(upto // facts.width * facts.width + max(facts.width, AT_LEAST), upto + MOST)
 
     def _pass_on(self, event: Event) -> None:
         if event['place'] >= self.facts.place:
@@ -263,8 +269,10 @@ class Reading:
         self.tell(event)
 
 
-def read(given: Readable, answered: Readable, config: Mapping[str, Any], last: int | None = None) -> Facts:
-    """What a picture shows of a session that the gateway was given and of what it answered."""
+def read(given: Readable, answered: Readable, config: Mapping[str, Any], last: int | None = None,
+         program: str | None = None) -> Facts:
+    """What a picture shows of a session that the gateway was given and of what it answered. The program is asked for
+    the order of words of G.726."""
     facts = Facts(rows_of(config), last)
-    Reading(facts, config, given, answered).read()
+    Reading(facts, config, given, answered, program).read()
     return facts

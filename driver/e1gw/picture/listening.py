@@ -1,0 +1,60 @@
+"""Listens to some of what comes for each circuit: datagrams, and the octets of its time slot."""
+from __future__ import annotations
+
+import math
+
+from ..session import FRAME, BadPacket, packet_of
+from .facts import BITS, OPEN, Facts, Row
+from .orders import STRETCH, Orders
+from .sound import LOOKED_AT, Heard, heard, is_silent
+
+AGAIN = 16                  # looks in what a page shows of a trunk in service, at least
+
+
+class Listener:
+    """Puts what it hears into the columns of facts."""
+
+    def __init__(self, facts: Facts, program: str | None = None) -> None:
+        self.facts = facts
+        self.most = facts.last / AGAIN if facts.last else math.inf
+        self.orders = Orders(program, facts.law, lambda circuit, place, seen: facts.hear(circuit, place, 'order', seen))
+
+    def came(self, row: Row, place: int, datagram: bytes) -> None:
+        """A datagram that was admitted."""
+        try:
+            payload = packet_of(datagram).payload
+        except BadPacket:
+            return
+        stream = row.stream
+        if stream.stretch is not None:
+            self._further(row, place, payload, stream.stretch)
+        elif stream.came.come(place, self.most):
+            if row.codec in BITS:
+                row.cell.hear('came', Heard(1, is_silent(payload)))
+                stream.stretch = [payload]
+            else:
+                row.cell.hear('came', heard(payload, self.facts.law))
+
+    def _further(self, row: Row, place: int, payload: bytes, stretch: list[bytes]) -> None:
+        """The next datagram of G.726 in a row."""
+        stretch.append(payload)
+        if len(stretch) == STRETCH:
+            row.stream.stretch = None
+            if row.codec in BITS:
+                self.orders.put(row.number, place, row.codec, stretch)
+
+    def trunk(self, given: bytes, begin: int, place: int) -> None:
+        """Octets of the trunk from a place on, where frames begin at the octet `begin` of them, modulo 32."""
+        for row in self.facts.rows.values():
+            if row.states.value in OPEN and row.stream.slot.come(place, self.most):
+                slot = row.number if row.number < 16 else row.number + 1
+                first = (begin + slot) % FRAME
+                self.slot(row, given[first:first + LOOKED_AT * FRAME:FRAME])
+
+    def slot(self, row: Row, octets: bytes) -> None:
+        """Octets of a circuit's time slot."""
+        row.cell.hear('slot', heard(octets, self.facts.law))
+
+    def look(self) -> None:
+        """Looks at what still waits."""
+        self.orders.look()

@@ -1,0 +1,89 @@
+"""The order of the code words of G.726 in datagrams: RFC 3551's, the first word lowest, or that of AAL2 (ITU-T I.366.2,
+Annex E), the first word highest. Nothing in a datagram tells the two apart, so some are decoded both ways by
+`e1gw decode`: what reads like speech in one of them was sent in that one."""
+from __future__ import annotations
+
+import subprocess
+from collections.abc import Callable, Sequence
+
+from ..session import datagram_record
+from .facts import BITS
+from .sound import Heard, clearer, sound
+
+STRETCH = 10                # datagrams in a row
+SETTLES = 4                 # of them those in which the decoder follows, which are not listened to
+WAITING = 240               # stretches that wait to be decoded
+SECONDS = 30                # that a run of the program may take
+HEADER = bytes([0x80, 96]) + bytes(10)      # RTP, of the payload type that `e1gw decode` has for G.726
+Told = Callable[[int, int, Heard], None]    # of a circuit, at a place
+
+
+def reordered(payload: bytes, bits: int) -> bytes:
+    """Words of so many bits in the order of AAL2, put into that of RFC 3551: eight words are as many octets as a word
+    has bits. What is left behind the last eight is left out."""
+    mask, out = (1 << bits) - 1, bytearray()
+    for at in range(0, len(payload) - bits + 1, bits):
+        eight = int.from_bytes(payload[at:at + bits], 'big')
+        turned = sum((eight >> shift & mask) << 7 * bits - shift for shift in range(0, 8 * bits, bits))
+        out += turned.to_bytes(bits, 'little')
+    return bytes(out)
+
+
+class Orders:
+    """Stretches of datagrams, decoded both ways when many wait or when the page is drawn. Without a program nothing is
+    told; nothing is told either where it fails."""
+
+    def __init__(self, program: str | None, law: str, tell: Told) -> None:
+        self.program, self.law, self.tell = program, law, tell
+        self.waiting: list[tuple[int, int, str, list[bytes]]] = []
+
+    def put(self, circuit: int, place: int, codec: str, payloads: list[bytes]) -> None:
+        """A stretch of the datagrams of a circuit that came from a place on."""
+        self.waiting.append((circuit, place, codec, payloads))
+        if len(self.waiting) >= WAITING:
+            self.look()
+
+    def look(self) -> None:
+        """Decodes all that waits."""
+        waiting, self.waiting = self.waiting, []
+        for codec in sorted({codec for _, _, codec, _ in waiting}):
+            self._look(codec, [(circuit, place, payloads) for circuit, place, each, payloads in waiting
+                               if each == codec])
+
+    def _look(self, codec: str, stretches: list[tuple[int, int, list[bytes]]]) -> None:
+        bits = BITS[codec]
+        payloads = [payload for _, _, each in stretches for payload in each]
+        own = self._decoded(codec, payloads)
+        other = self._decoded(codec, [reordered(payload, bits) for payload in payloads])
+        if own is None or other is None:
+            return
+        at = 0
+        for circuit, place, each in stretches:
+            seen = Heard()
+            for n, payload in enumerate(each):
+                size = len(payload) // bits * 8
+                if n >= SETTLES:
+                    seen.join(self._heard(own[at:at + size], other[at:at + size]))
+                at += size
+            self.tell(circuit, place, seen)
+
+    def _heard(self, own: bytes, other: bytes) -> Heard:
+        """A datagram in both orders."""
+        here, there = sound(own, self.law), sound(other, self.law)
+        seen = Heard(1, power=here.power, under_other=there.power)
+        seen.vote(clearer(here, there))
+        return seen
+
+    def _decoded(self, codec: str, payloads: Sequence[bytes]) -> bytes | None:
+        """What the program makes of payloads, one behind the other; None where it fails."""
+        if not self.program:
+            return None
+        bits = BITS[codec]
+        given = b''.join(datagram_record(1, HEADER + payload[:len(payload) // bits * bits]) for payload in payloads)
+        law = {'A': 'a', 'mu': 'mu'}[self.law]
+        try:
+            done = subprocess.run([self.program, 'decode', '--law', law, '--codec', codec], input=given, check=True,
+                                  stdout=subprocess.PIPE, stderr=subprocess.DEVNULL, timeout=SECONDS)
+        except (OSError, subprocess.SubprocessError):
+            return None
+        return done.stdout if len(done.stdout) == sum(len(each) // bits * 8 for each in payloads) else None

@@ -1,0 +1,118 @@
+"""Whether octets of G.711 read like speech: how well each sample is foretold by those before it.
+
+Speech and tones are foretold well. Read under the other law, or from code words in another order, they are as noise.
+"""
+from __future__ import annotations
+
+from dataclasses import dataclass
+from operator import mul
+
+from ..g711 import OTHER, VALUES, ZERO
+from ..session import OCTETS_A_SECOND
+
+BEFORE = 8                  # samples from which the next is foretold
+LOOKED_AT = 160             # samples
+CLEARLY = 2.0               # times the part that is not foretold: 3 dB
+SPEECH = 0.25               # the most of speech that is not foretold: noise is more
+LOUDER = 4.0                # times the power that the clearer reading may have: what is wrong is rarely the softer one
+FLOOR = 1e-6                # the least power beside that of 0 dBm0, -60 dBm0: under it is silence
+OFTEN = 5                   # looks that tell, at least
+MOSTLY = 0.9                # the part of them that has to tell the same
+EACH = OCTETS_A_SECOND * 8 // 25        # octets of the trunk, 320 ms
+EIGHT = 8
+FLOATS = {law: [float(value) for value in values] for law, values in VALUES.items()}
+
+
+@dataclass(frozen=True, slots=True)
+class Sound:
+    """What samples are like: their mean power beside that of 0 dBm0, and the part of it that those before each do not
+    foretell, from 0 to 1."""
+    power: float
+    strange: float
+
+
+def sound(octets: bytes, law: str) -> Sound:
+    """How octets sound under a law: by the autocorrelation and the recursion of Levinson and Durbin."""
+    values = list(map(FLOATS[law].__getitem__, octets[:LOOKED_AT]))
+    along = [sum(map(mul, values, values[lag:])) for lag in range(BEFORE + 1)]
+    if len(values) <= BEFORE or along[0] <= 0:
+        return Sound(0.0, 1.0)
+    left = along[0] = along[0] * 1.0001 + 1
+    weights = [1.0]
+    for n in range(1, BEFORE + 1):
+        turn = -sum(map(mul, weights, along[n:0:-1])) / left
+        weights.append(0.0)
+        weights = [a + turn * b for a, b in zip(weights, reversed(weights))]
+        left *= 1 - turn * turn
+    return Sound(along[0] / len(values) / ZERO[law], left / along[0])
+
+
+def _is_clearer(one: Sound, other: Sound) -> bool:
+    return (one.strange * CLEARLY <= other.strange and one.strange <= SPEECH
+            and one.power <= other.power * LOUDER)
+
+
+def clearer(one: Sound, other: Sound) -> int:
+    """1 where the first of two readings is clearly the one of speech, -1 where the other is, 0 where nothing tells."""
+    if min(one.power, other.power) < FLOOR:
+        return 0
+    return _is_clearer(one, other) - _is_clearer(other, one)
+
+
+@dataclass(slots=True)
+class Heard:
+    """What was heard of a circuit one way, at the moments at which it was looked at."""
+    looks: int = 0
+    silent: int = 0                     # of one octet alone
+    own: int = 0                        # read like what the circuit is to have
+    other: int = 0                      # read like the other law, or the other order
+    power: float = 0.0                  # the sum, under the circuit's law
+    under_other: float = 0.0            # under the other law
+
+    def join(self, more: Heard) -> None:
+        self.looks += more.looks
+        self.silent += more.silent
+        self.own += more.own
+        self.other += more.other
+        self.power += more.power
+        self.under_other += more.under_other
+
+    def vote(self, which: int) -> None:
+        """A look that tells, or does not."""
+        self.own += which > 0
+        self.other += which < 0
+
+    def is_other(self) -> bool:
+        """Whether it reads like the other one: looks that tell are many, and nearly all the same."""
+        return self.other >= OFTEN and self.other >= MOSTLY * (self.own + self.other)
+
+
+def is_silent(octets: bytes) -> bool:
+    """Of one octet alone, as silence is."""
+    return octets.count(octets[:1]) == len(octets)
+
+
+def heard(octets: bytes, law: str) -> Heard:
+    """A look at octets of G.711 of a circuit whose law is to be this one."""
+    own, other = sound(octets, law), sound(octets, OTHER[law])
+    seen = Heard(1, is_silent(octets), power=own.power, under_other=other.power)
+    seen.vote(clearer(own, other))
+    return seen
+
+
+class Turns:
+    """When it is looked: each 320 ms at the begin of a call, half as often after each eight looks."""
+    __slots__ = ('due', 'each', 'looks')
+
+    def __init__(self, each: int = EACH) -> None:
+        self.due, self.each, self.looks = 0, each, 0
+
+    def come(self, place: int, most: float) -> bool:
+        """Whether it is looked at a place, where looks are to be no more octets apart than most."""
+        if place < self.due:
+            return False
+        self.looks += 1
+        if not self.looks % EIGHT:
+            self.each *= 2
+        self.due = place + int(min(self.each, most))
+        return True
