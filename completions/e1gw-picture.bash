@@ -1,7 +1,7 @@
 # bash completion for e1gw-picture: options, and files where they take one.
 
 _e1gw_picture() {
-  local options='--config --answers --capture --output --last --circuits --begin --title --program --help'
+  local options='--config --answers --capture --totals --output --last --circuits --begin --title --program --help'
   local cur=${COMP_WORDS[COMP_CWORD]} prev=${COMP_WORDS[COMP_CWORD - 1]}
   # readline makes a word of the sign in --config=FILE
   if [ "$cur" = = ]; then

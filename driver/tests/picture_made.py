@@ -4,8 +4,10 @@ from __future__ import annotations
 import bisect
 import functools
 import math
+import os
 import random
 import struct
+import tempfile
 from collections.abc import Callable, Iterator
 from dataclasses import dataclass, field
 
@@ -360,3 +362,92 @@ def recorded(name: str) -> tuple[str, bytes]:
     """The configuration and the records of a session with a trouble."""
     made = TROUBLES[name]()
     return made.config(), b''.join(made.given())
+
+
+# ---- captures beside a session ----
+
+BEGIN = 1_700_000_000           # 2023-11-14 22:13:20 UTC
+GATEWAY, PEER, ELSEWHERE = bytes([192, 0, 2, 1]), bytes([192, 0, 2, 2]), bytes([192, 0, 2, 9])
+Packets = list[tuple[float, bytes]]
+
+
+def udp(source: int, target: int, body: bytes, hosts: tuple[bytes, bytes] = (GATEWAY, PEER)) -> bytes:
+    """A UDP packet over IPv4 (RFC 768, RFC 791)."""
+    return (struct.pack('>BBHHHBBH4s4s', 0x45, 0, 28 + len(body), 0, 0, 64, 17, 0, *hosts)
+            + struct.pack('>HHHH', source, target, 8 + len(body), 0) + body)
+
+
+def icmp(about: bytes, kind: int = 3, code: int = 3) -> bytes:
+    """The peer's answer that a packet was not delivered (RFC 792): by default that nobody listens at the port."""
+    quoted = about[:28]
+    return (struct.pack('>BBHHHBBH4s4s', 0x45, 0, 28 + len(quoted), 0, 0, 64, 1, 0, PEER, GATEWAY)
+            + struct.pack('>BBHI', kind, code, 0, 0) + quoted)
+
+
+def pcap(packets: Packets, link: int = 101, front: bytes = b'') -> bytes:
+    """A capture with times in microseconds."""
+    out = [struct.pack('<IHHiIII', 0xA1B2C3D4, 2, 4, 0, 0, 65535, link)]
+    for time, octets in packets:
+        whole = front + octets
+        out.append(struct.pack('<IIII', int(time), round(time % 1 * 1e6) % 1_000_000, len(whole), len(whole)) + whole)
+    return b''.join(out)
+
+
+def of_peer(body: bytes, host: bytes = PEER, port: int = 24006) -> bytes:
+    """A datagram that the peer sends."""
+    return udp(24106, port, body, (host, GATEWAY))
+
+
+def both_ways(config: str, given: bytes) -> tuple[bytes, Packets, Packets]:
+    """The octets and commands of a session, and as packets what came and what the program sends."""
+    bare, came, sent, place = [], [], [], 0
+    for record in records_in(given):
+        if record.kind is Kind.DATAGRAM:
+            came.append((BEGIN + place / SECOND, of_peer(record.body)))
+        else:
+            bare.append(record.spelled())
+            place += len(record.body) * (record.kind is Kind.TRUNK)
+    with tempfile.TemporaryDirectory() as folder:
+        path = os.path.join(folder, 'trunk.toml')
+        with open(path, 'w', encoding='utf-8') as file:
+            file.write(config)
+        answers = run('replay', '--config', path, given=given)
+    for record in records_in(answers):
+        if record.kind is Kind.DATAGRAM:
+            # Its last word was heard in the frame of its timestamp and 160 more.
+            frame = struct.unpack_from('>I', record.body, 4)[0] + 160
+            sent.append((BEGIN + frame / 8000, udp(24006, 24106, record.body)))
+    return b''.join(bare), came, sent
+
+
+def beside(config: str, given: bytes) -> tuple[bytes, bytes]:
+    """A session without its datagrams, and a capture of them."""
+    bare, came, sent = both_ways(config, given)
+    return bare, pcap(sorted(came + sent))
+
+
+def nobody_listens(came: Packets, sent: Packets) -> Packets:
+    """One in ten of what is sent is answered by ICMP, as a Linux peer does, which limits its answers."""
+    return came + sent + [(time + 0.001, icmp(packet)) for time, packet in sent[::10]]
+
+
+def other_address(came: Packets, sent: Packets) -> Packets:
+    return [(time, of_peer(packet[28:], ELSEWHERE)) for time, packet in came] + sent
+
+
+def other_port(came: Packets, sent: Packets) -> Packets:
+    """The peer sends to a port that no circuit has."""
+    return [(time, of_peer(packet[28:], port=24008)) for time, packet in came] + sent
+
+
+CAPTURED = {'nobody-listens': nobody_listens, 'other-address': other_address, 'other-port': other_port}
+
+
+@functools.cache
+def captured(name: str) -> tuple[str, bytes, bytes]:
+    """The configuration, the octets and commands, and the capture of a session with a trouble on the network."""
+    made = one_call(6, payloads=packets(coded('A')))
+    made.speech = coded('A')
+    made.tables[3]['peer_host'] = '192.0.2.2'
+    bare, came, sent = both_ways(made.config(), b''.join(made.given()))
+    return made.config(), bare, pcap(sorted(CAPTURED[name](came, sent)))

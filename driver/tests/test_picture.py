@@ -233,8 +233,8 @@ class BesideTheProgram(unittest.TestCase):
                 at[n] += size
         live.page()
         self.assertFalse(live.ended)
-        whole, cell = read(io.BytesIO(given), io.BytesIO(answers), read_config(path), program=program()).rows[3].count(), \
-            live.facts.rows[3].count()
+        facts = read(io.BytesIO(given), io.BytesIO(answers), read_config(path), program=program())
+        whole, cell = facts.rows[3].count(), live.facts.rows[3].count()
         for name in Cell.__slots__:
             self.assertEqual(getattr(whole, name), getattr(cell, name), name)
 

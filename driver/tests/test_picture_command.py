@@ -13,37 +13,19 @@ import unittest
 
 from .support import TOP, program, run
 
-from .picture_made import TROUBLES, Made, Sender, answered, recorded
+from .picture_made import (
+    BEGIN, CAPTURED, PEER, TROUBLES, Made, Sender, answered, beside, captured, icmp, pcap, recorded, udp)
 
 from e1gw.picture.capture import reckoned
 from e1gw.picture.main import parser
 from e1gw.picture.packets import BadCapture, datagrams
-from e1gw.session import OCTETS_A_SECOND, Kind, records_in, trunk_record
+from e1gw.session import Kind, records_in, trunk_record
 
 COMMAND = os.path.join(TOP, 'driver', 'e1gw-picture')
-BEGIN = 1_700_000_000           # 2023-11-14 22:13:20 UTC
-GATEWAY, PEER = bytes([192, 0, 2, 1]), bytes([192, 0, 2, 2])
-
-
-def udp(source: int, target: int, body: bytes) -> bytes:
-    """A UDP packet over IPv4 (RFC 768, RFC 791)."""
-    return (struct.pack('>BBHHHBBH4s4s', 0x45, 0, 28 + len(body), 0, 0, 64, 17, 0, GATEWAY, PEER)
-            + struct.pack('>HHHH', source, target, 8 + len(body), 0) + body)
-
-
 def udp6(source: int, target: int, body: bytes) -> bytes:
     """The same over IPv6 (RFC 8200)."""
     return (struct.pack('>IHBB', 6 << 28, 8 + len(body), 17, 64) + bytes(32)
             + struct.pack('>HHHH', source, target, 8 + len(body), 0) + body)
-
-
-def pcap(packets: list[tuple[float, bytes]], link: int = 101, front: bytes = b'') -> bytes:
-    """A capture with times in microseconds."""
-    out = [struct.pack('<IHHiIII', 0xA1B2C3D4, 2, 4, 0, 0, 65535, link)]
-    for time, octets in packets:
-        whole = front + octets
-        out.append(struct.pack('<IIII', int(time), round(time % 1 * 1e6) % 1_000_000, len(whole), len(whole)) + whole)
-    return b''.join(out)
 
 
 def pcapng(packets: list[tuple[float, bytes]]) -> bytes:
@@ -122,6 +104,15 @@ class Run(Folder):
         self.assertIn('2023-11-14 22:13:20 UTC', page)
         again, _ = self.drawn('--config', config, '--answers', answers, '--begin', str(BEGIN), given)
         self.assertEqual(page, again)
+
+    def test_totals(self) -> None:
+        config, given, answers = self.small()
+        words = ['--config', config, '--answers', answers, '--totals']
+        page, _ = self.drawn(*words, self.file('totals', 'a line\nport_faults 3\nports 9\nport_faults 7\n'), given)
+        self.assertIn('7 times a socket could not send or receive', page)
+        page, _ = self.drawn(*words, self.file('totals', 'dropped 1\nport_faults 0\n'), given)
+        self.assertNotIn('could not send', page)
+        self.assertIn('no line with port_faults', self.drawn(*words, config, given, status=1)[1])
 
     def test_cut_session_is_drawn_up_to_there(self) -> None:
         config, given, answers = self.small()
@@ -241,11 +232,13 @@ class WithProgram(Folder):
         path = program()
         with open(os.path.join(TOP, 'docs', 'SYMPTOMS.md'), encoding='utf-8') as file:
             quotes = re.findall(r'!\[\]\(pictures/([a-z-]+)\.svg\)\n\n> ([^:]+): (.*)\n', file.read())
-        self.assertEqual({name for name, _, _ in quotes}, set(TROUBLES) - {'sound'})
+        self.assertEqual({name for name, _, _ in quotes}, set(TROUBLES) - {'sound'} | set(CAPTURED))
         for name, who, words in quotes:
             with self.subTest(name):
-                config, given = recorded(name)
-                page, _ = self.drawn('--program', path, '--config', self.file('trunk.toml', config), '-', given=given)
+                config, given, capture = captured(name) if name in CAPTURED else (*recorded(name), b'')
+                beside_it = ['--capture', self.file('call.pcap', capture)] if capture else []
+                page, _ = self.drawn('--program', path, '--config', self.file('trunk.toml', config), *beside_it, '-',
+                                     given=given)
                 entries = [re.sub('<.*?>', '', entry) for entry in re.findall('<li.*?</li>', page, re.S)]
                 wanted = who + words.replace("'", '&#x27;')
                 self.assertTrue(any(entry.startswith(wanted) for entry in entries), (wanted, entries))
@@ -261,8 +254,23 @@ class Captured(Folder):
                  for time, octets in packets]
         vlan = [(time, octets[:12] + b'\x81\x00\x00\x05' + octets[12:]) for time, octets in ether]
         for octets in (pcap(packets), pcapng(packets), pcap(ether, 1), pcap(vlan, 1)):
-            self.assertEqual([tuple(each) for each in datagrams(io.BytesIO(octets))], found)
-            self.assertEqual([tuple(each) for each in datagrams(io.BytesIO(octets[:-1]))], found[:1])
+            self.assertEqual([each[:4] for each in datagrams(io.BytesIO(octets))], found)
+            self.assertEqual([each[:4] for each in datagrams(io.BytesIO(octets[:-1]))], found[:1])
+
+    def test_what_icmp_answers(self) -> None:
+        sent = udp(24006, 24106, b'one')
+        for kind, code, answer in ((3, 3, 'nobody listens at that port'), (3, 1, 'there is no way to that host'),
+                                   (3, 13, 'a firewall forbids it'), (11, 0, 'it goes round in a circle')):
+            found = list(datagrams(io.BytesIO(pcap([(BEGIN, icmp(sent, kind, code))]))))
+            self.assertEqual([(each.source, each.target, each.body, each.answer) for each in found],
+                             [(24006, 24106, b'', answer)])
+        for packet in (icmp(sent, 0, 0), icmp(sent, 3, 4), icmp(sent)[:-7], icmp(sent[:9] + b'\x06' + sent[10:])):
+            self.assertEqual(list(datagrams(io.BytesIO(pcap([(BEGIN, packet)])))), [])
+        # ICMPv6, destination unreachable, port unreachable (RFC 4443, 3.1).
+        about = udp6(24006, 24106, b'two')[:48]
+        packet = struct.pack('>IHBB', 6 << 28, 8 + len(about), 58, 64) + bytes(32) + bytes([1, 4]) + bytes(6) + about
+        (found,) = datagrams(io.BytesIO(pcap([(BEGIN, packet)])))
+        self.assertEqual((found.source, found.target, found.answer), (24006, 24106, 'nobody listens at that port'))
 
     def test_what_is_no_capture(self) -> None:
         for octets in (b'', b'RIFF', b'\x0A\x0D\x0D\x0A' + struct.pack('<I', 5) + b'\x4D\x3C\x2B\x1A'):
@@ -274,20 +282,8 @@ class Captured(Folder):
     def split(self, name: str) -> tuple[str, bytes, bytes, bytes]:
         """A session with a trouble, its octets and commands alone, and a capture of its datagrams both ways."""
         text, given = recorded(name)
-        config = self.file('trunk.toml', text)
-        packets, bare, place = [], [], 0
-        for record in records_in(given):
-            if record.kind is Kind.DATAGRAM:
-                packets.append((BEGIN + place / OCTETS_A_SECOND, udp(24106, 24006, record.body)))
-            else:
-                bare.append(record.spelled())
-                place += len(record.body) * (record.kind is Kind.TRUNK)
-        for record in records_in(run('replay', '--config', config, given=given)):
-            if record.kind is Kind.DATAGRAM:
-                # Its last word was heard in the frame of its timestamp and 160 more.
-                frame = struct.unpack_from('>I', record.body, 4)[0] + 160
-                packets.append((BEGIN + frame / 8000, udp(24006, 24106, record.body)))
-        return config, given, b''.join(bare), pcap(sorted(packets, key=lambda each: each[0]))
+        bare, capture = beside(text, given)
+        return self.file('trunk.toml', text), given, bare, capture
 
     def test_beside_a_session(self) -> None:
         path = program()
@@ -333,6 +329,25 @@ class Captured(Folder):
         self.assertAlmostEqual(facts.begin or 0.0, BEGIN + 0.17, delta=0.005)
         page, _ = self.drawn('--config', config, '--capture', path)
         self.assertIn('reckoned from the capture', page)
+
+    def said(self, name: str, packets: list[tuple[float, bytes]], *words: str) -> str:
+        """The page of the octets and commands of a session, beside a capture."""
+        config, _, bare, _ = self.split(name)
+        capture = self.file('call.pcap', pcap(packets))
+        return self.drawn('--program', program(), '--config', config, '--capture', capture, *words, '-', given=bare)[0]
+
+    def test_where_datagrams_go(self) -> None:
+        program()
+        packets = [(each.time, udp(each.source, each.target, each.body, (each.source_host, each.target_host)))
+                   for each in datagrams(io.BytesIO(self.split('hold')[3]))]
+        self.assertNotIn('are sent to', self.said('hold', packets))
+        moved = [(time, packet[:20] + struct.pack('>H', 40000) + packet[22:]
+                  if packet[12:16] == PEER else packet) for time, packet in packets]
+        self.assertIn('datagrams are sent to 192.0.2.2:24106, and the peer&#x27;s come from 192.0.2.2:40000',
+                      self.said('hold', moved))
+        came = [each for each in packets if each[1][12:16] == PEER]
+        page = self.said('hold', came, '--begin', str(BEGIN))
+        self.assertIn('datagrams were made, and none of them is in the capture', page)
 
     def test_one_way_needs_a_begin(self) -> None:
         program()

@@ -1,15 +1,19 @@
 """Datagrams of a capture beside a session, or without one."""
 from __future__ import annotations
 
+import functools
+import ipaddress
 import struct
 from collections import deque
 from collections.abc import Iterable, Iterator, Mapping
 from statistics import median
 from typing import Any
 
-from ..session import OCTETS_A_SECOND, Kind, spell
+from ..lines import law_of
+from ..session import OCTETS_A_SECOND, BadPacket, Kind, packet_of, spell
 from .answers import Source, Trouble
-from .facts import BITS, FRAME, HEADER, WINDOW, Facts, Row, Stream
+from .facts import BITS, FRAME, HEADER, MOST, WINDOW, Facts, Row, Stream, Wire
+from .listening import Listener
 from .packets import Datagram, datagrams
 from .reading import Stream as Records
 from .reading import rows_of
@@ -45,11 +49,58 @@ class Clock:
         return round((time - (self.begin or 0.0)) * OCTETS_A_SECOND)
 
 
-def arrivals(path: str, config: Mapping[str, Any], begin: float | None) -> Iterator[tuple[int, int, bytes]]:
+class Ways:
+    """Notes where datagrams go to and come from."""
+
+    def __init__(self, facts: Facts, config: Mapping[str, Any]) -> None:
+        self.facts, self.circuits = facts, ports(config)
+        self.known = set(self.circuits) | {table.get('peer_port') for table in config.get('circuit', [])}
+        for circuit in self.circuits.values():
+            facts.rows[circuit].wire = Wire()
+
+    def note(self, each: Datagram, place: int) -> None:
+        """A datagram of the capture, at its place on the trunk."""
+        sent, came = self.circuits.get(each.source), self.circuits.get(each.target)
+        if sent is not None:
+            self._sent(self.facts.rows[sent].wire or Wire(), each, place)
+        elif came is not None and not each.answer:
+            wire = self.facts.rows[came].wire or Wire()
+            wire.note(wire.came, (host_of(each.source_host), each.source))
+        elif is_rtp(each.body) and each.target not in self.known:
+            stray = host_of(each.source_host), each.target
+            if stray in self.facts.strays or len(self.facts.strays) < 8:
+                self.facts.strays[stray] += 1
+
+    @staticmethod
+    def _sent(wire: Wire, each: Datagram, place: int) -> None:
+        if not each.answer:
+            wire.note(wire.went, (host_of(each.target_host), each.target))
+            return
+        wire.answers[each.answer] += 1
+        if len(wire.places) < MOST:
+            wire.places.append(place)
+
+
+@functools.lru_cache(256)
+def host_of(address: bytes) -> str:
+    """An address as it is written."""
+    return str(ipaddress.ip_address(address)) if len(address) in (4, 16) else 'an unknown host'
+
+
+def is_rtp(body: bytes) -> bool:
+    """It may be RTP, and is no RTCP (RFC 5761, 4)."""
+    return len(body) >= 12 and body[0] >> 6 == 2 and not 72 <= body[1] & 127 <= 76
+
+
+def arrivals(path: str, config: Mapping[str, Any], begin: float | None,
+             facts: Facts) -> Iterator[tuple[int, int, bytes]]:
     """Place on the trunk, circuit and body of each datagram of a capture that came."""
-    circuits, clock = ports(config), Clock(config, begin)
+    circuits, clock, ways = ports(config), Clock(config, begin), Ways(facts, config)
     with open(path, 'rb') as file:
         for datagram in datagrams(file):
+            ways.note(datagram, clock.place(datagram.time))
+            if datagram.answer:
+                continue
             if datagram.source in circuits:
                 clock.sent(circuits[datagram.source], datagram)
             if datagram.target in circuits:
@@ -61,23 +112,24 @@ def first_begin(path: str, config: Mapping[str, Any]) -> float | None:
     circuits, clock = ports(config), Clock(config)
     with open(path, 'rb') as file:
         for datagram in datagrams(file):
-            if datagram.source in circuits:
+            if datagram.source in circuits and not datagram.answer:
                 clock.sent(circuits[datagram.source], datagram)
                 if len(clock.near) == NEAR:
                     break
     return median(clock.near) if clock.near else None
 
 
-def merged(octets: Iterator[bytes], path: str, config: Mapping[str, Any],
+def merged(octets: Iterator[bytes], path: str, config: Mapping[str, Any], facts: Facts,
            begin: float | None = None) -> tuple[Iterator[bytes], float]:
-    """A session with the datagrams of a capture, each at its place on the trunk, and when the session began."""
+    """A session with the datagrams of a capture, each at its place on the trunk, and when the session began. Where they
+    go to and come from is noted in the facts."""
     if not ports(config):
         raise Trouble('the configuration has no local_port, so nothing tells the circuits of a capture')
     begin = first_begin(path, config) if begin is None else begin
     if begin is None:
         raise Trouble('the capture has no datagram that the gateway sent, so nothing tells when the session began: '
                       'say it by --begin')
-    return _merged(Source(octets), arrivals(path, config, begin)), begin
+    return _merged(Source(octets), arrivals(path, config, begin, facts)), begin
 
 
 def _merged(source: Source, came: Iterable[tuple[int, int, bytes]]) -> Iterator[bytes]:
@@ -119,7 +171,7 @@ def _records(source: Source) -> Iterator[tuple[int, int, bytes]]:
 
 # ---- a capture alone ----
 
-def reckoned(path: str, config: Mapping[str, Any], last: float | None = None) -> Facts:
+def reckoned(path: str, config: Mapping[str, Any], last: float | None = None, program: str | None = None) -> Facts:
     """What a capture alone tells: no line is known, and what became of a datagram is reckoned from its header."""
     rows = rows_of(config)
     for row in rows.values():
@@ -127,24 +179,42 @@ def reckoned(path: str, config: Mapping[str, Any], last: float | None = None) ->
     facts = Facts(rows, int(last * OCTETS_A_SECOND) if last else None)
     facts.told = 'reckoned from the capture'
     facts.alarms.clear()
-    circuits = ports(config)
+    facts.law = law_of(config)
+    circuits, ways, listener = ports(config), Ways(facts, config), Listener(facts, program)
     seen: dict[int, int] = {}
     with open(path, 'rb') as file:
         for each in datagrams(file):
             if facts.begin is None:
                 facts.begin = each.time
             place = max(facts.place, round((each.time - facts.begin) * OCTETS_A_SECOND))
+            ways.note(each, place)
+            if each.answer:
+                continue
             if each.source in circuits:
                 facts.turn(place)
                 rows[circuits[each.source]].cell.sent += 1
+                _listen(listener, rows[circuits[each.source]], place, each.body)
             if each.target in circuits:
                 facts.turn(place)
                 row = rows[circuits[each.target]]
                 code = _code(row, each.body, place, seen)
                 row.came(place, code, each.body[:12], len(each.body))
+                if not code:
+                    listener.came(row, place, each.body)
+    listener.look()
     if facts.begin is None:
         raise Trouble('the capture has no UDP datagram')
     return facts
+
+
+def _listen(listener: Listener, row: Row, place: int, body: bytes) -> None:
+    """A datagram that was sent: in G.711 it has the octets of the time slot."""
+    if row.codec in BITS or not row.stream.slot.come(place, listener.most):
+        return
+    try:
+        listener.slot(row, packet_of(body).payload)
+    except BadPacket:
+        pass
 
 
 def _code(row: Row, body: bytes, place: int, seen: dict[int, int]) -> int:

@@ -161,8 +161,10 @@ def _gaps(row: Row, facts: Facts, scale: Scale, seen: Pixels) -> list[tuple[floa
 def _unheard(sheet: Sheet, row: Row, facts: Facts, scale: Scale, seen: Pixels, y: float) -> None:
     """Dashes in the middle line where nothing comes, and marks on the line that reads like another law or order: the
     upper one is what the time slot has, the middle one what came."""
-    gaps = ''.join(f'M{LEFT + first:.0f} {y + 4.5:g}H{LEFT + last:.0f}' for first, last in _gaps(row, facts, scale, seen))
-    sheet.path(gaps, 'nothing', f'circuit {row.number}: nothing comes, and the path is open')
+    gaps = _gaps(row, facts, scale, seen)
+    sheet.path(''.join(f'M{LEFT + first:.0f} {y + 4.5:g}H{LEFT + last:.0f}' for first, last in gaps), 'nothing',
+               f'circuit {row.number}: nothing comes, and the path is open')
+    _astray(sheet, row, scale, y)
     whole = Cell()
     for cell in seen.values():
         whole.join(cell)
@@ -171,6 +173,21 @@ def _unheard(sheet: Sheet, row: Row, facts: Facts, scale: Scale, seen: Pixels, y
         marks = runs(sorted(x for x, cell in seen.items() if way in cell.heard and cell.heard[way].other), 5)
         sheet.path(''.join(f'M{LEFT + first} {top:g}h{last - first + 4}v4.2h-{last - first + 4}z'
                            for first, last in marks), 'unlike', f'circuit {row.number}: {LIKE[way]}')
+
+
+def _astray(sheet: Sheet, row: Row, scale: Scale, y: float) -> None:
+    """What a capture tells of what is sent: dashes on the upper line where it goes to another host than the peer's
+    come from, crosses where the network answers that it does not arrive."""
+    if row.wire is None:
+        return
+    if row.wire.is_astray():
+        spans = [(first, last) for first, last, state in row.states.between(scale.start, scale.end)
+                 if state in (*OPEN, 'unknown')]
+        sheet.path(''.join(f'M{scale.x(first):.0f} {y + 1.1:g}H{scale.x(last):.0f}' for first, last in spans),
+                   'nothing astray', f'circuit {row.number}: goes to another address than the peer\'s come from')
+    crosses = sorted({int(scale.x(place) / 8) * 8 for place in row.wire.places if scale.start <= place <= scale.end})
+    sheet.path(''.join(f'M{x - 2} {y - 1:g}l4 4m0 -4l-4 4' for x in crosses), 'c-refused',
+               f'circuit {row.number}: {", ".join(row.wire.answers)}')
 
 
 def _commands(sheet: Sheet, row: Row, scale: Scale, y: float) -> None:
@@ -221,7 +238,8 @@ class Playout:
 
     def drawn(self) -> str:
         row = self.row
-        sheet = Sheet(self.y0 + self.high + 6 + 13 * (len(self.others) + len(self.unlike)), f'Datagrams of circuit {row.number} against the '
+        marked = 13 * (len(self.others) + len(self.unlike))
+        sheet = Sheet(self.y0 + self.high + 6 + marked, f'Datagrams of circuit {row.number} against the '
                       f'playout: {self.whole.admitted} admitted; refused: {refusals(self.whole) or "none"}')
         self._frame(sheet)
         self._admitted(sheet)

@@ -7,6 +7,7 @@ columns of so many octets are kept.
 from __future__ import annotations
 
 import struct
+from collections import Counter
 from collections.abc import Iterator
 from dataclasses import dataclass, field
 from typing import Any
@@ -156,6 +157,26 @@ class Stream:
     stretch: list[bytes] | None = None                  # datagrams in a row that are to be decoded
 
 
+Address = tuple[str, int]
+
+
+@dataclass
+class Wire:
+    """Where a circuit's datagrams went to and came from, and why some were not delivered, by a capture."""
+    went: Counter[Address] = field(default_factory=Counter)
+    came: Counter[Address] = field(default_factory=Counter)
+    answers: Counter[str] = field(default_factory=Counter)
+    places: list[int] = field(default_factory=list)     # of the answers, the first ones
+
+    def is_astray(self) -> bool:
+        """They go to another host than the peer's come from."""
+        return bool(self.went and self.came) and not {host for host, _ in self.went} & {host for host, _ in self.came}
+
+    def note(self, seen: Counter[Address], address: Address) -> None:
+        if address in seen or len(seen) < 8:
+            seen[address] += 1
+
+
 @dataclass
 class Row:
     """A circuit."""
@@ -178,6 +199,7 @@ class Row:
     mismatch: tuple[int, int] = (0, 0)          # words of a datagram, step of its timestamp
     begun: list[int] = field(default_factory=list)      # places where the playout began anew
     ssrc: int | None = None                             # of the last call's first datagram
+    wire: Wire | None = None
     step: int = 0                                       # of the timestamp, where it fits the words of a datagram
     length: int = 0                                     # of such a datagram
 
@@ -285,6 +307,8 @@ class Facts:
         self.begin: float | None = None     # the time of place 0, in seconds since 1970, where it is known
         self.told = 'e1gw'                  # who told how datagrams were answered
         self.law = 'A'                      # of the trunk
+        self.strays: Counter[tuple[str, int]] = Counter()       # that came to ports of no circuit: from, to
+        self.port_faults = 0
 
     def turn(self, place: int) -> None:
         """The trunk has come to a place."""

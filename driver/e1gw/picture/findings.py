@@ -121,6 +121,8 @@ def _refused(row: Row, whole: Cell) -> Iterator[Finding]:
         elif code == 11:
             types = ', '.join(str(kind) for kind in sorted(row.types) if kind != row.payload)
             yield Finding('type', row.number, f'{part}PayloadType: type {types} came, the circuit has {row.payload}',
+                          'the sender has the other law: one law at both ends, or G.726'
+                          if {row.payload} | set(row.types) >= {0, 8} else
                           'another codec at the sender; comfort noise (13); telephone events; RTCP at this port')
         elif code == 12:
             others = ', '.join(f'{ssrc:08x}' for ssrc in sorted(row.sources) if ssrc != row.ssrc)
@@ -151,9 +153,10 @@ def _silent(row: Row, whole: Cell, opened: int) -> Iterator[Finding]:
     """Where nothing comes, or nothing but silence."""
     came = whole.admitted + sum(seen[0] for code, seen in whole.refused.items() if code != NOT_OPEN)
     if opened > SECOND // 2 and not came:
-        yield Finding('none', row.number, f'the path was open for {duration(opened)}, and no datagram came',
-                      f'the peer\'s address and port (this end receives at {row.local or "no port"}), a firewall, '
-                      '`host`')
+        sent = f': {whole.sent} datagrams were sent to {row.peer}, and none came back' if whole.sent and row.peer else (
+            ', and no datagram came')
+        yield Finding('none', row.number, f'the path was open for {duration(opened)}{sent}',
+                      f'is that the peer, and does it send to {row.local or "a port of this end"}? A firewall; `host`')
     for way, words, hint in (
             ('came', 'the datagrams that came carry one octet alone, as silence does', 'the far end is silent'),
             ('slot', 'the time slot carries one octet alone, as silence does, and so do the datagrams that are sent',
@@ -173,8 +176,7 @@ def _sound(row: Row, whole: Cell, law: str) -> Iterator[Finding]:
     here, there = NAMES[law], NAMES[OTHER[law]]
     for way, what, hint in (
             ('came', f'the datagrams that came read like {there}, not like {here}',
-             'the sender has the other law under this payload type: one law at both ends, or G.726; or `law` is not the '
-             'trunk\'s'),
+             'the sender has the other law under this payload type: one law at both ends, or G.726'),
             ('slot', f'the time slot reads like {there}, not like {here}',
              '`law` is not the trunk\'s: set it as the exchange has it, and the sender\'s payload type with it'),
             ('order', 'the datagrams that came read like the order of AAL2, not like that of RFC 3551',
@@ -184,6 +186,38 @@ def _sound(row: Row, whole: Cell, law: str) -> Iterator[Finding]:
         if seen and seen.is_other():
             yield Finding(f'{way} other', row.number, f'{what}, in {seen.other} of {seen.own + seen.other} looks that '
                           'tell: harsh noise', hint)
+
+
+def _way(row: Row, whole: Cell) -> Iterator[Finding]:
+    """Whether what is sent arrives, as far as a capture tells."""
+    wire = row.wire
+    if wire is None:
+        return
+    to, comes = (', '.join(f'{host}:{port}' for host, port in sorted(seen)) for seen in (wire.went, wire.came))
+    if whole.sent and not wire.went:
+        yield Finding('not sent', row.number, f'{whole.sent} datagrams were made, and none of them is in the capture',
+                      'no way to the peer (`port_faults`), or the capture is of another interface')
+    for reason, count in wire.answers.most_common():
+        yield Finding(reason, row.number, f'the network answers that datagrams to {to or row.peer} do not arrive '
+                      f'({times(count)}): {reason}',
+                      '`peer_host` and `peer_port`, whether the peer runs and receives there, routes, firewalls')
+    if wire.is_astray():
+        yield Finding('astray', row.number, f'datagrams are sent to {to}, and the peer\'s come from {comes}: another '
+                      'address', 'most peers hear at the address that they send from: set `peer_host` to it')
+    elif wire.went and wire.came and not set(wire.went) & set(wire.came):
+        yield Finding('port', row.number, f'datagrams are sent to {to}, and the peer\'s come from {comes}',
+                      'where the peer hears nothing: most hear at the port that they send from', False)
+
+
+def _strays(facts: Facts) -> Iterator[Finding]:
+    """Datagrams that came to no circuit, and those that could not be sent."""
+    for (host, port), count in sorted(facts.strays.items(), key=lambda each: -each[1]):
+        if count > 5:
+            yield Finding('stray', 0, f'{count} datagrams came from {host} to port {port}, which no circuit has',
+                          'the sender\'s port is to be the `local_port` of the circuit')
+    if facts.port_faults:
+        yield Finding('port faults', 0, f'{times(facts.port_faults)} a socket could not send or receive',
+                      'no way to `peer_host`, a broadcast address, or a firewall of this machine')
 
 
 def _lines(row: Row, whole: Cell) -> Iterator[Finding]:
@@ -252,7 +286,7 @@ def _trunk(facts: Facts) -> Iterator[Finding]:
 def findings(facts: Facts) -> list[Finding]:
     """All that stands out, the trunk first."""
     rows = list(facts.rows.values())
-    out = list(_trunk(facts))
+    out = [*_trunk(facts), *_strays(facts)]
     parts = {row.number: points(row, facts.width) for row in rows}
     found = {n: [step for part in each for step in steps(part)] for n, each in parts.items()}
     out += _steps(facts, rows, found)
@@ -260,6 +294,7 @@ def findings(facts: Facts) -> list[Finding]:
         whole = row.count()
         out += _silent(row, whole, _open(row, facts))
         out += _sound(row, whole, facts.law)
+        out += _way(row, whole)
         clocks = list(_clock(row, parts[row.number], found[row.number]))
         out += clocks
         out += _refused(row, whole)

@@ -4,6 +4,7 @@ from __future__ import annotations
 import argparse
 import datetime
 import os
+import re
 import sys
 from collections.abc import Iterator
 
@@ -76,6 +77,7 @@ def parser() -> argparse.ArgumentParser:
     words.add_argument('--config', metavar='FILE', help='the configuration [default: that of the kept session]')
     words.add_argument('--answers', metavar='FILE', help='what the gateway answered [default: e1gw replay is run]')
     words.add_argument('--capture', metavar='FILE', help='a capture of the datagrams')
+    words.add_argument('--totals', metavar='FILE', help='what the gateway or the journal said of its totals')
     words.add_argument('-o', '--output', metavar='PAGE', help='where the page goes [default: standard output]')
     words.add_argument('--last', type=seconds, metavar='TIME', help='the last part of the session alone, as 60s or 5m')
     words.add_argument('--circuits', type=circuits, metavar='LIST', help='these circuits alone, as 1,2,7 or 3-9')
@@ -91,13 +93,22 @@ def given(session: Kept) -> Iterator[bytes]:
         yield from pieces(sys.stdin.buffer) if path == '-' else octets_of(path)
 
 
+def port_faults(path: str) -> int:
+    """How often a socket could not send or receive, by the totals that a gateway has printed last."""
+    with open(path, encoding='utf-8', errors='replace') as file:
+        told = re.findall(r'\bport_faults (\d+)', file.read())
+    if not told:
+        raise Trouble(f'{path} has no totals: no line with port_faults')
+    return int(told[-1])
+
+
 def gathered(options: argparse.Namespace, session: Kept, config: str) -> tuple[Facts, str]:
     """What is drawn of a session, and a word on how it ended."""
     facts = Facts(rows_of(read_config(config)), int(options.last * OCTETS_A_SECOND) if options.last else None)
     octets = given(session)
     facts.begin = options.begin if options.begin is not None else session.begin
     if options.capture:
-        octets, facts.begin = merged(octets, options.capture, read_config(config), facts.begin)
+        octets, facts.begin = merged(octets, options.capture, read_config(config), facts, facts.begin)
         facts.told = 'placed by the times of the capture'
     if options.answers:
         with open(options.answers, 'rb') as answers:
@@ -125,7 +136,8 @@ def drawn(options: argparse.Namespace) -> str:
     if options.session:
         facts, word = gathered(options, session, config)
     else:
-        facts, word = reckoned(options.capture, read_config(config), options.last), ''
+        facts, word = reckoned(options.capture, read_config(config), options.last, options.program), ''
+    facts.port_faults = port_faults(options.totals) if options.totals else 0
     name = os.path.basename(os.path.normpath(options.session or options.capture))
     title = options.title or f'e1gw: {name if name != "-" else "a session"}'
     notes = [f'{word}; what was before it is drawn'] if word else []

@@ -1,4 +1,5 @@
-"""UDP datagrams of a capture: pcap and pcapng files of Ethernet, Linux cooked, loopback or plain IP packets."""
+"""UDP datagrams of a capture, and what ICMP answers to some: pcap and pcapng files of Ethernet, Linux cooked, loopback
+or plain IP packets."""
 from __future__ import annotations
 
 import struct
@@ -12,6 +13,14 @@ SECTION, INTERFACE, PACKET = 0x0A0D0D0A, 1, 6
 LINKS = {0: (4, None), 1: (14, 12), 12: (0, None), 101: (0, None), 113: (16, 14), 228: (0, None), 229: (0, None),
          276: (20, 0)}
 VLAN, IPV4, IPV6, UDP = (0x8100, 0x88A8), 0x0800, 0x86DD, 17
+ICMP, ICMP6 = 1, 58
+NOBODY, NO_WAY, FORBIDDEN, CIRCLE = ('nobody listens at that port', 'there is no way to that host',
+                                     'a firewall forbids it', 'it goes round in a circle')
+# Why a datagram was not delivered, by type and code (RFC 792, RFC 1812, RFC 4443).
+REASONS = {(3, 0): NO_WAY, (3, 1): NO_WAY, (3, 3): NOBODY, (3, 9): FORBIDDEN, (3, 10): FORBIDDEN, (3, 13): FORBIDDEN,
+           (11, 0): CIRCLE}
+REASONS6 = {(1, 0): NO_WAY, (1, 1): FORBIDDEN, (1, 3): NO_WAY, (1, 4): NOBODY, (1, 5): FORBIDDEN, (1, 6): FORBIDDEN,
+            (3, 0): CIRCLE}
 MOST = 1 << 20              # octets of a block
 
 
@@ -20,11 +29,15 @@ class BadCapture(ValueError):
 
 
 class Datagram(NamedTuple):
-    """A datagram on the network: when, between which ports, and what it carries."""
+    """A datagram on the network: when, between which ports and addresses, and what it carries. With `answer` it is one
+    that was not delivered, and the answer says why."""
     time: float
     source: int
     target: int
     body: bytes
+    source_host: bytes = b''
+    target_host: bytes = b''
+    answer: str = ''
 
 
 def datagrams(file: BinaryIO) -> Iterator[Datagram]:
@@ -102,8 +115,12 @@ def _resolution(order: str, options: bytes) -> float:
     return 1e-6
 
 
-def udp_of(link: int, octets: bytes) -> tuple[int, int, bytes] | None:
-    """The ports and the body of a UDP datagram over IPv4 or IPv6, or None."""
+Found = tuple[int, int, bytes, bytes, bytes, str]      # all of a datagram but its time
+
+
+def udp_of(link: int, octets: bytes) -> Found | None:
+    """The ports, the body and the addresses of a UDP datagram over IPv4 or IPv6, and why it was not delivered where
+    the packet is an answer that says so; or None."""
     if link not in LINKS:
         return None
     skip, word = LINKS[link]
@@ -113,13 +130,38 @@ def udp_of(link: int, octets: bytes) -> tuple[int, int, bytes] | None:
                              struct.unpack_from('>H', octets, word)[0] not in (IPV4, IPV6)):
         return None
     ip = octets[skip:]
-    if len(ip) >= 20 and ip[0] >> 4 == 4 and ip[9] == UDP and not struct.unpack_from('>H', ip, 6)[0] & 0x3FFF:
-        udp = ip[4 * (ip[0] & 15):]
-    elif len(ip) >= 40 and ip[0] >> 4 == 6 and ip[6] == UDP:
-        udp = ip[40:]
-    else:
+    found = _carried(ip)
+    if not found:
         return None
-    if len(udp) < 8:
+    kind, at = found
+    if kind in (ICMP, ICMP6):
+        return _undelivered(ip[at:], REASONS if kind == ICMP else REASONS6)
+    if kind != UDP or len(ip) < at + 8:
         return None
-    source, target, length = struct.unpack_from('>HHH', udp)
-    return (source, target, udp[8:length]) if 8 <= length <= len(udp) else None
+    source, target, length = struct.unpack_from('>HHH', ip, at)
+    return (source, target, ip[at + 8:at + length], *_hosts(ip), '') if 8 <= length <= len(ip) - at else None
+
+
+def _carried(ip: bytes) -> tuple[int, int] | None:
+    """The protocol that an IP packet carries and where that begins; None of a fragment and of what is no IP."""
+    if len(ip) >= 20 and ip[0] >> 4 == 4 and not struct.unpack_from('>H', ip, 6)[0] & 0x3FFF:
+        return ip[9], 4 * (ip[0] & 15)
+    if len(ip) >= 40 and ip[0] >> 4 == 6:
+        return ip[6], 40
+    return None
+
+
+def _hosts(ip: bytes) -> tuple[bytes, bytes]:
+    """Where an IP packet comes from and goes to."""
+    return (ip[12:16], ip[16:20]) if ip[0] >> 4 == 4 else (ip[8:24], ip[24:40])
+
+
+def _undelivered(icmp: bytes, reasons: dict[tuple[int, int], str]) -> Found | None:
+    """The datagram that an answer of ICMP is about, as far as it is quoted."""
+    quoted = icmp[8:]
+    found = _carried(quoted)
+    reason = reasons.get((icmp[0], icmp[1])) if len(icmp) >= 8 else None
+    if not reason or not found or found[0] != UDP or len(quoted) < found[1] + 4:
+        return None
+    source, target = struct.unpack_from('>HH', quoted, found[1])
+    return source, target, b'', *_hosts(quoted), reason

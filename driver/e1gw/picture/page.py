@@ -109,7 +109,7 @@ class Page:
         self.seen = {row.number: charts.pixels(row, facts, self.scale) for row in self.rows}
         self.found = [each for each in findings(facts) if not each.circuit or each.circuit in self.whole]
         troubled = {each.circuit for each in self.found if each.kind not in (
-            'silent came', 'silent slot', 'blocked', 'command', 'unacknowledged', 'fault', 'none')}
+            'silent came', 'silent slot', 'blocked', 'command', 'unacknowledged', 'fault', 'none', 'port')}
         busy = [row for row in self.rows if self.whole[row.number].admitted or self.whole[row.number].refused]
         self.troubled = [row for row in busy if row.number in troubled]
         self.even = [row for row in busy if row.number not in troubled]
@@ -169,8 +169,7 @@ class Page:
                          max(0, whole.lost), margin,
                          loud(whole.heard, 'order' if 'order' in whole.heard else 'came'), loud(whole.heard, 'slot'),
                          f'{row.codec} {row.payload}', row.local, row.peer))
-        return table('Each circuit: counts, how many ms before their turn datagrams came, and how loud it is in dBm0, '
-                     'as it is played / under the other law, or in the other order of G.726', (
+        return table('Each circuit: counts; ms before their turn; levels, as played / in the other law or order', (
             'circuit', 'role', 'at the end', 'calls', 'answered', 'open, s', 'sent', 'admitted', 'refused', 'causes',
             'lost', 'least / mean / most ms', 'came, dBm0', 'slot, dBm0', 'codec, type', 'receives at', 'sends to'),
                      rows)
@@ -223,7 +222,7 @@ class Page:
         parts = [f'<h1>{escape(self.title)}</h1><p>{self.told()}</p>{notes}',
                  f'<h2>What stands out</h2>{found_list(self.items)}',
                  trunk,
-                 f'<h2>The circuits</h2>{key()}<div class="wide">'
+                 f'<h2>The circuits</h2>{key(any(row.wire for row in self.rows))}<div class="wide">'
                  f'{charts.circuits(facts, self.rows, self.scale, self.seen)}</div>{quiet}' if self.rows else
                  f'<h2>The circuits</h2>{quiet}',
                  f'<h2>Datagrams against the playout</h2>{self.datagrams()}',
@@ -232,8 +231,8 @@ class Page:
         return f'<style>@media print{{body{{zoom:{self.zoom():.3f}}}}}</style>{"".join(parts)}'
 
 
-def key() -> str:
-    """What the marks mean."""
+def key(captured: bool) -> str:
+    """What the marks mean, those of a capture among them."""
     out = []
     for state in STATES:
         high, down = charts.SHAPES[state]
@@ -245,10 +244,15 @@ def key() -> str:
     for n, (kind, words) in enumerate((('sent', 'datagrams sent (upper line)'), ('admitted', 'admitted (middle)'),
                                        ('refused', 'refused (lower, thick)'))):
         out.append((f'<rect y="{2 + 3.4 * n}" width="26" height="{2.2 + (n == 2)}" class="d-{kind}"/>', words))
-    out.append(('<path d="M0 6.5H26" class="nothing"/>', 'open, and nothing comes'))
+    out.append(('<path d="M0 6.5H26" class="nothing"/>', 'open, and nothing comes (middle)'))
     out.append(('<rect y="5.4" width="26" height="2.2" class="d-admitted"/><rect x="4" y="4.4" width="5" height="4.2" '
                 'class="unlike"/><rect x="16" y="4.4" width="5" height="4.2" class="unlike"/>',
                 'reads like another law or order'))
+    if captured:
+        out.append(('<rect y="5" width="26" height="2.2" class="d-sent"/><path d="M0 6.1H26" class="nothing astray"/>',
+                    'goes to another address (upper)'))
+        out.append(('<rect y="5" width="26" height="2.2" class="d-sent"/><path d="M11 4l4 4m0 -4l-4 4" '
+                    'class="c-refused"/>', 'did not arrive (upper)'))
     out.append(('<path d="M13 11l5 -8h-10z" class="c-done"/>', 'command done'))
     out.append(('<path d="M9 3l8 8m0 -8l-8 8" class="c-refused"/>', 'command refused'))
     spans = ''.join(f'<span><svg viewBox="0 0 26 13" aria-hidden="true">{box}</svg>{words}</span>'

@@ -34,7 +34,8 @@ text{fill:var(--ink);font-size:11.5px}.tick{font-size:10.5px;fill:var(--soft)}.b
 .c-done{fill:var(--ink)}.c-refused{stroke:var(--refused);stroke-width:2;fill:none}
 .p-admitted{stroke:var(--admitted);stroke-width:1.8;fill:none}.p-box{fill:var(--admitted)}
 .p-refused,.p-strip{fill:var(--refused)}
-.nothing{stroke:var(--refused);stroke-width:2;stroke-dasharray:5 4;fill:none}.unlike{fill:var(--refused)}
+.nothing{stroke:var(--refused);stroke-width:2;stroke-dasharray:5 4;fill:none}.astray{stroke-width:3.4}
+.unlike{fill:var(--refused)}
 .over{fill:transparent}.over:hover{fill:var(--line);fill-opacity:.18}
 table{border-collapse:collapse;margin:6px 0;font-variant-numeric:tabular-nums}caption{text-align:left;color:var(--soft)}
 td,th{border-bottom:1px solid var(--grid);padding:2px 12px 2px 0;text-align:left;vertical-align:top;white-space:nowrap;
