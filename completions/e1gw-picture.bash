@@ -1,28 +1,11 @@
 # bash completion for e1gw-picture: options, and files where they take one.
 
+# shellcheck disable=SC1090 # it stands beside this file, in a clone and where it is installed
+. "${BASH_SOURCE[0]%e1gw-picture*}e1gw-options${BASH_SOURCE[0]##*e1gw-picture}"
+
 _e1gw_picture() {
   local options='--config --answers --capture --totals --output --last --circuits --begin --title --program --help'
-  local cur=${COMP_WORDS[COMP_CWORD]} prev=${COMP_WORDS[COMP_CWORD - 1]}
-  # readline makes a word of the sign in --config=FILE
-  if [ "$cur" = = ]; then
-    cur=''
-  elif [ "$prev" = = ]; then
-    prev=${COMP_WORDS[COMP_CWORD - 2]}
-  fi
-  COMPREPLY=()
-  case $prev in
-    --last)
-      mapfile -t COMPREPLY < <(compgen -W '60s 5m 1h' -- "$cur")
-      return ;;
-    --circuits | --begin | --title)
-      return ;;
-  esac
-  case $cur in
-    -*) mapfile -t COMPREPLY < <(compgen -W "$options" -- "$cur") ;;
-    *)
-      compopt -o filenames 2> /dev/null
-      mapfile -t COMPREPLY < <(compgen -f -- "$cur") ;;
-  esac
+  _e1gw_offer "$options" '--circuits --begin --title' --last '60s 5m 1h'
 }
 
 complete -F _e1gw_picture e1gw-picture
