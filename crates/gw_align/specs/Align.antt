@@ -5,8 +5,8 @@ use Rattle.g704_bits.specs.Bits.{aligned_octet}
 use Rattle.gw_records.specs.declared.outcome.Totals.{Totals}
 use Rattle.gw_records.specs.declared.outcome.RunFault.{RunFault}
 use Rattle.gw_records.specs.declared.outcome.RunFault.TheVariants.{Read, Write}
-use Rattle.gw_records.specs.Streams.{SourceState, SinkState, Gives, GivesUp, Breaks}
-use Rattle.gw_records.specs.Outcome.{nothing_counted, at_most}
+use Rattle.gw_records.specs.Streams.{SourceState, SinkState, Gives, GivesUp, Breaks, at_most}
+use Rattle.gw_records.specs.Outcome.{nothing_counted}
 
 -- the octets of the time slots for octets that come behind these
 unfoldable pub aligned_after : List ℕ → List ℕ → List ℕ

@@ -1,11 +1,11 @@
 -- Writes one after another, and what they leave where octets are known.
-use Rattle.std.proofs.Common.{◌≡◌, ◌-◌, ◌<◌, ◌≤◌, ◌^◌, ◌==◌, ◌&&◌, cond, ℕ, List, [], ◌∷◌, ◌++◌, length, take, drop}
+use Rattle.std.proofs.Common.{◌+◌, ◌≡◌, ◌-◌, ◌<◌, ◌≤◌, ◌^◌, ◌==◌, ◌&&◌, cond, ℕ, List, [], ◌∷◌, ◌++◌, length, take, drop}
 use Rattle.std.proofs.Common.{Option, None, Some, refl, sym, ap, ◌∙◌, subst, append_assoc, append-nil, nat_lt, arith}
 use Rattle.std.proofs.lemmas.Grind.{common_steps}
 use Rattle.std.specs.Io.KnownBytes.{Appends, Keeps, Consumes}
 use Rattle.std.specs.Prelude.{Result}
 use Rattle.gw_records.specs.declared.outcome.RunFault.{RunFault}
-use Rattle.gw_records.specs.Streams.{SourceState, SinkState, Gives, one_more, AppendsPrefix, Passes, Breaks, Puts}
+use Rattle.gw_records.specs.Streams.{SourceState, SinkState, Gives, at_most, AppendsPrefix, Passes, Breaks, Puts}
 
 -- two appends are one
 pub Appends-join : (a b c : Option (List ℕ)) (xs ys : List ℕ) → Appends a b xs → Appends b c ys → Appends a c (xs ++ ys)
@@ -31,7 +31,7 @@ pub split_more : (octets written rest : List ℕ) (n : ℕ) → n ≤ length res
 split_more octets written rest n h e = grind (arith, common_steps)
 
 -- a write that took something counts no failure
-pub took_some : (n m old new : ℕ) → 0 < n → new ≡ cond ((n == 0) && nat_lt 0 m) (one_more old) old → new ≡ old
+pub took_some : (n m old new : ℕ) → 0 < n → new ≡ cond ((n == 0) && nat_lt 0 m) (at_most (old + 1)) old → new ≡ old
 took_some n m old new h e = grind (arith, common_steps)
 
 -- the same of what is consumed
@@ -58,7 +58,7 @@ AppendsPrefix-join a b c xs ys all p q e = record {
 }
 
 -- a failed read counts
-pub read_failed : (old start new : ℕ) → start ≡ old → old < 2 ^ 64 - 1 → new ≡ one_more start → old < new
+pub read_failed : (old start new : ℕ) → start ≡ old → old < 2 ^ 64 - 1 → new ≡ at_most (start + 1) → old < new
 read_failed old start new e h n = omega arith
 
 -- an append of an equal list

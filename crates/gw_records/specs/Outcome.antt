@@ -31,10 +31,6 @@ answer_of endings.Truncated totals = Err faults.Truncated
 abbrev pub nothing_counted : Totals
 nothing_counted = record { records = 0; octets = 0; datagrams = 0; dropped = 0; port_faults = 0 }
 
--- a count, which stays at the greatest u64
-abbrev pub at_most : ℕ → ℕ
-at_most n = min n (2 ^ 64 - 1)
-
 -- The source gave octets, which are good records and then end so; this was done with the records, counted by
 -- these totals, and no write failed.
 pub record Session (kinds : Kinds) (source source' : SourceState) (sink sink' : SinkState)

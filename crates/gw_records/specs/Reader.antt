@@ -5,7 +5,7 @@ use Rattle.std.specs.Io.KnownBytes.{IsAtEnd}
 use Rattle.gw_records.specs.declared.records.Ending.{Ending}
 use Rattle.gw_records.specs.declared.reader.Reader.{Reader}
 use Rattle.gw_records.specs.Records.{is_open}
-use Rattle.gw_records.specs.Streams.{SourceState, Gives, one_more}
+use Rattle.gw_records.specs.Streams.{SourceState, Gives, at_most}
 
 -- the octets that were read and not passed
 unfoldable pub held : Reader → List ℕ
@@ -21,7 +21,7 @@ pub record Brings (source source' : SourceState) (reader reader' : Reader) : Typ
   pub gives : Gives source source' octets
   pub holds : held reader' ≡ held reader ++ octets
   pub turns : reader.reads_left ≤ reader'.reads_left + length octets
-  pub counted : source'.reads ≡ one_more source.reads
+  pub counted : source'.reads ≡ at_most (source.reads + 1)
   pub turn : reader'.reads_left + 1 ≡ reader.reads_left
   pub nearer : work_left reader' < work_left reader
   pub same : source'.failures ≡ source.failures

@@ -18,9 +18,9 @@ pub record SinkState : Type 0 where
   pub failures : ℕ
   pub taken : Option (List ℕ)
 
--- one failure more, where the count stays at the greatest u64
-abbrev pub one_more : ℕ → ℕ
-one_more failures = min (failures + 1) (2 ^ 64 - 1)
+-- a count, which stays at the greatest u64
+abbrev pub at_most : ℕ → ℕ
+at_most n = min n (2 ^ 64 - 1)
 
 -- a count of failures that can still go up
 abbrev pub CanCount : ℕ → Type 0
@@ -34,17 +34,17 @@ pub record CanBegin (source : SourceState) (sink : SinkState) : Type 0 where
 
 -- a read counts a failure exactly where it failed
 abbrev pub CountsRead : {E : Type 0} → ℕ → ℕ → Result ℕ E → Type 0
-CountsRead old new r = MatchResult r (λ _. new ≡ old) (λ _. new ≡ one_more old)
+CountsRead old new r = MatchResult r (λ _. new ≡ old) (λ _. new ≡ at_most (old + 1))
 
 -- a read that did not fail is counted
 abbrev pub CountsTurn : {E : Type 0} → ℕ → ℕ → Result ℕ E → Type 0
-CountsTurn old new r = MatchResult r (λ _. new ≡ one_more old) (λ _. new ≡ old)
+CountsTurn old new r = MatchResult r (λ _. new ≡ at_most (old + 1)) (λ _. new ≡ old)
 
 -- a write counts a failure where it failed, and where it took none of a nonempty piece
 abbrev pub CountsWrite : {E : Type 0} → ℕ → ℕ → Result ℕ E → List ℕ → Type 0
 CountsWrite old new r octets =
-    MatchResult r (λ n. new ≡ (if n == 0 && nat_lt 0 (length octets) then one_more old else old))
-    (λ _. new ≡ one_more old)
+    MatchResult r (λ n. new ≡ (if n == 0 && nat_lt 0 (length octets) then at_most (old + 1) else old))
+    (λ _. new ≡ at_most (old + 1))
 
 -- the source gave these octets, where it tells them
 pub record Gives (old new : SourceState) (octets : List ℕ) : Type 0 where

@@ -1,5 +1,5 @@
 -- Records that are acted on.
-use Rattle.std.proofs.Common.{◌≡◌, ◌⊎◌, inl, inr, ◌+◌, ◌-◌, ◌^◌, ◌<◌, ℕ, min, List, [], ◌∷◌, ◌++◌, length}
+use Rattle.std.proofs.Common.{◌≡◌, inl, ◌+◌, ◌-◌, ◌^◌, ◌<◌, ℕ, min, List, [], ◌∷◌, ◌++◌, length}
 use Rattle.std.proofs.Common.{refl, sym, ap, ◌∙◌, append_assoc, arith}
 use Rattle.std.specs.Prelude.{Result, Ok, Err}
 use Rattle.std.specs.List.{flat_map}
@@ -13,12 +13,12 @@ use Rattle.gw_switch.specs.Whole.{Reply, whole_from}
 use Rattle.gw_records.specs.declared.outcome.Totals.{Totals}
 use Rattle.gw_records.specs.declared.outcome.RunFault.{RunFault}
 use Rattle.gw_records.specs.Records.{Record, record_of}
-use Rattle.gw_records.specs.Streams.{SinkState, Puts, one_more}
+use Rattle.gw_records.specs.Streams.{SinkState, Puts, at_most}
 use Rattle.gw_records.proofs.Writes.{Passes-same, Passes-join, AppendsPrefix-same, AppendsPrefix-behind}
 use Rattle.gw_session.specs.Outlet.{Spells}
 use Rattle.gw_session.specs.Ports.{PortsState, counted}
 use Rattle.gw_session.specs.Answers.{Written, written_out, code_of}
-use Rattle.gw_session.specs.Serve.{Act, told, turns_of, events_of, events_of_turns, octet_of, answer_to}
+use Rattle.gw_session.specs.Serve.{Act, told, turns_of, events_in, events_of_turns, octet_of, answer_to}
 use Rattle.gw_session.specs.Serve.{packets_for, sent_with_octets, octets_for, dropped_for}
 use Rattle.gw_session.specs.Exchange.{Takes, spelled_for, written_for, Exchanges, ActsOn, Acts}
 use Rattle.gw_session.specs.Tape.{TapeState, Recorded}
@@ -35,12 +35,12 @@ trunk_answer config before es sent front body e len fronts =
 -- what waits, what packets put and the answer are what waits and all that is put
 trunk_written : (spells : Spells) (config : GatewayConfig) (before : List Event) (act : Act) (waiting out : List ℕ)
     → answer_to config before act ≡ out
-    → (waiting ++ spelled_for spells config before (events_of act)) ++ out
+    → (waiting ++ spelled_for spells config before (events_in act)) ++ out
     ≡ waiting ++ written_for spells config before act
 unfolding written_for
 trunk_written spells config before act waiting out e =
-    ap (λ (xs : List ℕ). (waiting ++ spelled_for spells config before (events_of act)) ++ xs) (sym e)
-    ∙ append_assoc waiting (spelled_for spells config before (events_of act)) (answer_to config before act)
+    ap (λ (xs : List ℕ). (waiting ++ spelled_for spells config before (events_in act)) ++ xs) (sym e)
+    ∙ append_assoc waiting (spelled_for spells config before (events_in act)) (answer_to config before act)
 
 -- octets were exchanged
 trunk_on : (spells : Spells) (a b : PortsState) (g g' : Gateway) (t t' : Totals) (tape tape' : TapeState) (r o : ℕ)
@@ -128,13 +128,13 @@ trunk_acts spells a b g g' t t' tape tape' r o s s' s'' w w' w'' body front answ
 -- an act of one event
 one_on : (p : PortsState) (g g' : Gateway) (t t' : Totals) (tape tape' : TapeState) (act : Act) (event : Event)
     (code : ℕ)
-    → turns_of act ≡ [] → events_of act ≡ event ∷ []
+    → turns_of act ≡ [] → events_in act ≡ event ∷ []
     → ((config : GatewayConfig) (before : List Event) → packets_for config before (event ∷ []) ≡ [])
     → ((config : GatewayConfig) (before : List Event) → sent_with_octets config before (event ∷ []) ≡ [])
     → Takes g g' event code
     → ((config : GatewayConfig) (before : List Event) → Stands config g before
     → t'.dropped ≡ counted t.dropped (dropped_for config before (event ∷ [])))
-    → t' ≡ record t { records = one_more t.records; dropped = t'.dropped } → Recorded tape tape' (events_of act)
+    → t' ≡ record t { records = at_most (t.records + 1); dropped = t'.dropped } → Recorded tape tape' (events_in act)
     → (q : ActsOn p p g g' t t' tape tape' (told act)) × (q.act ≡ act)
 unfolding Trades-none
 one_on p g g' t t' tape tape' act event code none one packets places takes dropped same recorded = (
@@ -162,16 +162,16 @@ one_on p g g' t t' tape tape' act event code none one packets places takes dropp
 
 -- what is put for it is the answer of its circuit
 one_written : (spells : Spells) (g g' : Gateway) (act : Act) (event : Event) (circuit kind code : ℕ) (w : List ℕ)
-    → events_of act ≡ event ∷ []
+    → events_in act ≡ event ∷ []
     → ((config : GatewayConfig) (before : List Event) → packets_for config before (event ∷ []) ≡ [])
     → ((config : GatewayConfig) (before : List Event) → answer_to config before act
-    ≡ flat_map (λ r. record_of 82 circuit (kind ∷ code_of r ∷ [])) (whole_from config before (events_of act)))
+    ≡ flat_map (λ r. record_of 82 circuit (kind ∷ code_of r ∷ [])) (whole_from config before (events_in act)))
     → Takes g g' event code → (config : GatewayConfig) (before : List Event) → Stands config g before
     → w ++ written_out (Written.Answered circuit kind code) ≡ w ++ written_for spells config before act
 unfolding written_for spelled_for
 one_written spells g g' act event circuit kind code w one packets answer takes config before h =
     let f = λ (r : Reply). record_of 82 circuit (kind ∷ code_of r ∷ []) in
-    let none : packets_for config before (events_of act) ≡ [] =
+    let none : packets_for config before (events_in act) ≡ [] =
     ap (λ (es : List Event). packets_for config before es) one ∙ packets config before in
     ap (λ (n : ℕ). w ++ record_of 82 circuit (kind ∷ n ∷ [])) (takes config before h).1
     ∙ ap (λ (es : List Event). w ++ flat_map f (whole_from config before es)) (sym one)
@@ -181,17 +181,17 @@ one_written spells g g' act event circuit kind code w one packets answer takes c
 -- .. and that was put
 pub one_acts : (spells : Spells) (p : PortsState) (g g' : Gateway) (t t' : Totals) (tape tape' : TapeState)
     (s s' : SinkState) (w w' : List ℕ) (act : Act) (event : Event) (circuit kind code : ℕ)
-    (result : Result (Unit {0}) RunFault) → turns_of act ≡ [] → events_of act ≡ event ∷ []
+    (result : Result (Unit {0}) RunFault) → turns_of act ≡ [] → events_in act ≡ event ∷ []
     → ((config : GatewayConfig) (before : List Event) → packets_for config before (event ∷ []) ≡ [])
     → ((config : GatewayConfig) (before : List Event) → sent_with_octets config before (event ∷ []) ≡ [])
     → ((config : GatewayConfig) (before : List Event) → answer_to config before act
-    ≡ flat_map (λ r. record_of 82 circuit (kind ∷ code_of r ∷ [])) (whole_from config before (events_of act)))
+    ≡ flat_map (λ r. record_of 82 circuit (kind ∷ code_of r ∷ [])) (whole_from config before (events_in act)))
     → Takes g g' event code
     → ((config : GatewayConfig) (before : List Event) → Stands config g before
     → t'.dropped ≡ counted t.dropped (dropped_for config before (event ∷ [])))
-    → t' ≡ record t { records = one_more t.records; dropped = t'.dropped }
+    → t' ≡ record t { records = at_most (t.records + 1); dropped = t'.dropped }
     → Puts s s' w' (w ++ written_out (Written.Answered circuit kind code)) result
-    → Recorded tape tape' (events_of act)
+    → Recorded tape tape' (events_in act)
     → Acts spells p p g g' t t' tape tape' s s' w w' (told act) result
 one_acts spells p g g' t t' tape tape' s s' w w' act event circuit kind code (Ok u) none one packets places answer takes
     dropped same puts recorded =
@@ -217,8 +217,8 @@ one_acts spells p g g' t t' tape tape' s s' w w' act event circuit kind code (Er
 
 -- the totals with one record more, where datagrams may have been refused
 pub counts_given : (t u t' : Totals) → u ≡ record t { dropped = u.dropped }
-    → t' ≡ record u { records = one_more u.records }
-    → t' ≡ record t { records = one_more t.records; dropped = t'.dropped }
+    → t' ≡ record u { records = at_most (u.records + 1) }
+    → t' ≡ record t { records = at_most (t.records + 1); dropped = t'.dropped }
 counts_given t u t' p q =
-    q ∙ ap (λ (x : Totals). record x { records = one_more x.records }) p
-    ∙ ap (λ (n : ℕ). record t { records = one_more t.records; dropped = n }) (sym (ap (λ (x : Totals). x.dropped) q))
+    q ∙ ap (λ (x : Totals). record x { records = at_most (x.records + 1) }) p
+    ∙ ap (λ (n : ℕ). record t { records = at_most (t.records + 1); dropped = n }) (sym (ap (λ (x : Totals). x.dropped) q))

@@ -1,22 +1,22 @@
 -- Records of the same events answer as the acts did.
-use Rattle.std.proofs.Common.{◌≡◌, ◌==◌, cond, ℕ, List, [], ◌∷◌, ◌++◌, refl, sym, ap, ◌∙◌, append_assoc, append-nil}
-use Rattle.std.proofs.Common.{Option, Some, None}
+use Rattle.std.proofs.Common.{◌≡◌, ℕ, List, [], ◌∷◌, ◌++◌, refl, sym, ap, ◌∙◌, append_assoc, append-nil}
 use Rattle.std.specs.Prelude.{map}
 use Rattle.std.specs.List.{flat_map}
 use Rattle.std.proofs.lemmas.List.Concat.{flat_map-append}
 use Rattle.gw_switch.specs.declared.GatewayConfig.{GatewayConfig}
 use Rattle.gw_switch.specs.Events.{Event}
-use Rattle.gw_switch.specs.Whole.{Reply, reply_to, whole_from}
+use Rattle.gw_switch.specs.Whole.{reply_to, whole_from}
 use Rattle.gw_records.specs.Records.{Record, record_of}
 use Rattle.gw_session.specs.Answers.{Written, written_out, answers, answered, trunk_in, datagrams_in, code_of}
 use Rattle.gw_session.specs.Answers.{as_record}
 use Rattle.gw_session.specs.Answers.{octets_in, packets_in}
 use Rattle.gw_session.specs.Answers as records_of
 use Rattle.gw_session.specs.Running.{replies_to}
-use Rattle.gw_session.specs.Serve.{Act, Turn, told, events, events_of, events_of_turns, coming, arrivals, answer_to}
+use Rattle.gw_session.specs.Serve.{Act, Turn, events_through, events_in, events_of_turns, coming, arrivals}
+use Rattle.gw_session.specs.Serve.{answer_to}
 use Rattle.gw_session.specs.Serve.{octets_for, packets_for, written}
-use Rattle.gw_session.specs.RecordingLaws.{answers_to, all_answers, command_in, AnswersAs, RecordingsAnswerAlike}
-use Rattle.gw_session.proofs.Turns.{octets_for-append, packets_for-append}
+use Rattle.gw_session.specs.RecordingLaws.{answers_to, all_answers, command_in, RecordingsAnswerAlike}
+use Rattle.gw_session.proofs.Turns.{octets_for-append}
 use Rattle.gw_session.proofs.Cutting.{answered_first, none_in, trunk_is, datagrams_are, all_of}
 
 -- the trunk octets
@@ -29,7 +29,7 @@ trunk_replayed config before records =
 
 -- the trunk octets in the records that answer an act are those that are sent for its events
 trunk_act : (config : GatewayConfig) (before : List Event) (act : Act)
-    → flat_map trunk_in (answers_to config before act) ≡ octets_for config before (events_of act)
+    → flat_map trunk_in (answers_to config before act) ≡ octets_for config before (events_in act)
 unfolding octets_for
 trunk_act config before (Act.Trunk ts) = append-nil (octets_for config before (events_of_turns ts))
 trunk_act config before (Act.Datagram circuit octets) = refl
@@ -38,16 +38,16 @@ trunk_act config before (Act.Codec circuit codec payload_type) = refl
 
 -- .. and so for acts one after another
 trunk_live : (config : GatewayConfig) (before : List Event) (acts : List Act)
-    → flat_map trunk_in (all_answers config before acts) ≡ octets_for config before (events acts)
+    → flat_map trunk_in (all_answers config before acts) ≡ octets_for config before (events_through acts)
 unfolding octets_for
 trunk_live config before [] = refl
 trunk_live config before (act ∷ acts) =
-    flat_map-append trunk_in (answers_to config before act) (all_answers config (before ++ events_of act) acts)
-    ∙ ap (λ (xs : List ℕ). xs ++ flat_map trunk_in (all_answers config (before ++ events_of act) acts))
+    flat_map-append trunk_in (answers_to config before act) (all_answers config (before ++ events_in act) acts)
+    ∙ ap (λ (xs : List ℕ). xs ++ flat_map trunk_in (all_answers config (before ++ events_in act) acts))
     (trunk_act config before act)
-    ∙ ap (λ (xs : List ℕ). octets_for config before (events_of act) ++ xs)
-    (trunk_live config (before ++ events_of act) acts)
-    ∙ sym (octets_for-append config before (events_of act) (events acts))
+    ∙ ap (λ (xs : List ℕ). octets_for config before (events_in act) ++ xs)
+    (trunk_live config (before ++ events_in act) acts)
+    ∙ sym (octets_for-append config before (events_in act) (events_through acts))
 
 -- the datagrams
 datagrams_replayed : (config : GatewayConfig) (before : List Event) (records : List Record)
@@ -156,7 +156,7 @@ commands_replayed config before (r ∷ records) =
 
 -- the answers to commands in the records that answer an act are those to the commands among its events
 commands_act : (config : GatewayConfig) (before : List Event) (act : Act)
-    → flat_map command_in (answers_to config before act) ≡ obeyed config before (events_of act)
+    → flat_map command_in (answers_to config before act) ≡ obeyed config before (events_in act)
 unfolding obeyed
 commands_act config before (Act.Trunk ts) = sym (none_turns config before ts)
 commands_act config before (Act.Datagram circuit octets) = refl
@@ -165,16 +165,16 @@ commands_act config before (Act.Codec circuit codec payload_type) = refl
 
 -- .. and so for acts one after another
 commands_live : (config : GatewayConfig) (before : List Event) (acts : List Act)
-    → flat_map command_in (all_answers config before acts) ≡ obeyed config before (events acts)
+    → flat_map command_in (all_answers config before acts) ≡ obeyed config before (events_through acts)
 unfolding obeyed
 commands_live config before [] = refl
 commands_live config before (act ∷ acts) =
-    let rest = all_answers config (before ++ events_of act) acts in
+    let rest = all_answers config (before ++ events_in act) acts in
     flat_map-append command_in (answers_to config before act) rest
     ∙ ap (λ (xs : List (ℕ × ℕ × ℕ)). xs ++ flat_map command_in rest) (commands_act config before act)
-    ∙ ap (λ (xs : List (ℕ × ℕ × ℕ)). obeyed config before (events_of act) ++ xs)
-    (commands_live config (before ++ events_of act) acts)
-    ∙ sym (obeyed-append config before (events_of act) (events acts))
+    ∙ ap (λ (xs : List (ℕ × ℕ × ℕ)). obeyed config before (events_in act) ++ xs)
+    (commands_live config (before ++ events_in act) acts)
+    ∙ sym (obeyed-append config before (events_in act) (events_through acts))
 
 -- what was written
 written_act : (config : GatewayConfig) (before : List Event) (act : Act)
@@ -191,10 +191,10 @@ written_live : (config : GatewayConfig) (before : List Event) (acts : List Act)
     → written config before acts ≡ flat_map written_out (all_answers config before acts)
 written_live config before [] = refl
 written_live config before (act ∷ acts) =
-    let rest = all_answers config (before ++ events_of act) acts in
-    ap (λ (xs : List ℕ). xs ++ written config (before ++ events_of act) acts) (written_act config before act)
+    let rest = all_answers config (before ++ events_in act) acts in
+    ap (λ (xs : List ℕ). xs ++ written config (before ++ events_in act) acts) (written_act config before act)
     ∙ ap (λ (xs : List ℕ). flat_map written_out (answers_to config before act) ++ xs)
-    (written_live config (before ++ events_of act) acts)
+    (written_live config (before ++ events_in act) acts)
     ∙ sym (flat_map-append written_out (answers_to config before act) rest)
 
 -- records of the same events as those of acts answer as the acts did: octets, datagrams and commands

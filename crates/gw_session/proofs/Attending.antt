@@ -1,8 +1,7 @@
 -- Acts one after another.
-use Rattle.std.proofs.Common.{◌≡◌, ◌⊎◌, inl, inr, ◌+◌, ◌-◌, ◌<◌, ◌≤◌, ℕ, zero, suc, true, List, [], ◌∷◌, ◌++◌, length}
+use Rattle.std.proofs.Common.{◌≡◌, ◌⊎◌, inl, inr, ◌+◌, ◌-◌, ◌<◌, ◌≤◌, ℕ, zero, suc, List, [], ◌∷◌, ◌++◌, length}
 use Rattle.std.proofs.Common.{take, drop, refl, sym, ap, ◌∙◌, subst, append_assoc, append-nil, length-append, arith}
 use Rattle.std.proofs.Common.{Option}
-use Rattle.std.specs.Prelude.{map}
 use Rattle.std.specs.List.{flat_map}
 use Rattle.std.specs.Io.KnownBytes.{Appends}
 use Rattle.std.proofs.lemmas.List.{map-append, drop-take}
@@ -18,13 +17,14 @@ use Rattle.gw_records.specs.Records.{Record, IsGood, named, record_at}
 use Rattle.gw_records.specs.Streams.{SinkState, Passes, AppendsPrefix, Breaks}
 use Rattle.gw_records.specs.Outcome.{nothing_counted}
 use Rattle.gw_records.proofs.Writes.{Passes-start, Passes-appended, Passes-empty, Passes-join, AppendsPrefix-behind}
-use Rattle.gw_records.proofs.Writes.{AppendsPrefix-same, AppendsPrefix-join}
+use Rattle.gw_records.proofs.Writes.{AppendsPrefix-join}
 use Rattle.gw_session.specs.Running.{all_kinds}
 use Rattle.gw_session.specs.Outlet.{Spells}
 use Rattle.gw_session.specs.Ports.{PortsState, counted}
-use Rattle.gw_session.specs.Serve.{Act, Turn, told, turns_of, turns, events_of, events, events_of_turns, Goes, Does}
-use Rattle.gw_session.specs.Exchange.{spelled_for, written_for, written_by, ActsOn, Finishes, Unwritten, StopsAt, Cut}
-use Rattle.gw_session.specs.Exchange.{Through, CutThrough, Begun}
+use Rattle.gw_session.specs.Serve.{Act, Turn, told, turns_of, turns, events_in, events_through, events_of_turns}
+use Rattle.gw_session.specs.Serve.{Goes, Does}
+use Rattle.gw_session.specs.Exchange.{written_for, written_by, ActsOn, Finishes, Unwritten, Cut}
+use Rattle.gw_session.specs.Exchange.{Through, Begun}
 use Rattle.gw_session.specs.Tape.{TapeState}
 use Rattle.gw_session.proofs.Turns.{Goes-none, Goes-join, counted-more, octets-append, turns_have_octets}
 use Rattle.gw_session.proofs.Taping.{recorded_none, recorded_join, recorded_same}
@@ -52,30 +52,30 @@ one_more_of {X} {Y} f xs x =
     flat_map-append f xs (x ∷ []) ∙ ap (λ (ys : List Y). flat_map f xs ++ ys) (append-nil (f x))
 
 -- the octets of acts are those of their turns
-act_octets : (act : Act) → length (octets (events_of act)) ≡ length (turns_of act)
+act_octets : (act : Act) → length (octets (events_in act)) ≡ length (turns_of act)
 act_octets (Act.Trunk ts) = turns_have_octets ts
 act_octets (Act.Datagram circuit bytes) = refl
 act_octets (Act.Command circuit command) = refl
 act_octets (Act.Codec circuit codec payload_type) = refl
 
 -- the octets of acts are as many as their turns
-acts_octets : (acts : List Act) → length (octets (events acts)) ≡ length (turns acts)
+acts_octets : (acts : List Act) → length (octets (events_through acts)) ≡ length (turns acts)
 acts_octets [] = refl
 acts_octets (act ∷ acts) =
-    ap length (octets-append (events_of act) (events acts))
-    ∙ length-append (octets (events_of act)) (octets (events acts))
+    ap length (octets-append (events_in act) (events_through acts))
+    ∙ length-append (octets (events_in act)) (octets (events_through acts))
     ∙ omega (arith, act_octets act, acts_octets acts, length-append (turns_of act) (turns acts))
 
 -- acts that were done, and then the act of one record more
 does_more : (a b c : PortsState) (g g' g'' : Gateway) (t t' : Totals) {x y : TapeState} (acts : List Act) (r : Record)
     → Does a b g g' t acts → (q : ActsOn b c g' g'' t t' x y r) → Does a c g g'' t' (acts ++ q.act ∷ [])
 does_more a b c g g' g'' t t' {x} {y} acts r p q =
-    let G : List Turn → Type 0 = λ ts. Goes a c g g'' nothing_counted t' ts (events acts ++ events_of q.act) in
+    let G : List Turn → Type 0 = λ ts. Goes a c g g'' nothing_counted t' ts (events_through acts ++ events_in q.act) in
     let H : List Event → Type 0 = λ es. Goes a c g g'' nothing_counted t' (turns (acts ++ q.act ∷ [])) es in
-    let goes = Goes-join a b c g g' g'' nothing_counted t t' (turns acts) (turns_of q.act) (events acts)
-    (events_of q.act) (acts_octets acts) p.goes q.goes in
+    let goes = Goes-join a b c g g' g'' nothing_counted t t' (turns acts) (turns_of q.act) (events_through acts)
+    (events_in q.act) (acts_octets acts) p.goes q.goes in
     record {
-      goes = subst H (sym (one_more_of events_of acts q.act)) (subst G (sym (one_more_of turns_of acts q.act)) goes);
+      goes = subst H (sym (one_more_of events_in acts q.act)) (subst G (sym (one_more_of turns_of acts q.act)) goes);
       records = counted-more 0 t.records t'.records (length acts) 1 p.records q.records
           ∙ ap (λ k. counted 0 k) (sym (length-append acts (q.act ∷ [])));
       trunk_octets = counted-more 0 t.octets t'.octets (length (turns acts)) (length (turns_of q.act)) p.trunk_octets
@@ -86,17 +86,17 @@ does_more a b c g g' g'' t t' {x} {y} acts r p q =
 -- what is put for one act more
 pub written_more : (spells : Spells) (config : GatewayConfig) (before : List Event) (acts : List Act) (act : Act)
     → written_by spells config before (acts ++ act ∷ [])
-    ≡ written_by spells config before acts ++ written_for spells config (before ++ events acts) act
+    ≡ written_by spells config before acts ++ written_for spells config (before ++ events_through acts) act
 written_more spells config before [] act =
     append-nil (written_for spells config before act)
     ∙ ap (λ (b : List Event). written_for spells config b act) (sym (append-nil before))
 written_more spells config before (a ∷ acts) act =
     let first = written_for spells config before a in
-    let later = written_by spells config (before ++ events_of a) acts in
-    ap (λ (xs : List ℕ). first ++ xs) (written_more spells config (before ++ events_of a) acts act)
+    let later = written_by spells config (before ++ events_in a) acts in
+    ap (λ (xs : List ℕ). first ++ xs) (written_more spells config (before ++ events_in a) acts act)
     ∙ ap (λ (b : List Event). first ++ (later ++ written_for spells config b act))
-    (append_assoc before (events_of a) (events acts))
-    ∙ sym (append_assoc first later (written_for spells config (before ++ (events_of a ++ events acts)) act))
+    (append_assoc before (events_in a) (events_through acts))
+    ∙ sym (append_assoc first later (written_for spells config (before ++ (events_in a ++ events_through acts)) act))
 
 -- before the first record
 pub through_none : (spells : Spells) (a : PortsState) (g : Gateway) (tape : TapeState) (o : Option (List ℕ))
@@ -126,15 +126,15 @@ through_more : {spells : Spells} {a b c : PortsState} {g g' g'' : Gateway} {x y 
     → Through spells a c g g'' x z More t' (records ++ r ∷ [])
 through_more {spells} {a} {b} {c} {g} {g'} {g''} {x} {y} {z} {t} {t'} {Took} {More} {records} {r} p q more = record {
   acts = p.acts ++ q.act ∷ [];
-  recorded = recorded_same x z (events p.acts ++ events_of q.act) (events (p.acts ++ q.act ∷ []))
-      (sym (one_more_of events_of p.acts q.act))
-      (recorded_join x y z (events p.acts) (events_of q.act) p.recorded q.recorded);
+  recorded = recorded_same x z (events_through p.acts ++ events_in q.act) (events_through (p.acts ++ q.act ∷ []))
+      (sym (one_more_of events_in p.acts q.act))
+      (recorded_join x y z (events_through p.acts) (events_in q.act) p.recorded q.recorded);
   told_are = map-append told p.acts (q.act ∷ []) ∙ ap (λ (rs : List Record). rs ++ told q.act ∷ []) p.told_are
       ∙ ap (λ (one : Record). records ++ one ∷ []) q.told_is;
   does = does_more _ _ _ _ _ _ _ _ p.acts _ p.does q;
   took = λ config before at.
       subst More (sym (written_more spells config before p.acts q.act))
-      (more config (before ++ events p.acts) ((p.does.goes.hears config before at).stands)
+      (more config (before ++ events_through p.acts) ((p.does.goes.hears config before at).stands)
       (written_by spells config before p.acts) (p.took config before at));
 }
 
@@ -230,11 +230,11 @@ record_cut {spells} {a} {b} {c} {g} {g'} {g''} {x} {y} {z} {t} {s} {s'} {s''} {w
       trades = k.trades;
       stands = λ config before at.
           let S : List Event → Type 0 = λ es. Stands config g'' es in
-          subst S (append_assoc before (events p.acts) (events_of_turns k.turns))
-          (k.stands config (before ++ events p.acts) ((p.does.goes.hears config before at).stands));
+          subst S (append_assoc before (events_through p.acts) (events_of_turns k.turns))
+          (k.stands config (before ++ events_through p.acts) ((p.does.goes.hears config before at).stands));
       took = λ config before at.
           AppendsPrefix-behind _ _ _ _ _ _ (p.took config before at)
-          (k.took config (before ++ events p.acts) ((p.does.goes.hears config before at).stands));
+          (k.took config (before ++ events_through p.acts) ((p.does.goes.hears config before at).stands));
       packet = k.packet;
       some = k.some;
     })

@@ -1,5 +1,5 @@
 -- Sessions in which datagrams come as records alone, and packets go out as records.
-use Rattle.std.proofs.Common.{◌≡◌, ◌⊎◌, inl, inr, ◌+◌, ◌-◌, ◌^◌, ◌<◌, ◌==◌, cond, min, ℕ, Bool, true, false, List, []}
+use Rattle.std.proofs.Common.{◌≡◌, inl, inr, ◌+◌, ◌-◌, ◌^◌, ◌<◌, ◌==◌, cond, min, ℕ, Bool, true, false, List, []}
 use Rattle.std.proofs.Common.{◌∷◌, ◌++◌, length, take, drop, refl, sym, ap, ◌∙◌, subst, append_assoc, append-nil}
 use Rattle.std.proofs.Common.{length-append, arith, Option, None, Some}
 use Rattle.std.proofs.Math.Seq.{take-append_seam}
@@ -12,7 +12,7 @@ use Rattle.gw_switch.specs.declared.GatewayConfig.{GatewayConfig}
 use Rattle.gw_switch.specs.declared.gateway.Gateway.{Gateway}
 use Rattle.gw_switch.specs.Events.{Event}
 use Rattle.gw_switch.specs.Standing.{Stands}
-use Rattle.gw_switch.specs.Whole.{Reply, reply_to, whole_from}
+use Rattle.gw_switch.specs.Whole.{Reply, whole_from}
 use Rattle.gw_records.specs.declared.outcome.Totals.{Totals}
 use Rattle.gw_records.specs.Records.{Record, record_of}
 use Rattle.gw_records.specs.Streams.{SinkState, AppendsPrefix}
@@ -23,9 +23,9 @@ use Rattle.gw_session.specs.Answers.{written_out, packets_in, octets_in, as_reco
 use Rattle.gw_session.specs.Running.{replies_to, trunk_octets, is_refusal, run_totals, RunsThrough, AreFirst}
 use Rattle.gw_session.specs.Running.{RunsUntilWrite}
 use Rattle.gw_session.specs.Outlet.{in_record, no_ports}
-use Rattle.gw_session.specs.Ports.{Waiting, PortsState, counted}
-use Rattle.gw_session.specs.Serve.{Act, Turn, told, octet_of, turns_of, turns, events_of, events, events_of_turn}
-use Rattle.gw_session.specs.Serve.{events_of_turns, of_circuit, coming, arrivals, first_four, behind_four, FirstFour}
+use Rattle.gw_session.specs.Ports.{Waiting, counted}
+use Rattle.gw_session.specs.Serve.{Act, Turn, told, octet_of, turns_of, turns, events_in, events_through, events_of_turn}
+use Rattle.gw_session.specs.Serve.{events_of_turns, of_circuit, coming, first_four, behind_four, FirstFour}
 use Rattle.gw_session.specs.Serve.{Stop, Trades, LeavesOut, packets_for, octets_for}
 use Rattle.gw_session.specs.Serve.{dropped_for, answer_to, Does}
 use Rattle.gw_session.specs.Tape.{TapeState}
@@ -108,18 +108,18 @@ turns_events (t ∷ ts) p =
     ∙ ap (λ (es : List Event). Event.Octet t.octet ∷ es) (turns_events ts p.1)
 
 -- where nothing came before its octets, the events of an act are those of its record
-act_events : (act : Act) → Plain (turns_of act) → events_of act ≡ answers.events_of (told act)
+act_events : (act : Act) → Plain (turns_of act) → events_in act ≡ answers.events_of (told act)
 act_events (Act.Trunk ts) p = turns_events ts p
 act_events (Act.Datagram circuit octets) p = refl
 act_events (Act.Command circuit command) p = refl
 act_events (Act.Codec circuit codec payload_type) p = refl
 
 -- .. and so for acts one after another
-acts_events : (acts : List Act) → Plain (turns acts) → events acts ≡ answers.events (map told acts)
+acts_events : (acts : List Act) → Plain (turns acts) → events_through acts ≡ answers.events (map told acts)
 acts_events [] p = refl
 acts_events (act ∷ acts) p =
     let q = plain_parts (turns_of act) (turns acts) p in
-    ap (λ (es : List Event). es ++ events acts) (act_events act q.0)
+    ap (λ (es : List Event). es ++ events_through acts) (act_events act q.0)
     ∙ ap (λ (es : List Event). answers.events_of (told act) ++ es) (acts_events acts q.1)
 
 -- packets put their records
@@ -156,7 +156,7 @@ acts_written config before (act ∷ acts) p =
     let rs = map told acts in
     let now = before ++ answers.events_of r in
     let first = answers.answers r (whole_from config before (answers.events_of r)) in
-    ap (λ (xs : List ℕ). xs ++ written_by in_record config (before ++ events_of act) acts)
+    ap (λ (xs : List ℕ). xs ++ written_by in_record config (before ++ events_in act) acts)
     (act_written config before act q.0)
     ∙ ap (λ (es : List Event). flat_map written_out first ++ written_by in_record config (before ++ es) acts)
     (act_events act q.0)
@@ -202,7 +202,7 @@ plain_totals g g' t acts d plain config before at =
     let sent : k.failed_sends ≡ 0 = unmoved 0 k.failed_sends (omega arith) (sym k.sends) in
     let received : k.failed_receives ≡ 0 = unmoved 0 k.failed_receives (omega arith) (sym k.receives) in
     let same = ap (λ (es : List Event). whole_from config before es) (acts_events acts plain) in
-    let took = all_went k.failed_sends k.took (packets_for config before (events acts)) sent h.packets in
+    let took = all_went k.failed_sends k.took (packets_for config before (events_through acts)) sent h.packets in
     let packets = ap length took ∙ ap (λ (rs : List Reply). length (flat_map packets_in rs)) same in
     let none : t.port_faults ≡ 0 = d.goes.faults
     ∙ ap (λ (n : ℕ). counted 0 (n + k.failed_sends)) received ∙ ap (λ (n : ℕ). counted 0 (0 + n)) sent in
@@ -211,7 +211,7 @@ plain_totals g g' t acts d plain config before at =
     (acts_octets acts))
     (up_to t.datagrams (length k.took) (length (flat_map packets_in
     (replies_to config before (map told acts)))) d.goes.datagrams packets)
-    (up_to t.dropped (dropped_for config before (events acts)) (count_by is_refusal
+    (up_to t.dropped (dropped_for config before (events_through acts)) (count_by is_refusal
     (replies_to config before (map told acts))) h.dropped (ap (λ (rs : List Reply). count_by is_refusal rs) same))
     none
 
@@ -281,18 +281,18 @@ whole_until {g} {g'} {x} {y} {s} {s'} {t} records some p =
 -- what is put for the turns that were heard is the first of what is put for all
 abbrev cut_rest : GatewayConfig → List Event → List Act → List Turn → List Turn → List ℕ
 cut_rest config before acts heard rest =
-    spelled_for in_record config ((before ++ events acts) ++ events_of_turns heard) (events_of_turns rest)
-    ++ answer_to config (before ++ events acts) (Act.Trunk (heard ++ rest))
+    spelled_for in_record config ((before ++ events_through acts) ++ events_of_turns heard) (events_of_turns rest)
+    ++ answer_to config (before ++ events_through acts) (Act.Trunk (heard ++ rest))
 
 -- what is put for acts and the turns that were heard, and then for the rest, is all that is put for them
 cut_written : (config : GatewayConfig) (before : List Event) (acts : List Act) (heard rest : List Turn)
     → (written_by in_record config before acts
-    ++ spelled_for in_record config (before ++ events acts) (events_of_turns heard))
+    ++ spelled_for in_record config (before ++ events_through acts) (events_of_turns heard))
     ++ cut_rest config before acts heard rest
     ≡ written_by in_record config before (acts ++ Act.Trunk (heard ++ rest) ∷ [])
 unfolding written_for
 cut_written config before acts heard rest =
-    let now = before ++ events acts in
+    let now = before ++ events_through acts in
     let first = spelled_for in_record config now (events_of_turns heard) in
     let more = spelled_for in_record config (now ++ events_of_turns heard) (events_of_turns rest) in
     let last = answer_to config now (Act.Trunk (heard ++ rest)) in

@@ -1,18 +1,15 @@
 -- What was recorded, read back.
-use Rattle.std.proofs.Common.{◌≡◌, ℕ, false, List, [], ◌∷◌, ◌++◌, refl, sym, ap, ◌∙◌, subst, append_assoc, append-nil}
+use Rattle.std.proofs.Common.{◌≡◌, ℕ, List, [], ◌∷◌, ◌++◌, refl, sym, ap, ◌∙◌, subst, append_assoc, append-nil}
 use Rattle.std.proofs.Common.{Option, Some, length, length-append, arith}
 use Rattle.std.specs.List.{flat_map, AllByRecursion}
 use Rattle.std.specs.Io.KnownBytes.{Appends}
 use Rattle.std.proofs.lemmas.List.Concat.{flat_map-append}
 use Rattle.gw_switch.specs.Events.{Event}
-use Rattle.gw_records.specs.declared.records.Ending.{Ending}
 use Rattle.gw_records.specs.declared.records.Ending.TheVariants as endings
 use Rattle.gw_records.specs.Records.{Record, IsGood, spelled, Reads, end_of}
-use Rattle.gw_records.specs.Streams.{AppendsPrefix}
 use Rattle.gw_session.specs.Answers.{events, events_of}
 use Rattle.gw_session.specs.Running.{all_kinds}
-use Rattle.gw_session.specs.Tape.{TapeState, Recorded}
-use Rattle.gw_session.specs.RecordingLaws.{ReadsBack, RecordingsAreReadBack}
+use Rattle.gw_session.specs.RecordingLaws.{RecordingsAreReadBack}
 use Rattle.gw_records.proofs.Readings.{one_reading, more_keeps}
 
 -- the octets of good records are read as these

@@ -1,5 +1,5 @@
 -- Sessions whose packets put nothing in front of the answers.
-use Rattle.std.proofs.Common.{◌≡◌, inl, inr, ◌<◌, ℕ, List, [], ◌∷◌, ◌++◌, length, refl, sym, ap, ◌∙◌, subst, arith}
+use Rattle.std.proofs.Common.{◌≡◌, inl, inr, ℕ, List, [], ◌∷◌, ◌++◌, refl, ap, ◌∙◌, subst, arith}
 use Rattle.std.specs.List.{flat_map}
 use Rattle.gw_switch.specs.declared.GatewayConfig.{GatewayConfig}
 use Rattle.gw_switch.specs.declared.gateway.Gateway.{Gateway}
@@ -9,7 +9,7 @@ use Rattle.gw_records.specs.Records.{Record}
 use Rattle.gw_records.specs.Streams.{SinkState, AppendsPrefix}
 use Rattle.gw_session.specs.Outlet.{silent}
 use Rattle.gw_session.specs.Ports.{PortsState}
-use Rattle.gw_session.specs.Serve.{Act, events_of, packets_for, answer_to, written, ServesThrough}
+use Rattle.gw_session.specs.Serve.{Act, events_in, packets_for, answer_to, written, ServesThrough}
 use Rattle.gw_session.specs.Exchange.{spelled_for, written_for, written_by, Through, Begun}
 use Rattle.gw_session.specs.Tape.{TapeState}
 use Rattle.gw_session.specs.Recording.{ServesRecorded}
@@ -24,15 +24,15 @@ answer_alone : (config : GatewayConfig) (before : List Event) (act : Act)
     → written_for silent config before act ≡ answer_to config before act
 unfolding written_for spelled_for
 answer_alone config before act =
-    ap (λ (xs : List ℕ). xs ++ answer_to config before act) (nothing_put (packets_for config before (events_of act)))
+    ap (λ (xs : List ℕ). xs ++ answer_to config before act) (nothing_put (packets_for config before (events_in act)))
 
 -- .. and so for acts one after another
 answers_alone : (config : GatewayConfig) (before : List Event) (acts : List Act)
     → written_by silent config before acts ≡ written config before acts
 answers_alone config before [] = refl
 answers_alone config before (act ∷ acts) =
-    ap (λ (xs : List ℕ). xs ++ written_by silent config (before ++ events_of act) acts) (answer_alone config before act)
-    ∙ ap (λ (xs : List ℕ). answer_to config before act ++ xs) (answers_alone config (before ++ events_of act) acts)
+    ap (λ (xs : List ℕ). xs ++ written_by silent config (before ++ events_in act) acts) (answer_alone config before act)
+    ∙ ap (λ (xs : List ℕ). answer_to config before act ++ xs) (answers_alone config (before ++ events_in act) acts)
 
 -- records were served, and the events of their acts recorded
 pub serves : {a b : PortsState} {g g' : Gateway} {x y : TapeState} {Took : List ℕ → Type 0} (t : Totals)

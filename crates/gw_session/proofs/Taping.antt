@@ -4,7 +4,7 @@ use Rattle.std.proofs.Common.{◌^◌, ◌<◌, ◌≤◌, inl, inr, length, dro
 use Rattle.std.proofs.Common.{append_assoc, append-nil, Option, Some}
 use Rattle.std.specs.Prelude.{Result, Ok, Err, OnOk, IfErr, is_err, map}
 use Rattle.std.proofs.lemmas.List.{map-append}
-use Rattle.std.specs.List.{flat_map, AllByRecursion}
+use Rattle.std.specs.List.{flat_map}
 use Rattle.std.specs.Io.KnownBytes.{Appends}
 use Rattle.std.proofs.lemmas.List.Concat.{flat_map-append}
 use Rattle.std.proofs.lemmas.Grind.{common_steps}

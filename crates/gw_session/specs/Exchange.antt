@@ -1,5 +1,5 @@
 -- What the parts of a session do, for the private functions of modules `exchange`, `act` and `attend`.
-use Rattle.std.specs.Prelude.{◌≡◌, ◌⊎◌, ◌+◌, ◌<◌, ◌≤◌, ◌++◌, ℕ, List, [], ◌∷◌, length, map, drop, Option}
+use Rattle.std.specs.Prelude.{◌≡◌, ◌⊎◌, ◌<◌, ◌≤◌, ◌++◌, ℕ, List, [], ◌∷◌, length, map, drop, Option}
 use Rattle.std.specs.Prelude.{Bool, Some}
 use Rattle.std.specs.Prelude.{Result, MatchResult}
 use Rattle.std.specs.List.{flat_map}
@@ -17,10 +17,10 @@ use Rattle.gw_session.specs.Answers.{code_of, packet_in}
 use Rattle.gw_session.specs.Outlet.{Spells}
 use Rattle.gw_session.specs.Ports.{Waiting, PortsState, IfKnown, Grows, TakesOut, KeepsSends, KeepsReceives}
 use Rattle.gw_session.specs.Ports.{counted}
-use Rattle.gw_session.specs.Serve.{Act, Turn, told, octet_of, turns_of, events_of, events_of_turns, answer_to}
+use Rattle.gw_session.specs.Serve.{Act, Turn, told, octet_of, turns_of, events_in, events_of_turns, answer_to}
 use Rattle.gw_session.specs.Serve.{Goes, Trades, Stop, StopsSo, as_call, receives_of, send_of, sent_with_octets}
 use Rattle.gw_session.specs.Serve.{of_circuit, coming, first_four, behind_four}
-use Rattle.gw_session.specs.Serve.{LeavesOut, packets_for, octets_for, dropped_for, Does, events}
+use Rattle.gw_session.specs.Serve.{LeavesOut, packets_for, octets_for, dropped_for, Does, events_through}
 use Rattle.gw_session.specs.Tape.{TapeState, Recorded, RecordedBut}
 
 -- the gateway took an event, and the number of its reply is this
@@ -36,13 +36,13 @@ spelled_for spells config before es = flat_map spells (packets_for config before
 -- all that is put for an act
 unfoldable pub written_for : Spells → GatewayConfig → List Event → Act → List ℕ
 written_for spells config before act =
-    spelled_for spells config before (events_of act) ++ answer_to config before act
+    spelled_for spells config before (events_in act) ++ answer_to config before act
 
 -- .. for acts, one after another
 abbrev pub written_by : Spells → GatewayConfig → List Event → List Act → List ℕ
 written_by spells config before [] = []
 written_by spells config before (act ∷ acts) =
-    written_for spells config before act ++ written_by spells config (before ++ events_of act) acts
+    written_for spells config before act ++ written_by spells config (before ++ events_in act) acts
 
 -- records and their octets are counted as before
 abbrev pub KeepsRecords : Totals → Totals → Type 0
@@ -231,10 +231,10 @@ pub record ActsOn (ports ports' : PortsState) (gateway gateway' : Gateway) (tota
     (tape tape' : TapeState) (r : Record) : Type 0 where
   pub act : Act
   pub told_is : told act ≡ r
-  pub goes : Goes ports ports' gateway gateway' totals totals' (turns_of act) (events_of act)
+  pub goes : Goes ports ports' gateway gateway' totals totals' (turns_of act) (events_in act)
   pub records : totals'.records ≡ counted totals.records 1
   pub octets : totals'.octets ≡ counted totals.octets (length (turns_of act))
-  pub recorded : Recorded tape tape' (events_of act)
+  pub recorded : Recorded tape tape' (events_in act)
 
 -- .. and all that is put for it passes
 pub record Finishes (spells : Spells) (ports ports' : PortsState) (gateway gateway' : Gateway)
@@ -276,7 +276,7 @@ Acts spells ports ports' gateway gateway' totals totals' tape tape' sink sink' w
 pub record Through (spells : Spells) (ports ports' : PortsState) (gateway gateway' : Gateway)
     (tape tape' : TapeState) (Took : List ℕ → Type 0) (totals : Totals) (records : List Record) : Type 0 where
   pub acts : List Act
-  pub recorded : Recorded tape tape' (events acts)
+  pub recorded : Recorded tape tape' (events_through acts)
   pub told_are : map told acts ≡ records
   pub does : Does ports ports' gateway gateway' totals acts
   pub took : (config : GatewayConfig) (before : List Event) → Stands config gateway before
@@ -299,10 +299,10 @@ pub record CutThrough (spells : Spells) (ports ports' : PortsState) (gateway gat
   pub split : octets ≡ map octet_of turns ++ rest
   pub trades : Trades between ports' turns
   pub stands : (config : GatewayConfig) (before : List Event) → Stands config gateway before
-      → Stands config gateway' (before ++ (events acts ++ events_of_turns turns))
+      → Stands config gateway' (before ++ (events_through acts ++ events_of_turns turns))
   pub took : (config : GatewayConfig) (before : List Event) → Stands config gateway before
       → AppendsPrefix sink.taken sink'.taken (written_by spells config before acts
-      ++ spelled_for spells config (before ++ events acts) (events_of_turns turns))
+      ++ spelled_for spells config (before ++ events_through acts) (events_of_turns turns))
   pub packet : ℕ × List ℕ
   pub some : 0 < length (spells packet)
 

@@ -1,6 +1,6 @@
 -- Where packets of a session go (module `outlet`).
-use Rattle.std.specs.Prelude.{◌≡◌, ℕ, Bool, true, false, List, [], ◌∷◌, Some, None}
-use Rattle.gw_records.specs.Streams.{one_more}
+use Rattle.std.specs.Prelude.{◌≡◌, ◌+◌, ℕ, Bool, true, false, List, [], ◌∷◌, Some, None}
+use Rattle.gw_records.specs.Streams.{at_most}
 use Rattle.gw_records.specs.Records.{record_of}
 use Rattle.gw_session.specs.Ports.{PortsState, Call, Grows}
 
@@ -33,5 +33,5 @@ Went old new circuit true packet =
     Grows old.taken new.taken ((circuit, packet) ∷ []) × (new.send_failures ≡ old.send_failures)
     × Grows old.calls new.calls (Call.Took circuit packet ∷ [])
 Went old new circuit false packet =
-    (new.taken ≡ old.taken) × (new.send_failures ≡ one_more old.send_failures)
+    (new.taken ≡ old.taken) × (new.send_failures ≡ at_most (old.send_failures + 1))
     × Grows old.calls new.calls (Call.SendFailed circuit packet ∷ [])

@@ -8,7 +8,7 @@ use Rattle.gw_records.specs.Records.{Record}
 use Rattle.gw_records.specs.Streams.{SourceState, SinkState, AppendsPrefix}
 use Rattle.gw_records.specs.Outcome.{EndsAll, EndsUntil}
 use Rattle.gw_session.specs.Ports.{PortsState}
-use Rattle.gw_session.specs.Serve.{served_kinds, ServesThrough, events}
+use Rattle.gw_session.specs.Serve.{served_kinds, ServesThrough, events_through}
 use Rattle.gw_session.specs.Tape.{TapeState, Recorded}
 
 -- records were served, and the events of the acts that served them were recorded
@@ -16,7 +16,7 @@ abbrev pub ServesRecorded : PortsState → PortsState → Gateway → Gateway �
     → (List ℕ → Type 0) → Totals → List Record → Type 0
 ServesRecorded ports ports' gateway gateway' tape tape' Took totals records =
     (s : ServesThrough ports ports' gateway gateway' Took totals records) × Recorded tape tape'
-    (events s.acts)
+    (events_through s.acts)
 
 -- a session up to the end of its source, which took all of the answers
 abbrev pub RecordsAll : SourceState → SourceState → SinkState → SinkState → PortsState → PortsState → Gateway

@@ -10,7 +10,7 @@ use Rattle.gw_records.specs.Records.{Record, Reads}
 use Rattle.gw_session.specs.Answers.{Written, written_out, answers, answered, trunk_in, datagrams_in}
 use Rattle.gw_session.specs.Answers as records_of
 use Rattle.gw_session.specs.Running.{all_kinds, replies_to}
-use Rattle.gw_session.specs.Serve.{Act, told, events, events_of, events_of_turns, octets_for, packets_for}
+use Rattle.gw_session.specs.Serve.{Act, told, events_through, events_in, events_of_turns, octets_for, packets_for}
 use Rattle.gw_session.specs.Serve.{written}
 use Rattle.gw_session.specs.Tape.{TapeState, Recorded}
 
@@ -32,12 +32,12 @@ RecordingsAreReadBack = (tape tape' : TapeState) (happened : List Event) (octets
 -- the records that are written for an act, and for acts one after another
 abbrev pub answers_to : GatewayConfig → List Event → Act → List Written
 answers_to config before (Act.Trunk ts) = Written.Trunk (octets_for config before (events_of_turns ts)) ∷ []
-answers_to config before act = answers (told act) (whole_from config before (events_of act))
+answers_to config before act = answers (told act) (whole_from config before (events_in act))
 
 abbrev pub all_answers : GatewayConfig → List Event → List Act → List Written
 all_answers config before [] = []
 all_answers config before (act ∷ acts) =
-    answers_to config before act ++ all_answers config (before ++ events_of act) acts
+    answers_to config before act ++ all_answers config (before ++ events_in act) acts
 
 -- the answer to a command or a codec: its circuit, its kind and its code
 abbrev pub command_in : Written → List (ℕ × ℕ × ℕ)
@@ -51,11 +51,11 @@ pub record AnswersAs (config : GatewayConfig) (before : List Event) (acts : List
   pub trunk : flat_map trunk_in (answered records (replies_to config before records))
       ≡ flat_map trunk_in (all_answers config before acts)
   pub datagrams : flat_map datagrams_in (answered records (replies_to config before records))
-      ≡ packets_for config before (events acts)
+      ≡ packets_for config before (events_through acts)
   pub commands : flat_map command_in (answered records (replies_to config before records))
       ≡ flat_map command_in (all_answers config before acts)
 
 -- records of the same events answer as the acts did
 abbrev pub RecordingsAnswerAlike : Type 0
 RecordingsAnswerAlike = (config : GatewayConfig) (before : List Event) (acts : List Act)
-    (records : List Record) → records_of.events records ≡ events acts → AnswersAs config before acts records
+    (records : List Record) → records_of.events records ≡ events_through acts → AnswersAs config before acts records

@@ -122,9 +122,9 @@ fn put_out<K: Sink>(
 }
 
 impl Session {
-    ghost use Rattle.std.specs.Prelude.{◌≡◌, ◌^◌, ◌<◌, ◌≤◌, ◌++◌, length, vec_len};
+    ghost use Rattle.std.specs.Prelude.{◌≡◌, ◌+◌, ◌^◌, ◌<◌, ◌≤◌, ◌++◌, length, vec_len};
     ghost use Rattle.gw_records.specs.Records.{Record, IsGood, named};
-    ghost use Rattle.gw_records.specs.Streams.{CanCount, Puts, one_more};
+    ghost use Rattle.gw_records.specs.Streams.{CanCount, Puts, at_most};
     ghost use Rattle.gw_session.specs.Answers.{written_out};
     ghost use Rattle.gw_session.specs.Answers.Written.{Answered};
     ghost use Rattle.gw_session.specs.Running.{all_kinds};
@@ -173,7 +173,7 @@ impl Session {
         ensures puts { Puts (K.tells sink.old) (K.tells sink.new) self.new.waiting.items
             (self.old.waiting.items ++ written_out (Answered circuit kind code)) result }
         ensures counts { self.new.totals
-            ≡ record self.old.totals { records = one_more self.old.totals.records } }
+            ≡ record self.old.totals { records = at_most (self.old.totals.records + 1) } }
         ensures room { vec_len self.new.room ≡ vec_len self.old.room }
     {
         self.totals.records = self.totals.records.saturating_add(1);

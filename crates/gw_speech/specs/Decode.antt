@@ -14,8 +14,8 @@ use Rattle.gw_records.specs.declared.outcome.RunFault.{RunFault}
 use Rattle.gw_records.specs.declared.outcome.RunFault.TheVariants as faults
 use Rattle.gw_records.specs.declared.records.Kinds.{Kinds}
 use Rattle.gw_records.specs.Records.{Record}
-use Rattle.gw_records.specs.Streams.{SourceState, SinkState, AppendsPrefix}
-use Rattle.gw_records.specs.Outcome.{nothing_counted, at_most, EndsAll, EndsUntil}
+use Rattle.gw_records.specs.Streams.{SourceState, SinkState, AppendsPrefix, at_most}
+use Rattle.gw_records.specs.Outcome.{nothing_counted, EndsAll, EndsUntil}
 use Rattle.gw_speech.specs.Encode.{word_bits}
 
 -- a codec of the stream that has decoded these words since its reset, and encoded nothing

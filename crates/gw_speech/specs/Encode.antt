@@ -12,9 +12,9 @@ use Rattle.gw_speech.specs.declared.encode.Progress.{Progress}
 use Rattle.gw_records.specs.declared.outcome.Totals.{Totals}
 use Rattle.gw_records.specs.declared.outcome.RunFault.{RunFault}
 use Rattle.gw_records.specs.declared.outcome.RunFault.TheVariants.{Read, Write}
-use Rattle.gw_records.specs.Streams.{SourceState, SinkState, Gives, GivesUp, Breaks}
+use Rattle.gw_records.specs.Streams.{SourceState, SinkState, Gives, GivesUp, Breaks, at_most}
 use Rattle.gw_records.specs.Records.{record_of}
-use Rattle.gw_records.specs.Outcome.{nothing_counted, at_most}
+use Rattle.gw_records.specs.Outcome.{nothing_counted}
 
 -- a codec of the stream that has encoded these octets since its reset, and decoded nothing
 abbrev pub HasEncoded : StreamSpec → CodecState → List ℕ → Type 0

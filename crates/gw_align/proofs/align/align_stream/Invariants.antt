@@ -1,5 +1,5 @@
+use Rattle.gw_records.specs.Streams.{at_most}
 use Rattle.std.proofs.Common.{◌≡◌, ◌+◌, ◌≤◌, List, ℕ, length}
-use Rattle.gw_records.specs.Outcome.{at_most}
 use Rattle.gw_align.proofs.Stages.{Stage}
 use Rattle.gw_align.proofs.align.align_stream.Given as goal
 

@@ -1,4 +1,4 @@
-use Rattle.std.proofs.Common.{◌∷◌, [], refl, sym, ap, ◌∙◌}
+use Rattle.std.proofs.Common.{refl, ap, ◌∙◌}
 use Rattle.gw_switch.specs.Events.{Event}
 use Rattle.gw_records.specs.declared.outcome.Totals.{Totals}
 use Rattle.gw_session.specs.Answers.{command_of, codec_of}

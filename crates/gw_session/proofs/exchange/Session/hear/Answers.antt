@@ -1,4 +1,4 @@
-use Rattle.std.proofs.Common.{◌++◌, ℕ, List, None, sym, ap, refl, append-nil}
+use Rattle.std.proofs.Common.{◌++◌, ℕ, List, sym, ap, refl, append-nil}
 use Rattle.std.proofs.lemmas.Result.{err_from_is_err_and}
 use Rattle.gw_switch.specs.Whole.{sending_in}
 use Rattle.gw_records.proofs.Writes.{Passes-none, Passes-same}
