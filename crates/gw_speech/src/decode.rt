@@ -159,6 +159,58 @@ fn count_record(totals: Totals, is_decoded: bool) -> Totals
     }
 }
 
+// What decoding has under way: the decoder, the octets that wait to be written, and what was done.
+#[derive(Drop)]
+struct UnderWay {
+    codec: AnyCodec,
+    waiting: OutputBuffer,
+    totals: Totals,
+}
+
+impl UnderWay {
+    ghost use Rattle.std.specs.Prelude.{◌≡◌, ◌++◌, ℕ, List, [], OnOk, is_some, unwrap_or};
+    ghost use Rattle.gw_records.specs.Outcome.{nothing_counted};
+    ghost use Rattle.gw_records.specs.Streams.{CanCount, Puts};
+    ghost use Rattle.gw_speech.specs.Decode.{HasDecoded, datagram_words, speech_behind, count_record};
+
+    // Before the first record.
+    fn new(spec: &StreamSpec) -> UnderWay
+        ensures stands { HasDecoded spec.now result.codec [] }
+        ensures waiting { result.waiting.items ≡ [] }
+        ensures totals { result.totals ≡ nothing_counted }
+    {
+        UnderWay {
+            codec: AnyCodec::new(spec.law, spec.codec),
+            waiting: OutputBuffer::new(),
+            totals: NO_TOTALS,
+        }
+    }
+
+    // Acts on a record: puts the speech of its datagram behind the octets that wait, and counts it.
+    fn act<K: Sink>(
+        &mut self,
+        spec: &StreamSpec,
+        octets: &[u8],
+        sink: &mut K,
+    ) -> Result<(), RunFault>
+        requires kind { self.old.codec.kind ≡ spec.now.codec }
+        requires writes { CanCount (K.tells sink.old).failures }
+        ensures puts { let words = unwrap_or (datagram_words spec.now octets.now) [] in
+            (before : List ℕ) → HasDecoded spec.now self.old.codec before
+            → Puts (K.tells sink.old) (K.tells sink.new) self.new.waiting.items
+            (self.old.waiting.items ++ speech_behind spec.now before words) result }
+        ensures stands { let words = unwrap_or (datagram_words spec.now octets.now) [] in
+            (before : List ℕ) → HasDecoded spec.now self.old.codec before
+            → OnOk result (HasDecoded spec.now self.new.codec (before ++ words)) }
+        ensures counts { OnOk result (self.new.totals
+            ≡ count_record self.old.totals (is_some (datagram_words spec.now octets.now))) }
+    {
+        let is_decoded = put_datagram(spec, &mut self.codec, octets, &mut self.waiting, sink)?;
+        self.totals = count_record(self.totals, is_decoded);
+        Ok(())
+    }
+}
+
 /// Writes the speech in the D records of the source, of any circuits: the code words of one datagram after
 /// another, decoded by one decoder from reset, as octets in the law of `spec`.
 ///
@@ -196,21 +248,18 @@ pub fn decode_stream<S: Source, K: Sink>(
     };
     g726_codec::laws::words_are_counted();
     g726_codec::laws::prefixes_come_first();
-    let mut codec = AnyCodec::new(spec.law, spec.codec);
-    let mut waiting = OutputBuffer::new();
-    let mut totals = NO_TOTALS;
+    let mut under_way = UnderWay::new(spec);
     'decoding: loop {
         match first_record(&DATAGRAMS, reader.held()) {
             Ok(first) => {
                 let octets = &reader.held()[FRONT_LEN..first.len];
-                let is_decoded = put_datagram(spec, &mut codec, octets, &mut waiting, sink)?;
-                totals = count_record(totals, is_decoded);
+                under_way.act(spec, octets, sink)?;
                 reader.pass(first.len);
             }
             Err(ending) => {
-                flush(sink, &mut waiting)?;
+                flush(sink, &mut under_way.waiting)?;
                 if !reader.read_on(&DATAGRAMS, ending, source)? {
-                    return answer(ending, totals);
+                    return answer(ending, under_way.totals);
                 }
             }
         }

@@ -1,4 +1,4 @@
-use Rattle.std.proofs.Common.{◌-◌, ◌++◌, [], ◌∷◌, ap, sym, ◌∙◌, refl, take, drop, List, ℕ}
+use Rattle.std.proofs.Common.{◌-◌, ◌++◌, [], ◌∷◌, ap, sym, ◌∙◌, take, drop, List, ℕ}
 use Rattle.std.specs.Prelude.{Option, is_some}
 use Rattle.gw_records.specs.declared.outcome.RunFault.TheVariants as faults
 use Rattle.gw_records.specs.Records.{record_at}
@@ -18,22 +18,22 @@ decoding-init g c = (
   record {
     stage = starts _ _ _ c.in-Ok.ensures.holds c.in-Ok.ensures.turns;
     passes = Passes-same _ _ _ _ _ (sym (speech_at_reset c.args.spec.now c.words_are_counted.ensures))
-        (Passes-start _ c.new-waiting.result.items c.new-waiting.ensures);
-    stands = c.new-codec.ensures;
-    totals_are = refl;
+        (Passes-start _ c.new-under_way.result.waiting.items c.new-under_way.ensures.waiting);
+    stands = c.new-under_way.ensures.stands;
+    totals_are = c.new-under_way.ensures.totals;
   },
 )
 
-pub returns-in_err-is_decoded-in-Ok-first_record-clause-fault :
-    goal.returns-in_err-is_decoded-in-Ok-first_record-clause-fault
-returns-in_err-is_decoded-in-Ok-first_record-clause-fault g c =
+pub returns-in_err-act-in-Ok-first_record-clause-fault :
+    goal.returns-in_err-act-in-Ok-first_record-clause-fault
+returns-in_err-act-in-Ok-first_record-clause-fault g c =
     let s = c.args.spec.now in
     let w = c.decoding.invariant in
     let f = c.in-Ok-first_record.first in
     let found = first_held f c.held.ensures c.in-Ok-first_record.ensures.good in
     let words = words_at s f (held c.decoding.reader) _ found (ap (λ (xs : List ℕ). take (f.len - 4) (drop 4 xs))
     c.held-in-Ok-first_record.ensures) in
-    let put = c.in_err-is_decoded-in-Ok-first_record.ensures.puts (words_in s w.1) w.2.stands in
+    let put = c.in_err-act-in-Ok-first_record.ensures.puts (words_in s w.1) w.2.stands in
     goes_up _ _ faults.Write c.from_residual.ensures.1 put.0 (stops_in f w.2.stage found put.1.counted
     (record_breaks s _ _ _ _ w.1 _ _ words c.prefixes_come_first.ensures w.2.passes w.2.stage.no_write put.1).took)
 
@@ -46,7 +46,7 @@ decoding-preserved-in-Ok-first_record g c =
     let it = record_at f (held c.decoding.reader) in
     let words = words_at s f (held c.decoding.reader) _ found (ap (λ (xs : List ℕ). take (f.len - 4) (drop 4 xs))
     c.held-in-Ok-first_record.ensures) in
-    let done = c.in_ok-is_decoded-in-Ok-first_record.ensures in
+    let done = c.in_ok-act-in-Ok-first_record.ensures in
     let put = done.puts (words_in s w.1) w.2.stands in (
       w.0,
       w.1 ++ it ∷ [],
@@ -54,9 +54,8 @@ decoding-preserved-in-Ok-first_record g c =
         stage = takes f w.2.stage found c.pass.ensures.holds c.pass.ensures.turns put.1;
         passes = record_passes s _ _ _ _ _ w.1 it _ words c.prefixes_come_first.ensures w.2.passes put.0;
         stands = stands_more s _ w.1 it _ words (done.stands (words_in s w.1) w.2.stands);
-        totals_are = c.count_record-totals.ensures ∙ totals_more s c.decoding.totals w.1 it
-            c.in_ok-is_decoded-in-Ok-first_record.is_decoded w.2.totals_are
-            (done.answer ∙ ap (λ (o : Option (List ℕ)). is_some o) (sym words));
+        totals_are = done.counts ∙ totals_more s c.decoding.under_way.totals w.1 it _ w.2.totals_are
+            (ap (λ (o : Option (List ℕ)). is_some o) (sym words));
       },
     )
 
@@ -86,7 +85,7 @@ pub returns-then-not-branch : goal.returns-then-not-branch
 returns-then-not-branch g c =
     let w = c.decoding.invariant in
     let r = rw c.if-not-branch.true at c.in_ok-read_on-in-Err.ensures.ok in
-    let e = ended c.decoding.totals w.2.stage r c.held.ensures c.in-Err.ensures.end
+    let e = ended c.decoding.under_way.totals w.2.stage r c.held.ensures c.in-Err.ensures.end
     c.in_ok-flush-in-Err.ensures.writes.1
     (Passes-appended _ _ _ _ _ w.2.passes c.in_ok-flush-in-Err.ensures.writes.0, w.2.totals_are) in
     let both = decode_ends c.args.spec.now _ _ _ e.0 r.ended e.1 c.answer.ensures in
@@ -97,6 +96,6 @@ returns-in_err-read_on-in-Err-clause-fault g c =
     let w = c.decoding.invariant in
     let fault = c.in_err-read_on-in-Err.ensures.fault in
     goes_up _ _ faults.Read c.from_residual-in_err-read_on-in-Err.ensures.1 fault.0
-    (gives_up c.decoding.totals w.2.stage fault.1 c.held.ensures c.in-Err.ensures.end
+    (gives_up c.decoding.under_way.totals w.2.stage fault.1 c.held.ensures c.in-Err.ensures.end
     c.in_ok-flush-in-Err.ensures.writes.1
     (Passes-appended _ _ _ _ _ w.2.passes c.in_ok-flush-in-Err.ensures.writes.0, w.2.totals_are))

@@ -10,10 +10,10 @@ abbrev pub invariant-decoding : goal.invariant-decoding
 invariant-decoding g l = (octets : List ℕ) × (records : List Record) × record {
   stage : Stage only_datagrams (g.S.Source.tells l.initial.source) (g.S.Source.tells l.source)
       (g.K.Sink.tells l.initial.sink) (g.K.Sink.tells l.sink) l.reader octets records;
-  passes : Passes (g.K.Sink.tells l.initial.sink).taken (g.K.Sink.tells l.sink).taken l.waiting.items
+  passes : Passes (g.K.Sink.tells l.initial.sink).taken (g.K.Sink.tells l.sink).taken l.under_way.waiting.items
       (speech_in l.spec records);
-  stands : HasDecoded l.spec l.codec (words_in l.spec records);
-  totals_are : l.totals ≡ decode_totals l.spec records;
+  stands : HasDecoded l.spec l.under_way.codec (words_in l.spec records);
+  totals_are : l.under_way.totals ≡ decode_totals l.spec records;
 }
 
 abbrev pub decreases-decoding : goal.decreases-decoding
