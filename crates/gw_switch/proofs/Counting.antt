@@ -31,9 +31,8 @@ use Rattle.g704_cas.proofs.LeastSearch.{search_is_least}
 use Rattle.g704_cas.proofs.Searches.{multiframe_is_framing}
 use Rattle.g704_cas.proofs.Wrongs.{is_second_wrong-alike}
 use Rattle.gw_switch.specs.Hearing.{with_octet, slot16_octets}
-use Rattle.gw_switch.specs.Events.{Event, octets}
-use Rattle.gw_switch.specs.Worlds.{EndsAt, Same}
-use Rattle.gw_switch.specs.Laws.{is_first, is_slot16, ends_search, SameOnTrunk, SearchesAreOfTheTrunk}
+use Rattle.gw_switch.specs.Events.{octets}
+use Rattle.gw_switch.specs.Laws.{is_first, is_slot16, ends_search, SearchesAreOfTheTrunk}
 use Rattle.gw_switch.proofs.SameWorlds.{slot16_octets-length, with_slot}
 
 -- whether an octet is the first of one of these alignments
