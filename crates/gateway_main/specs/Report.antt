@@ -1,8 +1,8 @@
 -- What is told of a session that ended well.
 use Rattle.std.specs.Prelude.{Option, Some, None, nat_lt, if◌then◌else◌}
 use Rattle.gw_records.specs.declared.outcome.Totals.{Totals}
-use Rattle.gateway_main.specs.declared.command.Job.{Job}
-use Rattle.gateway_main.specs.declared.command.Job.TheVariants.{Encode, Decode}
+use Rattle.gw_command.specs.declared.command.Job.{Job}
+use Rattle.gw_command.specs.declared.command.Job.TheVariants.{Encode, Decode}
 use Rattle.gateway_main.specs.declared.report.PassedOver.{PassedOver}
 
 -- what decoding passed over, where it did: so many of the records, which are a datagram each

@@ -4,7 +4,7 @@ ghost use Rattle.std.specs.Prelude.{◌-◌, ◌^◌, ◌<◌, IfOk, IfErr};
 ghost use Rattle.gw_records.specs.Streams.{CanBegin};
 ghost use Rattle.gateway_main.specs.Jobs.{Does, DoesUntil};
 
-use crate::command::Job;
+use gw_command::Job;
 use gw_session::{RunFault, Sink, Source, Totals, decode_stream, encode_stream};
 use std::alloc::Global;
 

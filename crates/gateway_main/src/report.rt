@@ -3,7 +3,7 @@
 ghost use Rattle.std.specs.Prelude.{◌≡◌};
 ghost use Rattle.gateway_main.specs.Report.{passed_over};
 
-use crate::command::Job;
+use gw_command::Job;
 use gw_session::Totals;
 use thiserror::Error;
 

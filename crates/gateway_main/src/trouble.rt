@@ -2,11 +2,13 @@
 
 ghost use Rattle.std.specs.Prelude.{◌≡◌, ◌≤◌};
 ghost use Rattle.std.specs.IoError.{error_kind};
-ghost use Rattle.gateway_main.specs.Status.{trouble_of, fault_status, trouble_status, refusal_status};
+ghost use Rattle.gateway_main.specs.Status.{trouble_of, fault_status, trouble_of_opening, trouble_status};
+ghost use Rattle.gateway_main.specs.Status.{refusal_status};
 
 use clap::error::ErrorKind;
 use gw_config::ConfigFault;
 use gw_session::RunFault;
+use gw_udp::OpenFault;
 use std::io;
 use thiserror::Error;
 
@@ -59,6 +61,16 @@ impl Trouble {
         match error.kind() {
             io::ErrorKind::OutOfMemory => Trouble::OutOfMemory,
             _ => otherwise,
+        }
+    }
+
+    /// What sockets that are not to be had come to.
+    pub fn of_opening(fault: OpenFault) -> Trouble
+        ensures { result ≡ trouble_of_opening fault }
+    {
+        match fault {
+            OpenFault::Socket(circuit) => Trouble::Socket(circuit),
+            OpenFault::OutOfMemory => Trouble::OutOfMemory,
         }
     }
 

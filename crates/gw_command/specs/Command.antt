@@ -1,0 +1,101 @@
+-- The words of the command line: what is named by each, and what stands where one is left out.
+use Rattle.std.specs.Prelude.{◌≡◌, ◌^◌, ◌<◌, ℕ, List, Option, Some, None, codes, IsSomeAnd, MatchOption}
+use Rattle.std.specs.Str.Parse.{IsNumeral, digits_value, without_leading_plus}
+use Rattle.clap.specs.Words.{Row, first_of, one_of}
+use Rattle.e1_g711.specs.declared.Law.{Law}
+use Rattle.e1_g711.specs.declared.Law.TheVariants.{A, Mu}
+use Rattle.g726_codec.specs.declared.CodecKind.{CodecKind}
+use Rattle.g726_codec.specs.declared.CodecKind.TheVariants.{G711, G16, G24, G32, G40}
+use Rattle.g726_codec.specs.Names.{text_of}
+use Rattle.g726_codec.specs.declared.names.CodecName.TheVariants as names
+use Rattle.gw_circuit.specs.Coding.{static_type}
+use Rattle.gw_speech.specs.declared.spec.StreamSpec.{StreamSpec}
+use Rattle.gw_command.specs.declared.command.Job.{Job}
+use Rattle.gw_command.specs.declared.command.Job.TheVariants.{Encode, Decode}
+use Rattle.gw_senders.specs.declared.senders.Senders.{Senders}
+use Rattle.gw_senders.specs.declared.senders.Senders.TheVariants.{Any, Host, Peer}
+use Rattle.gw_command.specs.declared.command.Session.{Session}
+use Rattle.gw_command.specs.declared.command.Session.TheVariants.{Replay, Check, Serve}
+
+-- the name of a law
+abbrev pub law_name : Law → List ℕ
+law_name A = codes "a"
+law_name Mu = codes "mu"
+
+-- the name of a codec, whose law another option tells
+abbrev pub codec_name : CodecKind → List ℕ
+codec_name G711 = codes "g711"
+codec_name G16 = text_of names.G16
+codec_name G24 = text_of names.G24
+codec_name G32 = text_of names.G32
+codec_name G40 = text_of names.G40
+
+-- the name of a job
+abbrev pub job_name : Job → List ℕ
+job_name (Encode spec) = codes "encode"
+job_name (Decode spec) = codes "decode"
+
+-- the stream of a job
+abbrev pub job_spec : Job → StreamSpec
+job_spec (Encode spec) = spec
+job_spec (Decode spec) = spec
+
+-- the payload type where none is asked for: that of the law in G.711, else the first dynamic one
+abbrev pub usual_payload : Law → CodecKind → ℕ
+usual_payload law G711 = static_type law
+usual_payload law _ = 96
+
+-- the text is this number, of so many bits, in decimal digits, behind a plus sign or none
+abbrev pub IsNumber : ℕ → List ℕ → ℕ → Type 0
+IsNumber bits text n = IsNumeral 10 (without_leading_plus text)
+    × (digits_value 10 (without_leading_plus text) ≡ n) × (n < 2 ^ bits)
+
+-- an option has a text, which is this number
+abbrev pub SaysNumber : ℕ → Option (List ℕ) → ℕ → Type 0
+SaysNumber bits text n = IsSomeAnd text (λ t. IsNumber bits t n)
+
+-- an option has a text, which is this number, or it has none and the number is the usual one
+abbrev pub SaysOrUsual : ℕ → Option (List ℕ) → ℕ → ℕ → Type 0
+SaysOrUsual bits text usual n = MatchOption text (usual ≡ n) (λ t. IsNumber bits t n)
+
+-- the stream that the options name, by the first text of each
+pub record IsStream (options : List Row) (s : StreamSpec) : Type 0 where
+  pub law : first_of (codes "law") options ≡ Some (law_name s.law)
+  pub codec : first_of (codes "codec") options ≡ Some (codec_name s.codec)
+  pub payload : SaysOrUsual 8 (one_of (codes "payload") options) (usual_payload s.law s.codec) s.payload_type
+  pub ssrc : SaysNumber 32 (one_of (codes "ssrc") options) s.ssrc
+  pub sequence : SaysNumber 16 (one_of (codes "sequence") options) s.sequence
+  pub timestamp : SaysNumber 32 (one_of (codes "timestamp") options) s.timestamp
+  pub ptime : SaysNumber 8 (one_of (codes "ptime") options) s.ptime
+
+-- the job that a subcommand and its options name
+pub record IsJob (command : Option (List ℕ × List Row)) (job : Job) : Type 0 where
+  pub options : List Row
+  pub named : command ≡ Some (job_name job, options)
+  pub stream : IsStream options (job_spec job)
+
+-- the name of a session
+abbrev pub session_name : Session → List ℕ
+session_name Replay = codes "replay"
+session_name Check = codes "check"
+session_name Serve = codes "serve"
+
+-- the session that a subcommand names
+pub record IsSession (command : Option (List ℕ × List Row)) (session : Session) : Type 0 where
+  pub options : List Row
+  pub named : command ≡ Some (session_name session, options)
+
+-- a subcommand names the alignment of a trunk
+abbrev pub IsAlign : Option (List ℕ × List Row) → Type 0
+IsAlign command = (options : List Row) × (command ≡ Some (codes "align", options))
+
+-- the first text of an option of a subcommand
+abbrev pub text_in : List ℕ → Option (List ℕ × List Row) → Option (List ℕ)
+text_in id None = None
+text_in id (Some (name, options)) = first_of id options
+
+-- the name of senders
+abbrev pub senders_name : Senders → List ℕ
+senders_name Any = codes "any"
+senders_name Host = codes "host"
+senders_name Peer = codes "peer"

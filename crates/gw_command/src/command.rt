@@ -1,0 +1,224 @@
+//! The command line: what the program is asked to do.
+ghost use Rattle.std.specs.Prelude.{◌≡◌, ◌≢◌, ◌↔◌, Some, IfSome, IfNone, IsTrue, option_map, codes};
+ghost use Rattle.e1_g711.specs.declared.Law.{Law};
+ghost use Rattle.g726_codec.specs.declared.CodecKind.{CodecKind};
+ghost use Rattle.clap.specs.Words.{found_of, rows_of, subcommand_rows_of};
+ghost use Rattle.gw_speech.specs.declared.spec.StreamSpec.{StreamSpec};
+ghost use Rattle.gw_command.specs.Command.{law_name, codec_name, job_name, job_spec, usual_payload};
+ghost use Rattle.gw_command.specs.Command.{IsStream, IsJob, IsSession, session_name};
+ghost use Rattle.gw_command.specs.Command.{senders_name, text_in, IsAlign};
+ghost use Rattle.gw_senders.specs.declared.senders.Senders.{Senders};
+ghost use Rattle.gw_command.specs.declared.command.Job.{Job};
+ghost use Rattle.gw_command.specs.declared.command.Session.{Session};
+
+use clap::ArgMatches;
+use e1_g711::Law;
+use g726_codec::CodecKind;
+use g726_codec::names::{G726_16, G726_24, G726_32, G726_40};
+use gw_circuit::payload_types::{FIRST_DYNAMIC, static_type};
+use gw_senders::Senders;
+use gw_speech::StreamSpec;
+use std::rt::Env;
+use std::{env, io};
+
+/// G.711 in the law of `--law`.
+pub const G711: &str = "g711";
+
+/// What the program is asked to do.
+#[derive(Clone, Copy, Debug, PartialEq, Eq)]
+pub enum Job {
+    /// Octets of speech to records of datagrams.
+    Encode(StreamSpec),
+    /// Records of datagrams to octets of speech.
+    Decode(StreamSpec),
+}
+
+/// What a session of a gateway is.
+#[derive(Clone, Copy, Debug, PartialEq, Eq)]
+pub enum Session {
+    /// Records from standard input, answered on standard output.
+    Replay,
+    /// Records from standard input, and a line for each circuit after them.
+    Check,
+    /// Records as in `Replay`, with the datagrams of circuits on sockets.
+    Serve,
+}
+
+/// The arguments of the command line, the name of the program first.
+pub fn arguments<R: Env + AllocGlobal>(rt: &R) -> io::Result<Vec<String>> {
+    let arguments = env::args(rt)?.collect(rt.alloc())?;
+    Ok(arguments)
+}
+
+/// Whether the matches ask for `align`.
+pub fn is_align(matches: &ArgMatches<'_>) -> bool
+    ensures { IsTrue result ↔ IsAlign (subcommand_rows_of matches.now) }
+{
+    match matches.subcommand() {
+        Some((name, _)) => name == "align",
+        None => false,
+    }
+}
+
+/// Whether the totals are asked for.
+pub fn wants_totals(matches: &ArgMatches<'_>) -> bool {
+    match matches.subcommand() {
+        Some((_, options)) => options.get_flag("totals"),
+        None => false,
+    }
+}
+
+// The law of this name.
+fn law_named(name: &str) -> Option<Law>
+    ensures found { IfSome result (λ law. name.now ≡ law_name law) }
+    ensures none { IfNone result ((law : Law) → name.now ≢ law_name law) }
+{
+    match name {
+        "a" => Some(Law::A),
+        "mu" => Some(Law::Mu),
+        _ => None,
+    }
+}
+
+// The codec of this name.
+fn codec_named(name: &str) -> Option<CodecKind>
+    ensures found { IfSome result (λ codec. name.now ≡ codec_name codec) }
+    ensures none { IfNone result ((codec : CodecKind) → name.now ≢ codec_name codec) }
+{
+    match name {
+        G711 => Some(CodecKind::G711),
+        G726_16 => Some(CodecKind::G16),
+        G726_24 => Some(CodecKind::G24),
+        G726_32 => Some(CodecKind::G32),
+        G726_40 => Some(CodecKind::G40),
+        _ => None,
+    }
+}
+
+// The job of this name on a stream.
+fn job_named(name: &str, spec: StreamSpec) -> Option<Job>
+    ensures found { IfSome result (λ job. (name.now ≡ job_name job) × (job_spec job ≡ spec)) }
+    ensures none { IfNone result ((job : Job) → name.now ≢ job_name job) }
+{
+    match name {
+        "encode" => Some(Job::Encode(spec)),
+        "decode" => Some(Job::Decode(spec)),
+        _ => None,
+    }
+}
+
+// The payload type of speech where none is asked for: that of the law in G.711, else the first dynamic one.
+fn usual_payload(law: Law, codec: CodecKind) -> u8
+    ensures { result ≡ usual_payload law codec }
+{
+    match codec {
+        CodecKind::G711 => static_type(law),
+        _ => FIRST_DYNAMIC,
+    }
+}
+
+// The stream that the options name.
+fn stream_spec(matches: &ArgMatches<'_>) -> Option<StreamSpec>
+    ensures found { IfSome result (IsStream (rows_of (found_of matches.now))) }
+    ensures none { IfNone result ((spec : StreamSpec) → ¬ IsStream (rows_of (found_of matches.now)) spec) }
+{
+    let law = law_named(matches.get_str("law")?)?;
+    let codec = codec_named(matches.get_str("codec")?)?;
+    let asked = matches.try_get_one("payload").ok()?;
+    StreamSpec::new(
+        law,
+        codec,
+        asked.unwrap_or(usual_payload(law, codec)),
+        matches.get_one("ssrc")?,
+        matches.get_one("sequence")?,
+        matches.get_one("timestamp")?,
+        matches.get_one("ptime")?,
+    )
+}
+
+/// What the matches ask for. The parsers of the options let no other value through than a stream can have.
+pub fn job_of(matches: &ArgMatches<'_>) -> Option<Job>
+    ensures found { IfSome result (IsJob (subcommand_rows_of matches.now)) }
+    ensures none { IfNone result ((job : Job) → ¬ IsJob (subcommand_rows_of matches.now) job) }
+{
+    let (name, options) = matches.subcommand()?;
+    job_named(name, stream_spec(options)?)
+}
+
+// The session of this name.
+fn session_named(name: &str) -> Option<Session>
+    ensures found { IfSome result (λ session. name.now ≡ session_name session) }
+    ensures none { IfNone result ((session : Session) → name.now ≢ session_name session) }
+{
+    match name {
+        "replay" => Some(Session::Replay),
+        "check" => Some(Session::Check),
+        "serve" => Some(Session::Serve),
+        _ => None,
+    }
+}
+
+/// The session that the matches ask for, if it is one.
+pub fn session_of(matches: &ArgMatches<'_>) -> Option<Session>
+    ensures found { IfSome result (IsSession (subcommand_rows_of matches.now)) }
+    ensures none { IfNone result ((session : Session)
+        → ¬ IsSession (subcommand_rows_of matches.now) session) }
+{
+    let (name, _) = matches.subcommand()?;
+    session_named(name)
+}
+
+// The text of an option of the subcommand, the first where there are more.
+fn text_of<'m>(matches: &'m ArgMatches<'_>, id: &str) -> Option<&'m str>
+    ensures { option_map (λ text. text.now) result ≡ text_in id.now (subcommand_rows_of matches.now) }
+{
+    let (_, options) = matches.subcommand()?;
+    options.get_str(id)
+}
+
+/// The path of the configuration that the matches name: the first one.
+pub fn path_of<'m>(matches: &'m ArgMatches<'_>) -> Option<&'m str>
+    ensures { option_map (λ path. path.now) result
+        ≡ text_in (codes "config") (subcommand_rows_of matches.now) }
+{
+    text_of(matches, "config")
+}
+
+// The senders of this name.
+fn senders_named(name: &str) -> Option<Senders>
+    ensures found { IfSome result (λ senders. name.now ≡ senders_name senders) }
+    ensures none { IfNone result ((senders : Senders) → name.now ≢ senders_name senders) }
+{
+    match name {
+        "any" => Some(Senders::Any),
+        "host" => Some(Senders::Host),
+        "peer" => Some(Senders::Peer),
+        _ => None,
+    }
+}
+
+/// The senders that the matches ask to let in, where they name some.
+pub fn senders_of(matches: &ArgMatches<'_>) -> Option<Senders>
+    ensures found { IfSome result (λ senders.
+        text_in (codes "senders") (subcommand_rows_of matches.now) ≡ Some (senders_name senders)) }
+    ensures none { IfNone result ((senders : Senders)
+        → text_in (codes "senders") (subcommand_rows_of matches.now) ≢ Some (senders_name senders)) }
+{
+    senders_named(text_of(matches, "senders")?)
+}
+
+/// The path of the recording that the matches name, the first one, where they name one.
+pub fn recording_of<'m>(matches: &'m ArgMatches<'_>) -> Option<&'m str>
+    ensures { option_map (λ path. path.now) result
+        ≡ text_in (codes "record") (subcommand_rows_of matches.now) }
+{
+    text_of(matches, "record")
+}
+
+/// Whether a recording may be written over an old file.
+pub fn records_over(matches: &ArgMatches<'_>) -> bool {
+    match matches.subcommand() {
+        Some(("serve", options)) => options.get_flag("record-over"),
+        _ => false,
+    }
+}

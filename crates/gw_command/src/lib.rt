@@ -1,0 +1,11 @@
+//! The command line: what the program is asked to do.
+#![tactic(auto)]
+
+mod command;
+mod options;
+
+pub use command::{
+    Job, Session, arguments, is_align, job_of, path_of, recording_of, records_over, senders_of,
+    session_of, wants_totals,
+};
+pub use options::matches;

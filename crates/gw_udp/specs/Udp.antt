@@ -1,0 +1,125 @@
+-- What the sockets of circuits are, and what a receive and a send for a circuit do.
+use Rattle.std.specs.Prelude.{◌≡◌, ◌≢◌, ◌⊎◌, ◌-◌, ◌<◌, ◌≤◌, ℕ, zero, suc, List, slice_index_or, ⊤}
+use Rattle.std.specs.Prelude.{Option, Some, None, Result, Ok, Err, string_bytes}
+use Rattle.std.specs.declared.net.ip_addr.IpAddr.{IpAddr}
+use Rattle.std.specs.declared.net.socket_addr.SocketAddr.{SocketAddr}
+use Rattle.std.specs.Net.Grammar.{IsIpText}
+use Rattle.std.specs.Net.Socket.{socket_port}
+use Rattle.std.specs.Net.ToAddrs.{IsHostAndPort}
+use Rattle.gw_config.specs.declared.config.Port.{Port}
+use Rattle.gw_session.specs.declared.ports.PortFault.{PortFault}
+use Rattle.gw_session.specs.Ports.{PortsState}
+use Rattle.gw_senders.specs.Senders.{IsLetIn}
+use Rattle.gw_udp.specs.Socket.{Bound, Received, Sent}
+use Rattle.gw_senders.specs.declared.senders.Senders.{Senders}
+use Rattle.gw_udp.specs.declared.udp.Endpoint.{Endpoint}
+
+-- The address has this port and, where the text spells an IP, that IP. Which address a name has, nothing
+-- tells.
+pub record IsAddressOf (host : List ℕ) (port : ℕ) (a : SocketAddr) : Type 0 where
+  pub port_is : socket_port a ≡ port
+  pub ip_is : (ip : IpAddr) → IsIpText host ip → IsHostAndPort host port a
+
+-- the socket is bound to the host at the circuit's local port, and its datagrams go to the circuit's peer
+pub record IsEndpointOf {S : Type 0} (is_bound : Bound S) (host : List ℕ) (senders : Senders) (port : Port)
+    (e : Endpoint S) : Type 0 where
+  pub here : SocketAddr
+  pub bound : is_bound e.socket here
+  pub here_is : IsAddressOf host port.local_port here
+  pub senders_are : e.senders ≡ senders
+  pub peer_is : IsAddressOf (string_bytes port.peer_host) port.peer_port e.peer
+
+-- there is a socket exactly where there are ports, and it is theirs
+abbrev pub IsEndpoint : {S : Type 0} → Bound S → List ℕ → Senders → Option Port → Option (Endpoint S) → Type 0
+IsEndpoint is_bound host senders None None = ⊤
+IsEndpoint is_bound host senders None (Some e) = ⊥
+IsEndpoint is_bound host senders (Some port) None = ⊥
+IsEndpoint is_bound host senders (Some port) (Some e) = IsEndpointOf is_bound host senders port e
+
+-- each of the first circuits, so many, has the socket of its own ports
+abbrev pub HasEndpoints : {S : Type 0} → Bound S → List ℕ → Senders → List (Option Port)
+    → List (Option (Endpoint S)) → ℕ → Type 0
+HasEndpoints {S} is_bound host senders ports endpoints n =
+    (i : ℕ) (d : Option Port) (e : Option (Endpoint S)) → i < n
+    → IsEndpoint is_bound host senders (slice_index_or ports i d) (slice_index_or endpoints i e)
+
+-- all circuits but this one are as they were
+abbrev pub KeepsOthers : {S : Type 0} → ℕ → List (Option (Endpoint S)) → List (Option (Endpoint S)) → Type 0
+KeepsOthers {S} c old new = (i : ℕ) (d : Option (Endpoint S)) → i ≢ c - 1
+    → slice_index_or new i d ≡ slice_index_or old i d
+
+-- a receive at a socket, after earlier ones, gave a datagram of a stranger
+pub record Strays {S : Type 0} (receives : Received S) (senders : Senders) (peer : SocketAddr)
+    (earlier : S → Type 0) (new : S) : Type 0 where
+  pub between : S
+  pub before : earlier between
+  pub len : ℕ
+  pub from : SocketAddr
+  pub room : List ℕ
+  pub received : receives between new (Ok (Some (len, from))) room
+  pub stranger : ¬ IsLetIn senders from peer
+
+-- so many receives at a socket gave datagrams of strangers
+abbrev pub Skips : {S : Type 0} → Received S → Senders → SocketAddr → ℕ → S → S → Type 0
+Skips receives senders peer zero old new = new ≡ old
+Skips receives senders peer (suc n) old new =
+    Strays receives senders peer (Skips receives senders peer n old) new
+
+-- the last of them is the result: a datagram that is let in, a fault, or none, as also after sixteen of
+-- strangers
+abbrev pub EndsWith : {S : Type 0} → Received S → Senders → SocketAddr → ℕ → S → S
+    → Result (Option ℕ) PortFault → List ℕ → Type 0
+EndsWith receives senders peer n old new (Ok (Some len)) room =
+    (from : SocketAddr) × receives old new (Ok (Some (len, from))) room × IsLetIn senders from peer
+EndsWith receives senders peer n old new (Ok None) room =
+    receives old new (Ok None) room ⊎ ((new ≡ old) × (n ≡ 16))
+EndsWith receives senders peer n old new (Err e) room = receives old new (Err e) room
+
+-- a receive threw away what strangers had sent, and gave what came then
+pub record ReceivesFrom {S : Type 0} (receives : Received S) (senders : Senders) (peer : SocketAddr)
+    (old new : S) (r : Result (Option ℕ) PortFault) (room : List ℕ) : Type 0 where
+  pub skipped : ℕ
+  pub few : skipped ≤ 16
+  pub last : S
+  pub skips : Skips receives senders peer skipped old last
+  pub ends : EndsWith receives senders peer skipped last new r room
+
+-- what a receive did at the socket of one circuit: none was asked, or this one, whose answer is the result
+abbrev pub ReceivesAt : {S : Type 0} → Received S → Option (Endpoint S) → Option (Endpoint S)
+    → Result (Option ℕ) PortFault → List ℕ → Type 0
+ReceivesAt receives None new r room = (new ≡ None) × (r ≡ Ok None)
+ReceivesAt receives (Some e) None r room = ⊥
+ReceivesAt receives (Some e) (Some f) r room = (f.peer ≡ e.peer) × (f.senders ≡ e.senders)
+    × ReceivesFrom receives e.senders e.peer e.socket f.socket r room
+
+-- a receive for circuit c was one at its own socket
+abbrev pub EndpointReceives : {S : Type 0} → Received S → ℕ → List (Option (Endpoint S))
+    → List (Option (Endpoint S)) → Result (Option ℕ) PortFault → List ℕ → Type 0
+EndpointReceives {S} receives c old new r room = (d : Option (Endpoint S))
+    → ReceivesAt receives (slice_index_or old (c - 1) d) (slice_index_or new (c - 1) d) r room
+
+-- what a send did at the socket of one circuit: it went to the circuit's peer, or to nobody where there is
+-- none
+abbrev pub SendsAt : {S : Type 0} → Sent S → Option (Endpoint S) → Option (Endpoint S) → List ℕ
+    → Result (Unit {0}) PortFault → Type 0
+SendsAt sends None new datagram r = (new ≡ None) × (r ≡ Ok tt)
+SendsAt sends (Some e) None datagram r = ⊥
+SendsAt sends (Some e) (Some f) datagram r = (f.peer ≡ e.peer) × (f.senders ≡ e.senders)
+    × sends e.socket f.socket e.peer datagram r
+
+-- a send for circuit c was one at its own socket, to its own peer
+abbrev pub EndpointSends : {S : Type 0} → Sent S → ℕ → List (Option (Endpoint S))
+    → List (Option (Endpoint S)) → List ℕ → Result (Unit {0}) PortFault → Type 0
+EndpointSends {S} sends c old new datagram r = (d : Option (Endpoint S))
+    → SendsAt sends (slice_index_or old (c - 1) d) (slice_index_or new (c - 1) d) datagram r
+
+-- sockets tell how many receives and sends have failed; which datagrams wait, came and went, none of std does
+abbrev pub told : ℕ → ℕ → PortsState
+told receive_failed send_failed = record {
+  receive_failures = receive_failed;
+  send_failures = send_failed;
+  waiting = None;
+  given = None;
+  taken = None;
+  calls = None;
+}

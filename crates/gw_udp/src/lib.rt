@@ -1,0 +1,10 @@
+//! The ports of circuits over UDP: sockets, and from whom they take datagrams in.
+#![tactic(auto)]
+
+mod socket;
+mod sockets;
+mod udp;
+
+pub use socket::Socket;
+pub use sockets::open_sockets;
+pub use udp::{OpenFault, UdpPorts};

@@ -1,0 +1,79 @@
+//! A socket of datagrams that never waits, and std's as one.
+
+ghost use Rattle.std.specs.Prelude.{◌≡◌, ◌≤◌, length, IfOk, IfSome, ⊤};
+ghost use Rattle.gw_udp.specs.Socket.{Bound, Received, Sent};
+
+use gw_session::PortFault;
+use std::io;
+use std::io::ErrorKind;
+use std::net::{Net, SocketAddr, UdpSocket};
+
+/// A socket of datagrams. The relations are the type's own: a caller that knows nothing of the type has them
+/// of a call alone.
+pub trait Socket: Drop {
+    /// Holds of a socket and the address that it is bound to.
+    ghost is_bound: { Bound Self } = { λ _ _. ⊤ };
+
+    /// Holds of a socket before and after a receive, what it answered, and the room then.
+    ghost receives: { Received Self } = { λ _ _ _ _. ⊤ };
+
+    /// Holds of a socket before and after a send, where the datagram was to go, the datagram, and the answer.
+    ghost sends: { Sent Self } = { λ _ _ _ _ _. ⊤ };
+
+    /// A socket at an address, whose calls never wait. The error is the system's.
+    fn bind<N: Net>(net: &N, address: SocketAddr) -> io::Result<Self>
+    where
+        Self: Sized,
+        ensures { IfOk result (λ s. is_bound s address) };
+
+    /// Names the one sender whose datagrams the system lets through from then on. The error is the system's;
+    /// all senders are let through then.
+    fn connect(&self, peer: SocketAddr) -> io::Result<()>;
+
+    /// Takes out the first datagram that waits, puts it to the front of `room`, and answers its length, in
+    /// octets, and its sender. None where none waits.
+    fn receive(&mut self, room: &mut [u8]) -> Result<Option<(usize, SocketAddr)>, PortFault>
+        ensures bound { IfOk result (λ got. IfSome got (λ g. g.0 ≤ length room.new)) }
+        ensures receives { receives self.old self.new result room.new };
+
+    /// Sends a datagram to an address. A fault where the system did not take all of it.
+    fn send(&mut self, datagram: &[u8], to: SocketAddr) -> Result<(), PortFault>
+        ensures { sends self.old self.new to datagram.now result };
+}
+
+impl Socket for UdpSocket {
+    fn bind<N: Net>(net: &N, address: SocketAddr) -> io::Result<UdpSocket> {
+        let socket = UdpSocket::bind(net, address)?;
+        socket.set_nonblocking(true)?;
+        Ok(socket)
+    }
+
+    fn connect(&self, peer: SocketAddr) -> io::Result<()> {
+        UdpSocket::connect(self, peer)
+    }
+
+    fn receive(&mut self, room: &mut [u8]) -> Result<Option<(usize, SocketAddr)>, PortFault> {
+        match self.recv_from(room) {
+            Ok(received) => Ok(Some(received)),
+            Err(error) => match error.kind() {
+                // A peer that is not there is no fault of the port.
+                ErrorKind::WouldBlock | ErrorKind::ConnectionRefused => Ok(None),
+                _ => Err(PortFault),
+            },
+        }
+    }
+
+    fn send(&mut self, datagram: &[u8], to: SocketAddr) -> Result<(), PortFault> {
+        let sent = match self.send_to(datagram, to) {
+            // It tells of an earlier datagram, and this one was not sent.
+            Err(error) if error.kind() == ErrorKind::ConnectionRefused => self.send_to(
+                datagram, to,
+            ),
+            sent => sent,
+        };
+        match sent {
+            Ok(len) if len == datagram.len() => Ok(()),
+            _ => Err(PortFault),
+        }
+    }
+}

@@ -1,0 +1,24 @@
+//! The sockets that a configuration asks for.
+
+ghost use Rattle.std.specs.Prelude.{IfOk, string_bytes};
+ghost use Rattle.gw_udp.specs.Udp.{HasEndpoints};
+
+use crate::socket::Socket;
+use crate::udp::{OpenFault, UdpPorts};
+use gw_config::Config;
+use gw_senders::Senders;
+use std::alloc::Global;
+use std::net::Net;
+
+/// Opens the sockets of a configuration, which take in the datagrams of these senders.
+pub fn open_sockets<S: Socket>(
+    net: &impl Net,
+    alloc: Global,
+    config: &Config,
+    senders: Senders,
+) -> Result<UdpPorts<S>, OpenFault>
+    ensures { IfOk result (λ opened. HasEndpoints S.is_bound (string_bytes config.now.host) senders
+        config.now.ports opened.endpoints.items 30) }
+{
+    UdpPorts::open(net, alloc, config.host.as_str(), &config.ports, senders)
+}

@@ -1,0 +1,262 @@
+//! The ports of circuits as sockets, each opened for its own circuit.
+
+ghost use Rattle.std.specs.Prelude.{◌≡◌, ◌≤◌, vec_len, length, IfOk, IfSome, string_bytes};
+ghost use Rattle.gw_session.specs.Ports.{Receives, Sends, CountsFault, KeepsSends, KeepsReceives};
+ghost use Rattle.gw_udp.specs.Udp.{IsAddressOf, IsEndpointOf, IsEndpoint, HasEndpoints, KeepsOthers};
+ghost use Rattle.gw_udp.specs.Udp.{ReceivesFrom, EndpointReceives, EndpointSends, told};
+
+use crate::socket::Socket;
+use g704_cas::CircuitNo;
+use gw_config::Port;
+use gw_senders::Senders;
+use gw_session::{PortFault, Ports};
+use std::alloc::Global;
+use std::io::{Error, ErrorKind};
+use std::net::{Net, SocketAddr, ToSocketAddrs};
+
+const CIRCUITS: usize = 30;
+
+// How many datagrams of strangers are thrown away by one receive.
+const MOST_STRANGERS: usize = 16;
+
+/// Why sockets are not to be had.
+#[derive(Clone, Copy, Debug, PartialEq, Eq)]
+pub enum OpenFault {
+    /// Memory was refused.
+    OutOfMemory,
+    /// The socket of the circuit of this number can't be opened, its host or its peer has no address, or the
+    /// addresses of both are of different families.
+    Socket(u8),
+}
+
+/// The socket of a circuit, where its datagrams go, and from whom they come.
+#[derive(Drop)]
+pub struct Endpoint<S> {
+    socket: S,
+    peer: SocketAddr,
+    senders: Senders,
+}
+
+/// A socket for each circuit that has ports. A circuit without ports receives none, and its datagrams are
+/// dropped.
+#[derive(Drop)]
+pub struct UdpPorts<S> {
+    endpoints: Vec<Option<Endpoint<S>>>,
+    receive_failed: u64,
+    send_failed: u64,
+    ghost thirty: { vec_len endpoints ≡ 30 },
+}
+
+// Why a socket is not to be had: want of memory, or else a fault of this circuit.
+fn fault_of(circuit: u8, error: &Error) -> OpenFault {
+    match error.kind() {
+        ErrorKind::OutOfMemory => OpenFault::OutOfMemory,
+        _ => OpenFault::Socket(circuit),
+    }
+}
+
+// The first address of a host, with this port.
+fn first_address(
+    net: &impl Net,
+    circuit: u8,
+    host: &str,
+    port: u16,
+) -> Result<SocketAddr, OpenFault>
+    ensures { IfOk result (IsAddressOf host.now port) }
+{
+    let mut addresses = match (host, port).to_socket_addrs(net) {
+        Ok(addresses) => addresses,
+        Err(error) => return Err(fault_of(circuit, &error)),
+    };
+    let Some(mut address) = addresses.next() else {
+        return Err(OpenFault::Socket(circuit));
+    };
+    address.set_port(port);
+    Ok(address)
+}
+
+// The socket of a circuit by its configuration.
+fn open_endpoint<S: Socket>(
+    net: &impl Net,
+    circuit: u8,
+    host: &str,
+    port: &Port,
+    senders: Senders,
+) -> Result<Endpoint<S>, OpenFault>
+    ensures { IfOk result (IsEndpointOf S.is_bound host.now senders port.now) }
+{
+    let here = first_address(net, circuit, host, port.local_port)?;
+    let peer = first_address(net, circuit, port.peer_host.as_str(), port.peer_port)?;
+    // A socket of one family sends nothing to an address of the other.
+    if here.is_ipv4() != peer.is_ipv4() {
+        return Err(OpenFault::Socket(circuit));
+    }
+    let socket = match S::bind(net, here) {
+        Ok(socket) => socket,
+        Err(error) => return Err(fault_of(circuit, &error)),
+    };
+    if let Senders::Peer = senders {
+        // The system throws away what strangers send, at less cost; where it does not, each receive does.
+        let _ = socket.connect(peer);
+    }
+    Ok(Endpoint {
+        socket,
+        peer,
+        senders,
+    })
+}
+
+// The socket of a circuit, where it has ports.
+fn endpoint_of<S: Socket>(
+    net: &impl Net,
+    circuit: u8,
+    host: &str,
+    port: &Option<Port>,
+    senders: Senders,
+) -> Result<Option<Endpoint<S>>, OpenFault>
+    ensures { IfOk result (IsEndpoint S.is_bound host.now senders port.now) }
+{
+    match port {
+        Some(port) => Ok(Some(open_endpoint(net, circuit, host, port, senders)?)),
+        None => Ok(None),
+    }
+}
+
+// Receives at a socket what its senders may send. What comes from others is thrown away: so many datagrams at
+// most, and then none is said to wait, so that a flood of them ends a turn too. (It is apart from the
+// circuits without a port, which get by with fewer registers then.)
+#[inline(never)]
+fn receive_from<S: Socket>(
+    socket: &mut S,
+    senders: Senders,
+    peer: SocketAddr,
+    room: &mut [u8],
+) -> Result<Option<usize>, PortFault>
+    ensures bound { IfOk result (λ got. IfSome got (λ n. n ≤ length room.new)) }
+    ensures received { ReceivesFrom S.receives senders peer socket.old socket.new result room.new }
+{
+    for _turn in 0..MOST_STRANGERS {
+        match socket.receive(room)? {
+            Some((len, from)) => {
+                if senders.let_in(from, peer) {
+                    return Ok(Some(len));
+                }
+            }
+            None => return Ok(None),
+        }
+    }
+    Ok(None)
+}
+
+// Receives at the socket of a circuit.
+fn receive_at<S: Socket>(
+    endpoints: &mut Vec<Option<Endpoint<S>>>,
+    circuit: CircuitNo,
+    room: &mut [u8],
+) -> Result<Option<usize>, PortFault>
+    requires { vec_len endpoints.old ≡ 30 }
+    ensures bound { IfOk result (λ got. IfSome got (λ n. n ≤ length room.new)) }
+    ensures own { EndpointReceives S.receives circuit endpoints.old.items endpoints.new.items
+        result room.new }
+    ensures others { KeepsOthers circuit endpoints.old.items endpoints.new.items }
+    ensures thirty { vec_len endpoints.new ≡ 30 }
+{
+    match &mut endpoints[usize::from(circuit.get()) - 1] {
+        Some(endpoint) => receive_from(&mut endpoint.socket, endpoint.senders, endpoint.peer, room),
+        None => Ok(None),
+    }
+}
+
+// Sends by the socket of a circuit, to its peer.
+#[inline(never)]
+fn send_from<S: Socket>(
+    endpoints: &mut Vec<Option<Endpoint<S>>>,
+    circuit: CircuitNo,
+    datagram: &[u8],
+) -> Result<(), PortFault>
+    requires { vec_len endpoints.old ≡ 30 }
+    ensures own { EndpointSends S.sends circuit endpoints.old.items endpoints.new.items datagram.now result }
+    ensures others { KeepsOthers circuit endpoints.old.items endpoints.new.items }
+    ensures thirty { vec_len endpoints.new ≡ 30 }
+{
+    let number = usize::from(circuit.get());
+    match &mut endpoints[number - 1] {
+        Some(endpoint) => endpoint.socket.send(datagram, endpoint.peer),
+        None => Ok(()),
+    }
+}
+
+impl<S: Socket> UdpPorts<S> {
+    /// Opens the sockets of the circuits that have ports, in rising order, each at `host` and its local port.
+    pub fn open(
+        net: &impl Net,
+        alloc: Global,
+        host: &str,
+        ports: &[Option<Port>; 30],
+        senders: Senders,
+    ) -> Result<UdpPorts<S>, OpenFault>
+        ensures { IfOk result (λ opened.
+            HasEndpoints S.is_bound host.now senders ports.now opened.endpoints.items 30) }
+    {
+        let Ok(mut endpoints) = Vec::with_capacity(alloc, CIRCUITS) else {
+            return Err(OpenFault::OutOfMemory);
+        };
+        for number in 1..=30u8 {
+            let endpoint = endpoint_of(
+                net,
+                number,
+                host,
+                &ports[usize::from(number) - 1],
+                senders,
+            )?;
+            match endpoints.push(endpoint) {
+                Ok(()) => {}
+                Err(_) => return Err(OpenFault::OutOfMemory),
+            }
+        }
+        Ok(UdpPorts {
+            endpoints,
+            receive_failed: 0,
+            send_failed: 0,
+        })
+    }
+}
+
+impl<S: Socket> Ports for UdpPorts<S> {
+    ghost tells = { λ p. told p.receive_failed p.send_failed };
+
+    fn receive(&mut self, circuit: CircuitNo, room: &mut [u8]) -> Result<Option<usize>, PortFault>
+        ensures bound { IfOk result (λ got. IfSome got (λ n. n ≤ length room.new)) }
+        ensures receives { Receives (told self.old.receive_failed self.old.send_failed)
+            (told self.new.receive_failed self.new.send_failed) circuit result room.new }
+        ensures counts { CountsFault self.old.receive_failed self.new.receive_failed result }
+        ensures sends_stay { KeepsSends (told self.old.receive_failed self.old.send_failed)
+            (told self.new.receive_failed self.new.send_failed) }
+        ensures own { EndpointReceives S.receives circuit self.old.endpoints.items self.new.endpoints.items
+            result room.new }
+        ensures others { KeepsOthers circuit self.old.endpoints.items self.new.endpoints.items }
+    {
+        let received = receive_at(&mut self.endpoints, circuit, room);
+        if received.is_err() {
+            self.receive_failed = self.receive_failed.saturating_add(1);
+        }
+        received
+    }
+
+    fn send(&mut self, circuit: CircuitNo, datagram: &[u8]) -> Result<(), PortFault>
+        ensures sends { Sends (told self.old.receive_failed self.old.send_failed)
+            (told self.new.receive_failed self.new.send_failed) circuit result datagram.now }
+        ensures counts { CountsFault self.old.send_failed self.new.send_failed result }
+        ensures receives_stay { KeepsReceives (told self.old.receive_failed self.old.send_failed)
+            (told self.new.receive_failed self.new.send_failed) }
+        ensures own { EndpointSends S.sends circuit self.old.endpoints.items self.new.endpoints.items
+            datagram.now result }
+        ensures others { KeepsOthers circuit self.old.endpoints.items self.new.endpoints.items }
+    {
+        let sent = send_from(&mut self.endpoints, circuit, datagram);
+        if sent.is_err() {
+            self.send_failed = self.send_failed.saturating_add(1);
+        }
+        sent
+    }
+}
