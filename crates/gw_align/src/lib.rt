@@ -4,6 +4,3 @@
 mod align;
 
 pub use align::align_stream;
-
-#[cfg(test)]
-mod tests;

@@ -5,7 +5,7 @@ use super::calls::{Session, Trunk, Written, take_apart};
 use super::done;
 use super::gateways::{neighbours, outgoing};
 use super::memory::{MemSink, MemSource};
-use crate::{RunFault, Totals, run};
+use gw_session::{RunFault, Totals, run};
 use g704_cas::CircuitNo;
 use gw_circuit::Status;
 use gw_switch::Gateway;

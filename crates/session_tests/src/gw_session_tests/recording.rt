@@ -6,7 +6,7 @@ use super::memory::{MemSink, MemSource};
 use super::ports::MemPorts;
 use super::running::{trunk_answer, trunk_record};
 use super::{done, has_first};
-use crate::{Recorder, RunFault, Totals, TrunkRecord, run, serve_recorded};
+use gw_session::{Recorder, RunFault, Totals, TrunkRecord, run, serve_recorded};
 use std::test::Fail;
 
 // A recorder that writes to this sink.

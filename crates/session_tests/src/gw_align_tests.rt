@@ -1,6 +1,6 @@
 ghost use Rattle.std.specs.Prelude.{◌≡◌, None, length};
 
-use crate::align_stream;
+use gw_align::align_stream;
 use arrayvec::ArrayVec;
 use gw_records::{NO_TOTALS, RunFault, Sink, SinkFault, Source, SourceFault, Totals};
 
