@@ -202,8 +202,8 @@ one_acts spells p g g' t t' tape tape' s s' w w' act event circuit kind code (Ok
           (one_written spells g g' act event circuit kind code w one packets answer takes config before h) puts.0);
       no_failure = puts.1;
     }
-one_acts spells p g g' t t' tape tape' s s' w w' act event circuit kind code (Err e) none one packets places answer takes
-    dropped same puts recorded =
+one_acts spells p g g' t t' tape tape' s s' w w' act event circuit kind code (Err e) none one packets places answer
+    takes dropped same puts recorded =
     let on = one_on p g g' t t' tape tape' act event code none one packets places takes dropped same recorded in (
       puts.0,
       inl (record {
@@ -221,4 +221,5 @@ pub counts_given : (t u t' : Totals) → u ≡ record t { dropped = u.dropped }
     → t' ≡ record t { records = at_most (t.records + 1); dropped = t'.dropped }
 counts_given t u t' p q =
     q ∙ ap (λ (x : Totals). record x { records = at_most (x.records + 1) }) p
-    ∙ ap (λ (n : ℕ). record t { records = at_most (t.records + 1); dropped = n }) (sym (ap (λ (x : Totals). x.dropped) q))
+    ∙ ap (λ (n : ℕ). record t { records = at_most (t.records + 1); dropped = n })
+    (sym (ap (λ (x : Totals). x.dropped) q))

@@ -18,7 +18,8 @@ use Rattle.gw_session.specs.Outlet.{Spells}
 use Rattle.gw_session.specs.Ports.{Waiting, PortsState, IfKnown, Grows, TakesOut, KeepsSends, KeepsReceives}
 use Rattle.gw_session.specs.Ports.{counted}
 use Rattle.gw_session.specs.Serve.{Act, Turn, told, octet_of, turns_of, events_in, events_of_turns, answer_to}
-use Rattle.gw_session.specs.Serve.{Goes, Trades, Stop, StopsSo, as_call, receives_of, send_of, sent_with_octets}
+use Rattle.gw_session.specs.Serve.{Goes, Trades, Stop, StopsSo, as_call, receives_of, send_of}
+use Rattle.gw_session.specs.Serve.{sent_with_octets}
 use Rattle.gw_session.specs.Serve.{of_circuit, coming, first_four, behind_four}
 use Rattle.gw_session.specs.Serve.{LeavesOut, packets_for, octets_for, dropped_for, Does, events_through}
 use Rattle.gw_session.specs.Tape.{TapeState, Recorded, RecordedBut}

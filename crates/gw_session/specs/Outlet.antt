@@ -2,7 +2,7 @@
 use Rattle.std.specs.Prelude.{◌≡◌, ◌+◌, ℕ, Bool, true, false, List, [], ◌∷◌, Some, None}
 use Rattle.gw_records.specs.Streams.{at_most}
 use Rattle.gw_records.specs.Records.{record_of}
-use Rattle.gw_session.specs.Ports.{PortsState, Call, Grows}
+use Rattle.gw_session.specs.Ports.{PortsState, PortCall, Grows}
 
 -- the octets that a packet of a circuit puts in front of the answer
 abbrev pub Spells : Type 0
@@ -31,7 +31,7 @@ no_ports = record {
 abbrev pub Went : PortsState → PortsState → ℕ → Bool → List ℕ → Type 0
 Went old new circuit true packet =
     Grows old.taken new.taken ((circuit, packet) ∷ []) × (new.send_failures ≡ old.send_failures)
-    × Grows old.calls new.calls (Call.Took circuit packet ∷ [])
+    × Grows old.calls new.calls (PortCall.Took circuit packet ∷ [])
 Went old new circuit false packet =
     (new.taken ≡ old.taken) × (new.send_failures ≡ at_most (old.send_failures + 1))
-    × Grows old.calls new.calls (Call.SendFailed circuit packet ∷ [])
+    × Grows old.calls new.calls (PortCall.SendFailed circuit packet ∷ [])

@@ -10,7 +10,8 @@ use Rattle.gw_records.specs.Records.{Record, Reads}
 use Rattle.gw_session.specs.Answers.{Written, written_out, answers, answered, trunk_in, datagrams_in}
 use Rattle.gw_session.specs.Answers as records_of
 use Rattle.gw_session.specs.Running.{all_kinds, replies_to}
-use Rattle.gw_session.specs.Serve.{Act, told, events_through, events_in, events_of_turns, octets_for, packets_for}
+use Rattle.gw_session.specs.Serve.{Act, told, events_through, events_in, events_of_turns, octets_for}
+use Rattle.gw_session.specs.Serve.{packets_for}
 use Rattle.gw_session.specs.Serve.{written}
 use Rattle.gw_session.specs.Tape.{TapeState, Recorded}
 
@@ -58,4 +59,5 @@ pub record AnswersAs (config : GatewayConfig) (before : List Event) (acts : List
 -- records of the same events answer as the acts did
 abbrev pub RecordingsAnswerAlike : Type 0
 RecordingsAnswerAlike = (config : GatewayConfig) (before : List Event) (acts : List Act)
-    (records : List Record) → records_of.events records ≡ events_through acts → AnswersAs config before acts records
+    (records : List Record) → records_of.events records ≡ events_through acts
+    → AnswersAs config before acts records

@@ -24,7 +24,7 @@ use Rattle.g704_align.specs.declared.alignment.Place.{Place}
 use Rattle.g704_align.specs.declared.alignment.Place.TheVariants.{Hunting, Slot}
 use Rattle.g704_align.specs.Placing.{place}
 use Rattle.g704_align.proofs.Callers.{place-alike}
-use Rattle.g704_cas.specs.Search.{is_mfas, search, is_found_at}
+use Rattle.g704_cas.specs.Search.{is_mfas, is_found_at}
 use Rattle.g704_cas.specs.Loss.{is_second_wrong, multiframe_alignment}
 use Rattle.g704_cas.specs.Placing.{multiframes}
 use Rattle.g704_cas.proofs.LeastSearch.{search_is_least}
@@ -39,8 +39,12 @@ use Rattle.gw_switch.proofs.SameWorlds.{slot16_octets-length, with_slot}
 abbrev first_at : List Alignment → ℕ → Bool
 first_at ds k = is_first (age_in 0 ds k)
 
+-- where a search in a list from this octet on ends
+abbrev found_from : List ℕ → ℕ → Option ℕ
+found_from s from = multiframe_alignment.search None s from
+
 -- a multiframe alignment begins at an octet of the list
-found_within : (s : List ℕ) (from m : ℕ) → search None s from ≡ Some m → m < length s
+found_within : (s : List ℕ) (from m : ℕ) → found_from s from ≡ Some m → m < length s
 found_within s from m e =
     let P : ℕ → Bool = λ position. nat_le from position && is_found_at s position in
     let L : Option ℕ → Type 0 = λ o. IsLeast P (length s) o in
@@ -89,7 +93,7 @@ behind_loss m q k ds lt =
 
 module _ (s t : List ℕ) (len : length s ≡ length t) where
   -- where no octet is the first of an alignment there is none
-  no_more : (from : ℕ) (o : Option ℕ) → search None t from ≡ o
+  no_more : (from : ℕ) (o : Option ℕ) → found_from t from ≡ o
       → ((k : ℕ) → from ≤ k → k < length s → false ≡ first_at (after_search multiframe_alignment None t o) k)
       → [] ≡ after_search multiframe_alignment None t o
   unfolding after_search
@@ -126,7 +130,7 @@ module _ (s t : List ℕ) (len : length s ≡ length t) where
       → ((k : ℕ) → g ≤ k → k < length s → first_at ds k
       ≡ first_at (alignments_from multiframe_alignment None t g) k)
       → ds ≡ alignments_from multiframe_alignment None t g)
-      → (o p : Option ℕ) → search None s from ≡ o → search None t from ≡ p
+      → (o p : Option ℕ) → found_from s from ≡ o → found_from t from ≡ p
       → d ∷ ds ≡ after_search multiframe_alignment None s o
       → ((k : ℕ) → from ≤ k → k < length s → first_at (d ∷ ds) k
       ≡ first_at (after_search multiframe_alignment None t p) k)
@@ -174,10 +178,10 @@ module _ (s t : List ℕ) (len : length s ≡ length t) where
       → ds ≡ alignments_from multiframe_alignment None t from
   counted_from [] from e firsts all =
       let turns = alignments-turns multiframe_alignment multiframe_is_framing None t from in
-      no_more from (search None t from) refl (λ k a b. firsts k a b ∙ ap (λ es. first_at es k) turns) ∙ sym turns
+      no_more from (found_from t from) refl (λ k a b. firsts k a b ∙ ap (λ es. first_at es k) turns) ∙ sym turns
   counted_from (d ∷ ds) from e firsts all =
       let turns = alignments-turns multiframe_alignment multiframe_is_framing None t from in
-      found_so d ds from all.0 (λ g i f. counted_from ds g i f all.1) (search None s from) (search None t from) refl refl
+      found_so d ds from all.0 (λ g i f. counted_from ds g i f all.1) (found_from s from) (found_from t from) refl refl
       (e ∙ alignments-turns multiframe_alignment multiframe_is_framing None s from)
       (λ k a b. firsts k a b ∙ ap (λ es. first_at es k) turns) ∙ sym turns
 

@@ -19,7 +19,8 @@ returns-in-Datagram-clause-acts g c =
     rw c.in-Datagram.is (one_acts _ _ _ _ c.args.self.now.totals c.put_answer.new.self.totals _ _ _ _ _ _
     (Act.Datagram circuit body)
     (Event.Datagram circuit body) circuit 0x44 _ c.put_answer.result refl refl (λ config before. refl)
-    (λ config before. refl) (λ config before. refl) takes (λ config before h. ap (λ (x : Totals). x.dropped) c.put_answer.ensures.counts
+    (λ config before. refl) (λ config before. refl) takes
+    (λ config before h. ap (λ (x : Totals). x.dropped) c.put_answer.ensures.counts
     ∙ (given config before h).1) (counts_given c.args.self.now.totals c.give-code.new.totals
     c.put_answer.new.self.totals c.give-code.ensures.others c.put_answer.ensures.counts)
     c.put_answer.ensures.puts c.put.ensures)
