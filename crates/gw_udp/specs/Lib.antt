@@ -1,2 +1,3 @@
 pub mod Socket
 pub mod Udp
+pub mod Opening

@@ -1,8 +1,10 @@
 //! The ports of circuits as sockets, each opened for its own circuit.
 
-ghost use Rattle.std.specs.Prelude.{◌≡◌, ◌≤◌, vec_len, length, IfOk, IfSome, string_bytes};
+ghost use Rattle.std.specs.Prelude.{◌≡◌, ◌≤◌, vec_len, length, IfOk, IfErr, IfSome, IsSomeAnd, string_bytes};
+ghost use Rattle.std.specs.IoError.{error_kind};
 ghost use Rattle.gw_session.specs.Ports.{Receives, Sends, CountsFault, KeepsSends, KeepsReceives};
 ghost use Rattle.gw_udp.specs.Udp.{IsAddressOf, IsEndpointOf, IsEndpoint, HasEndpoints, KeepsOthers};
+ghost use Rattle.gw_udp.specs.Opening.{Blames, IsName, LacksSocket, IsFaultOf, FailsToOpen};
 ghost use Rattle.gw_udp.specs.Udp.{ReceivesFrom, EndpointReceives, EndpointSends, told};
 
 use crate::socket::Socket;
@@ -48,7 +50,9 @@ pub struct UdpPorts<S> {
 }
 
 // Why a socket is not to be had: want of memory, or else a fault of this circuit.
-fn fault_of(circuit: u8, error: &Error) -> OpenFault {
+fn fault_of(circuit: u8, error: &Error) -> OpenFault
+    ensures { Blames circuit (error_kind error.now) result }
+{
     match error.kind() {
         ErrorKind::OutOfMemory => OpenFault::OutOfMemory,
         _ => OpenFault::Socket(circuit),
@@ -62,7 +66,8 @@ fn first_address(
     host: &str,
     port: u16,
 ) -> Result<SocketAddr, OpenFault>
-    ensures { IfOk result (IsAddressOf host.now port) }
+    ensures ok { IfOk result (IsAddressOf host.now port) }
+    ensures err { IfErr result (IsFaultOf circuit (IsName host.now)) }
 {
     let mut addresses = match (host, port).to_socket_addrs(net) {
         Ok(addresses) => addresses,
@@ -83,7 +88,8 @@ fn open_endpoint<S: Socket>(
     port: &Port,
     senders: Senders,
 ) -> Result<Endpoint<S>, OpenFault>
-    ensures { IfOk result (IsEndpointOf S.is_bound host.now senders port.now) }
+    ensures ok { IfOk result (IsEndpointOf S.is_bound host.now senders port.now) }
+    ensures err { IfErr result (IsFaultOf circuit (LacksSocket S.refuses host.now port.now)) }
 {
     let here = first_address(net, circuit, host, port.local_port)?;
     let peer = first_address(net, circuit, port.peer_host.as_str(), port.peer_port)?;
@@ -114,7 +120,8 @@ fn endpoint_of<S: Socket>(
     port: &Option<Port>,
     senders: Senders,
 ) -> Result<Option<Endpoint<S>>, OpenFault>
-    ensures { IfOk result (IsEndpoint S.is_bound host.now senders port.now) }
+    ensures ok { IfOk result (IsEndpoint S.is_bound host.now senders port.now) }
+    ensures err { IfErr result (IsFaultOf circuit (IsSomeAnd port.now (LacksSocket S.refuses host.now))) }
 {
     match port {
         Some(port) => Ok(Some(open_endpoint(net, circuit, host, port, senders)?)),
@@ -123,22 +130,22 @@ fn endpoint_of<S: Socket>(
 }
 
 // Receives at a socket what its senders may send. What comes from others is thrown away: so many datagrams at
-// most, and then none is said to wait, so that a flood of them ends a turn too. (It is apart from the
-// circuits without a port, which get by with fewer registers then.)
+// most, and then none is said to wait, so that a flood of them ends a turn too. (It is apart from the plain
+// receive, which looks at no address.)
 #[inline(never)]
-fn receive_from<S: Socket>(
+fn receive_let_in<S: Socket>(
     socket: &mut S,
     senders: Senders,
-    peer: SocketAddr,
+    peer: &SocketAddr,
     room: &mut [u8],
 ) -> Result<Option<usize>, PortFault>
     ensures bound { IfOk result (λ got. IfSome got (λ n. n ≤ length room.new)) }
-    ensures received { ReceivesFrom S.receives senders peer socket.old socket.new result room.new }
+    ensures received { ReceivesFrom S.receives senders peer.now socket.old socket.new result room.new }
 {
     for _turn in 0..MOST_STRANGERS {
         match socket.receive(room)? {
             Some((len, from)) => {
-                if senders.let_in(from, peer) {
+                if senders.let_in(from, *peer) {
                     return Ok(Some(len));
                 }
             }
@@ -146,6 +153,23 @@ fn receive_from<S: Socket>(
         }
     }
     Ok(None)
+}
+
+// Receives at a socket what its senders may send; where all may, its first datagram.
+#[inline]
+fn receive_from<S: Socket>(
+    socket: &mut S,
+    senders: Senders,
+    peer: &SocketAddr,
+    room: &mut [u8],
+) -> Result<Option<usize>, PortFault>
+    ensures bound { IfOk result (λ got. IfSome got (λ n. n ≤ length room.new)) }
+    ensures received { ReceivesFrom S.receives senders peer.now socket.old socket.new result room.new }
+{
+    match senders {
+        Senders::Any => socket.receive_any(room),
+        Senders::Host | Senders::Peer => receive_let_in(socket, senders, peer, room),
+    }
 }
 
 // Receives at the socket of a circuit.
@@ -162,7 +186,12 @@ fn receive_at<S: Socket>(
     ensures thirty { vec_len endpoints.new ≡ 30 }
 {
     match &mut endpoints[usize::from(circuit.get()) - 1] {
-        Some(endpoint) => receive_from(&mut endpoint.socket, endpoint.senders, endpoint.peer, room),
+        Some(endpoint) => receive_from(
+            &mut endpoint.socket,
+            endpoint.senders,
+            &endpoint.peer,
+            room,
+        ),
         None => Ok(None),
     }
 }
@@ -195,8 +224,9 @@ impl<S: Socket> UdpPorts<S> {
         ports: &[Option<Port>; 30],
         senders: Senders,
     ) -> Result<UdpPorts<S>, OpenFault>
-        ensures { IfOk result (λ opened.
+        ensures ok { IfOk result (λ opened.
             HasEndpoints S.is_bound host.now senders ports.now opened.endpoints.items 30) }
+        ensures err { IfErr result (FailsToOpen S.is_bound S.refuses host.now senders ports.now) }
     {
         let Ok(mut endpoints) = Vec::with_capacity(alloc, CIRCUITS) else {
             return Err(OpenFault::OutOfMemory);

@@ -1,6 +1,6 @@
 use Rattle.std.proofs.Common.{◌≤◌}
 use Rattle.gw_udp.specs.Udp.{Skips}
-use Rattle.gw_udp.proofs.udp.receive_from.Given as goal
+use Rattle.gw_udp.proofs.udp.receive_let_in.Given as goal
 
 -- all that came was of strangers
 abbrev pub invariant-loop-turn : goal.invariant-loop-turn
