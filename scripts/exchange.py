@@ -9,7 +9,9 @@ import sys
 from typing import Any, Sequence
 
 sys.dont_write_bytecode = True
-sys.path.insert(0, os.path.join(os.path.dirname(os.path.dirname(os.path.abspath(__file__))), 'driver'))
+HERE = os.path.dirname(os.path.dirname(os.path.abspath(__file__)))
+# (in the package the modules stand beside the folder of this file)
+sys.path.insert(0, os.path.join(HERE, 'driver') if os.path.isdir(os.path.join(HERE, 'driver')) else HERE)
 from e1gw.g711 import VALUES  # noqa: E402
 from e1gw.session import FRAME, HEAD, MULTIFRAME, Command, command_record, trunk_record  # noqa: E402
 
