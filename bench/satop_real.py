@@ -299,7 +299,8 @@ def measure(world: World, control: Control, seconds: float, path: str, near: 'Ne
     world.begin()
     world.run(seconds)
     stolen_share = (stolen() - world.stolen) / seconds
-    spent = {name: f'{100 * (each - used[name]) / seconds:.1f} %' for name, each in near.processor().items()}
+    spent = {name: f'{100 * (each - used[name]) / seconds:.1f} %' for name, each in near.processor().items()
+             if name in used}
     status, stood = control.status(), world.stood
     load = ', '.join(f'{each:.1f}' for each in os.getloadavg())
     return [
@@ -372,8 +373,11 @@ class Near:
         """Seconds of processor time."""
         found = {}
         for name, process in self.processes.items():
-            with open(f'/proc/{process}/stat', encoding='ascii') as file:
-                words = file.read().rpartition(')')[2].split()
+            try:
+                with open(f'/proc/{process}/stat', encoding='ascii') as file:
+                    words = file.read().rpartition(')')[2].split()
+            except OSError:
+                continue            # another one was begun in its place
             found[name] = (int(words[11]) + int(words[12])) / os.sysconf('SC_CLK_TCK')
         return found
 
