@@ -109,6 +109,7 @@ class Stood:
         self.far: list[tuple[float, float]] = []
         self.near: list[tuple[float, float]] = []
         self._back = self._until = time.monotonic()
+        self.silences, self._is_late = 0, False     # how often the driver has to take it for silence, at least
 
     def step(self, late: float, heard: bool) -> None:
         """The far end was late by so much, and then heard something or nothing."""
@@ -117,6 +118,8 @@ class Stood:
             self.far.append((time.time(), late))
         if late >= SILENCE:
             self._until = now + AFTER
+            self.silences += not self._is_late
+        self._is_late = late >= SILENCE
         if heard:
             still = now - self._back - max(0.0, late)
             if still >= NOTED:
@@ -126,10 +129,6 @@ class Stood:
     def is_excused(self) -> bool:
         """Whether the far end was silent a short time ago."""
         return time.monotonic() < self._until
-
-    def silences(self) -> int:
-        """How often the far end stood still for so long that the driver has to take it for silence."""
-        return sum(seconds >= SILENCE for _, seconds in self.far)
 
     def longest(self) -> tuple[float, float]:
         """Of each end."""
@@ -304,7 +303,7 @@ def measure(world: World, control: Control, seconds: float, path: str, near: 'Ne
     status, stood = control.status(), world.stood
     load = ', '.join(f'{each:.1f}' for each in os.getloadavg())
     return [
-        f'at most {stood.words()}; {stood.silences()} silences of the far end',
+        f'at most {stood.words()}; {stood.silences} silences of the far end',
         f'load {load} on {os.cpu_count()} processors; a host took {100 * stolen_share:.0f} % of one away',
         *_looked_at(world, seconds, begun, status),
         f'of a core: {", ".join(f"{name} {share}" for name, share in spent.items())}',
@@ -317,7 +316,7 @@ def measure(world: World, control: Control, seconds: float, path: str, near: 'Ne
 
 
 def _looked_at(world: World, seconds: float, begun: dict[str, Any], status: dict[str, Any]) -> list[Row]:
-    before, after, silent = begun['transport'], status['transport'], world.stood.silences()
+    before, after, silent = begun['transport'], status['transport'], world.stood.silences
     more = {name: after[name] - before[name] for name in after if isinstance(after[name], int)}
     lost = more['alignment_lost'] + sum(status['losses'][name] - begun['losses'][name] for name in status['losses'])
     right, wrong, excused = world.octets()[0], sum(world.others.values()), sum(world.excused.values())
@@ -456,4 +455,4 @@ def real_time(program: str, folder: str, seconds: float, nice: int, look: Look) 
     for line in measured:
         look(*line) if isinstance(line, tuple) else print(f'  {line}')
     look('status of the driver', status, status == 0, '0')
-    return not world.stood.silences()
+    return not world.stood.silences
