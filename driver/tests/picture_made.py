@@ -91,19 +91,21 @@ class Sender:
     payloads: list[bytes] | None = None         # one behind the other, and again from the first
     jump: tuple[float, int] | None = None       # when timestamps jump, by how many samples
     burst: float = 0.0                  # seconds of speech that are sent at once
+    each: float = 0.02                  # seconds between two
+    datagram: bytes = b''               # in place of RTP
 
     def arrivals(self, rng: random.Random) -> Iterator[tuple[float, int, bytes]]:
         at, n = self.begin, 0
         while at < self.end:
-            stamp = PACKET * n + (self.jump[1] if self.jump and at >= self.jump[0] else 0)
+            stamp = round(self.each * 8000) * n + (self.jump[1] if self.jump and at >= self.jump[0] else 0)
             when = at + rng.random() * self.jitter
             if self.burst:
                 when = self.begin + -(-(at - self.begin) // self.burst) * self.burst
             if rng.random() >= self.lost:
                 payload = self.payloads[n % len(self.payloads)] if self.payloads else self.payload
-                yield when, self.circuit, rtp(n, stamp, self.ssrc, self.kind, payload)
+                yield when, self.circuit, self.datagram or rtp(n, stamp, self.ssrc, self.kind, payload)
             n += 1
-            at = self.begin + n * 0.02 / (1 + self.ppm / 1e6)
+            at = self.begin + n * self.each / (1 + self.ppm / 1e6)
 
 
 @dataclass
@@ -203,6 +205,39 @@ def other_type() -> Made:
 def other_codec() -> Made:
     """G.726 at 32 kbit/s under the type of PCMA."""
     return one_call(6, payload=bytes(range(80)))
+
+
+def silent_peer() -> Made:
+    """The peer sends silence alone."""
+    return one_call(6, payload=b'\xd5' * PACKET)
+
+
+def no_rtp() -> Made:
+    """STUN (RFC 5389) and keep-alives of one octet come beside the peer's datagrams."""
+    made = one_call(6)
+    stun = bytes.fromhex('000100002112a442') + bytes(range(12))
+    made.senders += [Sender(3, 0.3, 5.7, each=0.5, datagram=stun), Sender(3, 0.4, 5.7, each=0.5, datagram=b'\0')]
+    return made
+
+
+def repeated() -> Made:
+    """The network doubles each datagram."""
+    made = one_call(6)
+    made.senders *= 2
+    return made
+
+
+def too_long() -> Made:
+    """The peer's packets have 250 ms."""
+    return one_call(6, each=0.25, payload=TONE * 250)
+
+
+def not_open() -> Made:
+    """The peer speaks two seconds before the call, and one second behind its end."""
+    made = Made(6, {3: dict(OUT)})
+    made.call(3, 2.3, 4.7)
+    made.senders.append(Sender(3, 0.25, 5.7))
+    return made
 
 
 def other_law() -> Made:
@@ -351,6 +386,7 @@ def sound() -> Made:
 
 TROUBLES: dict[str, Callable[[], Made]] = {
     'no-datagrams': no_datagrams, 'other-type': other_type, 'other-codec': other_codec, 'other-law': other_law,
+    'silent-peer': silent_peer, 'no-rtp': no_rtp, 'repeated': repeated, 'too-long': too_long, 'not-open': not_open,
     'other-law-trunk': other_law_trunk, 'other-order': other_order, 'slow-clock': slow_clock,
     'fast-clock': fast_clock, 'hold': hold, 'jump': jump, 'jitter': jitter, 'stranger': stranger, 'lost': lost,
     'burst': burst, 'gap': gap, 'gaps': gaps, 'double-rate': double_rate, 'slips': slips, 'all-ones': all_ones,

@@ -30,7 +30,8 @@ FOUND = {'no-datagrams': 'none', 'other-type': 'type', 'other-codec': 'words', '
          'fast-clock': 'clock faster', 'hold': 'source', 'jump': 'jump', 'jitter': 'late', 'stranger': 'source',
          'lost': 'lost', 'burst': 'late', 'gap': 'gap', 'gaps': 'gap', 'double-rate': 'rate', 'slips': 'lost frame',
          'all-ones': 'ones', 'silent-slot': 'silent slot', 'other-law': 'came other', 'other-law-trunk': 'slot other',
-         'other-order': 'order other', 'unacknowledged': 'unacknowledged'}
+         'silent-peer': 'silent came', 'no-rtp': 'code 2', 'repeated': 'code 13', 'too-long': 'code 15',
+         'not-open': 'not open', 'other-order': 'order other', 'unacknowledged': 'unacknowledged'}
 
 
 def config_of(session: Made) -> dict[str, object]:
