@@ -20,7 +20,7 @@ from e1gw.picture.following import Follower
 from e1gw.picture.page import MOST as MOST_OCTETS
 from e1gw.picture.page import draw, numbers
 from e1gw.picture.reading import read
-from e1gw.picture.svg import Scale, clock, runs
+from e1gw.picture.svg import Scale, clock, duration, runs
 from e1gw.session import OCTETS_A_SECOND, Kind, records_in, trunk_record
 
 # The columns of `e1gw check`: number, role, state, pairs sent and recognised, sent, admitted, refused, codec, type.
@@ -340,6 +340,10 @@ class Drawn(unittest.TestCase):
         self.assertEqual(clock(59.9996, 3), '00:01:00.000')
         ticks = Scale(0, 60 * OCTETS_A_SECOND, None).ticks()
         self.assertEqual([words for _, words in ticks], [f'{10 * n} s' for n in range(7)])
+        day = Scale(0, 86_400 * OCTETS_A_SECOND, None).ticks()
+        self.assertEqual([words for _, words in day], [f'{4 * n} h' for n in range(7)])
+        self.assertEqual([duration(each * OCTETS_A_SECOND) for each in (90, 600, 86_400, 9000)],
+                         ['90.00 s', '10 min 0 s', '24 h 0 min', '2 h 30 min'])
 
 
 if __name__ == '__main__':

@@ -156,7 +156,8 @@ def _silent(row: Row, whole: Cell, opened: int) -> Iterator[Finding]:
         sent = f': {whole.sent} datagrams were sent to {row.peer}, and none came back' if whole.sent and row.peer else (
             ', and no datagram came')
         yield Finding('none', row.number, f'the path was open for {duration(opened)}{sent}',
-                      f'is that the peer, and does it send to {row.local or "a port of this end"}? A firewall; `host`')
+                      f'is that the peer, and does it send to {row.local or "a port of this end"}? Look at firewalls '
+                      'and `host`')
     for way, words, hint in (
             ('came', 'the datagrams that came carry one octet alone, as silence does', 'the far end is silent'),
             ('slot', 'the time slot carries one octet alone, as silence does, and so do the datagrams that are sent',
@@ -181,7 +182,7 @@ def _sound(row: Row, whole: Cell, law: str) -> Iterator[Finding]:
              '`law` is not the trunk\'s: set it as the exchange has it, and the sender\'s payload type with it'),
             ('order', 'the datagrams that came read like the order of AAL2, not like that of RFC 3551',
              'the sender has the first word in the high bits: a name such as g726 for g726le, or AAL2-G726 for G726; '
-             'what it is sent it takes in its own order, too')):
+             'it may want what it is sent in that order, too')):
         seen = whole.heard.get(way)
         if seen and seen.is_other():
             yield Finding(f'{way} other', row.number, f'{what}, in {seen.other} of {seen.own + seen.other} looks that '

@@ -60,7 +60,9 @@ class Scale:
             return clock(second, 0 if step >= 1 else 2 if step < 0.1 else 1)
         if step < 60:
             return f'{second:g} s' if step >= 1 else f'{second:.2f} s'
-        return f'{int(second) // 60}:{int(second) % 60:02d} min'
+        if step < 3600:
+            return f'{int(second) // 60}:{int(second) % 60:02d} min'
+        return f'{round(second) // 3600} h'
 
 
 def duration(octets: float) -> str:
@@ -70,7 +72,9 @@ def duration(octets: float) -> str:
         return f'{seconds * 1000:.4g} ms'
     if seconds < 119.995:
         return f'{seconds:.2f} s'
-    return f'{round(seconds) // 60} min {round(seconds) % 60} s'
+    if seconds < 7199.5:
+        return f'{round(seconds) // 60} min {round(seconds) % 60} s'
+    return f'{round(seconds / 60) // 60} h {round(seconds / 60) % 60} min'
 
 
 class Sheet:
