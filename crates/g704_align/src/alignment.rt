@@ -59,10 +59,12 @@ enum Phase {
 
 /// Finds frame alignment in a stream of octets, follows it, and tells the place of each octet.
 ///
-/// ```text
+/// ```rust
 /// let mut aligner = Aligner::new();
-/// for octet in first_65 { aligner.octet(octet); }    // 0x9B at 0 and 64, 0xDF at 32: alignment is found
-/// aligner.octet(0xD5)                                // Place::Slot { number: 1, fas: true }
+/// for octet in three_frames() {                               // 0x9B at 0 and 64, 0xDF at 32
+///     assert_eq!(rt; aligner.octet(octet), Place::Hunting);
+/// }
+/// assert_eq!(rt; aligner.octet(0xD5), Place::Slot { number: 1, fas: true });      // alignment is found
 /// ```
 #[derive(Clone, Copy, Debug, PartialEq, Eq)]
 pub struct Aligner {

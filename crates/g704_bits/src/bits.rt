@@ -16,11 +16,12 @@ const BEFORE: u8 = 0xFF;
 /// Before the first alignment octets pass as they come. While alignment is lost they pass at the offset that
 /// was the last.
 ///
-/// ```text
+/// ```rust
 /// let mut aligner = BitAligner::new();
-/// // the far end's octets three bits late: once FAS, NFAS and FAS have come, 32 octets apart, ..
-/// for octet in first_66 { aligner.octet(octet); }
-/// aligner.octet(octet)      // .. its own octet, for each that comes
+/// for place in 0..639usize {                                  // a trunk whose octets come three bits late
+///     let _octet = aligner.octet(late(3, place));
+/// }
+/// assert_eq!(rt; aligner.octet(late(3, 639)), trunk(638));    // its own octets come out
 /// ```
 #[derive(Debug, Drop)]
 pub struct BitAligner {

@@ -27,8 +27,11 @@ fn align_all(aligner: &mut BitAligner, octets: &mut [u8])
 /// source, as `g704_bits::BitAligner` returns them. All of them are written before the source is read again.
 /// The octets are counted. No memory is taken.
 ///
-/// ```text
-/// let totals = align_stream(&mut FromRead::new(rt.stdin()), &mut ToWrite::new(rt.stdout()))?;
+/// ```rust
+/// // 600 octets, three bits late; a program has FromRead::new(rt.stdin()) and ToWrite::new(rt.stdout())
+/// let ended = align_stream(&mut LateTrunk::new(1000), &mut sink);
+/// let totals = Totals { octets: 600, ..NO_TOTALS };
+/// assert!(rt; ended == Ok(totals));
 /// ```
 ///
 /// # Errors

@@ -31,12 +31,13 @@ const SERVED: Kinds = Kinds {
 ///
 /// # Example
 ///
-/// ```text
-/// let mut gateway = Gateway::open(alloc, &config)?;
-/// let mut source = FromRead::new(rt.stdin());
-/// let mut sink = ToWrite::new(rt.stdout());
-/// // `ports` is the caller's own type that implements `Ports`, over sockets or over memory
-/// let totals = serve(alloc, &mut gateway, &mut ports, &mut source, &mut sink)?;
+/// ```rust
+/// // `ports` is the caller's own type that implements `Ports`, over sockets or over memory;
+/// // a program has FromRead::new(rt.stdin()) and ToWrite::new(rt.stdout())
+/// let mut source = FromRead::new(records.as_slice());          // two octets of a trunk in one record
+/// let mut sink = ToWrite::new(Vec::new(rt.alloc()));
+/// let totals = serve(rt.alloc(), &mut gateway, &mut ports, &mut source, &mut sink)?;
+/// assert!(rt; totals.records == 1 && totals.octets == 2);
 /// ```
 ///
 /// # Errors

@@ -218,10 +218,13 @@ impl UnderWay {
 /// of another payload type than that of `spec`, is counted in `dropped` and passed over. What is complete is
 /// written before the source is read again. Memory is taken once, before the first read.
 ///
-/// ```text
-/// let spec = StreamSpec::new(Law::A, CodecKind::G711, 8, 0, 0, 0, 20).ok_or(..)?;
-/// let mut source = FromRead::new(rt.stdin());
-/// let totals = decode_stream(rt.alloc(), &spec, &mut source, &mut ToWrite::new(rt.stdout()))?;
+/// ```rust
+/// let spec = StreamSpec::new(Law::A, CodecKind::G711, 8, 0, 0, 0, 20).ok_or("a stream")?;
+/// // a program has FromRead::new(rt.stdin()) and ToWrite::new(rt.stdout())
+/// let mut source = FromRead::new(records.as_slice());          // two datagrams of this stream
+/// let mut sink = ToWrite::new(Vec::new(rt.alloc()));
+/// let totals = decode_stream(rt.alloc(), &spec, &mut source, &mut sink)?;
+/// assert!(rt; totals.records == 2 && totals.dropped == 0);
 /// ```
 ///
 /// # Errors

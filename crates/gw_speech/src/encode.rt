@@ -177,9 +177,13 @@ fn fill_last(spec: &StreamSpec, codec: &mut AnyCodec, speech: &mut [u8], held: u
 /// A last packet that is not full is filled with idle octets, which are coded too. All packets that are full
 /// are written before the source is read again. No memory is taken.
 ///
-/// ```text
-/// let spec = StreamSpec::new(Law::A, CodecKind::G711, 8, ssrc, sequence, timestamp, 20).ok_or(..)?;
-/// let totals = encode_stream(&spec, &mut FromRead::new(rt.stdin()), &mut ToWrite::new(rt.stdout()))?;
+/// ```rust
+/// let spec = StreamSpec::new(Law::A, CodecKind::G711, 8, 7, 65535, 4294967200, 20).ok_or("a stream")?;
+/// // a program has FromRead::new(rt.stdin()) and ToWrite::new(rt.stdout())
+/// let mut source = FromRead::new(speech.as_slice());           // 320 octets
+/// let mut sink = ToWrite::new(Vec::new(rt.alloc()));
+/// let totals = encode_stream(&spec, &mut source, &mut sink)?;
+/// assert!(rt; totals.datagrams == 2);
 /// ```
 ///
 /// With SSRC 7, sequence number 65535 and timestamp 4294967200, 320 octets 0xD5 give two records of 176

@@ -55,9 +55,10 @@ fn each_offset(rt: HostRuntime) {
 #[test]
 fn lost_and_found_at_another(rt: HostRuntime) {
     let mut aligner = BitAligner::new();
-    for place in 0..640usize {
+    for place in 0..639usize {
         let _octet = aligner.octet(late(3, place));
     }
+    assert_eq!(rt; aligner.octet(late(3, 639)), trunk(638));
     // the octets go on at the old offset until the third wrong signal, and past it until the new one is found
     for place in 640..(640 + 192 + 64 + 65) {
         let _octet = aligner.octet(late(5, place));

@@ -62,6 +62,17 @@ fn outgoing_call(rt: HostRuntime) {
 }
 
 #[test]
+fn seized_once_idle(rt: HostRuntime) {
+    let mut line = Line::new(Role::Outgoing);
+    for _multiframe in 0..10u8 {
+        let _sent = line.signal(Nibble::new(0b1001));
+    }
+    assert_eq!(rt; line.state(), State::Idle);
+    assert_eq!(rt; line.command(Cmd::Seize), Ok(()));
+    assert_eq!(rt; line.signal(Nibble::new(0b1001)).get(), 0b0001);
+}
+
+#[test]
 fn incoming_block(rt: HostRuntime) {
     let mut line = Line::new(Incoming);
     let rows = [

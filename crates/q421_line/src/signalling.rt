@@ -17,10 +17,14 @@ const RELEASED_AFTER: u8 = 100;
 
 /// The line signals of one circuit at one end of it (ITU-T Q.421).
 ///
-/// ```text
-/// let mut line = Line::new(Role::Outgoing);          // State::Fault: nothing is known of the other end
-/// for _ in 0..10 { line.signal(Some(idle)); }        // 1001, a multiframe each: State::Idle
-/// line.command(Cmd::Seize)?;                         // State::Seized: the next signal sends 0001
+/// ```rust
+/// let mut line = Line::new(Role::Outgoing);                   // nothing is known of the other end
+/// for _multiframe in 0..10u8 {
+///     let _sent = line.signal(Nibble::new(0b1001));           // the other end is idle
+/// }
+/// assert_eq!(rt; line.state(), State::Idle);
+/// assert_eq!(rt; line.command(Cmd::Seize), Ok(()));
+/// assert_eq!(rt; line.signal(Nibble::new(0b1001)).get(), 0b0001);     // the seizure is sent
 /// ```
 #[derive(Clone, Copy, Debug, PartialEq, Eq)]
 pub struct Line {

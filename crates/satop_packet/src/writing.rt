@@ -14,9 +14,11 @@ const LEAST_UNSAID: usize = 64;
 /// the twelve of a fixed one. The reserved bits are zero, and LEN is the number of all octets where they are
 /// fewer than 64, else 0. What `out` held before is gone.
 ///
-/// ```text
-/// let control = Control { lost: false, remote: true, sequence: 7 };
-/// write(&[], &control, &[0xD5, 0xD5], &mut out)?;     // out: 04 06 00 07 D5 D5
+/// ```rust
+/// let remote = Control { lost: false, remote: true, sequence: 7 };
+/// let mut out = ArrayVec::new();
+/// assert!(rt; write(&[], &remote, &[0xD5; 2], &mut out).is_ok());
+/// assert!(rt; out.as_slice() == [4, 6, 0, 7, 0xD5, 0xD5].as_slice());
 /// ```
 ///
 /// # Errors

@@ -1,7 +1,7 @@
 ghost use Rattle.std.specs.Prelude.{◌≡◌, None, length};
 
-use gw_align::align_stream;
 use arrayvec::ArrayVec;
+use gw_align::align_stream;
 use gw_records::{NO_TOTALS, RunFault, Sink, SinkFault, Source, SourceFault, Totals};
 
 // The octet at a place of the far end's trunk: slot 0 as it is to be, and speech that is no signal.
