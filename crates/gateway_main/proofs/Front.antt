@@ -1,14 +1,16 @@
 -- The front of a configuration says what the whole says.
 use Rattle.std.proofs.Common.{◌≡◌, ℕ, ◌<◌, ◌≤◌, ◌++◌, List, [], length, take, nat_lt, Bool, true, false}
 use Rattle.std.proofs.Common.{Option, Some, None, Result, Err, refl, sym, ap, ◌∙◌, arith}
-use Rattle.std.specs.Prelude.{IfSome, option_map}
+use Rattle.std.specs.Prelude.{IfSome, IfErr, Ok, option_map}
+use Rattle.std.specs.declared.io.Error.{Error}
 use Rattle.std.proofs.lemmas.Bool.{lt-ltb, ltb-true, ltb-false}
 use Rattle.std.proofs.lemmas.List.{take_all, length-take}
 use Rattle.gw_config.specs.declared.config.Config.{Config}
 use Rattle.gw_config.specs.declared.fault.Kind.TheVariants as kinds
 use Rattle.gw_config.specs.Octets.{meaning_of_octets, at_top}
-use Rattle.gateway_main.specs.Setup.{Says}
+use Rattle.gateway_main.specs.Setup.{Says, FailsToRead}
 use Rattle.gateway_main.specs.declared.trouble.Trouble.{Trouble}
+use Rattle.gateway_main.specs.declared.trouble.Trouble.TheVariants as troubles
 
 -- what is too long is refused, whatever it is
 pub too_long : (octets : List ℕ) → nat_lt 65536 (length octets) ≡ true
@@ -39,3 +41,10 @@ said_of_all (Some octets) before items slice r empty came is said =
     let front : meaning_of_octets slice ≡ meaning_of_octets octets =
     ap meaning_of_octets (is ∙ came ∙ ap (λ (xs : List ℕ). xs ++ take 65537 octets) empty) ∙ meaning_of_front octets in
     rw (← front) said
+
+-- where no reading failed nothing is said of one
+pub read_whole : (fails : Error → Type 0) (r : Result Config Trouble) → IfErr r (FailsToRead (λ _. ⊥))
+    → IfErr r (FailsToRead fails)
+read_whole fails (Ok config) h = tt
+read_whole fails (Err troubles.File) h = absurd h.1
+read_whole fails (Err _) h = tt

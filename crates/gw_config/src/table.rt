@@ -13,7 +13,7 @@ ghost use Rattle.gw_config.specs.Views.{speech_view, stream_view, ports_view, en
 use crate::fault::Kind;
 use crate::keys::{choice_at, has_only, integer_at, look_up, whole_at, words_at};
 use crate::names::{
-    DEFAULT_PTIME, DEFAULT_ROLE, LOOPBACK, goes_with, payload_of, ptime_of, fixed_type,
+    DEFAULT_PTIME, DEFAULT_ROLE, LOOPBACK, fixed_type, goes_with, payload_of, ptime_of,
 };
 use e1_g711::Law;
 use g726_codec::{CodecKind, CodecName};

@@ -1,7 +1,10 @@
-use Rattle.gateway_main.proofs.Front.{said_of_all}
+use Rattle.gateway_main.proofs.Front.{said_of_all, read_whole}
 use Rattle.gateway_main.proofs.setup.config_of.Goals as goal
 
-pub returns-in-Ok : goal.returns-in-Ok
-returns-in-Ok g c = rw (← c.take.ensures.inner) (said_of_all (g.R.Read.remaining c.take.result.inner) _ _ _ _
-    c.new-octets.ensures.items (rw (← c.take.ensures.limit) c.in-Ok.ensures.bytes) c.as_slice.ensures.value
-    c.meaning_of.ensures)
+pub returns-in-Ok-clause-says : goal.returns-in-Ok-clause-says
+returns-in-Ok-clause-says g c =
+    said_of_all (g.T.Text.holds c.args.text) _ _ _ _ c.new-octets.ensures.items c.in-Ok.ensures.bytes
+    c.as_slice.ensures.value c.meaning_of.ensures.says
+
+pub returns-in-Ok-clause-unread : goal.returns-in-Ok-clause-unread
+returns-in-Ok-clause-unread g c = read_whole (g.T.Text.fails c.args.text) c.meaning_of.result c.meaning_of.ensures.read
