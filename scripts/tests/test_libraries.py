@@ -154,6 +154,22 @@ class Libraries(Tree):
                 self.assertEqual(lanes_for(processors, gigabytes * 10**9), lanes)
 
 
+class Ahead(unittest.TestCase):
+    def test_longest_chain(self) -> None:
+        """The next crate of the longest chain gets its jobs though others use all lanes; no other crate does."""
+        module = loaded()
+        uses = {'low': [], 'middle': ['low'], 'top': ['middle'], 'other': [], 'more': ['low']}
+        chain = {'low': 30, 'middle': 20, 'top': 10, 'other': 9, 'more': 8}
+        for done, lanes, begun in [([], 2, {'low': 2}), (['low'], 4, {'middle': 2, 'other': 1, 'more': 1}),
+                                   (['low'], 1, {'middle': 2}), (['low', 'middle', 'other', 'more'], 4, {'top': 4})]:
+            with self.subTest(done=done, lanes=lanes):
+                state = module.State([it for it in chain if it not in done], lanes, 5, chain, 2, done=set(done))
+                module.start = lambda name, jobs, _uses, _state: _state.running.update(
+                    {name: module.Run(None, jobs, None)})
+                module.start_ready(uses, state)
+                self.assertEqual({name: run.jobs for name, run in state.running.items()}, begun)
+
+
 class Signals(Tree):
     def ended(self, words: list[str], number: int) -> None:
         """A run that this signal ends while it proves `middle`."""

@@ -16,8 +16,7 @@ use Rattle.g726_codec.specs.declared.CodecKind.TheVariants.{G711, G16, G24, G32,
 use Rattle.rtp_pack.specs.PacketTime.{IsPacketTime}
 use Rattle.gw_speech.specs.declared.spec.StreamSpec.{StreamSpec}
 use Rattle.gw_command.specs.Command.{law_name, codec_name, usual_payload, IsNumber, SaysNumber, SaysOrUsual, IsStream}
-use Rattle.gw_command.specs.Command.{text_in, senders_name}
-use Rattle.gw_senders.specs.declared.senders.Senders.{Senders}
+use Rattle.gw_command.specs.Command.{text_in}
 
 -- what reading a text as an unsigned number of so many bits gives
 abbrev pub Reads : ℕ → List ℕ → Result ℕ ParseIntError → Type 0
@@ -174,16 +173,3 @@ pub text_is : (id : List ℕ) (command : Option (List ℕ × List Row)) (options
     → Some options ≡ option_map (λ p. p.1) command → text_in id command ≡ first_of id options
 text_is id None options e = absurd cc
 text_is id (Some (name, rows)) options e = let same : rows ≡ options = cc in rw same refl
-
--- the senders that have the name that is said
-pub senders_found : (said : Option (List ℕ)) (name : List ℕ) (r : Option Senders) → said ≡ Some name
-    → IfSome r (λ senders. name ≡ senders_name senders) → IfSome r (λ senders. said ≡ Some (senders_name senders))
-senders_found said name None is named = tt
-senders_found said name (Some senders) is named = is ∙ ap Some named
-
--- where no senders have that name, none are said
-pub no_senders : (said : Option (List ℕ)) (name : List ℕ) (r : Option Senders) → said ≡ Some name
-    → IfNone r ((senders : Senders) → name ≡ senders_name senders → ⊥)
-    → IfNone r ((senders : Senders) → said ≡ Some (senders_name senders) → ⊥)
-no_senders said name None is none = λ senders e. none senders cc
-no_senders said name (Some senders) is none = tt

@@ -12,8 +12,6 @@ use Rattle.gw_circuit.specs.Coding.{static_type}
 use Rattle.gw_speech.specs.declared.spec.StreamSpec.{StreamSpec}
 use Rattle.gw_command.specs.declared.command.Job.{Job}
 use Rattle.gw_command.specs.declared.command.Job.TheVariants.{Encode, Decode}
-use Rattle.gw_senders.specs.declared.senders.Senders.{Senders}
-use Rattle.gw_senders.specs.declared.senders.Senders.TheVariants.{Any, Host, Peer}
 use Rattle.gw_command.specs.declared.command.Session.{Session}
 use Rattle.gw_command.specs.declared.command.Session.TheVariants.{Replay, Check, Serve}
 
@@ -93,9 +91,3 @@ IsAlign command = (options : List Row) × (command ≡ Some (codes "align", opti
 abbrev pub text_in : List ℕ → Option (List ℕ × List Row) → Option (List ℕ)
 text_in id None = None
 text_in id (Some (name, options)) = first_of id options
-
--- the name of senders
-abbrev pub senders_name : Senders → List ℕ
-senders_name Any = codes "any"
-senders_name Host = codes "host"
-senders_name Peer = codes "peer"

@@ -6,8 +6,7 @@ ghost use Rattle.clap.specs.Words.{found_of, rows_of, subcommand_rows_of};
 ghost use Rattle.gw_speech.specs.declared.spec.StreamSpec.{StreamSpec};
 ghost use Rattle.gw_command.specs.Command.{law_name, codec_name, job_name, job_spec, usual_payload};
 ghost use Rattle.gw_command.specs.Command.{IsStream, IsJob, IsSession, session_name};
-ghost use Rattle.gw_command.specs.Command.{senders_name, text_in, IsAlign};
-ghost use Rattle.gw_senders.specs.declared.senders.Senders.{Senders};
+ghost use Rattle.gw_command.specs.Command.{text_in, IsAlign};
 ghost use Rattle.gw_command.specs.declared.command.Job.{Job};
 ghost use Rattle.gw_command.specs.declared.command.Session.{Session};
 
@@ -16,13 +15,10 @@ use e1_g711::Law;
 use g726_codec::CodecKind;
 use g726_codec::names::{G726_16, G726_24, G726_32, G726_40};
 use gw_circuit::payload_types::{FIRST_DYNAMIC, static_type};
-use gw_senders::Senders;
+use gw_options::G711;
 use gw_speech::StreamSpec;
 use std::rt::Env;
 use std::{env, io};
-
-/// G.711 in the law of `--law`.
-pub const G711: &str = "g711";
 
 /// What the program is asked to do.
 #[derive(Clone, Copy, Debug, PartialEq, Eq)]
@@ -184,27 +180,12 @@ pub fn path_of<'m>(matches: &'m ArgMatches<'_>) -> Option<&'m str>
     text_of(matches, "config")
 }
 
-// The senders of this name.
-fn senders_named(name: &str) -> Option<Senders>
-    ensures found { IfSome result (λ senders. name.now ≡ senders_name senders) }
-    ensures none { IfNone result ((senders : Senders) → name.now ≢ senders_name senders) }
+/// The name of the senders that the matches ask to let in, the first one, where they name some.
+pub fn senders_of<'m>(matches: &'m ArgMatches<'_>) -> Option<&'m str>
+    ensures { option_map (λ name. name.now) result
+        ≡ text_in (codes "senders") (subcommand_rows_of matches.now) }
 {
-    match name {
-        "any" => Some(Senders::Any),
-        "host" => Some(Senders::Host),
-        "peer" => Some(Senders::Peer),
-        _ => None,
-    }
-}
-
-/// The senders that the matches ask to let in, where they name some.
-pub fn senders_of(matches: &ArgMatches<'_>) -> Option<Senders>
-    ensures found { IfSome result (λ senders.
-        text_in (codes "senders") (subcommand_rows_of matches.now) ≡ Some (senders_name senders)) }
-    ensures none { IfNone result ((senders : Senders)
-        → text_in (codes "senders") (subcommand_rows_of matches.now) ≢ Some (senders_name senders)) }
-{
-    senders_named(text_of(matches, "senders")?)
+    text_of(matches, "senders")
 }
 
 /// The path of the recording that the matches name, the first one, where they name one.

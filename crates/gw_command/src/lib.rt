@@ -2,10 +2,8 @@
 #![tactic(auto)]
 
 mod command;
-mod options;
 
 pub use command::{
     Job, Session, arguments, is_align, job_of, path_of, recording_of, records_over, senders_of,
     session_of, wants_totals,
 };
-pub use options::matches;

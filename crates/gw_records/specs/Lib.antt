@@ -3,3 +3,4 @@ pub mod Records
 pub mod Reader
 pub mod Laws
 pub mod Outcome
+pub mod Ports

@@ -3,12 +3,14 @@
 
 pub mod laws;
 mod outcome;
+mod ports;
 mod reader;
 mod records;
 mod streams;
 mod writing;
 
 pub use outcome::{NO_TOTALS, RunFault, Totals, answer};
+pub use ports::{PortFault, Ports};
 pub use reader::{MAX_READS, Reader, read_behind};
 pub use records::{
     CODEC, COMMAND, DATAGRAM, Ending, FRONT_LEN, First, Head, Kinds, TRUNK, datagram_record,

@@ -16,7 +16,7 @@ use Rattle.gw_records.specs.Records.{Record, record_of}
 use Rattle.gw_records.specs.Streams.{SinkState, Puts, at_most}
 use Rattle.gw_records.proofs.Writes.{Passes-same, Passes-join, AppendsPrefix-same, AppendsPrefix-behind}
 use Rattle.gw_session.specs.Outlet.{Spells}
-use Rattle.gw_session.specs.Ports.{PortsState, counted}
+use Rattle.gw_records.specs.Ports.{PortsState, counted}
 use Rattle.gw_session.specs.Answers.{Written, written_out, code_of}
 use Rattle.gw_session.specs.Serve.{Act, told, turns_of, events_in, events_of_turns, octet_of, answer_to}
 use Rattle.gw_session.specs.Serve.{packets_for, sent_with_octets, octets_for, dropped_for}

@@ -20,7 +20,7 @@ use Rattle.gw_records.proofs.Writes.{Passes-start, Passes-appended, Passes-empty
 use Rattle.gw_records.proofs.Writes.{AppendsPrefix-join}
 use Rattle.gw_session.specs.Running.{all_kinds}
 use Rattle.gw_session.specs.Outlet.{Spells}
-use Rattle.gw_session.specs.Ports.{PortsState, counted}
+use Rattle.gw_records.specs.Ports.{PortsState, counted}
 use Rattle.gw_session.specs.Serve.{Act, Turn, told, turns_of, turns, events_in, events_through, events_of_turns}
 use Rattle.gw_session.specs.Serve.{Goes, Does}
 use Rattle.gw_session.specs.Exchange.{written_for, written_by, ActsOn, Finishes, Unwritten, Cut}

@@ -23,7 +23,7 @@ use Rattle.gw_session.specs.Answers.{written_out, packets_in, octets_in, as_reco
 use Rattle.gw_session.specs.Running.{replies_to, trunk_octets, is_refusal, run_totals, RunsThrough, AreFirst}
 use Rattle.gw_session.specs.Running.{RunsUntilWrite}
 use Rattle.gw_session.specs.Outlet.{in_record, no_ports}
-use Rattle.gw_session.specs.Ports.{Waiting, counted}
+use Rattle.gw_records.specs.Ports.{Waiting, counted}
 use Rattle.gw_session.specs.Serve.{Act, Turn, told, octet_of, turns_of, turns, events_in, events_through}
 use Rattle.gw_session.specs.Serve.{events_of_turn}
 use Rattle.gw_session.specs.Serve.{events_of_turns, of_circuit, coming, first_four, behind_four, FirstFour}

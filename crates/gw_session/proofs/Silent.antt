@@ -8,7 +8,7 @@ use Rattle.gw_records.specs.declared.outcome.Totals.{Totals}
 use Rattle.gw_records.specs.Records.{Record}
 use Rattle.gw_records.specs.Streams.{SinkState, AppendsPrefix}
 use Rattle.gw_session.specs.Outlet.{silent}
-use Rattle.gw_session.specs.Ports.{PortsState}
+use Rattle.gw_records.specs.Ports.{PortsState}
 use Rattle.gw_session.specs.Serve.{Act, events_in, packets_for, answer_to, written, ServesThrough}
 use Rattle.gw_session.specs.Exchange.{spelled_for, written_for, written_by, Through, Begun}
 use Rattle.gw_session.specs.Tape.{TapeState}

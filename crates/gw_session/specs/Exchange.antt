@@ -15,8 +15,8 @@ use Rattle.gw_records.specs.Records.{Record}
 use Rattle.gw_records.specs.Streams.{SinkState, AppendsPrefix, Passes, Breaks}
 use Rattle.gw_session.specs.Answers.{code_of, packet_in}
 use Rattle.gw_session.specs.Outlet.{Spells}
-use Rattle.gw_session.specs.Ports.{Waiting, PortsState, IfKnown, Grows, TakesOut, KeepsSends, KeepsReceives}
-use Rattle.gw_session.specs.Ports.{counted}
+use Rattle.gw_records.specs.Ports.{Waiting, PortsState, IfKnown, Grows, TakesOut, KeepsSends, KeepsReceives}
+use Rattle.gw_records.specs.Ports.{counted}
 use Rattle.gw_session.specs.Serve.{Act, Turn, told, octet_of, turns_of, events_in, events_of_turns, answer_to}
 use Rattle.gw_session.specs.Serve.{Goes, Trades, Stop, StopsSo, as_call, receives_of, send_of}
 use Rattle.gw_session.specs.Serve.{sent_with_octets}

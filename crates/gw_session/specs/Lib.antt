@@ -1,12 +1,12 @@
 pub use Rattle.gw_records.specs.Streams
 pub use Rattle.gw_records.specs.Records
 pub use Rattle.gw_records.specs.Outcome
+pub use Rattle.gw_records.specs.Ports
 pub use Rattle.gw_speech.specs.Encode
 pub use Rattle.gw_speech.specs.Decode
 pub mod Laws
 pub mod Answers
 pub mod Running
-pub mod Ports
 pub mod Outlet
 pub mod Serve
 pub mod Tape

@@ -7,7 +7,7 @@ use Rattle.gw_records.specs.declared.outcome.RunFault.{RunFault}
 use Rattle.gw_records.specs.Records.{Record}
 use Rattle.gw_records.specs.Streams.{SourceState, SinkState, AppendsPrefix}
 use Rattle.gw_records.specs.Outcome.{EndsAll, EndsUntil}
-use Rattle.gw_session.specs.Ports.{PortsState}
+use Rattle.gw_records.specs.Ports.{PortsState}
 use Rattle.gw_session.specs.Serve.{served_kinds, ServesThrough, events_through}
 use Rattle.gw_session.specs.Tape.{TapeState, Recorded}
 

@@ -1,12 +1,11 @@
 //! Where the packets of a session go, and where datagrams come from beside its records.
 ghost use Rattle.std.specs.Prelude.{◌≡◌, ◌≤◌, ◌<◌, ◌++◌, ℕ, length, IfOk, IfSome, OnOk, OnErr};
 ghost use Rattle.gw_records.specs.Streams.{CanCount, Puts};
-ghost use Rattle.gw_session.specs.Ports.{PortsState, Receives, CountsFault, KeepsSends, KeepsReceives};
+ghost use Rattle.gw_records.specs.Ports.{PortsState, Receives, CountsFault, KeepsSends, KeepsReceives};
 ghost use Rattle.gw_session.specs.Outlet.{Spells, silent, in_record, no_ports, Went};
 
-use crate::ports::{PortFault, Ports};
 use g704_cas::CircuitNo;
-use gw_records::{OutputBuffer, RunFault, Sink, datagram_record, put};
+use gw_records::{OutputBuffer, PortFault, Ports, RunFault, Sink, datagram_record, put};
 
 /// Where the packets of a session go, and where datagrams come from beside its records.
 pub trait Outlet {

@@ -6,9 +6,8 @@ ghost use Rattle.gw_session.specs.Recording.{RecordsAll, RecordsUntil};
 
 use crate::attend::attend;
 use crate::exchange::Session;
-use crate::ports::Ports;
 use crate::tape::{NoTape, Tape};
-use gw_records::{Kinds, Reader, RunFault, Sink, Source, Totals};
+use gw_records::{Kinds, Ports, Reader, RunFault, Sink, Source, Totals};
 use gw_switch::Gateway;
 use std::alloc::Global;
 

@@ -6,7 +6,7 @@ use Rattle.std.proofs.lemmas.List.{get_or_append_left}
 use Rattle.std.proofs.Math.Seq.{get_or-append_seam}
 use Rattle.std.specs.Prelude.{IsSomeAnd, slice_index_or}
 use Rattle.gw_config.specs.declared.config.Port.{Port}
-use Rattle.gw_senders.specs.declared.senders.Senders.{Senders}
+use Rattle.gw_udp.specs.declared.senders.Senders.{Senders}
 use Rattle.gw_udp.specs.Opening.{IsFaultOf, LacksSocket, FailsToOpen}
 use Rattle.gw_udp.specs.Socket.{Bound, Refused}
 use Rattle.gw_udp.specs.Udp.{IsEndpoint, HasEndpoints}

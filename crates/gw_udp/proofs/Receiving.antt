@@ -3,8 +3,8 @@ use Rattle.std.proofs.Common.{◌≡◌, ℕ, List, [], ◌∷◌, Option, Some,
 use Rattle.std.specs.Prelude.{IfOk, ⊤}
 use Rattle.std.specs.declared.net.socket_addr.SocketAddr.TheVariants.{V4}
 use Rattle.std.specs.declared.net.socket_addr.SocketAddr.{SocketAddr}
-use Rattle.gw_session.specs.declared.ports.PortFault.{PortFault}
-use Rattle.gw_senders.specs.declared.senders.Senders.TheVariants.{Any}
+use Rattle.gw_records.specs.declared.ports.PortFault.{PortFault}
+use Rattle.gw_udp.specs.declared.senders.Senders.TheVariants.{Any}
 use Rattle.gw_udp.specs.Socket.{Received, ReceivesAny}
 use Rattle.gw_udp.specs.Udp.{ReceivesFrom}
 

@@ -1,3 +1,4 @@
+pub mod Senders
 pub mod Socket
 pub mod Udp
 pub mod Opening

@@ -10,7 +10,7 @@ use Rattle.std.specs.Net.Addr.{is_ipv4}
 use Rattle.std.specs.Net.Grammar.{IsIpText}
 use Rattle.std.specs.Net.Socket.{socket_ip}
 use Rattle.gw_config.specs.declared.config.Port.{Port}
-use Rattle.gw_senders.specs.declared.senders.Senders.{Senders}
+use Rattle.gw_udp.specs.declared.senders.Senders.{Senders}
 use Rattle.gw_udp.specs.Socket.{Bound, Refused}
 use Rattle.gw_udp.specs.Udp.{IsAddressOf, HasEndpoints}
 use Rattle.gw_udp.specs.declared.udp.Endpoint.{Endpoint}

@@ -2,7 +2,7 @@
 use Rattle.std.specs.Prelude.{ℕ, List, Option, Some, None, Result, Ok, Err}
 use Rattle.std.specs.declared.io.Error.{Error}
 use Rattle.std.specs.declared.net.socket_addr.SocketAddr.{SocketAddr}
-use Rattle.gw_session.specs.declared.ports.PortFault.{PortFault}
+use Rattle.gw_records.specs.declared.ports.PortFault.{PortFault}
 
 -- of a socket and the address that it is bound to
 abbrev pub Bound : Type 0 → Type 1

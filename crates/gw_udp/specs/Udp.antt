@@ -7,11 +7,11 @@ use Rattle.std.specs.Net.Grammar.{IsIpText}
 use Rattle.std.specs.Net.Socket.{socket_port}
 use Rattle.std.specs.Net.ToAddrs.{IsHostAndPort}
 use Rattle.gw_config.specs.declared.config.Port.{Port}
-use Rattle.gw_session.specs.declared.ports.PortFault.{PortFault}
-use Rattle.gw_session.specs.Ports.{PortsState}
-use Rattle.gw_senders.specs.Senders.{IsLetIn}
+use Rattle.gw_records.specs.declared.ports.PortFault.{PortFault}
+use Rattle.gw_records.specs.Ports.{PortsState}
+use Rattle.gw_udp.specs.Senders.{IsLetIn}
 use Rattle.gw_udp.specs.Socket.{Bound, Received, Sent}
-use Rattle.gw_senders.specs.declared.senders.Senders.{Senders}
+use Rattle.gw_udp.specs.declared.senders.Senders.{Senders}
 use Rattle.gw_udp.specs.declared.udp.Endpoint.{Endpoint}
 
 -- The address has this port and, where the text spells an IP, that IP. Which address a name has, nothing

@@ -1,10 +1,12 @@
 //! The ports of circuits over UDP: sockets, and from whom they take datagrams in.
 #![tactic(auto)]
 
+mod senders;
 mod socket;
 mod sockets;
 mod udp;
 
+pub use senders::Senders;
 pub use socket::Socket;
 pub use sockets::open_sockets;
 pub use udp::{OpenFault, UdpPorts};

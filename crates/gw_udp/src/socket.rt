@@ -3,7 +3,7 @@
 ghost use Rattle.std.specs.Prelude.{◌≡◌, ◌≤◌, length, IfOk, IfErr, IfSome, None, ⊤};
 ghost use Rattle.gw_udp.specs.Socket.{Bound, Refused, Received, ReceivesAny, Sent};
 
-use gw_session::PortFault;
+use gw_records::PortFault;
 use std::io;
 use std::io::{Error, ErrorKind};
 use std::net::{Net, SocketAddr, UdpSocket};

@@ -4,10 +4,10 @@ ghost use Rattle.std.specs.Prelude.{IfOk, IfErr, string_bytes};
 ghost use Rattle.gw_udp.specs.Opening.{FailsToOpen};
 ghost use Rattle.gw_udp.specs.Udp.{HasEndpoints};
 
+use crate::senders::Senders;
 use crate::socket::Socket;
 use crate::udp::{OpenFault, UdpPorts};
 use gw_config::Config;
-use gw_senders::Senders;
 use std::alloc::Global;
 use std::net::Net;
 

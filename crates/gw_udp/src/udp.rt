@@ -2,16 +2,16 @@
 
 ghost use Rattle.std.specs.Prelude.{◌≡◌, ◌≤◌, vec_len, length, IfOk, IfErr, IfSome, IsSomeAnd, string_bytes};
 ghost use Rattle.std.specs.IoError.{error_kind};
-ghost use Rattle.gw_session.specs.Ports.{Receives, Sends, CountsFault, KeepsSends, KeepsReceives};
+ghost use Rattle.gw_records.specs.Ports.{Receives, Sends, CountsFault, KeepsSends, KeepsReceives};
 ghost use Rattle.gw_udp.specs.Udp.{IsAddressOf, IsEndpointOf, IsEndpoint, HasEndpoints, KeepsOthers};
 ghost use Rattle.gw_udp.specs.Opening.{Blames, IsName, LacksSocket, IsFaultOf, FailsToOpen};
 ghost use Rattle.gw_udp.specs.Udp.{ReceivesFrom, EndpointReceives, EndpointSends, told};
 
+use crate::senders::Senders;
 use crate::socket::Socket;
 use g704_cas::CircuitNo;
 use gw_config::Port;
-use gw_senders::Senders;
-use gw_session::{PortFault, Ports};
+use gw_records::{PortFault, Ports};
 use std::alloc::Global;
 use std::io::{Error, ErrorKind};
 use std::net::{Net, SocketAddr, ToSocketAddrs};

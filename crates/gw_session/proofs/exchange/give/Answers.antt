@@ -3,7 +3,7 @@ use Rattle.std.specs.Prelude.{Result}
 use Rattle.gw_circuit.specs.declared.Dropped.{Dropped}
 use Rattle.gw_switch.specs.Whole.{Reply}
 use Rattle.gw_session.specs.Answers.{code_of}
-use Rattle.gw_session.specs.Ports.{counted}
+use Rattle.gw_records.specs.Ports.{counted}
 use Rattle.gw_session.proofs.Turns.{dropped_none, dropped_one}
 use Rattle.gw_session.proofs.exchange.give.Goals as goal
 

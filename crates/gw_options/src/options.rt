@@ -1,0 +1,316 @@
+//! The options of the command line, as they are declared.
+
+use clap::{Arg, ArgAction, ArgMatches, Command, Error, value_parser};
+use g726_codec::names::{G726_16, G726_24, G726_32, G726_40};
+use std::alloc::{AllocError, Global};
+
+// The version of the program.
+const VERSION: &str = "0.1.0";
+
+// What stands at the end of each help, with an example.
+const ENCODE_HELP: &str = "\
+From standard input come octets of speech in G.711, 8000 a second, in the law of
+--law. To standard output goes a session record with an RTP datagram for each
+packet.
+
+Example: e1gw encode --codec g726-32 < speech.al > speech.rec";
+
+const DECODE_HELP: &str = "\
+From standard input come session records with an RTP datagram each, of any
+circuits. To standard output go the octets of their speech in G.711, in the law
+of --law. A datagram of another payload type, or none of RTP, is passed over; a
+line on standard error tells how many were.
+
+decode looks at --law, --codec and --payload; --ssrc, --sequence, --timestamp
+and --ptime are accepted and passed over, so that one set of options names a
+stream at both ends.
+
+Example: e1gw decode --codec g726-32 < speech.rec > speech.al";
+
+const REPLAY_HELP: &str = "\
+From standard input come session records with octets of the trunk, datagrams,
+commands and codecs. To standard output go the records of a gateway that answer
+them.
+
+Example: e1gw replay --config trunk.toml < session.rec > answers.rec";
+
+const CHECK_HELP: &str = "\
+From standard input come session records, as with replay; what answers them is
+written nowhere. To standard output goes a line for each circuit, as it stands
+after them.
+
+Example: e1gw check --config trunk.toml < session.rec";
+
+const SERVE_HELP: &str = "\
+From standard input come session records with octets of the trunk, commands and
+codecs. To standard output go the records of a gateway that answer them.
+Datagrams come and go over UDP, on the ports of the configuration.
+
+Example: e1gw serve --config trunk.toml < trunk.rec > answers.rec";
+
+const ALIGN_HELP: &str = "\
+From standard input comes a trunk of 2048 kbit/s as octets whose bits stand at
+any offset. To standard output go the octets of its time slots, one for each
+octet. Octets pass as they come until frame alignment is found first, and at the
+last offset while it is lost.
+
+Example: e1gw align < bits.raw > trunk.raw";
+
+const CODEC_TEXT: &str =
+    "Coding of the datagrams [possible values: g711, g726-16,\ng726-24, g726-32, g726-40]";
+
+const PAYLOAD_TEXT: &str =
+    "RTP payload type, 0 to 127 [default: 8 for g711 in law a,\n0 for g711 in law mu, else 96]";
+
+const RECORD_TEXT: &str = "Record what the gateway takes in a new file, for replay and check";
+
+const SENDERS_TEXT: &str =
+    "Senders let in: any, host for the peer's address at any port,\npeer for its address and port";
+
+// The options.
+#[derive(Clone, Copy)]
+enum Opt {
+    Law,
+    Codec,
+    Payload,
+    Ptime,
+    Ssrc,
+    Sequence,
+    Timestamp,
+    Totals,
+    Config,
+    Record,
+    RecordOver,
+    Senders,
+}
+
+// A subcommand, and the options that it takes, in the order of its help.
+struct Subcommand {
+    name: &'static str,
+    about: &'static str,
+    after_help: &'static str,
+    options: &'static [Opt],
+}
+
+// The options of a stream of speech.
+const OF_A_STREAM: &[Opt] = &[
+    Opt::Law,
+    Opt::Codec,
+    Opt::Payload,
+    Opt::Ptime,
+    Opt::Ssrc,
+    Opt::Sequence,
+    Opt::Timestamp,
+    Opt::Totals,
+];
+
+// The options of a session of a gateway.
+const OF_A_SESSION: &[Opt] = &[Opt::Config, Opt::Totals];
+
+// The options of a session over UDP.
+const OF_SERVE: &[Opt] = &[
+    Opt::Record,
+    Opt::RecordOver,
+    Opt::Config,
+    Opt::Totals,
+    Opt::Senders,
+];
+
+const SUBCOMMANDS: [Subcommand; 6] = [
+    Subcommand {
+        name: "encode",
+        about: "Octets of speech to records of RTP datagrams",
+        after_help: ENCODE_HELP,
+        options: OF_A_STREAM,
+    },
+    Subcommand {
+        name: "decode",
+        about: "Records of RTP datagrams to octets of speech",
+        after_help: DECODE_HELP,
+        options: OF_A_STREAM,
+    },
+    Subcommand {
+        name: "replay",
+        about: "Records of a gateway, answered by records",
+        after_help: REPLAY_HELP,
+        options: OF_A_SESSION,
+    },
+    Subcommand {
+        name: "check",
+        about: "Records of a gateway, and a line for each circuit",
+        after_help: CHECK_HELP,
+        options: OF_A_SESSION,
+    },
+    Subcommand {
+        name: "serve",
+        about: "Records of a gateway, datagrams over UDP",
+        after_help: SERVE_HELP,
+        options: OF_SERVE,
+    },
+    Subcommand {
+        name: "align",
+        about: "A trunk at any bit offset to the octets of its time slots",
+        after_help: ALIGN_HELP,
+        options: &[Opt::Totals],
+    },
+];
+
+/// G.711 in the law of `--law`.
+pub const G711: &str = "g711";
+
+// An option of this name.
+fn option<'a>(alloc: Global, name: &'a str, help: &'a str) -> Arg<'a> {
+    Arg::new(alloc, name).long(name).help(help)
+}
+
+// An option that is there or not.
+fn flag<'a>(alloc: Global, name: &'a str, help: &'a str) -> Arg<'a> {
+    option(alloc, name, help).action(ArgAction::SetTrue)
+}
+
+// The law of the octets of speech.
+fn law_option<'a>(alloc: Global) -> Arg<'a> {
+    option(alloc, "law", "Law of the octets")
+        .value_parser(["a", "mu"].as_slice())
+        .default_value("a")
+}
+
+// The coding of the datagrams.
+fn codec_option<'a>(alloc: Global) -> Arg<'a> {
+    option(alloc, "codec", CODEC_TEXT)
+        .value_parser([G711, G726_16, G726_24, G726_32, G726_40].as_slice())
+        .default_value(G711)
+        .hide_possible_values(true)
+}
+
+// The payload type of the datagrams.
+fn payload_option<'a>(alloc: Global) -> Arg<'a> {
+    option(alloc, "payload", PAYLOAD_TEXT).value_parser(value_parser!(u8).range(0..=127))
+}
+
+// The time of a packet.
+fn ptime_option<'a>(alloc: Global) -> Arg<'a> {
+    option(alloc, "ptime", "Milliseconds in a packet")
+        .value_parser(["10", "20", "30"].as_slice())
+        .default_value("20")
+}
+
+// The source of the datagrams.
+fn ssrc_option<'a>(alloc: Global) -> Arg<'a> {
+    option(alloc, "ssrc", "Synchronization source, 0 to 4294967295")
+        .value_parser(value_parser!(u32))
+        .default_value("0")
+}
+
+// The number of the first datagram.
+fn sequence_option<'a>(alloc: Global) -> Arg<'a> {
+    option(
+        alloc,
+        "sequence",
+        "Sequence number of the first datagram, 0 to 65535",
+    )
+    .value_parser(value_parser!(u16))
+    .default_value("0")
+}
+
+// The sample at which the first datagram begins.
+fn timestamp_option<'a>(alloc: Global) -> Arg<'a> {
+    option(
+        alloc,
+        "timestamp",
+        "Timestamp of the first datagram, 0 to 4294967295",
+    )
+    .value_parser(value_parser!(u32))
+    .default_value("0")
+}
+
+// Whether the totals are printed.
+fn totals_option<'a>(alloc: Global) -> Arg<'a> {
+    flag(
+        alloc,
+        "totals",
+        "Print the totals on standard error at the end",
+    )
+}
+
+// The file of the configuration.
+fn config_option<'a>(alloc: Global) -> Arg<'a> {
+    option(alloc, "config", "Configuration of the gateway, in TOML")
+        .value_name("FILE")
+        .required(true)
+}
+
+// The file of a recording.
+fn record_option<'a>(alloc: Global) -> Arg<'a> {
+    option(alloc, "record", RECORD_TEXT).value_name("RECORDING")
+}
+
+// Whether an old file may be a recording's.
+fn over_option<'a>(alloc: Global) -> Arg<'a> {
+    flag(
+        alloc,
+        "record-over",
+        "Let the recording be written over an old file",
+    )
+}
+
+// Whose datagrams are let in.
+fn senders_option<'a>(alloc: Global) -> Arg<'a> {
+    option(alloc, "senders", SENDERS_TEXT)
+        .value_parser(["any", "host", "peer"].as_slice())
+        .default_value("any")
+        .hide_possible_values(true)
+}
+
+// The option that is meant.
+fn declared<'a>(alloc: Global, option: Opt) -> Arg<'a> {
+    match option {
+        Opt::Law => law_option(alloc),
+        Opt::Codec => codec_option(alloc),
+        Opt::Payload => payload_option(alloc),
+        Opt::Ptime => ptime_option(alloc),
+        Opt::Ssrc => ssrc_option(alloc),
+        Opt::Sequence => sequence_option(alloc),
+        Opt::Timestamp => timestamp_option(alloc),
+        Opt::Totals => totals_option(alloc),
+        Opt::Config => config_option(alloc),
+        Opt::Record => record_option(alloc),
+        Opt::RecordOver => over_option(alloc),
+        Opt::Senders => senders_option(alloc),
+    }
+}
+
+// A subcommand with its options.
+fn with_options<'a>(alloc: Global, asked: &Subcommand) -> Result<Command<'a>, AllocError> {
+    let mut command = Command::new(alloc, asked.name)
+        .about(asked.about)
+        .after_help(asked.after_help)
+        .next_line_help(true);
+    for option in asked.options {
+        command = command.arg(declared(alloc, *option))?;
+    }
+    Ok(command)
+}
+
+// The program, without its subcommands.
+fn program<'a>(alloc: Global) -> Command<'a> {
+    Command::new(alloc, "e1gw")
+        .about("E1 trunk to RTP gateway, from standard input to standard output")
+        .version(VERSION)
+        .subcommand_required(true)
+}
+
+// The program with its subcommands.
+fn whole<'a>(alloc: Global) -> Result<Command<'a>, AllocError> {
+    let mut command = program(alloc);
+    for asked in &SUBCOMMANDS {
+        command = command.subcommand(with_options(alloc, asked)?)?;
+    }
+    Ok(command)
+}
+
+/// What the arguments say.
+#[inline(never)]
+pub fn matches<'a>(alloc: Global, arguments: &'a [String]) -> Result<ArgMatches<'a>, Error> {
+    whole(alloc)?.try_get_matches_from(arguments)
+}

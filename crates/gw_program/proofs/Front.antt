@@ -1,0 +1,50 @@
+-- The front of a configuration says what the whole says.
+use Rattle.std.proofs.Common.{◌≡◌, ℕ, ◌<◌, ◌≤◌, ◌++◌, List, [], length, take, nat_lt, Bool, true, false}
+use Rattle.std.proofs.Common.{Option, Some, None, Result, Err, refl, sym, ap, ◌∙◌, arith}
+use Rattle.std.specs.Prelude.{IfSome, IfErr, Ok, option_map}
+use Rattle.std.specs.declared.io.Error.{Error}
+use Rattle.std.proofs.lemmas.Bool.{lt-ltb, ltb-true, ltb-false}
+use Rattle.std.proofs.lemmas.List.{take_all, length-take}
+use Rattle.gw_config.specs.declared.config.Config.{Config}
+use Rattle.gw_config.specs.declared.fault.Kind.TheVariants as kinds
+use Rattle.gw_config.specs.Octets.{meaning_of_octets, at_top}
+use Rattle.gw_program.specs.Setup.{Says, FailsToRead}
+use Rattle.gw_program.specs.declared.trouble.Trouble.{Trouble}
+use Rattle.gw_program.specs.declared.trouble.Trouble.TheVariants as troubles
+
+-- what is too long is refused, whatever it is
+pub too_long : (octets : List ℕ) → nat_lt 65536 (length octets) ≡ true
+    → meaning_of_octets octets ≡ Err (at_top kinds.TooLong)
+unfolding meaning_of_octets
+too_long octets long = rw long refl
+
+-- one octet more than a configuration may have is enough
+pub meaning_of_front : (octets : List ℕ) → meaning_of_octets (take 65537 octets) ≡ meaning_of_octets octets
+meaning_of_front octets = go (nat_lt 65536 (length octets)) refl
+  where
+    go : (b : Bool) → nat_lt 65536 (length octets) ≡ b
+        → meaning_of_octets (take 65537 octets) ≡ meaning_of_octets octets
+    go true e =
+        let long : 65536 < length octets = ltb-true 65536 (length octets) e in
+        let front : 65536 < length (take 65537 octets) = omega (arith, long, length-take 65537 octets) in
+        too_long (take 65537 octets) (lt-ltb 65536 (length (take 65537 octets)) front) ∙ sym (too_long octets e)
+    go false e =
+        let short : length octets ≤ 65537 = omega (arith, ltb-false 65536 (length octets) e) in
+        ap meaning_of_octets (take_all 65537 octets short)
+
+-- what is said of the octets that came up to a limit is said of all
+pub said_of_all : (known : Option (List ℕ)) (before items slice : List ℕ) (r : Result Config Trouble)
+    → before ≡ [] → IfSome (option_map (take 65537) known) (λ xs. items ≡ before ++ xs) → slice ≡ items
+    → Says r (meaning_of_octets slice) → IfSome known (λ octets. Says r (meaning_of_octets octets))
+said_of_all None before items slice r empty came is said = tt
+said_of_all (Some octets) before items slice r empty came is said =
+    let front : meaning_of_octets slice ≡ meaning_of_octets octets =
+    ap meaning_of_octets (is ∙ came ∙ ap (λ (xs : List ℕ). xs ++ take 65537 octets) empty) ∙ meaning_of_front octets in
+    rw (← front) said
+
+-- where no reading failed nothing is said of one
+pub read_whole : (fails : Error → Type 0) (r : Result Config Trouble) → IfErr r (FailsToRead (λ _. ⊥))
+    → IfErr r (FailsToRead fails)
+read_whole fails (Ok config) h = tt
+read_whole fails (Err troubles.File) h = absurd h.1
+read_whole fails (Err _) h = tt

@@ -1,0 +1,14 @@
+use Rattle.std.proofs.Common.{inl, inr, refl}
+use Rattle.gw_program.proofs.Ends.{either}
+use Rattle.gw_program.proofs.sessions.replay.Goals as goal
+
+pub returns-in_default : goal.returns-in_default
+returns-in_default g c = inr (record { end_is = refl; unread = refl; unwritten = refl })
+
+pub returns : goal.returns
+returns g c = inl (record {
+  gateway = c.in-Ok.gateway;
+  gateway' = c.run.new.gateway;
+  new = c.in-Ok.ensures;
+  done = either c.run.result _ _ c.run.ensures.ok c.run.ensures.fault;
+})

@@ -1,0 +1,6 @@
+pub mod Jobs
+pub mod Status
+pub mod Sessions
+pub mod Listing
+pub mod Report
+pub mod Setup

@@ -1,0 +1,19 @@
+//! What the program does: jobs on streams, sessions of a gateway by a configuration, and what it says of them.
+#![tactic(auto)]
+
+mod jobs;
+mod listing;
+mod recording;
+mod report;
+mod sessions;
+mod setup;
+mod standard;
+mod trouble;
+
+pub use jobs::do_job;
+pub use recording::{Recording, Tape, begin, tell_end};
+pub use report::{PassedOver, passed_over, print_totals};
+pub use sessions::{check, replay, serve_through};
+pub use setup::read_config;
+pub use standard::{Held, hold};
+pub use trouble::{DONE, NO_MEMORY, REFUSED, Trouble};

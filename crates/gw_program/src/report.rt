@@ -1,0 +1,40 @@
+//! What is told of a session that ended well.
+
+ghost use Rattle.std.specs.Prelude.{◌≡◌};
+ghost use Rattle.gw_program.specs.Report.{passed_over};
+
+use gw_command::Job;
+use gw_session::Totals;
+use thiserror::Error;
+
+/// How many of the datagrams of a stream were passed over, being none of it. It prints as its line.
+#[derive(Clone, Copy, Debug, PartialEq, Eq, Error)]
+#[error("passed over {dropped} of {datagrams} datagrams")]
+pub struct PassedOver {
+    /// The datagrams that were passed over.
+    pub dropped: u64,
+    /// All that came.
+    pub datagrams: u64,
+}
+
+/// What `decode` passed over, if anything. The other jobs pass over nothing.
+pub fn passed_over(job: &Job, totals: &Totals) -> Option<PassedOver>
+    ensures { result ≡ passed_over job.now totals.now }
+{
+    match job {
+        Job::Decode(_) if totals.dropped > 0 => Some(PassedOver {
+            dropped: totals.dropped,
+            datagrams: totals.records,
+        }),
+        _ => None,
+    }
+}
+
+/// Prints the totals of a session on standard error, one name and value a line.
+pub fn print_totals(rt: &impl Eprint, totals: &Totals) {
+    let _ = eprintln!(rt; "records {}", totals.records);
+    let _ = eprintln!(rt; "octets {}", totals.octets);
+    let _ = eprintln!(rt; "datagrams {}", totals.datagrams);
+    let _ = eprintln!(rt; "dropped {}", totals.dropped);
+    let _ = eprintln!(rt; "port_faults {}", totals.port_faults);
+}

@@ -1,0 +1,113 @@
+//! Sessions of a gateway that is opened for them: `replay`, `check` and `serve`. Each has its buffers in a
+//! frame of its own.
+
+ghost use Rattle.std.specs.Prelude.{◌≡◌, ◌≤◌, ◌-◌, ◌^◌, ◌<◌, None};
+ghost use Rattle.gw_switch.specs.declared.GatewayConfig.{GatewayConfig};
+ghost use Rattle.gw_records.specs.Streams.{CanBegin};
+ghost use Rattle.gw_program.specs.Sessions.{Ends, EndsRecorded, Runs, Checks, Lists, checked};
+
+use crate::listing::listing;
+use gw_session::{
+    Ports, RunFault, Sink, SinkFault, Source, Tape, Totals, run, serve_recorded, write_all,
+};
+use gw_switch::{Gateway, GatewayConfig};
+use std::alloc::Global;
+
+/// Acts on the records of a source with a new gateway, and writes what answers them.
+#[inline(never)]
+pub fn replay<S: Source, K: Sink>(
+    alloc: Global,
+    config: &GatewayConfig,
+    source: &mut S,
+    sink: &mut K,
+) -> Result<Totals, RunFault>
+    requires { CanBegin (S.tells source.old) (K.tells sink.old) }
+    ensures { Ends Runs config.now
+        (S.tells source.old) (S.tells source.new) (K.tells sink.old) (K.tells sink.new) result }
+{
+    let Ok(mut gateway) = Gateway::open(alloc, config) else {
+        return Err(RunFault::OutOfMemory);
+    };
+    run(alloc, &mut gateway, source, sink)
+}
+
+// Takes all octets and keeps none, so that no write fails.
+#[derive(Drop)]
+struct Nowhere;
+
+impl Sink for Nowhere {
+    ghost tells = { λ s. record { failures = 0; taken = None } };
+
+    fn write(&mut self, octets: &[u8]) -> Result<usize, SinkFault> {
+        Ok(octets.len())
+    }
+}
+
+/// Acts on the records of a source with a new gateway, and writes a line for each circuit as it stands then,
+/// also after a fault.
+#[inline(never)]
+pub fn check<S: Source, K: Sink>(
+    alloc: Global,
+    config: &GatewayConfig,
+    source: &mut S,
+    sink: &mut K,
+) -> Result<Totals, RunFault>
+    requires { CanBegin (S.tells source.old) (K.tells sink.old) }
+    ensures { Ends Checks config.now
+        (S.tells source.old) (S.tells source.new) (K.tells sink.old) (K.tells sink.new) result }
+{
+    let Ok(mut gateway) = Gateway::open(alloc, config) else {
+        return Err(RunFault::OutOfMemory);
+    };
+    let mut nowhere = Nowhere;
+    let ended = run(alloc, &mut gateway, source, &mut nowhere);
+    list(&gateway, ended, sink)
+}
+
+// Writes the lines of all circuits after a session that ended so. A fault of the session is told before one
+// of the writing.
+fn list<K: Sink>(
+    gateway: &Gateway,
+    ended: Result<Totals, RunFault>,
+    sink: &mut K,
+) -> Result<Totals, RunFault>
+    requires { (K.tells sink.old).failures < 2 ^ 64 - 1 }
+    ensures { Lists gateway.now ended (K.tells sink.old) (K.tells sink.new) result }
+{
+    let text = listing(gateway);
+    let listed = write_all(sink, text.as_slice());
+    checked(ended, listed)
+}
+
+// The end of a session whose listing was written so.
+fn checked(
+    ended: Result<Totals, RunFault>,
+    listed: Result<(), RunFault>,
+) -> Result<Totals, RunFault>
+    ensures { result ≡ checked ended listed }
+{
+    let totals = ended?;
+    listed?;
+    Ok(totals)
+}
+
+/// Acts on the records of a source with a new gateway, whose datagrams come and go through ports, and records
+/// on a tape what the gateway takes.
+#[inline(never)]
+pub fn serve_through<S: Source, P: Ports, K: Sink, T: Tape>(
+    alloc: Global,
+    config: &GatewayConfig,
+    ports: &mut P,
+    source: &mut S,
+    sink: &mut K,
+    tape: &mut T,
+) -> Result<Totals, RunFault>
+    requires { CanBegin (S.tells source.old) (K.tells sink.old) }
+    ensures { EndsRecorded (P.tells ports.old) (P.tells ports.new) (T.tells tape.old) (T.tells tape.new)
+        config.now (S.tells source.old) (S.tells source.new) (K.tells sink.old) (K.tells sink.new) result }
+{
+    let Ok(mut gateway) = Gateway::open(alloc, config) else {
+        return Err(RunFault::OutOfMemory);
+    };
+    serve_recorded(alloc, &mut gateway, ports, source, sink, tape)
+}

@@ -1,0 +1,71 @@
+//! The configuration of a gateway, from a file.
+
+ghost use Rattle.std.specs.Prelude.{◌≡◌, ◌++◌, IfSome, IfErr, OnOk, Option, List, ℕ, ⊤, option_map, take};
+ghost use Rattle.std.specs.declared.io.Error.{Error};
+ghost use Rattle.gw_config.specs.Octets.{meaning_of_octets};
+ghost use Rattle.gw_program.specs.Setup.{Says, FailsToRead};
+
+use crate::trouble::Trouble;
+use gw_config::Config;
+use std::alloc::Global;
+use std::io::Read;
+use std::{fs, io};
+
+// The most octets of the file that are read: one more than a configuration may have.
+const MOST_OCTETS: u64 = 65_537;
+
+// The configuration that these octets say.
+fn meaning_of(alloc: Global, octets: &[u8]) -> Result<Config, Trouble>
+    ensures says { Says result (meaning_of_octets octets.now) }
+    ensures read { IfErr result (FailsToRead (λ _. ⊥)) }
+{
+    gw_config::read(alloc, octets).map_err(Trouble::Config)
+}
+
+/// What a configuration is read from. The relation is the type's own: a caller that knows nothing of the type
+/// has it of a read that failed alone.
+trait Text: Drop {
+    /// The octets up to the end, where they are known.
+    ghost holds: { Self → Option (List ℕ) };
+
+    /// Holds of a text and the error of the system at which its reading ended.
+    ghost fails: { Self → Error → Type 0 } = { λ _ _. ⊤ };
+
+    /// Reads so many octets at most behind those that are there.
+    fn read_up_to(self, most: u64, octets: &mut Vec<u8>) -> io::Result<()>
+    where
+        Self: Sized,
+        ensures bytes { OnOk result (IfSome (option_map (take most) (holds self))
+            (λ xs. octets.new.items ≡ octets.old.items ++ xs)) }
+        ensures err { IfErr result (λ e. fails self e) };
+}
+
+impl<R: Read + Drop> Text for R {
+    ghost holds = { λ r. R.remaining r };
+
+    fn read_up_to(self, most: u64, octets: &mut Vec<u8>) -> io::Result<()> {
+        self.take(most).read_to_end(octets)?;
+        Ok(())
+    }
+}
+
+// The configuration that the octets of a text say, up to its end.
+fn config_of<T: Text>(alloc: Global, text: T) -> Result<Config, Trouble>
+    ensures says { IfSome (T.holds text) (λ octets. Says result (meaning_of_octets octets)) }
+    ensures unread { IfErr result (FailsToRead (T.fails text)) }
+{
+    let mut octets = Vec::new(alloc);
+    match text.read_up_to(MOST_OCTETS, &mut octets) {
+        Ok(()) => meaning_of(alloc, octets.as_slice()),
+        Err(error) => Err(Trouble::of(&error, Trouble::File)),
+    }
+}
+
+/// The configuration that a file says.
+#[inline(never)]
+pub fn read_config(rt: &HostRuntime, path: &str) -> Result<Config, Trouble> {
+    match fs::open(rt, path) {
+        Ok(file) => config_of(rt.alloc(), file),
+        Err(error) => Err(Trouble::of(&error, Trouble::File)),
+    }
+}

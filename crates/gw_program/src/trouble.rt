@@ -1,0 +1,84 @@
+//! What the program says where it could not do what was asked, and its statuses.
+
+ghost use Rattle.std.specs.Prelude.{◌≡◌, ◌≤◌};
+ghost use Rattle.std.specs.IoError.{error_kind};
+ghost use Rattle.gw_program.specs.Status.{trouble_of, fault_status, trouble_status};
+
+use gw_config::ConfigFault;
+use gw_session::RunFault;
+use std::io;
+use thiserror::Error;
+
+/// The status where all is done, and after help.
+pub const DONE: u8 = 0;
+
+const FAULT: u8 = 1;
+
+/// The status where the command line, the file or the configuration is refused.
+pub const REFUSED: u8 = 2;
+
+/// The status for want of memory.
+pub const NO_MEMORY: u8 = 3;
+
+/// Why the program did not do what was asked. It prints as the line on standard error.
+#[derive(Debug, Drop, Error)]
+pub enum Trouble {
+    /// A session ended with a fault.
+    #[error("{0}")]
+    Session(RunFault),
+    /// The socket of the circuit of this number can't be opened.
+    #[error("socket {0}")]
+    Socket(u8),
+    /// The command line is not text.
+    #[error("error: the command line is not text")]
+    NotText,
+    /// The command line names nothing to do.
+    #[error("error: nothing to do")]
+    Nothing,
+    /// The file of the configuration can't be read.
+    #[error("cannot read the configuration")]
+    File,
+    /// The file of the recording can't be opened.
+    #[error("cannot open the recording")]
+    Recording,
+    /// The file of the recording is there already, and is not to be written over.
+    #[error("the recording is there already: name a new file, or give --record-over")]
+    OldRecording,
+    /// The file says no configuration.
+    #[error("{0}")]
+    Config(ConfigFault),
+    /// Memory was refused.
+    #[error("out of memory")]
+    OutOfMemory,
+}
+
+impl Trouble {
+    /// What a failed call of the system comes to: want of memory, or else `otherwise`.
+    pub fn of(error: &io::Error, otherwise: Trouble) -> Trouble
+        ensures { result ≡ trouble_of (error_kind error.now) otherwise }
+    {
+        match error.kind() {
+            io::ErrorKind::OutOfMemory => Trouble::OutOfMemory,
+            _ => otherwise,
+        }
+    }
+
+    /// The status of the program: 1 at a fault of a session or a socket, 2 where the command line, the file
+    /// or the configuration is refused, and 3 for want of memory.
+    pub fn status(&self) -> u8
+        ensures { result ≡ trouble_status self.now }
+    {
+        match self {
+            Trouble::Session(RunFault::OutOfMemory)
+            | Trouble::Config(ConfigFault::OutOfMemory)
+            | Trouble::OutOfMemory => NO_MEMORY,
+            Trouble::Session(_) | Trouble::Socket(_) => FAULT,
+            Trouble::NotText
+            | Trouble::Nothing
+            | Trouble::File
+            | Trouble::Recording
+            | Trouble::OldRecording
+            | Trouble::Config(_) => REFUSED,
+        }
+    }
+}

@@ -1,0 +1,18 @@
+-- From whom datagrams are taken in.
+use Rattle.std.specs.Prelude.{◌≡◌, ⊤, ℕ, List, codes}
+use Rattle.std.specs.declared.net.socket_addr.SocketAddr.{SocketAddr}
+use Rattle.std.specs.Net.Socket.{socket_ip, socket_port}
+use Rattle.gw_udp.specs.declared.senders.Senders.{Senders}
+use Rattle.gw_udp.specs.declared.senders.Senders.TheVariants.{Any, Host, Peer}
+
+-- a datagram from this address is taken in, where the peer's is that one
+abbrev pub IsLetIn : Senders → SocketAddr → SocketAddr → Type 0
+IsLetIn Any from peer = ⊤
+IsLetIn Host from peer = socket_ip from ≡ socket_ip peer
+IsLetIn Peer from peer = (socket_ip from ≡ socket_ip peer) × (socket_port from ≡ socket_port peer)
+
+-- the name of senders
+abbrev pub senders_name : Senders → List ℕ
+senders_name Any = codes "any"
+senders_name Host = codes "host"
+senders_name Peer = codes "peer"
