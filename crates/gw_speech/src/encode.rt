@@ -18,7 +18,7 @@ use gw_records::{
     MAX_READS, NO_TOTALS, OutputBuffer, RunFault, Sink, Source, Totals, datagram_record, flush,
     put, read_behind,
 };
-use rtp_packet::Header;
+use rtp_packet::{Header, packetise};
 
 // Room for 32 KiB in each read behind a packet that is not full, which has fewer than 240 octets.
 const SPEECH_LEN: usize = 33_008;
@@ -79,10 +79,8 @@ fn packet_record(spec: &StreamSpec, progress: &Progress, words: &[u8]) -> ArrayV
         timestamp: progress.timestamp,
         ssrc: spec.ssrc,
     };
-    let mut payload: ArrayVec<u8, 240> = ArrayVec::new();
-    rtp_pack::pack(word_bits(spec), words, &mut payload);
     let mut datagram: ArrayVec<u8, 252> = ArrayVec::new();
-    let _ = rtp_packet::write(&header, payload.as_slice(), &mut datagram);
+    packetise(&header, word_bits(spec), words, &mut datagram);
     datagram_record(CIRCUIT, datagram.as_slice())
 }
 
