@@ -1,7 +1,8 @@
 -- The record that stands first.
 use Rattle.std.proofs.Common.{◌≡◌, ◌≢◌, ◌+◌, ◌*◌, ◌<◌, ◌≤◌, ◌^◌, ◌⊎◌, inl, inr, ℕ, suc, true, false, List, [], ◌∷◌}
 use Rattle.std.proofs.Common.{Bool, cond, Option, Some, None, nat_lt, ◌==◌}
-use Rattle.std.proofs.Common.{length, take, drop, get_or, refl, sym, subst, length-take-le, arith}
+use Rattle.std.proofs.Common.{SomeIff, Ok, ok_or}
+use Rattle.std.proofs.Common.{length, take, drop, get_or, refl, sym, ◌∙◌, subst, length-take-le, arith}
 use Rattle.std.specs.Prelude.{slice_index}
 use Rattle.std.proofs.lemmas.Bool.Decides.{nat_tests}
 use Rattle.std.proofs.lemmas.Grind.{common_steps}
@@ -13,7 +14,9 @@ use Rattle.gw_records.specs.Records.{spelled, IsGood, body_len, has_bad_kind, ha
 use Rattle.gw_records.specs.Records.{has_bad_command, is_cut, end_of}
 use Rattle.gw_records.specs.declared.records.Ending.{Ending}
 use Rattle.gw_records.specs.declared.records.Ending.TheVariants as endings
+use Rattle.gw_records.specs.Octets.{command_of, codec_of}
 use Rattle.gw_records.specs.Records.{IsFirst, head_of, named}
+use Rattle.gw_records.proofs.Again.{octet_of_command_again, octet_of_codec_again}
 
 -- what is known of the tests of end_of, by what they give
 abbrev pub Found : (none few kind circuit len cut command : Bool) → Option Ending → Type 0
@@ -68,7 +71,7 @@ kind_left kinds octets h p q r = elim (kinds_are kinds octets h) [
 ]
 
 -- a good circuit, but of a trunk record, is from 1 to 30
-circuit_is : (octets : List ℕ) → has_bad_circuit octets ≡ false → slice_index octets 0 ≢ 84
+pub circuit_is : (octets : List ℕ) → has_bad_circuit octets ≡ false → slice_index octets 0 ≢ 84
     → (1 ≤ slice_index octets 1) × (slice_index octets 1 ≤ 30)
 unfolding has_bad_circuit
 circuit_is octets h p = (grind (arith, nat_tests), grind (arith, nat_tests))
@@ -79,12 +82,12 @@ unfolding has_bad_circuit
 circuit_none octets h p = grind (arith, nat_tests)
 
 -- a good length of a command is one octet
-length_is : (octets : List ℕ) → has_bad_length octets ≡ false → slice_index octets 0 ≡ 67 → body_len octets ≡ 1
+pub length_is : (octets : List ℕ) → has_bad_length octets ≡ false → slice_index octets 0 ≡ 67 → body_len octets ≡ 1
 unfolding has_bad_length
 length_is octets h p = grind (arith, nat_tests)
 
 -- a good length of a codec is two octets
-two_long : (octets : List ℕ) → has_bad_length octets ≡ false → slice_index octets 0 ≡ 75 → body_len octets ≡ 2
+pub two_long : (octets : List ℕ) → has_bad_length octets ≡ false → slice_index octets 0 ≡ 75 → body_len octets ≡ 2
 unfolding has_bad_length
 two_long octets h p = grind (arith, nat_tests)
 
@@ -112,13 +115,13 @@ head_datagram octets e = rw e refl
 
 -- the head of a command, with its circuit and command
 head_command : (octets : List ℕ) → slice_index octets 0 ≡ 67
-    → head_of octets ≡ heads.Command (slice_index octets 1) (slice_index octets 4)
+    → head_of octets ≡ heads.Command (slice_index octets 1) (command_of (slice_index octets 4))
 unfolding head_of
 head_command octets e = rw e refl
 
 -- the head of a codec record, with its circuit, codec and payload type
 head_codec : (octets : List ℕ) → slice_index octets 0 ≡ 75
-    → head_of octets ≡ heads.Codec (slice_index octets 1) (slice_index octets 4) (slice_index octets 5)
+    → head_of octets ≡ heads.Codec (slice_index octets 1) (codec_of (slice_index octets 4)) (slice_index octets 5)
 unfolding head_of
 head_codec octets e = rw e refl
 
@@ -150,6 +153,13 @@ two_octets : (n : ℕ) (rest : List ℕ) → n ≡ 2 → n ≤ length rest
 two_octets n [] e h = absurd (omega arith)
 two_octets n (x ∷ []) e h = absurd (omega arith)
 two_octets n (x ∷ y ∷ rest) e h = rw e refl
+
+-- a head that is told is that of the first octets, which say no bad command
+pub told : (octets : List ℕ) (o : Option Head) (head : Head)
+    → SomeIff o (has_bad_command octets ≡ false) (head_of octets) → ok_or o endings.BadCommand ≡ Ok head
+    → (has_bad_command octets ≡ false) × (head_of octets ≡ head)
+told octets None head h e = cc
+told octets (Some x) head h e = (h.0, let same : x ≡ head = cc in sym h.1 ∙ same)
 
 -- the record that stands first is good where nothing is wrong with it
 pub good_first : (kinds : Kinds) (octets : List ℕ) → ((i : ℕ) → slice_index octets i < 256) → 4 ≤ length octets
@@ -185,16 +195,18 @@ good_first kinds (k ∷ c ∷ h ∷ l ∷ rest) bytes len kind circuit one whole
               let single : h * 256 + l ≡ 1 = length_is octets one t.0 in
               let body_is : take (h * 256 + l) rest ≡ get_or rest 0 0 ∷ [] = one_octet (h * 256 + l) rest single fits in
               let known = command_is octets command t.0 in
-              rw (head_command octets t.0) (firstly kinds (heads.Command c (get_or rest 0 0)) k c h l rest fits
-              (rw body_is (cc)) (t.1, in_range, known.0, known.1))
+              let again = octet_of_command_again (get_or rest 0 0) known.0 known.1 in
+              rw (head_command octets t.0) (firstly kinds (heads.Command c (command_of (get_or rest 0 0))) k c h l rest
+              fits (rw (again, body_is) (cc)) (rw again (t.1, in_range, known.0, known.1)))
           | inr t ↦
               let in_range = circuit_is octets circuit (λ p. absurd (omega (arith, p, t.0))) in
               let double : h * 256 + l ≡ 2 = two_long octets one t.0 in
               let body_is : take (h * 256 + l) rest ≡ get_or rest 0 0 ∷ get_or rest 1 0 ∷ [] =
               two_octets (h * 256 + l) rest double fits in
               let known = codec_is octets command t.0 in
-              rw (head_codec octets t.0) (firstly kinds (heads.Codec c (get_or rest 0 0) (get_or rest 1 0)) k c h l rest
-              fits (rw body_is (cc)) (t.1, in_range, known.0, known.1, known.2))
+              let again = octet_of_codec_again (get_or rest 0 0) known.0 known.1 in
+              rw (head_codec octets t.0) (firstly kinds (heads.Codec c (codec_of (get_or rest 0 0)) (get_or rest 1 0)) k
+              c h l rest fits (rw (again, body_is) (cc)) (rw again (t.1, in_range, known.0, known.1, known.2)))
         ]
       ]
     ]

@@ -1,3 +1,4 @@
+pub mod Again
 pub mod Writes
 pub mod Buffers
 pub mod Firsts

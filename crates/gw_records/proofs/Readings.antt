@@ -10,6 +10,7 @@ use Rattle.gw_records.specs.declared.records.Ending.{Ending}
 use Rattle.gw_records.specs.Records.{Record, spelled, IsGood, body_len, has_bad_kind, has_bad_circuit, has_bad_length}
 use Rattle.gw_records.specs.Records.{is_cut, has_bad_command, end_of}
 use Rattle.gw_records.specs.Records.{named, head_of}
+use Rattle.gw_records.proofs.Again.{octet_of_command_again, octet_of_codec_again}
 use Rattle.gw_records.specs.Laws.{AtMostOneReading, MoreKeepsRecords}
 
 -- the record that the first octets say
@@ -51,15 +52,18 @@ unspelled kinds (Record.Command circuit command) x good =
     let high : circuit ≤ 30 = good.1.1 in
     let first : 1 ≤ command = good.2 in
     let last : command ≤ 6 = good.3 in
-    (grind (arith, nat_tests), refl, refl)
+    (grind (arith, nat_tests), ap (Record.Command circuit) (octet_of_command_again command first last), refl)
 unspelled kinds (Record.Codec circuit codec payload_type) x good =
     let kind : kinds.codecs ≡ true = good.0 in
     let low : 1 ≤ circuit = good.1.0 in
     let high : circuit ≤ 30 = good.1.1 in
     let first : 1 ≤ codec = good.2 in
     let last : codec ≤ 5 = good.3 in
-    let most : payload_type ≤ 127 = good.4 in
-    (grind (arith, nat_tests), refl, refl)
+    let most : payload_type ≤ 127 = good.4 in (
+      grind (arith, nat_tests),
+      ap (λ (n : ℕ). Record.Codec circuit n payload_type) (octet_of_codec_again codec first last),
+      refl,
+    )
 
 -- the octets of a record and of others, and the rest, grouped the other way
 pub regroup : (r : Record) (rs : List Record) (rest : List ℕ)

@@ -1,4 +1,5 @@
 pub mod Streams
+pub mod Octets
 pub mod Records
 pub mod Reader
 pub mod Laws

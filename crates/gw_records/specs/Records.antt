@@ -10,6 +10,7 @@ use Rattle.gw_records.specs.declared.records.Head.TheVariants as heads
 use Rattle.gw_records.specs.declared.records.First.{First}
 use Rattle.gw_records.specs.declared.records.Ending.{Ending}
 use Rattle.gw_records.specs.declared.records.Ending.TheVariants as endings
+use Rattle.gw_records.specs.Octets.{command_of, octet_of_command, codec_of, octet_of_codec}
 
 -- a kind, a circuit, a length of 16 bits and the body
 abbrev pub record_of : ℕ → ℕ → List ℕ → List ℕ
@@ -111,15 +112,16 @@ unfoldable pub head_of : List ℕ → Head
 head_of octets =
     if slice_index octets 0 == 0x54 then heads.Trunk
     else (if slice_index octets 0 == 0x44 then heads.Datagram (slice_index octets 1)
-    else (if slice_index octets 0 == 0x43 then heads.Command (slice_index octets 1) (slice_index octets 4)
-    else heads.Codec (slice_index octets 1) (slice_index octets 4) (slice_index octets 5)))
+    else (if slice_index octets 0 == 0x43
+    then heads.Command (slice_index octets 1) (command_of (slice_index octets 4))
+    else heads.Codec (slice_index octets 1) (codec_of (slice_index octets 4)) (slice_index octets 5)))
 
 -- the record of this head and body
 abbrev pub named : Head → List ℕ → Record
 named heads.Trunk body = Record.Trunk body
 named (heads.Datagram circuit) body = Record.Datagram circuit body
-named (heads.Command circuit command) body = Record.Command circuit command
-named (heads.Codec circuit codec payload_type) body = Record.Codec circuit codec payload_type
+named (heads.Command circuit command) body = Record.Command circuit (octet_of_command command)
+named (heads.Codec circuit codec payload_type) body = Record.Codec circuit (octet_of_codec codec) payload_type
 
 -- the record that stands first
 abbrev pub record_at : First → List ℕ → Record

@@ -2,6 +2,7 @@
 #![tactic(auto)]
 
 pub mod laws;
+mod octets;
 mod outcome;
 mod ports;
 mod reader;
@@ -9,6 +10,7 @@ mod records;
 mod streams;
 mod writing;
 
+pub use octets::{codec_of, command_of, octet_of_codec, octet_of_command};
 pub use outcome::{NO_TOTALS, RunFault, Totals, answer};
 pub use ports::{PortFault, Ports};
 pub use reader::{MAX_READS, Reader, read_behind};

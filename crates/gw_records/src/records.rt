@@ -1,11 +1,15 @@
 //! Records, and what stands first in octets.
 ghost use Rattle.std.specs.Prelude.{◌≡◌, ◌≢◌, ◌+◌, ◌<◌, ◌≤◌, ◌^◌};
-ghost use Rattle.std.specs.Prelude.{false, length, slice_index, Some, IfOk, IfErr};
-ghost use Rattle.gw_records.specs.Records.{IsFirst, head_of, end_of, body_len, record_of};
+ghost use Rattle.std.specs.Prelude.{false, length, slice_index, Some, SomeIff, IfOk, IfErr};
+ghost use Rattle.gw_records.specs.Records.{IsCircuit, IsFirst, head_of, end_of, body_len, record_of};
 ghost use Rattle.gw_records.specs.Records.{has_bad_kind, has_bad_circuit, has_bad_length, has_bad_command};
 
+use crate::octets::{codec_of, command_of};
 use arrayvec::ArrayVec;
 use byteorder::{BigEndian, ByteOrder};
+use g704_cas::CircuitNo;
+use g726_codec::CodecKind;
+use q421_line::Cmd;
 
 /// How many octets stand before the body of a record.
 pub const FRONT_LEN: usize = 4;
@@ -42,9 +46,9 @@ pub enum Ending {
 #[derive(Clone, Copy, Debug, PartialEq, Eq)]
 pub enum Head {
     Trunk,
-    Datagram(u8),
-    Command(u8, u8),
-    Codec(u8, u8, u8),
+    Datagram(CircuitNo),
+    Command(CircuitNo, Cmd),
+    Codec(CircuitNo, CodecKind, u8),
 }
 
 /// A whole record that stands first, and its length.
@@ -86,7 +90,7 @@ fn has_bad_circuit(held: &[u8]) -> bool
     if held[0] == TRUNK {
         circuit != 0
     } else {
-        circuit < 1 || circuit > 30
+        CircuitNo::new(circuit).is_none()
     }
 }
 
@@ -102,34 +106,23 @@ fn has_bad_length(held: &[u8]) -> bool
     }
 }
 
-#[tactic(auto, unfolding(crate::specs::Records::has_bad_command, crate::specs::Records::has_bad_length))]
-fn has_bad_command(held: &[u8]) -> bool
-    requires len { 4 ≤ length held.now }
-    requires one { has_bad_length held.now ≡ false }
-    requires whole { 4 + body_len held.now ≤ length held.now }
-    ensures { result ≡ has_bad_command held.now }
-{
-    match held[0] {
-        COMMAND => held[4] < 1 || held[4] > 6,
-        CODEC => held[4] < 1 || held[4] > 5 || held[5] > 127,
-        _ => false,
-    }
-}
-
-#[tactic(auto, unfolding(crate::specs::Records::head_of, crate::specs::Records::has_bad_length))]
-fn head_of(held: &[u8]) -> Head
-    requires len { 4 ≤ length held.now }
-    requires one { has_bad_length held.now ≡ false }
-    requires whole { 4 + body_len held.now ≤ length held.now }
+// What the first octets of a whole record say; `None` where they say what is no command or codec.
+#[tactic(auto, unfolding(crate::specs::Records::has_bad_command, crate::specs::Records::head_of))]
+fn head_of(held: &[u8]) -> Option<Head>
     requires kind { slice_index held.now 0 ≢ 0x54 → slice_index held.now 0 ≢ 0x44
         → slice_index held.now 0 ≢ 0x43 → slice_index held.now 0 ≡ 0x4B }
-    ensures { result ≡ head_of held.now }
+    requires circuit { slice_index held.now 0 ≢ 0x54 → IsCircuit (slice_index held.now 1) }
+    requires command { slice_index held.now 0 ≡ 0x43 → body_len held.now ≡ 1 }
+    requires codec { slice_index held.now 0 ≡ 0x4B → body_len held.now ≡ 2 }
+    requires whole { 4 + body_len held.now ≤ length held.now }
+    ensures { SomeIff result (has_bad_command held.now ≡ false) (head_of held.now) }
 {
     match held[0] {
-        TRUNK => Head::Trunk,
-        DATAGRAM => Head::Datagram(held[1]),
-        COMMAND => Head::Command(held[1], held[4]),
-        _ => Head::Codec(held[1], held[4], held[5]),
+        TRUNK => Some(Head::Trunk),
+        DATAGRAM => Some(Head::Datagram(CircuitNo::new(held[1])?)),
+        COMMAND => Some(Head::Command(CircuitNo::new(held[1])?, command_of(held[4])?)),
+        _ if held[5] > 127 => None,
+        _ => Some(Head::Codec(CircuitNo::new(held[1])?, codec_of(held[4])?, held[5])),
     }
 }
 
@@ -160,13 +153,8 @@ pub fn first_record(kinds: &Kinds, held: &[u8]) -> Result<First, Ending>
     if held.len() < len {
         return Err(Ending::Truncated);
     }
-    if has_bad_command(held) {
-        return Err(Ending::BadCommand);
-    }
-    Ok(First {
-        head: head_of(held),
-        len,
-    })
+    let head = head_of(held).ok_or(Ending::BadCommand)?;
+    Ok(First { head, len })
 }
 
 /// The record of a datagram that is sent.

@@ -1,29 +1,14 @@
 -- What a session of a gateway makes of its records, and what it writes for them (modules `acting`, `sending`
 -- and `service`).
-use Rattle.std.specs.Prelude.{◌==◌, ℕ, if◌then◌else◌, List, [], ◌∷◌, ◌++◌, length, take, drop, map}
+use Rattle.std.specs.Prelude.{ℕ, List, [], ◌∷◌, ◌++◌, length, take, drop, map}
 use Rattle.std.specs.Prelude.{Option, Some, None, Err}
 use Rattle.std.specs.List.{flat_map}
-use Rattle.q421_line.specs.declared.Cmd.{Cmd}
-use Rattle.q421_line.specs.declared.Cmd.TheVariants.{Seize, Clear, Answer, ClearBack, Block, Unblock}
 use Rattle.q421_line.specs.Commands.{fault_number}
-use Rattle.g726_codec.specs.declared.CodecKind.{CodecKind}
-use Rattle.g726_codec.specs.declared.CodecKind.TheVariants.{G711, G16, G24, G32, G40}
 use Rattle.gw_switch.specs.Events.{Event}
 use Rattle.gw_circuit.specs.Faults as refusals
 use Rattle.gw_switch.specs.Whole.{Reply}
+use Rattle.gw_records.specs.Octets.{command_of, codec_of}
 use Rattle.gw_records.specs.Records.{Record, record_of}
-
--- the command of an octet from 1 to 6
-abbrev pub command_of : ℕ → Cmd
-command_of octet =
-    if octet == 1 then Seize else (if octet == 2 then Clear else (if octet == 3 then Answer
-    else (if octet == 4 then ClearBack else (if octet == 5 then Block else Unblock))))
-
--- the codec of an octet from 1 to 5
-abbrev pub codec_of : ℕ → CodecKind
-codec_of octet =
-    if octet == 1 then G711 else (if octet == 2 then G16 else (if octet == 3 then G24
-    else (if octet == 4 then G32 else G40)))
 
 -- the events of a record
 abbrev pub events_of : Record → List Event

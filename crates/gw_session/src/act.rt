@@ -4,8 +4,7 @@ ghost use Rattle.byteorder.specs.Endian.{big_bytes};
 ghost use Rattle.gw_switch.specs.Events.{Event};
 ghost use Rattle.gw_switch.specs.Whole.{Reply};
 ghost use Rattle.gw_records.specs.Streams.{CanCount, Puts};
-ghost use Rattle.gw_records.specs.Records.{IsCircuit};
-ghost use Rattle.gw_session.specs.Answers.{command_of, codec_of, code_of};
+ghost use Rattle.gw_session.specs.Answers.{code_of};
 ghost use Rattle.gw_session.specs.Exchange.{Takes};
 
 use crate::exchange::{Session, give};
@@ -21,41 +20,6 @@ use q421_line::{Cmd, LineFault};
 
 // An answer to a record.
 const ANSWER: u8 = 0x52;
-
-// The number of a circuit.
-fn circuit_no(circuit: u8) -> CircuitNo
-    requires { IsCircuit circuit }
-    ensures { result ≡ circuit }
-{
-    CircuitNo::new(circuit).unwrap()
-}
-
-// The command of an octet from 1 to 6.
-fn command_of(octet: u8) -> Cmd
-    ensures { result ≡ command_of octet }
-{
-    match octet {
-        1 => Cmd::Seize,
-        2 => Cmd::Clear,
-        3 => Cmd::Answer,
-        4 => Cmd::ClearBack,
-        5 => Cmd::Block,
-        _ => Cmd::Unblock,
-    }
-}
-
-// The codec of an octet from 1 to 5.
-fn codec_of(octet: u8) -> CodecKind
-    ensures { result ≡ codec_of octet }
-{
-    match octet {
-        1 => CodecKind::G711,
-        2 => CodecKind::G16,
-        3 => CodecKind::G24,
-        4 => CodecKind::G32,
-        _ => CodecKind::G40,
-    }
-}
 
 // 0, or the number of a fault of the line.
 fn line_code(answer: Result<(), LineFault>) -> u8
@@ -78,19 +42,17 @@ fn codec_code(answer: Result<(), CodecFault>) -> u8
 }
 
 // Gives a command to its circuit, and returns 0 or the number of the refusal.
-fn give_command(gateway: &mut Gateway, circuit: u8, command: u8) -> u8
-    requires { IsCircuit circuit }
-    ensures { Takes gateway.old gateway.new (Event.Command circuit (command_of command)) result }
+fn give_command(gateway: &mut Gateway, circuit: CircuitNo, command: Cmd) -> u8
+    ensures { Takes gateway.old gateway.new (Event.Command circuit command) result }
 {
-    line_code(gateway.command(circuit_no(circuit), command_of(command)))
+    line_code(gateway.command(circuit, command))
 }
 
 // Gives a codec to its circuit, and returns 0 or the number of the refusal.
-fn give_codec(gateway: &mut Gateway, circuit: u8, codec: u8, payload_type: u8) -> u8
-    requires { IsCircuit circuit }
-    ensures { Takes gateway.old gateway.new (Event.Codec circuit (codec_of codec) payload_type) result }
+fn give_codec(gateway: &mut Gateway, circuit: CircuitNo, codec: CodecKind, payload_type: u8) -> u8
+    ensures { Takes gateway.old gateway.new (Event.Codec circuit codec payload_type) result }
 {
-    codec_code(gateway.codec(circuit_no(circuit), codec_of(codec), payload_type))
+    codec_code(gateway.codec(circuit, codec, payload_type))
 }
 
 // The front of a record of the trunk.
@@ -164,7 +126,7 @@ impl Session {
     // Counts a record, and puts the answer of a circuit to it.
     fn put_answer<K: Sink>(
         &mut self,
-        circuit: u8,
+        circuit: CircuitNo,
         kind: u8,
         code: u8,
         sink: &mut K,
@@ -177,7 +139,7 @@ impl Session {
         ensures room { vec_len self.new.room ≡ vec_len self.old.room }
     {
         self.totals.records = self.totals.records.saturating_add(1);
-        let octets = [ANSWER, circuit, 0, 2, kind, code];
+        let octets = [ANSWER, circuit.get(), 0, 2, kind, code];
         put_out(&octets, &mut self.waiting, self.at_once, sink)
     }
 
@@ -204,7 +166,7 @@ impl Session {
             Head::Trunk => self.act_on_trunk(gateway, outlet, body, sink, tape),
             Head::Datagram(circuit) => {
                 tape.put(head, body);
-                let code = give(gateway, circuit_no(circuit), body, &mut self.totals);
+                let code = give(gateway, circuit, body, &mut self.totals);
                 self.put_answer(circuit, DATAGRAM, code, sink)
             }
             Head::Command(circuit, command) => {

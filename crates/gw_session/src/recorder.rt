@@ -5,7 +5,10 @@ ghost use Rattle.gw_session.specs.Running.{all_kinds};
 
 use crate::tape::Tape;
 use byteorder::{BigEndian, ByteOrder};
-use gw_records::{CODEC, COMMAND, DATAGRAM, Head, Sink, TRUNK, TrunkRecord, write_all};
+use gw_records::{
+    CODEC, COMMAND, DATAGRAM, Head, Sink, TRUNK, TrunkRecord, octet_of_codec, octet_of_command,
+    write_all,
+};
 
 // Fills a record.
 fn fill(room: &mut TrunkRecord, kind: u8, circuit: u8, body: &[u8])
@@ -26,10 +29,13 @@ fn spell(room: &mut TrunkRecord, head: Head, body: &[u8])
 {
     match head {
         Head::Trunk => fill(room, TRUNK, 0, body),
-        Head::Datagram(circuit) => fill(room, DATAGRAM, circuit, body),
-        Head::Command(circuit, command) => fill(room, COMMAND, circuit, &[command]),
+        Head::Datagram(circuit) => fill(room, DATAGRAM, circuit.get(), body),
+        Head::Command(circuit, command) => {
+            fill(room, COMMAND, circuit.get(), &[octet_of_command(command)]);
+        }
         Head::Codec(circuit, codec, payload_type) => {
-            fill(room, CODEC, circuit, &[codec, payload_type]);
+            let octets = [octet_of_codec(codec), payload_type];
+            fill(room, CODEC, circuit.get(), &octets);
         }
     }
 }

@@ -75,7 +75,7 @@ fn record_datagram<T: Tape>(tape: &mut T, circuit: CircuitNo, octets: &[u8])
     if octets.len() > LONGEST {
         tape.end();
     } else {
-        tape.put(Head::Datagram(circuit.get()), octets);
+        tape.put(Head::Datagram(circuit), octets);
     }
 }
 

@@ -1,7 +1,10 @@
-use Rattle.std.proofs.Common.{refl, ap, ◌∙◌}
+use Rattle.std.proofs.Common.{refl, ap, ◌∙◌, ◌∷◌, []}
+use Rattle.q421_line.specs.declared.Cmd.{Cmd}
+use Rattle.g726_codec.specs.declared.CodecKind.{CodecKind}
 use Rattle.gw_switch.specs.Events.{Event}
 use Rattle.gw_records.specs.declared.outcome.Totals.{Totals}
-use Rattle.gw_session.specs.Answers.{command_of, codec_of}
+use Rattle.gw_records.specs.Octets.{octet_of_command, octet_of_codec}
+use Rattle.gw_records.proofs.Again.{command_again, codec_again}
 use Rattle.gw_session.specs.Exchange.{Takes}
 use Rattle.gw_session.specs.Serve.{Act, answer_to, packets_for, sent_with_octets, dropped_for}
 use Rattle.gw_session.proofs.Acts.{one_acts, counts_given}
@@ -12,8 +15,8 @@ unfolding answer_to packets_for sent_with_octets
 returns-in-Datagram-clause-acts g c =
     let circuit = c.in-Datagram.circuit in
     let body = c.args.body.now in
-    let given = rw c.circuit_no.ensures at c.give-code.ensures.given in
-    let code = rw c.circuit_no.ensures at c.give-code.ensures.code in
+    let given = c.give-code.ensures.given in
+    let code = c.give-code.ensures.code in
     let takes : Takes c.args.gateway.now c.give-code.new.gateway (Event.Datagram circuit body) c.give-code.result =
     λ config before h. ((given config before h).0, code config before h) in
     rw c.in-Datagram.is (one_acts _ _ _ _ c.args.self.now.totals c.put_answer.new.self.totals _ _ _ _ _ _
@@ -31,8 +34,8 @@ returns-in-Command-clause-acts g c =
     let circuit = c.in-Command.circuit in
     let command = c.in-Command.command in
     rw c.in-Command.is (one_acts _ _ _ _ c.args.self.now.totals c.put_answer-in-Command.new.self.totals _ _ _ _ _ _
-    (Act.Command circuit command)
-    (Event.Command circuit (command_of command)) circuit 0x43 _ c.put_answer-in-Command.result refl refl
+    (Act.Command circuit (octet_of_command command)) (Event.Command circuit command) circuit 0x43 _
+    c.put_answer-in-Command.result refl (ap (λ (x : Cmd). Event.Command circuit x ∷ []) (command_again command))
     (λ config before. refl) (λ config before. refl) (λ config before. refl) c.give_command-code.ensures
     (λ config before h. ap (λ (x : Totals). x.dropped) c.put_answer-in-Command.ensures.counts)
     (counts_given c.args.self.now.totals c.args.self.now.totals c.put_answer-in-Command.new.self.totals refl
@@ -45,8 +48,9 @@ returns-in-Codec-clause-acts g c =
     let codec = c.in-Codec.codec in
     let payload_type = c.in-Codec.payload_type in
     rw c.in-Codec.is (one_acts _ _ _ _ c.args.self.now.totals c.put_answer-in-Codec.new.self.totals _ _ _ _ _ _
-    (Act.Codec circuit codec payload_type)
-    (Event.Codec circuit (codec_of codec) payload_type) circuit 0x4B _ c.put_answer-in-Codec.result refl refl
+    (Act.Codec circuit (octet_of_codec codec) payload_type) (Event.Codec circuit codec payload_type) circuit 0x4B _
+    c.put_answer-in-Codec.result refl
+    (ap (λ (x : CodecKind). Event.Codec circuit x payload_type ∷ []) (codec_again codec))
     (λ config before. refl) (λ config before. refl) (λ config before. refl) c.give_codec-code.ensures
     (λ config before h. ap (λ (x : Totals). x.dropped) c.put_answer-in-Codec.ensures.counts)
     (counts_given c.args.self.now.totals c.args.self.now.totals c.put_answer-in-Codec.new.self.totals refl

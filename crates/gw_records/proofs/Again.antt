@@ -1,0 +1,45 @@
+-- Octets of commands and codecs, there and back.
+use Rattle.std.proofs.Common.{◌≡◌, ◌≤◌, ℕ, zero, suc, refl, arith}
+use Rattle.q421_line.specs.declared.Cmd.{Cmd}
+use Rattle.q421_line.specs.declared.Cmd.TheVariants as commands
+use Rattle.g726_codec.specs.declared.CodecKind.{CodecKind}
+use Rattle.g726_codec.specs.declared.CodecKind.TheVariants as codecs
+use Rattle.gw_records.specs.Octets.{command_of, octet_of_command, codec_of, octet_of_codec}
+
+-- the octet of a command is read as this command
+pub command_again : (command : Cmd) → command_of (octet_of_command command) ≡ command
+command_again commands.Seize = refl
+command_again commands.Clear = refl
+command_again commands.Answer = refl
+command_again commands.ClearBack = refl
+command_again commands.Block = refl
+command_again commands.Unblock = refl
+
+-- the octet of a codec is read as this codec
+pub codec_again : (codec : CodecKind) → codec_of (octet_of_codec codec) ≡ codec
+codec_again codecs.G711 = refl
+codec_again codecs.G16 = refl
+codec_again codecs.G24 = refl
+codec_again codecs.G32 = refl
+codec_again codecs.G40 = refl
+
+-- an octet from 1 to 6 is that of its command
+pub octet_of_command_again : (n : ℕ) → 1 ≤ n → n ≤ 6 → octet_of_command (command_of n) ≡ n
+octet_of_command_again (suc zero) p q = refl
+octet_of_command_again (suc (suc zero)) p q = refl
+octet_of_command_again (suc (suc (suc zero))) p q = refl
+octet_of_command_again (suc (suc (suc (suc zero)))) p q = refl
+octet_of_command_again (suc (suc (suc (suc (suc zero))))) p q = refl
+octet_of_command_again (suc (suc (suc (suc (suc (suc zero)))))) p q = refl
+octet_of_command_again zero p q = absurd (omega (arith, p))
+octet_of_command_again (suc (suc (suc (suc (suc (suc (suc n))))))) p q = absurd (omega (arith, q))
+
+-- an octet from 1 to 5 is that of its codec
+pub octet_of_codec_again : (n : ℕ) → 1 ≤ n → n ≤ 5 → octet_of_codec (codec_of n) ≡ n
+octet_of_codec_again (suc zero) p q = refl
+octet_of_codec_again (suc (suc zero)) p q = refl
+octet_of_codec_again (suc (suc (suc zero))) p q = refl
+octet_of_codec_again (suc (suc (suc (suc zero)))) p q = refl
+octet_of_codec_again (suc (suc (suc (suc (suc zero))))) p q = refl
+octet_of_codec_again zero p q = absurd (omega (arith, p))
+octet_of_codec_again (suc (suc (suc (suc (suc (suc n)))))) p q = absurd (omega (arith, q))
