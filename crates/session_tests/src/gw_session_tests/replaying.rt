@@ -56,32 +56,31 @@ fn replay_first(alloc: Global, session: &Session, most: usize) -> Result<Replaye
     replay(alloc, &mut gateway, session, most, 1)
 }
 
-// The session of a call of circuit 1, which is seized after octet 5168, with records after a later octet.
-fn call(
-    alloc: Global,
-    trunk: Trunk,
-    behind: u32,
-    records: &[u8],
-    end: u32,
-    most: u16,
-) -> Result<Session, AllocError>
+// The session of a call of circuit 1, which is seized after octet 5168.
+fn call(alloc: Global, trunk: Trunk, end: u32, most: u16) -> Result<Session, AllocError>
     requires { 0 < most }
 {
     let mut session = Session::new(alloc);
     session.add_trunk(trunk, 0, 5169, most)?;
     session.add(&SEIZE)?;
-    session.add_trunk(trunk, 5169, behind, most)?;
-    session.add(records)?;
-    session.add_trunk(trunk, behind, end, most)?;
+    session.add_trunk(trunk, 5169, end, most)?;
     Ok(session)
 }
 
-// .. with no record behind the first one, replayed.
+// .. with a codec record after octet 12000.
+fn call_with_codec(alloc: Global, codec: &[u8], end: u32) -> Result<Session, AllocError> {
+    let mut session = call(alloc, Trunk::FirstCall, 12_001, 65_535)?;
+    session.add(codec)?;
+    session.add_trunk(Trunk::FirstCall, 12_001, end, 65_535)?;
+    Ok(session)
+}
+
+// The first call, cut into records of a length and replayed.
 fn first_call_cut(alloc: Global, most: u16, given: usize) -> Result<Replayed, Fail>
     requires cut { 0 < most }
     requires given { 0 < given }
 {
-    let session = call(alloc, Trunk::FirstCall, 15_906, &[], 15_906, most)?;
+    let session = call(alloc, Trunk::FirstCall, 15_906, most)?;
     replay_first(alloc, &session, given)
 }
 
@@ -134,7 +133,7 @@ fn trunk_cut_otherwise(rt: HostRuntime) -> Result<(), Fail> {
 // heard while alignment is looked for, and the last is the call's again. They stand in the eighth datagram.
 #[test]
 fn inserted_octets(rt: HostRuntime) -> Result<(), Fail> {
-    let session = call(rt.alloc(), Trunk::Inserted, 57_000, &[], 57_000, 512)?;
+    let session = call(rt.alloc(), Trunk::Inserted, 57_000, 512)?;
     let call = replay_first(rt.alloc(), &session, 131_078)?;
     let datagrams = call.written.datagrams.as_slice();
     assert!(rt; datagrams.len() == 9 * 176);
@@ -165,7 +164,7 @@ fn longest_record(rt: HostRuntime) -> Result<(), Fail> {
 #[test]
 fn codec_changed_in_call(rt: HostRuntime) -> Result<(), Fail> {
     let codec = [0x4B, 0x01, 0x00, 0x02, 0x04, 0x60];
-    let session = call(rt.alloc(), Trunk::FirstCall, 12_001, &codec, 17_090, 65_535)?;
+    let session = call_with_codec(rt.alloc(), &codec, 17_090)?;
     let call = replay_first(rt.alloc(), &session, 131_078)?;
     assert!(rt;
         call.written.answers.as_slice()
@@ -187,7 +186,7 @@ fn codec_changed_in_call(rt: HostRuntime) -> Result<(), Fail> {
 #[test]
 fn codec_refused(rt: HostRuntime) -> Result<(), Fail> {
     let codec = [0x4B, 0x01, 0x00, 0x02, 0x04, 0x08];
-    let session = call(rt.alloc(), Trunk::FirstCall, 12_001, &codec, 15_906, 65_535)?;
+    let session = call_with_codec(rt.alloc(), &codec, 15_906)?;
     let call = replay_first(rt.alloc(), &session, 131_078)?;
     assert!(rt;
         call.written.answers.as_slice()
@@ -205,7 +204,7 @@ fn codec_refused(rt: HostRuntime) -> Result<(), Fail> {
 // all, and one of another payload type.
 #[test]
 fn refusals_when_full(rt: HostRuntime) -> Result<(), Fail> {
-    let mut session = call(rt.alloc(), Trunk::FirstCall, 10_801, &[], 10_801, 65_535)?;
+    let mut session = call(rt.alloc(), Trunk::FirstCall, 10_801, 65_535)?;
     for (payload_type, timestamp, len) in [
         (8, 0, 1600),
         (8, 1600, 1600),
