@@ -86,14 +86,8 @@ pub record RecordsBehind (tape tape' : TapeState) (heard : List ℕ) (recorded r
   pub within : recorded' ≤ length heard
   pub but : RecordedBut tape tape' (map Event.Octet (drop recorded heard) ++ happened) (drop recorded' heard)
 
--- datagrams of a circuit came, and were recorded behind octets that were heard
-abbrev pub ComesRecorded : PortsState → PortsState → Gateway → Gateway → Totals → Totals → Option ℕ
-    → TapeState → TapeState → List ℕ → ℕ → ℕ → Type 0
-ComesRecorded ports ports' gateway gateway' totals totals' circuit tape tape' heard recorded recorded' =
-    (c : Comes ports ports' gateway gateway' totals totals' circuit)
-    × RecordsBehind tape tape' heard recorded recorded' (coming (of_circuit circuit c.came))
-
--- .. of the circuit whose slot the next octet sends
+-- datagrams of the circuit whose slot the next octet sends came, and were recorded behind octets that were
+-- heard
 pub record ComesInTurn (ports ports' : PortsState) (gateway gateway' : Gateway) (totals totals' : Totals)
     (tape tape' : TapeState) (heard : List ℕ) (recorded recorded' : ℕ) : Type 0 where
   pub circuit : Option ℕ

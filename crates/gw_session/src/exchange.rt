@@ -1,11 +1,11 @@
 //! Octets of the trunk, and the datagrams that come and go with them.
-ghost use Rattle.std.specs.Prelude.{◌≡◌, ◌≤◌, ◌<◌, ◌^◌, ◌∷◌, List, [], length, Some};
+ghost use Rattle.std.specs.Prelude.{◌≡◌, ◌∷◌, List, [], Some};
 ghost use Rattle.gw_switch.specs.declared.GatewayConfig.{GatewayConfig};
 ghost use Rattle.gw_switch.specs.Events.{Event};
 ghost use Rattle.gw_switch.specs.Whole.{reply_to};
 ghost use Rattle.gw_switch.specs.Standing.{Stands};
 ghost use Rattle.gw_session.specs.Answers.{code_of};
-ghost use Rattle.gw_session.specs.Exchange.{IsGiven, ComesRecorded, ComesInTurn};
+ghost use Rattle.gw_session.specs.Exchange.{IsGiven};
 
 use crate::outlet::Outlet;
 use crate::tape::{Tape, record_arrival, record_octets};
@@ -34,66 +34,6 @@ pub fn give(gateway: &mut Gateway, circuit: CircuitNo, octets: &[u8], totals: &m
     }
 }
 
-// Receives the datagrams that wait at a circuit, four at most, records them behind the octets that were heard
-// and gives them to the gateway. Of these octets the first ones are recorded.
-#[inline]
-fn receive_some<O: Outlet, T: Tape>(
-    gateway: &mut Gateway,
-    outlet: &mut O,
-    circuit: CircuitNo,
-    room: &mut [u8],
-    totals: &mut Totals,
-    tape: &mut T,
-    heard: &[u8],
-    recorded: &mut usize,
-)
-    requires room { O.place ≤ length room.old }
-    requires short { length heard.now < 2 ^ 16 }
-    requires within { recorded.old ≤ length heard.now }
-    ensures comes { ComesRecorded (O.tells outlet.old) (O.tells outlet.new) gateway.old gateway.new
-        totals.old totals.new (Some circuit) (T.tells tape.old) (T.tells tape.new)
-        heard.now recorded.old recorded.new }
-{
-    'receiving: for _turn in 0..MOST_DATAGRAMS {
-        match outlet.arrives(circuit, room) {
-            Ok(Some(n)) => {
-                record_arrival(tape, &heard[*recorded..], circuit, &room[..n]);
-                *recorded = heard.len();
-                let _ = give(gateway, circuit, &room[..n], totals);
-            }
-            Ok(None) => return,
-            Err(_) => {
-                totals.port_faults = totals.port_faults.saturating_add(1);
-                return;
-            }
-        }
-    }
-}
-
-// Receives and records datagrams for the circuit whose slot the next octet sends.
-#[inline]
-fn receive_next<O: Outlet, T: Tape>(
-    gateway: &mut Gateway,
-    outlet: &mut O,
-    room: &mut [u8],
-    totals: &mut Totals,
-    tape: &mut T,
-    heard: &[u8],
-    recorded: &mut usize,
-)
-    requires room { O.place ≤ length room.old }
-    requires short { length heard.now < 2 ^ 16 }
-    requires within { recorded.old ≤ length heard.now }
-    ensures comes { ComesInTurn (O.tells outlet.old) (O.tells outlet.new) gateway.old gateway.new
-        totals.old totals.new (T.tells tape.old) (T.tells tape.new) heard.now recorded.old recorded.new }
-{
-    if let Some(circuit) = gateway.next_slot() {
-        receive_some(
-            gateway, outlet, circuit, room, totals, tape, heard, recorded,
-        );
-    }
-}
-
 /// What a session has done, what it is to write, and where it receives and makes what it sends.
 #[derive(Drop)]
 pub struct Session {
@@ -102,6 +42,8 @@ pub struct Session {
     pub answer: TrunkRecord,
     pub at_once: bool,
     datagram: Datagram,
+    // How many of the octets that are exchanged are recorded.
+    recorded: usize,
     room: Vec<u8>,
 }
 
@@ -109,7 +51,7 @@ impl Session {
     ghost use Rattle.std.specs.Prelude.{◌≡◌, ◌+◌, ◌<◌, ◌≤◌, ◌^◌, ◌++◌, [], length, vec_len, OnOk, OnErr};
     ghost use Rattle.gw_records.specs.Outcome.{nothing_counted};
     ghost use Rattle.gw_records.specs.Streams.{CanCount, Puts};
-    ghost use Rattle.gw_session.specs.Exchange.{SendsPacket, Hearing, Exchanging, ExchangingAll};
+    ghost use Rattle.gw_session.specs.Exchange.{ComesInTurn, SendsPacket, Hearing, ExchangingAll};
 
     /// Before the first record; a session that answers `at_once` lets nothing wait behind a record.
     pub fn new(room: Vec<u8>, at_once: bool) -> Session
@@ -123,6 +65,7 @@ impl Session {
             answer: TrunkRecord::new(),
             at_once,
             datagram: Datagram::new(),
+            recorded: 0,
             room,
         }
     }
@@ -179,41 +122,46 @@ impl Session {
         Ok(out.octet)
     }
 
-    // Hears an octet after the datagrams that wait at the circuit whose slot is sent with it, which are
-    // recorded behind the octets that were heard before. Returns the octet to send.
+    // Receives the datagrams that wait at the circuit whose slot the next octet sends, four at most, records
+    // them behind the octets that were heard and gives them to the gateway.
     #[inline]
-    fn exchange<O: Outlet, K: Sink, T: Tape>(
+    fn receive_next<O: Outlet, T: Tape>(
         &mut self,
         gateway: &mut Gateway,
         outlet: &mut O,
-        octet: u8,
-        sink: &mut K,
         tape: &mut T,
         heard: &[u8],
-        recorded: &mut usize,
-    ) -> Result<u8, RunFault>
+    )
         requires room { O.place ≤ vec_len self.old.room }
-        requires writes { CanCount (K.tells sink.old).failures }
         requires short { length heard.now < 2 ^ 16 }
-        requires within { recorded.old ≤ length heard.now }
-        ensures exchanges { Exchanging O.spells (O.tells outlet.old) (O.tells outlet.new)
-            gateway.old gateway.new self.old.totals self.new.totals (K.tells sink.old) (K.tells sink.new)
-            self.old.waiting.items self.new.waiting.items octet
-            (T.tells tape.old) (T.tells tape.new) heard.now recorded.old recorded.new result }
-        ensures answer { self.new.answer ≡ self.old.answer }
+        requires within { self.old.recorded ≤ length heard.now }
+        ensures comes { ComesInTurn (O.tells outlet.old) (O.tells outlet.new) gateway.old gateway.new
+            self.old.totals self.new.totals (T.tells tape.old) (T.tells tape.new)
+            heard.now self.old.recorded self.new.recorded }
         ensures room { vec_len self.new.room ≡ vec_len self.old.room }
+        ensures others { self.new ≡ record self.old {
+          totals = self.new.totals;
+          recorded = self.new.recorded;
+          room = self.new.room;
+        } }
     {
-        let room = self.room.as_mut_slice();
-        receive_next(
-            gateway,
-            outlet,
-            room,
-            &mut self.totals,
-            tape,
-            heard,
-            recorded,
-        );
-        self.hear(gateway, outlet, octet, sink)
+        let Some(circuit) = gateway.next_slot() else {
+            return;
+        };
+        'receiving: for _turn in 0..MOST_DATAGRAMS {
+            match outlet.arrives(circuit, self.room.as_mut_slice()) {
+                Ok(Some(n)) => {
+                    record_arrival(tape, &heard[self.recorded..], circuit, &self.room[..n]);
+                    self.recorded = heard.len();
+                    let _ = give(gateway, circuit, &self.room[..n], &mut self.totals);
+                }
+                Ok(None) => return,
+                Err(_) => {
+                    self.totals.port_faults = self.totals.port_faults.saturating_add(1);
+                    return;
+                }
+            }
+        }
     }
 
     /// Hears octets, each after the datagrams that wait at the circuit whose slot is sent with it, and puts
@@ -237,13 +185,14 @@ impl Session {
             self.old.answer.items self.new.answer.items (T.tells tape.old) (T.tells tape.new) result }
         ensures room { vec_len self.new.room ≡ vec_len self.old.room }
     {
-        let mut recorded = 0;
+        self.recorded = 0;
         for i in 0..octets.len() {
             let heard = &octets[..i];
-            let sent = self.exchange(gateway, outlet, octets[i], sink, tape, heard, &mut recorded)?;
+            self.receive_next(gateway, outlet, tape, heard);
+            let sent = self.hear(gateway, outlet, octets[i], sink)?;
             self.answer.push(sent);
         }
-        record_octets(tape, &octets[recorded..]);
+        record_octets(tape, &octets[self.recorded..]);
         Ok(())
     }
 }

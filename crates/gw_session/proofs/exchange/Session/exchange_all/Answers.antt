@@ -1,7 +1,10 @@
 use Rattle.std.proofs.Common.{◌≡◌, ◌+◌, ◌<◌, ◌≤◌, ◌++◌, ◌∷◌, [], ap, sym, refl, ◌∙◌, ℕ, List, length, take, drop}
-use Rattle.std.proofs.Common.{get_or, length-append, length-take-le, take-append-drop, arith}
+use Rattle.std.proofs.Common.{get_or, length-append, length-take-le, take-append-drop, Ok, Err, arith}
 use Rattle.std.proofs.lemmas.List.{take_rest, take_more}
 use Rattle.std.proofs.lemmas.Result.{err_from_is_err_and}
+use Rattle.std.specs.Prelude.{vec_len}
+use Rattle.gw_session.specs.declared.exchange.Session.{Session}
+use Rattle.gw_session.proofs.PacketsSent.{exchanging_is}
 use Rattle.gw_session.proofs.Exchanging.{heard_none, heard_more, heard_all, stops_after}
 use Rattle.gw_session.proofs.exchange.Session.exchange_all.Goals as goal
 
@@ -21,9 +24,11 @@ push-requires g c =
     let below : c.loop-i.i ≤ length c.args.octets.now = omega arith in
     let done : length (take c.loop-i.i c.args.octets.now) ≡ c.loop-i.i =
     length-take-le c.loop-i.i c.args.octets.now below in
-    let len : length c.exchange.new.self.answer.items ≡ length c.args.self.now.answer.items + length w.sent =
-    rw c.exchange.ensures.answer (ap length w.behind ∙ length-append c.args.self.now.answer.items w.sent) in
-    let room : length c.exchange.new.self.answer.items < 65539 =
+    let kept : c.hear.new.self.answer ≡ c.loop-i.self.answer = ap (λ (s : Session). s.answer) c.hear.ensures.others
+    ∙ ap (λ (s : Session). s.answer) c.receive_next.ensures.others in
+    let len : length c.hear.new.self.answer.items ≡ length c.args.self.now.answer.items + length w.sent =
+    rw kept (ap length w.behind ∙ length-append c.args.self.now.answer.items w.sent) in
+    let room : length c.hear.new.self.answer.items < 65539 =
     omega (arith, w.exchanges.lengths, c.requires.fits) in
     (omega arith, room)
 
@@ -33,7 +38,9 @@ returns-in_err-sent-clause-exchanges g c =
     let octets = c.args.octets.now in
     let i = c.loop-i.i in
     let p = err_from_is_err_and c.from_residual.result c.from_residual.ensures.1 in
-    let q = c.in_err-sent.ensures.exchanges in
+    let waits = ap (λ (s : Session). s.waiting.items) c.receive_next.ensures.others in
+    let q = exchanging_is _ _ _ _ _ _ _ c.hear.new.self.waiting.items _ (Err c.in_err-sent.field-0.0)
+    c.receive_next.ensures.comes (rw waits at c.in_err-sent.ensures.hears) in
     rw (p.1, p.2) (
       q.0,
       stops_after _ _ _ _ _ _ _ _ _ _ _ _ _ _ (take i octets) (get_or octets i 0 ∷ []) (drop (i + 1) octets) octets
@@ -41,14 +48,22 @@ returns-in_err-sent-clause-exchanges g c =
     )
 
 pub loop-i-preserved : goal.loop-i-preserved
-loop-i-preserved g c = record {
-  heard = heard_more c.args.octets.now c.loop-i.i c.loop-i.recorded _ c.in_ok-sent.sent c.loop-i.invariant.heard
-      c.loop-i-test.true c.in_ok-sent.ensures.exchanges (rw c.exchange.ensures.answer at c.push.ensures.items);
-  room = c.exchange.ensures.room ∙ c.loop-i.invariant.room;
-}
+loop-i-preserved g c =
+    let waits = ap (λ (s : Session). s.waiting.items) c.receive_next.ensures.others in
+    let kept : c.hear.new.self.answer ≡ c.loop-i.self.answer = ap (λ (s : Session). s.answer) c.hear.ensures.others
+    ∙ ap (λ (s : Session). s.answer) c.receive_next.ensures.others in
+    let same = ap (λ (s : Session). s.recorded) c.hear.ensures.others in
+    let q = exchanging_is _ _ _ _ _ _ _ _ _ (Ok c.in_ok-sent.sent) c.receive_next.ensures.comes
+    (rw waits at c.in_ok-sent.ensures.hears) in
+    record {
+      heard = rw same (heard_more c.args.octets.now c.loop-i.i c.loop-i.self.recorded _ c.in_ok-sent.sent
+          c.loop-i.invariant.heard c.loop-i-test.true q (rw kept at c.push.ensures.items));
+      room = ap (λ (s : Session). vec_len s.room) c.hear.ensures.others ∙ c.receive_next.ensures.room
+          ∙ c.loop-i.invariant.room;
+    }
 
 pub returns-clause-exchanges : goal.returns-clause-exchanges
 returns-clause-exchanges g c =
     let end : c.loop-i.i ≡ length c.args.octets.now = omega (arith, c.loop-i-test.false, c.loop-i.auto.i-end) in
-    heard_all c.args.octets.now _ c.loop-i.i c.loop-i.recorded c.loop-i.invariant.heard end
-    (take_rest c.args.octets.now c.loop-i.recorded) c.record_octets.ensures
+    heard_all c.args.octets.now _ c.loop-i.i c.loop-i.self.recorded c.loop-i.invariant.heard end
+    (take_rest c.args.octets.now c.loop-i.self.recorded) c.record_octets.ensures

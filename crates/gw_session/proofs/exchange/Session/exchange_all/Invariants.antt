@@ -8,7 +8,7 @@ invariant-loop-i g l = record {
   heard : HeardSo g.O.Outlet.spells (g.O.Outlet.tells l.initial.outlet) (g.O.Outlet.tells l.outlet)
       l.initial.gateway l.gateway l.initial.self.totals l.self.totals
       (g.K.Sink.tells l.initial.sink) (g.K.Sink.tells l.sink) l.initial.self.waiting.items l.self.waiting.items
-      l.octets l.i l.recorded l.initial.self.answer.items l.self.answer.items
+      l.octets l.i l.self.recorded l.initial.self.answer.items l.self.answer.items
       (g.T.Tape.tells l.initial.tape) (g.T.Tape.tells l.tape);
   room : vec_len l.self.room ≡ vec_len l.initial.self.room;
 }
