@@ -1,0 +1,31 @@
+-- What is left of a number without a part of it.
+use Rattle.std.proofs.Common.{ℕ, ◌≤◌, ◌/◌, ℤ, pos, negsuc, ◌-ℤ◌, ◌≤ℤ◌, w16, w32, SFits, arith}
+use Rattle.std.proofs.lemmas.Int.{ints}
+use Rattle.std.proofs.Math.Nat.{div-le_self}
+use lib.Signed.{shr_z}
+
+-- the part and what is left have 32 bits, and what is left is at most 32767 on either side
+pub record Left (z : ℤ) (divisor : ℕ) : Type 0 where
+  pub part : SFits w32 (shr_z z divisor)
+  pub fits : SFits w32 (z -ℤ shr_z z divisor)
+  pub low : negsuc 32767 ≤ℤ (z -ℤ shr_z z divisor)
+  pub high : (z -ℤ shr_z z divisor) ≤ℤ pos 32767
+
+-- so it is of a number of 16 bits
+pub left : (z : ℤ) (divisor : ℕ) → SFits w16 z → Left z divisor
+left (pos a) n h =
+    let less : a / n ≤ a = div-le_self a n in
+    record {
+      part = omega (arith, ints, less);
+      fits = omega (arith, ints, less);
+      low = omega (arith, ints, less);
+      high = omega (arith, ints, less);
+    }
+left (negsuc a) n h =
+    let less : a / n ≤ a = div-le_self a n in
+    record {
+      part = omega (arith, ints, less);
+      fits = omega (arith, ints, less);
+      low = omega (arith, ints, less);
+      high = omega (arith, ints, less);
+    }
