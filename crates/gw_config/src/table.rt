@@ -15,6 +15,7 @@ use crate::keys::{choice_at, has_only, integer_at, look_up, whole_at, words_at};
 use crate::names::{
     DEFAULT_PTIME, DEFAULT_ROLE, LOOPBACK, fixed_type, goes_with, payload_of, ptime_of,
 };
+use crate::parts::{Ends, Entry, Speech, Stream};
 use e1_g711::Law;
 use g726_codec::{CodecKind, CodecName};
 use gw_circuit::CircuitConfig;
@@ -38,46 +39,6 @@ const CIRCUIT_KEYS: [&str; 12] = [
 
 // The greatest `prefill`, in samples: that of a circuit's playout.
 const MAX_PREFILL: u32 = 1600;
-
-/// Which circuit a table is of, and how its speech is coded.
-#[derive(Clone, Copy)]
-pub(crate) struct Speech {
-    /// 1 to 30.
-    pub number: u8,
-    pub role: Role,
-    pub name: CodecName,
-    /// At most 127.
-    pub payload_type: u8,
-}
-
-/// How the datagrams of a circuit are made and played out.
-#[derive(Clone, Copy)]
-pub(crate) struct Stream {
-    /// 10, 20 or 30 ms.
-    pub ptime: u8,
-    /// 0 to 1600 samples.
-    pub prefill: u16,
-    pub ssrc: u32,
-    pub sequence: u16,
-    pub timestamp: u32,
-}
-
-/// Where the datagrams of a circuit come in and go, before the text of the host is copied.
-#[derive(Clone, Copy)]
-pub(crate) struct Ends<'a> {
-    pub local_port: u16,
-    pub peer_host: &'a str,
-    pub peer_port: u16,
-}
-
-/// What a table says.
-#[derive(Clone, Copy)]
-pub(crate) struct Entry<'a> {
-    /// 1 to 30.
-    pub number: u8,
-    pub settings: CircuitConfig,
-    pub ports: Option<Ends<'a>>,
-}
 
 // The payload type of a codec: that of the table, or the codec's own.
 #[tactic(auto, unfolding(crate::specs::Keys::value_at))]
@@ -105,9 +66,7 @@ fn ptime_at(table: &Table) -> Result<u8, Kind>
 
 #[tactic(auto, unfolding(crate::specs::Meaning::speech_of))]
 fn speech_of(law: Law, table: &Table) -> Result<Speech, Kind>
-    ensures value { read_as speech_view result ≡ speech_of law (table_view table.now) }
-    ensures payload { IfOk result (λ s. s.payload_type ≤ 127) }
-    ensures number { IfOk result (λ s. s.number ≤ 30) }
+    ensures { read_as speech_view result ≡ speech_of law (table_view table.now) }
 {
     let number = whole_at(table, "number", 1, 30, None)? as u8;
     let role = choice_at(table, "role", Some(DEFAULT_ROLE))?;
@@ -124,9 +83,7 @@ fn speech_of(law: Law, table: &Table) -> Result<Speech, Kind>
 // The SSRC of a circuit is by default its number; all else that is counted begins at 0.
 #[tactic(auto, unfolding(crate::specs::Meaning::stream_of))]
 fn stream_of(number: u8, table: &Table) -> Result<Stream, Kind>
-    ensures value { read_as stream_view result ≡ stream_of number (table_view table.now) }
-    ensures ptime { IfOk result (λ s. IsPacketTime s.ptime) }
-    ensures prefill { IfOk result (λ s. s.prefill ≤ 1600) }
+    ensures { read_as stream_view result ≡ stream_of number (table_view table.now) }
 {
     let ptime = ptime_at(table)?;
     let prefill = whole_at(table, "prefill", 0, MAX_PREFILL, Some(0))? as u16;
@@ -183,9 +140,6 @@ fn ports_at<'a>(table: &'a Table) -> Result<Option<Ends<'a>>, Kind>
 
 // A circuit's settings, whose values were tested when they were read.
 fn settings(speech: &Speech, stream: &Stream) -> CircuitConfig
-    requires payload { speech.now.payload_type ≤ 127 }
-    requires ptime { IsPacketTime stream.now.ptime }
-    requires prefill { stream.now.prefill ≤ 1600 }
     ensures { settings_view result ≡ settings (speech_view speech.now) (stream_view stream.now) }
 {
     CircuitConfig::new(
