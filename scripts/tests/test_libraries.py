@@ -156,14 +156,15 @@ class Libraries(Tree):
 
 class Ahead(unittest.TestCase):
     def test_longest_chain(self) -> None:
-        """The next crate of the longest chain gets its jobs though others use all lanes; no other crate does."""
+        """The next crate of the longest chain has two jobs, whatever else runs; others one, until they are the last."""
         module = loaded()
         uses = {'low': [], 'middle': ['low'], 'top': ['middle'], 'other': [], 'more': ['low']}
         chain = {'low': 30, 'middle': 20, 'top': 10, 'other': 9, 'more': 8}
         for done, lanes, begun in [([], 2, {'low': 2}), (['low'], 4, {'middle': 2, 'other': 1, 'more': 1}),
                                    (['low'], 1, {'middle': 2}), (['low', 'middle', 'other', 'more'], 4, {'top': 4})]:
             with self.subTest(done=done, lanes=lanes):
-                state = module.State([it for it in chain if it not in done], lanes, 5, chain, 2, done=set(done))
+                left = [it for it in chain if it not in done]
+                state = module.State(left, lanes, 5, chain, dict.fromkeys(chain, 0), 2, done=set(done))
                 module.start = lambda name, jobs, _uses, _state: _state.running.update(
                     {name: module.Run(None, jobs, None)})
                 module.start_ready(uses, state)
