@@ -27,7 +27,7 @@ use Rattle.gw_records.specs.Ports.{Waiting, counted}
 use Rattle.gw_session.specs.Serve.{Act, Turn, told, octet_of, turns_of, turns, events_in, events_through}
 use Rattle.gw_session.specs.Serve.{events_of_turn}
 use Rattle.gw_session.specs.Serve.{events_of_turns, of_circuit, coming, first_four, behind_four, FirstFour}
-use Rattle.gw_session.specs.Serve.{Stop, Trades, LeavesOut, packets_for, octets_for}
+use Rattle.gw_session.specs.Serve.{Stop, Trades, LeavesOut, packets_for, given_by}
 use Rattle.gw_session.specs.Serve.{dropped_for, answer_to, Does}
 use Rattle.gw_session.specs.Tape.{TapeState}
 use Rattle.gw_session.specs.Exchange.{spelled_for, written_for, written_by, Through, CutThrough, Begun}
@@ -132,7 +132,7 @@ packets_put (p ∷ ps) = ap (λ (xs : List ℕ). record_of 0x44 p.0 p.1 ++ xs) (
 act_written : (config : GatewayConfig) (before : List Event) (act : Act) → Plain (turns_of act)
     → written_for in_record config before act
     ≡ flat_map written_out (answers.answers (told act) (whole_from config before (answers.events_of (told act))))
-unfolding written_for spelled_for answer_to packets_for octets_for
+unfolding written_for spelled_for answer_to given_by
 act_written config before (Act.Trunk ts) p =
     let replies = whole_from config before (map Event.Octet (map octet_of ts)) in
     let packets = flat_map packets_in replies in
@@ -196,7 +196,7 @@ all_went n xs ys e p =
 plain_totals : (g g' : Gateway) (t : Totals) (acts : List Act) → Does no_ports no_ports g g' t acts → Plain (turns acts)
     → (config : GatewayConfig) (before : List Event) → Stands config g before
     → t ≡ run_totals (map told acts) (replies_to config before (map told acts))
-unfolding packets_for dropped_for
+unfolding given_by dropped_for
 plain_totals g g' t acts d plain config before at =
     let h = d.goes.hears config before at in
     let k = d.goes.trades in

@@ -1,7 +1,6 @@
 -- What a session of a gateway makes of its records, and what it writes for them (modules `acting`, `sending`
 -- and `service`).
-use Rattle.std.specs.Prelude.{ℕ, List, [], ◌∷◌, ◌++◌, length, take, drop, map}
-use Rattle.std.specs.Prelude.{Option, Some, None, Err}
+use Rattle.std.specs.Prelude.{ℕ, List, [], ◌∷◌, ◌++◌, length, take, drop, map, Option, Some, None, Err}
 use Rattle.std.specs.List.{flat_map}
 use Rattle.q421_line.specs.Commands.{fault_number}
 use Rattle.gw_switch.specs.Events.{Event}

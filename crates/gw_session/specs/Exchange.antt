@@ -1,13 +1,12 @@
 -- What the parts of a session do, for the private functions of modules `exchange`, `act` and `attend`.
-use Rattle.std.specs.Prelude.{◌≡◌, ◌⊎◌, ◌<◌, ◌≤◌, ◌++◌, ℕ, List, [], ◌∷◌, length, map, drop, Option}
-use Rattle.std.specs.Prelude.{Bool, Some}
-use Rattle.std.specs.Prelude.{Result, MatchResult}
+use Rattle.std.specs.Prelude.{◌≡◌, ◌⊎◌, ◌<◌, ◌≤◌, ◌++◌, ℕ, List, [], ◌∷◌, length, map, drop, Option, Bool}
+use Rattle.std.specs.Prelude.{Some, Result, MatchResult}
 use Rattle.std.specs.List.{flat_map}
 use Rattle.gw_switch.specs.declared.GatewayConfig.{GatewayConfig}
 use Rattle.gw_switch.specs.declared.gateway.Gateway.{Gateway}
 use Rattle.gw_switch.specs.Events.{Event, octets}
 use Rattle.gw_switch.specs.Standing.{Stands}
-use Rattle.gw_switch.specs.Whole.{reply_to, next_circuit}
+use Rattle.gw_switch.specs.Whole.{reply_to, octet_reply, next_circuit}
 use Rattle.gw_records.specs.declared.outcome.Totals.{Totals}
 use Rattle.gw_records.specs.declared.outcome.RunFault.{RunFault}
 use Rattle.gw_records.specs.declared.outcome.RunFault.TheVariants.{Write}
@@ -18,10 +17,9 @@ use Rattle.gw_session.specs.Outlet.{Spells}
 use Rattle.gw_records.specs.Ports.{Waiting, PortsState, IfKnown, Grows, TakesOut, KeepsSends, KeepsReceives}
 use Rattle.gw_records.specs.Ports.{counted}
 use Rattle.gw_session.specs.Serve.{Act, Turn, told, octet_of, turns_of, events_in, events_of_turns, answer_to}
-use Rattle.gw_session.specs.Serve.{Goes, Trades, Stop, StopsSo, as_call, receives_of, send_of}
-use Rattle.gw_session.specs.Serve.{sent_with_octets}
-use Rattle.gw_session.specs.Serve.{of_circuit, coming, first_four, behind_four}
-use Rattle.gw_session.specs.Serve.{LeavesOut, packets_for, octets_for, dropped_for, Does, events_through}
+use Rattle.gw_session.specs.Serve.{Goes, Trades, Stop, StopsSo, as_call, receives_of, send_of, of_circuit}
+use Rattle.gw_session.specs.Serve.{coming, first_four, behind_four, LeavesOut, packets_for, octets_for}
+use Rattle.gw_session.specs.Serve.{dropped_for, Does, events_through}
 use Rattle.gw_session.specs.Tape.{TapeState, Recorded, RecordedBut}
 
 -- the gateway took an event, and the number of its reply is this
@@ -61,9 +59,18 @@ abbrev pub FourCome : Option Waiting → Option Waiting → Option ℕ → List 
 FourCome old new circuit came = IfKnown old new
     (λ v w. (came ≡ first_four v circuit) × ((c : ℕ) → w c ≡ behind_four v circuit c))
 
--- datagrams of a circuit came from the ports and were given to the gateway
-pub record Comes (ports ports' : PortsState) (gateway gateway' : Gateway) (totals totals' : Totals)
-    (circuit : Option ℕ) : Type 0 where
+-- Of octets that were heard the first ones are recorded, as many as this says; datagrams came, and all was
+-- recorded but for the octets that are still behind those.
+pub record RecordsBehind (tape tape' : TapeState) (heard : List ℕ) (recorded recorded' : ℕ)
+    (happened : List Event) : Type 0 where
+  pub within : recorded' ≤ length heard
+  pub but : RecordedBut tape tape' (map Event.Octet (drop recorded heard) ++ happened) (drop recorded' heard)
+
+-- datagrams of the circuit whose slot the next octet sends came from the ports, were recorded behind octets
+-- that were heard and were given to the gateway
+pub record ComesInTurn (ports ports' : PortsState) (gateway gateway' : Gateway) (totals totals' : Totals)
+    (tape tape' : TapeState) (heard : List ℕ) (recorded recorded' : ℕ) : Type 0 where
+  pub circuit : Option ℕ
   pub came : List (List ℕ)
   pub few : length came ≤ 4
   pub stop : Stop
@@ -78,21 +85,7 @@ pub record Comes (ports ports' : PortsState) (gateway gateway' : Gateway) (total
   pub datagrams : totals'.datagrams ≡ totals.datagrams
   pub kept : KeepsRecords totals totals'
   pub given : IsGiven gateway gateway' totals totals' (of_circuit circuit came)
-
--- Of octets that were heard the first ones are recorded, as many as this says; datagrams came, and all was
--- recorded but for the octets that are still behind those.
-pub record RecordsBehind (tape tape' : TapeState) (heard : List ℕ) (recorded recorded' : ℕ)
-    (happened : List Event) : Type 0 where
-  pub within : recorded' ≤ length heard
-  pub but : RecordedBut tape tape' (map Event.Octet (drop recorded heard) ++ happened) (drop recorded' heard)
-
--- datagrams of the circuit whose slot the next octet sends came, and were recorded behind octets that were
--- heard
-pub record ComesInTurn (ports ports' : PortsState) (gateway gateway' : Gateway) (totals totals' : Totals)
-    (tape tape' : TapeState) (heard : List ℕ) (recorded recorded' : ℕ) : Type 0 where
-  pub circuit : Option ℕ
-  pub comes : Comes ports ports' gateway gateway' totals totals' circuit
-  pub records : RecordsBehind tape tape' heard recorded recorded' (coming (of_circuit circuit comes.came))
+  pub records : RecordsBehind tape tape' heard recorded recorded' (coming (of_circuit circuit came))
   pub in_turn : (config : GatewayConfig) (before : List Event) → Stands config gateway before
       → circuit ≡ next_circuit (length (octets before))
 
@@ -120,10 +113,8 @@ pub record Answers (spells : Spells) (ports ports' : PortsState) (gateway gatewa
     pub packet : Option (ℕ × List ℕ)
     pub sends : SendsPacket ports ports' totals totals' packet
     pub hears : (config : GatewayConfig) (before : List Event) → Stands config gateway before
-        → (Stands config gateway' (before ++ Event.Octet octet ∷ []))
-        × (packets_for config before (Event.Octet octet ∷ []) ≡ packet_in packet)
-        × (octets_for config before (Event.Octet octet ∷ []) ≡ sent ∷ [])
-        × (sent_with_octets config before (Event.Octet octet ∷ []) ≡ packet ∷ [])
+        → Stands config gateway' (before ++ Event.Octet octet ∷ [])
+        × (octet_reply config before octet ≡ record { octet = sent; packet = packet })
     pub passes : Passes sink.taken sink'.taken waiting' (waiting ++ flat_map spells (packet_in packet))
     pub no_failure : sink'.failures ≡ sink.failures
 
@@ -134,8 +125,8 @@ pub record Misses (spells : Spells) (ports ports' : PortsState) (gateway gateway
   pub some : 0 < length (spells packet)
   pub kept : ports' ≡ ports
   pub hears : (config : GatewayConfig) (before : List Event) → Stands config gateway before
-      → (Stands config gateway' (before ++ Event.Octet octet ∷ []))
-      × (packets_for config before (Event.Octet octet ∷ []) ≡ packet ∷ [])
+      → Stands config gateway' (before ++ Event.Octet octet ∷ [])
+      × ((octet_reply config before octet).packet ≡ Some packet)
   pub breaks : Breaks sink sink' (waiting ++ spells packet)
 
 abbrev pub Hearing : Spells → PortsState → PortsState → Gateway → Gateway → Totals → Totals → SinkState
@@ -179,17 +170,6 @@ pub record StopsAt (spells : Spells) (ports ports' : PortsState) (gateway gatewa
   pub packet : ℕ × List ℕ
   pub some : 0 < length (spells packet)
 
--- one octet, which with the datagrams before it was recorded but for the last octets
-abbrev pub Exchanging : Spells → PortsState → PortsState → Gateway → Gateway → Totals → Totals → SinkState
-    → SinkState → List ℕ → List ℕ → ℕ → TapeState → TapeState → List ℕ → ℕ → ℕ → Result ℕ RunFault → Type 0
-Exchanging spells ports ports' gateway gateway' totals totals' sink sink' waiting waiting' octet tape tape'
-    heard recorded recorded' result = MatchResult result
-    (λ sent. (x : Exchanges spells ports ports' gateway gateway' totals totals' sink sink' waiting waiting'
-    (octet ∷ []) (sent ∷ []))
-    × (recorded' ≤ length heard) × RecordedBut tape tape'
-    (map Event.Octet (drop recorded heard) ++ events_of_turns x.turns) (drop recorded' heard ++ octet ∷ []))
-    (λ e. (e ≡ Write) × StopsAt spells ports ports' gateway gateway' sink sink' waiting (octet ∷ []))
-
 -- octets, those to send behind those of the answer; they and the datagrams that came were recorded
 abbrev pub ExchangingAll : Spells → PortsState → PortsState → Gateway → Gateway → Totals → Totals → SinkState
     → SinkState → List ℕ → List ℕ → List ℕ → List ℕ → List ℕ → TapeState → TapeState → Result (Unit {0})
@@ -201,9 +181,10 @@ ExchangingAll spells ports ports' gateway gateway' totals totals' sink sink' wai
     sent) × (answer' ≡ answer ++ sent) × Recorded tape tape' (events_of_turns x.turns))
     (λ e. (e ≡ Write) × StopsAt spells ports ports' gateway gateway' sink sink' waiting octets)
 
--- datagrams came so far, with no failed receive
+-- datagrams came so far, with no failed receive, and were recorded behind octets that were heard
 pub record Receiving (ports ports' : PortsState) (gateway gateway' : Gateway) (totals totals' : Totals)
-    (circuit : ℕ) (came : List (List ℕ)) : Type 0 where
+    (circuit : ℕ) (came : List (List ℕ)) (tape tape' : TapeState) (heard : List ℕ) (recorded recorded' : ℕ)
+    : Type 0 where
   pub gave : Grows ports.given ports'.given (of_circuit (Some circuit) came)
   pub calls : Grows ports.calls ports'.calls (map as_call (of_circuit (Some circuit) came))
   pub waits : TakesOut ports.waiting ports'.waiting circuit came
@@ -211,13 +192,6 @@ pub record Receiving (ports ports' : PortsState) (gateway gateway' : Gateway) (t
   pub no_sends : KeepsSends ports ports'
   pub others : totals' ≡ record totals { dropped = totals'.dropped }
   pub given : IsGiven gateway gateway' totals totals' (of_circuit (Some circuit) came)
-
--- .. and were recorded behind octets that were heard
-pub record ReceivingRecorded (ports ports' : PortsState) (gateway gateway' : Gateway)
-    (totals totals' : Totals)
-    (circuit : ℕ) (came : List (List ℕ)) (tape tape' : TapeState) (heard : List ℕ) (recorded recorded' : ℕ)
-    : Type 0 where
-  pub receiving : Receiving ports ports' gateway gateway' totals totals' circuit came
   pub records : RecordsBehind tape tape' heard recorded recorded' (coming (of_circuit (Some circuit) came))
 
 -- a record was acted on: the gateway and the ports went through its act, which was recorded, and the totals

@@ -11,8 +11,7 @@ use Rattle.gw_session.specs.Answers.{Written, written_out, answers, answered, tr
 use Rattle.gw_session.specs.Answers as records_of
 use Rattle.gw_session.specs.Running.{all_kinds, replies_to}
 use Rattle.gw_session.specs.Serve.{Act, told, events_through, events_in, events_of_turns, octets_for}
-use Rattle.gw_session.specs.Serve.{packets_for}
-use Rattle.gw_session.specs.Serve.{written}
+use Rattle.gw_session.specs.Serve.{packets_for, written}
 use Rattle.gw_session.specs.Tape.{TapeState, Recorded}
 
 -- What was recorded is read as records whose events are the first of those that happened; where the tape has

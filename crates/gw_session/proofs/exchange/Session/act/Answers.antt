@@ -6,12 +6,12 @@ use Rattle.gw_records.specs.declared.outcome.Totals.{Totals}
 use Rattle.gw_records.specs.Octets.{octet_of_command, octet_of_codec}
 use Rattle.gw_records.proofs.Again.{command_again, codec_again}
 use Rattle.gw_session.specs.Exchange.{Takes}
-use Rattle.gw_session.specs.Serve.{Act, answer_to, packets_for, sent_with_octets, dropped_for}
+use Rattle.gw_session.specs.Serve.{Act, answer_to, given_by, dropped_for}
 use Rattle.gw_session.proofs.Acts.{one_acts, counts_given}
 use Rattle.gw_session.proofs.exchange.Session.act.Goals as goal
 
 pub returns-in-Datagram-clause-acts : goal.returns-in-Datagram-clause-acts
-unfolding answer_to packets_for sent_with_octets
+unfolding answer_to given_by
 returns-in-Datagram-clause-acts g c =
     let circuit = c.in-Datagram.circuit in
     let body = c.args.body.now in
@@ -29,7 +29,7 @@ returns-in-Datagram-clause-acts g c =
     c.put_answer.ensures.puts c.put.ensures)
 
 pub returns-in-Command-clause-acts : goal.returns-in-Command-clause-acts
-unfolding answer_to packets_for sent_with_octets dropped_for
+unfolding answer_to given_by dropped_for
 returns-in-Command-clause-acts g c =
     let circuit = c.in-Command.circuit in
     let command = c.in-Command.command in
@@ -42,7 +42,7 @@ returns-in-Command-clause-acts g c =
     c.put_answer-in-Command.ensures.counts) c.put_answer-in-Command.ensures.puts c.put-in-Command.ensures)
 
 pub returns-in-Codec-clause-acts : goal.returns-in-Codec-clause-acts
-unfolding answer_to packets_for sent_with_octets dropped_for
+unfolding answer_to given_by dropped_for
 returns-in-Codec-clause-acts g c =
     let circuit = c.in-Codec.circuit in
     let codec = c.in-Codec.codec in

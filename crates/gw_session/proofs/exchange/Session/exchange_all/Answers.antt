@@ -1,10 +1,10 @@
 use Rattle.std.proofs.Common.{◌≡◌, ◌+◌, ◌<◌, ◌≤◌, ◌++◌, ◌∷◌, [], ap, sym, refl, ◌∙◌, ℕ, List, length, take, drop}
-use Rattle.std.proofs.Common.{get_or, length-append, length-take-le, take-append-drop, Ok, Err, arith}
+use Rattle.std.proofs.Common.{get_or, length-append, length-take-le, take-append-drop, arith}
 use Rattle.std.proofs.lemmas.List.{take_rest, take_more}
 use Rattle.std.proofs.lemmas.Result.{err_from_is_err_and}
 use Rattle.std.specs.Prelude.{vec_len}
 use Rattle.gw_session.specs.declared.exchange.Session.{Session}
-use Rattle.gw_session.proofs.PacketsSent.{exchanging_is}
+use Rattle.gw_session.proofs.PacketsSent.{exchange_is, stops_once}
 use Rattle.gw_session.proofs.Exchanging.{heard_none, heard_more, heard_all, stops_after}
 use Rattle.gw_session.proofs.exchange.Session.exchange_all.Goals as goal
 
@@ -29,22 +29,20 @@ push-requires g c =
     let len : length c.hear.new.self.answer.items ≡ length c.args.self.now.answer.items + length w.sent =
     rw kept (ap length w.behind ∙ length-append c.args.self.now.answer.items w.sent) in
     let room : length c.hear.new.self.answer.items < 65539 =
-    omega (arith, w.exchanges.lengths, c.requires.fits) in
+    omega (arith, w.so.0.lengths, c.requires.fits) in
     (omega arith, room)
 
 pub returns-in_err-sent-clause-exchanges : goal.returns-in_err-sent-clause-exchanges
 returns-in_err-sent-clause-exchanges g c =
-    let w = c.loop-i.invariant.heard in
     let octets = c.args.octets.now in
     let i = c.loop-i.i in
     let p = err_from_is_err_and c.from_residual.result c.from_residual.ensures.1 in
     let waits = ap (λ (s : Session). s.waiting.items) c.receive_next.ensures.others in
-    let q = exchanging_is _ _ _ _ _ _ _ c.hear.new.self.waiting.items _ (Err c.in_err-sent.field-0.0)
-    c.receive_next.ensures.comes (rw waits at c.in_err-sent.ensures.hears) in
+    let hears = rw waits at c.in_err-sent.ensures.hears in
     rw (p.1, p.2) (
-      q.0,
-      stops_after _ _ _ _ _ _ _ _ _ _ _ _ _ _ (take i octets) (get_or octets i 0 ∷ []) (drop (i + 1) octets) octets
-          w.sent (split_at octets i c.loop-i-test.true) w.exchanges q.1,
+      hears.0,
+      stops_after (drop (i + 1) octets) (split_at octets i c.loop-i-test.true) c.loop-i.invariant.heard.so.0
+          (stops_once c.receive_next.ensures.comes hears.1),
     )
 
 pub loop-i-preserved : goal.loop-i-preserved
@@ -53,8 +51,7 @@ loop-i-preserved g c =
     let kept : c.hear.new.self.answer ≡ c.loop-i.self.answer = ap (λ (s : Session). s.answer) c.hear.ensures.others
     ∙ ap (λ (s : Session). s.answer) c.receive_next.ensures.others in
     let same = ap (λ (s : Session). s.recorded) c.hear.ensures.others in
-    let q = exchanging_is _ _ _ _ _ _ _ _ _ (Ok c.in_ok-sent.sent) c.receive_next.ensures.comes
-    (rw waits at c.in_ok-sent.ensures.hears) in
+    let q = exchange_is c.receive_next.ensures.comes (rw waits at c.in_ok-sent.ensures.hears) in
     record {
       heard = rw same (heard_more c.args.octets.now c.loop-i.i c.loop-i.self.recorded _ c.in_ok-sent.sent
           c.loop-i.invariant.heard c.loop-i-test.true q (rw kept at c.push.ensures.items));

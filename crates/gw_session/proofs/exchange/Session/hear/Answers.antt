@@ -1,8 +1,8 @@
-use Rattle.std.proofs.Common.{◌++◌, ℕ, List, sym, ap, refl, append-nil}
+use Rattle.std.proofs.Common.{sym, ap, refl, append-nil}
 use Rattle.std.proofs.lemmas.Result.{err_from_is_err_and}
-use Rattle.gw_switch.specs.Whole.{sending_in}
-use Rattle.gw_records.proofs.Writes.{Passes-none, Passes-same}
-use Rattle.gw_session.proofs.PacketsSent.{packets_of_octet, octets_of_octet, sent_with_octet, sends_none}
+use Rattle.gw_switch.specs.Whole.{Sending, sending_in}
+use Rattle.gw_records.proofs.Writes.{Passes-none}
+use Rattle.gw_session.proofs.PacketsSent.{sends_none}
 use Rattle.gw_session.proofs.exchange.Session.hear.Goals as goal
 
 pub returns-in_err-send_packet-clause-hears : goal.returns-in_err-send_packet-clause-hears
@@ -17,7 +17,7 @@ returns-in_err-send_packet-clause-hears g c =
         kept = c.in_err-send_packet.ensures.kept;
         hears = λ config before h. (
           c.octet_into-out.ensures.stands config before h,
-          rw c.in-Some.is at (packets_of_octet config before _ _ (c.octet_into-out.ensures.reply config before h)),
+          rw c.in-Some.is at (ap (λ (o : Sending). o.packet) (sym (c.octet_into-out.ensures.reply config before h))),
         );
         breaks = puts.1;
       },
@@ -32,12 +32,9 @@ returns-in_ok-send_packet-clause-hears g c =
       sends = rw c.in-Some.is c.in_ok-send_packet.ensures.sends;
       hears = λ config before h. (
         c.octet_into-out.ensures.stands config before h,
-        packets_of_octet config before _ _ (c.octet_into-out.ensures.reply config before h),
-        octets_of_octet config before _ _ (c.octet_into-out.ensures.reply config before h),
-        sent_with_octet config before _ _ (c.octet_into-out.ensures.reply config before h),
+        sym (c.octet_into-out.ensures.reply config before h),
       );
-      passes = rw c.in-Some.is (Passes-same _ _ _ _ _ (ap (λ (xs : List ℕ). c.args.self.now.waiting.items ++ xs)
-          (sym (append-nil (g.O.Outlet.spells (c.in-Some.circuit, c.octet_into-out.new.room.items))))) puts.0);
+      passes = rw (c.in-Some.is, append-nil) puts.0;
       no_failure = puts.1;
     }
 
@@ -49,9 +46,7 @@ returns-in_default-clause-hears g c =
       sends = rw c.in_default.is (sends_none _ _);
       hears = λ config before h. (
         c.octet_into-out.ensures.stands config before h,
-        packets_of_octet config before _ _ (c.octet_into-out.ensures.reply config before h),
-        octets_of_octet config before _ _ (c.octet_into-out.ensures.reply config before h),
-        sent_with_octet config before _ _ (c.octet_into-out.ensures.reply config before h),
+        sym (c.octet_into-out.ensures.reply config before h),
       );
       passes = rw c.in_default.is (Passes-none _ _);
       no_failure = refl;

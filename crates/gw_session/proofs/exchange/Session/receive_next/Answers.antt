@@ -1,31 +1,20 @@
-use Rattle.std.proofs.Common.{◌≡◌, inl, inr, ◌<◌, ◌≤◌, ◌++◌, ◌∷◌, [], refl, sym, ap, ◌∙◌, length, take, arith}
-use Rattle.std.proofs.Common.{◌-◌, drop, length-append, Some, None, rules}
+use Rattle.std.proofs.Common.{◌≡◌, inl, inr, ◌<◌, ◌++◌, ◌∷◌, [], refl, sym, ap, ◌∙◌, length, take, arith}
+use Rattle.std.proofs.Common.{◌-◌, drop, length-append, rules}
 use Rattle.std.proofs.lemmas.List.{take_rest}
 use Rattle.gw_session.specs.Serve.{Stop}
 use Rattle.gw_records.proofs.Buffers.{kept}
 use Rattle.gw_session.proofs.Turns.{Grows-none}
-use Rattle.gw_session.proofs.Receiving.{receiving_none, receiving_more, comes_some, comes_failed, comes_nothing}
+use Rattle.gw_session.proofs.Receiving.{receiving_none, receiving_more, comes_so, comes_nothing}
 use Rattle.gw_session.proofs.Taping.{behind_none, behind_more}
 use Rattle.gw_session.proofs.exchange.Session.receive_next.Goals as goal
 
 pub returns-in_default-clause-comes : goal.returns-in_default-clause-comes
-returns-in_default-clause-comes g c = record {
-  circuit = None;
-  comes = comes_nothing _ _ _;
-  records = behind_none _ _ _ c.requires.within;
-  in_turn = c.in_default.ensures;
-}
+returns-in_default-clause-comes g c =
+    comes_nothing _ _ _ (behind_none _ _ _ c.requires.within) c.in_default.ensures
 
 pub receiving-init : goal.receiving-init
 receiving-init g c = record {
-  receiving = (
-    [],
-    refl,
-    record {
-      receiving = receiving_none _ _ _ _;
-      records = behind_none _ _ _ c.requires.within;
-    },
-  );
+  receiving = ([], refl, receiving_none _ _ _ _ (behind_none _ _ _ c.requires.within));
   room = refl;
   others = refl;
 }
@@ -52,54 +41,34 @@ receiving-preserved g c =
       receiving = (
         w.0 ++ take n items ∷ [],
         omega (arith, w.1, length-append w.0 (take n items ∷ [])),
-        record {
-          receiving = receiving_more _ _ _ _ _ _ _ _ c.give.new.totals _ _ (take n items) w.2.receiving r.0 r.1 r.2
-              c.in-Ok-Some.ensures.counts c.arrives.ensures.sends_stay given c.give.ensures.others;
-          records = behind_more _ _ _ _ _ _ _ _ _ w.0 _ w.2.records fresh refl said;
-        },
+        receiving_more _ (take n items) w.2 r.0 r.1 r.2 c.in-Ok-Some.ensures.counts c.arrives.ensures.sends_stay given
+            c.give.ensures.others (behind_more _ _ _ _ _ _ _ _ _ w.0 _ w.2.records fresh refl said),
       );
       room = c.receiving.invariant.room;
       others = search rules;
     }
 
 pub returns-in-Ok-None-clause-comes : goal.returns-in-Ok-None-clause-comes
-unfolding comes_some
 returns-in-Ok-None-clause-comes g c =
     let w = c.receiving.invariant.receiving in
     let few : length w.0 < 4 = omega (arith, w.1, c.receiving-test.true) in
     let r = rw c.in-Ok-None.field-0-is at c.in-Ok-None.ensures.receives in
-    record {
-      circuit = Some c.in-Some.circuit;
-      comes = comes_some _ _ _ _ _ _ _ _ w.0 w.2.receiving (omega (arith, few)) r.0 r.1 (inr r.2) Stop.NoneLeft few r.3
-          c.in-Ok-None.ensures.counts c.arrives.ensures.sends_stay;
-      records = w.2.records;
-      in_turn = λ config before h. sym c.in-Some.is ∙ c.next_slot.ensures config before h;
-    }
+    comes_so _ 0 w.2 (omega (arith, few)) Stop.NoneLeft few r.0 r.3 c.in-Ok-None.ensures.counts
+    c.arrives.ensures.sends_stay refl (λ none. (r.1, inr r.2))
+    (λ config before h. sym c.in-Some.is ∙ c.next_slot.ensures config before h)
 
 pub returns-in-Err-clause-comes : goal.returns-in-Err-clause-comes
-unfolding comes_failed
 returns-in-Err-clause-comes g c =
     let w = c.receiving.invariant.receiving in
     let few : length w.0 < 4 = omega (arith, w.1, c.receiving-test.true) in
     let r = c.in-Err.ensures.receives in
-    record {
-      circuit = Some c.in-Some.circuit;
-      comes = comes_failed _ _ _ _ _ _ _ _ w.0 _ w.2.receiving few r.0 r.1 c.in-Err.ensures.counts
-          c.arrives.ensures.sends_stay c.saturating_add-self.ensures;
-      records = w.2.records;
-      in_turn = λ config before h. sym c.in-Some.is ∙ c.next_slot.ensures config before h;
-    }
+    comes_so _ 1 w.2 (omega (arith, few)) Stop.Failure few r.0 r.1 c.in-Err.ensures.counts
+    c.arrives.ensures.sends_stay c.saturating_add-self.ensures (λ none. absurd (omega (arith, none)))
+    (λ config before h. sym c.in-Some.is ∙ c.next_slot.ensures config before h)
 
 pub returns-clause-comes : goal.returns-clause-comes
-unfolding comes_some
 returns-clause-comes g c =
     let w = c.receiving.invariant.receiving in
-    let few : length w.0 ≤ 4 = omega (arith, w.1) in
     let four : length w.0 ≡ 4 = omega (arith, w.1, c.receiving-test.false) in
-    record {
-      circuit = Some c.in-Some.circuit;
-      comes = comes_some _ _ _ _ _ _ _ _ w.0 w.2.receiving few refl refl (inl four) Stop.Enough four (Grows-none _) refl
-          (refl, refl);
-      records = w.2.records;
-      in_turn = λ config before h. sym c.in-Some.is ∙ c.next_slot.ensures config before h;
-    }
+    comes_so _ 0 w.2 (omega (arith, w.1)) Stop.Enough four refl (Grows-none _) refl (refl, refl) refl
+    (λ none. (refl, inl four)) (λ config before h. sym c.in-Some.is ∙ c.next_slot.ensures config before h)

@@ -1,12 +1,12 @@
 use Rattle.std.proofs.Common.{◌≡◌, ℕ, List, length}
 use Rattle.std.specs.Prelude.{vec_len}
-use Rattle.gw_session.specs.Exchange.{ReceivingRecorded}
+use Rattle.gw_session.specs.Exchange.{Receiving}
 use Rattle.gw_session.proofs.exchange.Session.receive_next.Given as goal
 
 abbrev pub invariant-receiving : goal.invariant-receiving
 invariant-receiving g l = record {
   receiving : (came : List (List ℕ)) × (length came ≡ l._turn)
-      × ReceivingRecorded (g.O.Outlet.tells l.initial.outlet) (g.O.Outlet.tells l.outlet) l.initial.gateway l.gateway
+      × Receiving (g.O.Outlet.tells l.initial.outlet) (g.O.Outlet.tells l.outlet) l.initial.gateway l.gateway
       l.initial.self.totals l.self.totals l.circuit came (g.T.Tape.tells l.initial.tape) (g.T.Tape.tells l.tape)
       l.heard l.initial.self.recorded l.self.recorded;
   room : vec_len l.self.room ≡ vec_len l.initial.self.room;
