@@ -42,45 +42,20 @@ refusals_written : render (seize ∷ stray ∷ [])
 unfolding fault_number
 refusals_written = refl
 
--- how single records end
-bad_kind : end_of all_kinds (0x58 ∷ 0 ∷ 0 ∷ 0 ∷ []) ≡ Some endings.BadKind
-unfolding end_of has_bad_kind
-bad_kind = refl
-
--- a single octet is cut, whatever its kind
-cut_kind : end_of all_kinds (0x58 ∷ []) ≡ Some endings.Truncated
-unfolding end_of
-cut_kind = refl
-
--- a trunk record with a circuit has a bad circuit
-bad_circuit : end_of all_kinds (0x54 ∷ 1 ∷ 0 ∷ 0 ∷ []) ≡ Some endings.BadCircuit
-unfolding end_of has_bad_kind has_bad_circuit
-bad_circuit = refl
-
--- a command record of two octets is a bad command
-bad_command_length : end_of all_kinds (0x43 ∷ 1 ∷ 0 ∷ 2 ∷ []) ≡ Some endings.BadCommand
-unfolding end_of has_bad_kind has_bad_circuit has_bad_length
-bad_command_length = refl
-
--- a command of an unknown code is a bad command
-bad_command : end_of all_kinds (0x43 ∷ 1 ∷ 0 ∷ 1 ∷ 7 ∷ []) ≡ Some endings.BadCommand
+-- How single records end: one of an unknown kind; a single octet, which is cut, whatever its kind; a trunk record with a
+-- circuit; a command record of two octets, and one of an unknown code; a codec record of one octet, one of an unknown
+-- code, and one with a payload type above 127.
+single_records :
+    (end_of all_kinds (0x58 ∷ 0 ∷ 0 ∷ 0 ∷ []) ≡ Some endings.BadKind)
+    × (end_of all_kinds (0x58 ∷ []) ≡ Some endings.Truncated)
+    × (end_of all_kinds (0x54 ∷ 1 ∷ 0 ∷ 0 ∷ []) ≡ Some endings.BadCircuit)
+    × (end_of all_kinds (0x43 ∷ 1 ∷ 0 ∷ 2 ∷ []) ≡ Some endings.BadCommand)
+    × (end_of all_kinds (0x43 ∷ 1 ∷ 0 ∷ 1 ∷ 7 ∷ []) ≡ Some endings.BadCommand)
+    × (end_of all_kinds (0x4B ∷ 1 ∷ 0 ∷ 1 ∷ 4 ∷ []) ≡ Some endings.BadCommand)
+    × (end_of all_kinds (0x4B ∷ 1 ∷ 0 ∷ 2 ∷ 6 ∷ 0x60 ∷ []) ≡ Some endings.BadCommand)
+    × (end_of all_kinds (0x4B ∷ 1 ∷ 0 ∷ 2 ∷ 4 ∷ 0x80 ∷ []) ≡ Some endings.BadCommand)
 unfolding end_of has_bad_kind has_bad_circuit has_bad_length is_cut has_bad_command
-bad_command = refl
-
--- a codec record of one octet is a bad command
-bad_codec_length : end_of all_kinds (0x4B ∷ 1 ∷ 0 ∷ 1 ∷ 4 ∷ []) ≡ Some endings.BadCommand
-unfolding end_of has_bad_kind has_bad_circuit has_bad_length
-bad_codec_length = refl
-
--- a codec of an unknown code is a bad command
-bad_codec : end_of all_kinds (0x4B ∷ 1 ∷ 0 ∷ 2 ∷ 6 ∷ 0x60 ∷ []) ≡ Some endings.BadCommand
-unfolding end_of has_bad_kind has_bad_circuit has_bad_length is_cut has_bad_command
-bad_codec = refl
-
--- a payload type above 127 is a bad command
-bad_payload_type : end_of all_kinds (0x4B ∷ 1 ∷ 0 ∷ 2 ∷ 4 ∷ 0x80 ∷ []) ≡ Some endings.BadCommand
-unfolding end_of has_bad_kind has_bad_circuit has_bad_length is_cut has_bad_command
-bad_payload_type = refl
+single_records = (refl, refl, refl, refl, refl, refl, refl, refl)
 
 -- a codec record, taken and refused
 codec_record : Reads all_kinds (0x4B ∷ 1 ∷ 0 ∷ 2 ∷ 4 ∷ 0x60 ∷ []) (Record.Codec 1 4 0x60 ∷ []) endings.End
@@ -129,26 +104,17 @@ packet_first : render (Record.Trunk (1 ∷ 2 ∷ []) ∷ [])
     ≡ 0x44 ∷ 7 ∷ 0 ∷ 2 ∷ 5 ∷ 6 ∷ 0x54 ∷ 0 ∷ 0 ∷ 2 ∷ 3 ∷ 4 ∷ []
 packet_first = refl
 
--- the session cut to each length
-cut_to_each_length :
-    (end_of all_kinds (take 0 session) ≡ Some endings.End)
-    × (end_of all_kinds (take 1 session) ≡ Some endings.Truncated)
-    × (end_of all_kinds (take 2 session) ≡ Some endings.Truncated)
-    × (end_of all_kinds (take 3 session) ≡ Some endings.Truncated)
-    × (end_of all_kinds (take 4 session) ≡ Some endings.Truncated)
+-- how the session ends, cut to each length
+cut_to_each_length : map (λ n. end_of all_kinds (take n session)) (0 ∷ 1 ∷ 2 ∷ 3 ∷ 4 ∷ [])
+    ≡ Some endings.End ∷ replicate 4 (Some endings.Truncated)
 unfolding end_of has_bad_kind has_bad_circuit has_bad_length is_cut has_bad_command
-cut_to_each_length = (refl, refl, refl, refl, refl)
+cut_to_each_length = refl
 
 abbrev later : List ℕ
 later = 0x44 ∷ 1 ∷ 0 ∷ 1 ∷ 0 ∷ []
 
--- a datagram record cut to each length, and whole
-cut_datagram :
-    (end_of all_kinds (take 0 later) ≡ Some endings.End)
-    × (end_of all_kinds (take 1 later) ≡ Some endings.Truncated)
-    × (end_of all_kinds (take 2 later) ≡ Some endings.Truncated)
-    × (end_of all_kinds (take 3 later) ≡ Some endings.Truncated)
-    × (end_of all_kinds (take 4 later) ≡ Some endings.Truncated)
-    × (end_of all_kinds (take 5 later) ≡ None)
+-- .. and a datagram record, cut to each length, and whole
+cut_datagram : map (λ n. end_of all_kinds (take n later)) (0 ∷ 1 ∷ 2 ∷ 3 ∷ 4 ∷ 5 ∷ [])
+    ≡ Some endings.End ∷ (replicate 4 (Some endings.Truncated) ++ None ∷ [])
 unfolding end_of has_bad_kind has_bad_circuit has_bad_length is_cut has_bad_command
-cut_datagram = (refl, refl, refl, refl, refl, refl)
+cut_datagram = refl
