@@ -8,10 +8,10 @@ use Rattle.gw_switch.specs.Events.{Event}
 use Rattle.gw_switch.specs.Whole.{Reply, reply_to, whole_from}
 use Rattle.gw_records.specs.Records.{Record}
 use Rattle.gw_session.specs.Answers as records_of
-use Rattle.gw_session.specs.Answers.{Written, written_out, answers, trunk_in, datagrams_in, code_of}
-use Rattle.gw_session.specs.Answers.{octets_in, packets_in}
-use Rattle.gw_session.specs.Serve.{Act, Turn, events_through, events_in, events_of_turns, coming, arrivals}
-use Rattle.gw_session.specs.Serve.{answer_to, octets_for, packets_for, given_by, written}
+use Rattle.gw_session.specs.Answers.{Written, written_out, answers, trunk_in, datagrams_in, code_of, octets_in}
+use Rattle.gw_session.specs.Answers.{packets_in}
+use Rattle.gw_session.specs.Serve.{Act, Turn, events_through, events_in, events_of_turns, coming, arrivals, answer_to}
+use Rattle.gw_session.specs.Serve.{octets_for, packets_for, given_by, written}
 use Rattle.gw_session.specs.RecordingLaws.{answers_to, all_answers, command_in, RecordingsAnswerAlike}
 use Rattle.gw_session.proofs.Cutting.{Splits, given_by-splits, trunk_has, trunk_is, datagrams_are, all_of}
 

@@ -1,24 +1,21 @@
-use Rattle.std.proofs.Common.{ℕ, sym, ap, ◌∙◌}
+use Rattle.std.proofs.Common.{ap, ◌∙◌}
 use Rattle.std.specs.Prelude.{Result}
 use Rattle.gw_circuit.specs.declared.Dropped.{Dropped}
 use Rattle.gw_switch.specs.Whole.{Reply}
 use Rattle.gw_session.specs.Answers.{code_of}
-use Rattle.gw_records.specs.Ports.{counted}
-use Rattle.gw_session.proofs.Turns.{dropped_none, dropped_one}
+use Rattle.gw_session.proofs.Turns.{dropped_given}
 use Rattle.gw_session.proofs.exchange.give.Goals as goal
 
 pub returns-in-Ok-clause-given : goal.returns-in-Ok-clause-given
 returns-in-Ok-clause-given c = λ config before h. (
   c.datagram.ensures.stands config before h,
-  ap (λ (n : ℕ). counted c.args.totals.now.dropped n)
-      (sym (dropped_none config before _ _ _ (c.in-Ok.ensures.reply config before h))),
+  rw (dropped_given config before _ _ (c.in-Ok.ensures.reply config before h)),
 )
 
 pub returns-in-Err-clause-given : goal.returns-in-Err-clause-given
 returns-in-Err-clause-given c = λ config before h. (
   c.datagram.ensures.stands config before h,
-  c.saturating_add-totals.ensures ∙ ap (λ (n : ℕ). counted c.args.totals.now.dropped n)
-      (sym (dropped_one config before _ _ _ (c.in-Err.ensures.reply config before h))),
+  rw (dropped_given config before _ _ (c.in-Err.ensures.reply config before h)) c.saturating_add-totals.ensures,
 )
 
 pub returns-in-Ok-clause-code : goal.returns-in-Ok-clause-code

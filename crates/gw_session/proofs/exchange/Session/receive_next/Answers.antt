@@ -1,5 +1,5 @@
-use Rattle.std.proofs.Common.{◌≡◌, inl, inr, ◌<◌, ◌++◌, ◌∷◌, [], refl, sym, ap, ◌∙◌, length, take, arith}
-use Rattle.std.proofs.Common.{◌-◌, drop, length-append, rules}
+use Rattle.std.proofs.Common.{◌≡◌, inl, inr, ◌<◌, ◌++◌, ◌∷◌, [], refl, sym, ap, ◌∙◌, length, take, arith, ◌-◌, drop}
+use Rattle.std.proofs.Common.{length-append, rules}
 use Rattle.std.proofs.lemmas.List.{take_rest}
 use Rattle.gw_session.specs.Serve.{Stop}
 use Rattle.gw_records.proofs.Buffers.{kept}
