@@ -51,7 +51,7 @@ obeyed-append config before [] ys = rw append-nil
 obeyed-append config before (e ∷ xs) ys =
     rw (obeyed-append config (before ++ e ∷ []) xs ys, append_assoc before (e ∷ []) xs) (simp append_assoc)
 
--- where there is no event there is no answer to a command, and those of events and more are as said
+-- .. so they are a word that splits
 obeyed-splits : Splits obeyed
 unfolding obeyed
 obeyed-splits = record { none = λ config before. refl; more = obeyed-append }

@@ -42,9 +42,9 @@ refusals_written : render (seize ∷ stray ∷ [])
 unfolding fault_number
 refusals_written = refl
 
--- How single records end: one of an unknown kind; a single octet, which is cut, whatever its kind; a trunk record with a
--- circuit; a command record of two octets, and one of an unknown code; a codec record of one octet, one of an unknown
--- code, and one with a payload type above 127.
+-- How single records end: one of an unknown kind; a single octet, which is cut, whatever its kind; a trunk record
+-- with a circuit; a command record of two octets, and one of an unknown code; a codec record of one octet, one of an
+-- unknown code, and one with a payload type above 127.
 single_records :
     (end_of all_kinds (0x58 ∷ 0 ∷ 0 ∷ 0 ∷ []) ≡ Some endings.BadKind)
     × (end_of all_kinds (0x58 ∷ []) ≡ Some endings.Truncated)

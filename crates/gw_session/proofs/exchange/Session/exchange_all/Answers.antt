@@ -1,6 +1,6 @@
-use Rattle.std.proofs.Common.{◌≡◌, ◌+◌, ◌<◌, ◌≤◌, ◌++◌, ◌∷◌, [], ap, sym, refl, ◌∙◌, ℕ, List, length, take, drop}
-use Rattle.std.proofs.Common.{get_or, length-append, length-take-le, take-append-drop, arith}
-use Rattle.std.proofs.lemmas.List.{take_rest, take_more}
+use Rattle.std.proofs.Common.{◌≡◌, ◌+◌, ◌<◌, ◌++◌, ◌∷◌, [], ap, sym, refl, ◌∙◌, ℕ, List, length, take, drop}
+use Rattle.std.proofs.Common.{get_or, length-append, take-append-drop, arith}
+use Rattle.std.proofs.lemmas.List.{length-take, take_rest, take_more}
 use Rattle.std.proofs.lemmas.Result.{err_from_is_err_and}
 use Rattle.std.specs.Prelude.{vec_len}
 use Rattle.gw_session.specs.declared.exchange.Session.{Session}
@@ -20,16 +20,13 @@ loop-i-init g c = record { heard = heard_none _ _ _ _ _ _ _ _ _; room = refl }
 pub push-requires : goal.push-requires
 push-requires g c =
     let w = c.loop-i.invariant.heard in
-    let at : c.loop-i.i < length c.args.octets.now = c.loop-i-test.true in
-    let below : c.loop-i.i ≤ length c.args.octets.now = omega arith in
-    let done : length (take c.loop-i.i c.args.octets.now) ≡ c.loop-i.i =
-    length-take-le c.loop-i.i c.args.octets.now below in
+    let done = length-take c.loop-i.i c.args.octets.now in
     let kept : c.hear.new.self.answer ≡ c.loop-i.self.answer = ap (λ (s : Session). s.answer) c.hear.ensures.others
     ∙ ap (λ (s : Session). s.answer) c.receive_next.ensures.others in
     let len : length c.hear.new.self.answer.items ≡ length c.args.self.now.answer.items + length w.sent =
     rw kept (ap length w.behind ∙ length-append c.args.self.now.answer.items w.sent) in
     let room : length c.hear.new.self.answer.items < 65539 =
-    omega (arith, w.so.0.lengths, c.requires.fits) in
+    omega (arith, w.so.0.lengths, c.requires.fits, c.loop-i-test.true) in
     (omega arith, room)
 
 pub returns-in_err-sent-clause-exchanges : goal.returns-in_err-sent-clause-exchanges

@@ -1,4 +1,4 @@
-use Rattle.std.proofs.Common.{◌≡◌, inl, inr, ◌<◌, ◌++◌, ◌∷◌, [], refl, sym, ap, ◌∙◌, length, take, arith, ◌-◌, drop}
+use Rattle.std.proofs.Common.{◌≡◌, inl, inr, ◌<◌, ◌++◌, ◌∷◌, [], refl, ap, ◌∙◌, length, take, arith, ◌-◌, drop}
 use Rattle.std.proofs.Common.{length-append, rules}
 use Rattle.std.proofs.lemmas.List.{take_rest}
 use Rattle.gw_session.specs.Serve.{Stop}
@@ -53,22 +53,21 @@ returns-in-Ok-None-clause-comes g c =
     let w = c.receiving.invariant.receiving in
     let few : length w.0 < 4 = omega (arith, w.1, c.receiving-test.true) in
     let r = rw c.in-Ok-None.field-0-is at c.in-Ok-None.ensures.receives in
-    comes_so _ 0 w.2 (omega (arith, few)) Stop.NoneLeft few r.0 r.3 c.in-Ok-None.ensures.counts
-    c.arrives.ensures.sends_stay refl (λ none. (r.1, inr r.2))
-    (λ config before h. sym c.in-Some.is ∙ c.next_slot.ensures config before h)
+    comes_so _ 0 w.2 c.in-Some.is c.next_slot.ensures (omega (arith, few)) Stop.NoneLeft few r.0 r.3
+    c.in-Ok-None.ensures.counts c.arrives.ensures.sends_stay refl (λ none. (r.1, inr r.2))
 
 pub returns-in-Err-clause-comes : goal.returns-in-Err-clause-comes
 returns-in-Err-clause-comes g c =
     let w = c.receiving.invariant.receiving in
     let few : length w.0 < 4 = omega (arith, w.1, c.receiving-test.true) in
     let r = c.in-Err.ensures.receives in
-    comes_so _ 1 w.2 (omega (arith, few)) Stop.Failure few r.0 r.1 c.in-Err.ensures.counts
-    c.arrives.ensures.sends_stay c.saturating_add-self.ensures (λ none. absurd (omega (arith, none)))
-    (λ config before h. sym c.in-Some.is ∙ c.next_slot.ensures config before h)
+    comes_so _ 1 w.2 c.in-Some.is c.next_slot.ensures (omega (arith, few)) Stop.Failure few r.0 r.1
+    c.in-Err.ensures.counts c.arrives.ensures.sends_stay c.saturating_add-self.ensures
+    (λ none. absurd (omega (arith, none)))
 
 pub returns-clause-comes : goal.returns-clause-comes
 returns-clause-comes g c =
     let w = c.receiving.invariant.receiving in
     let four : length w.0 ≡ 4 = omega (arith, w.1, c.receiving-test.false) in
-    comes_so _ 0 w.2 (omega (arith, w.1)) Stop.Enough four refl (Grows-none _) refl (refl, refl) refl
-    (λ none. (refl, inl four)) (λ config before h. sym c.in-Some.is ∙ c.next_slot.ensures config before h)
+    comes_so _ 0 w.2 c.in-Some.is c.next_slot.ensures (omega (arith, w.1)) Stop.Enough four refl (Grows-none _) refl
+    (refl, refl) refl (λ none. (refl, inl four))
