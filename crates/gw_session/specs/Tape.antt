@@ -1,7 +1,6 @@
 -- What tapes tell of themselves, and how events are recorded on them.
-use Rattle.std.specs.Prelude.{◌≡◌, ◌⊎◌, ◌^◌, ◌<◌, ◌≤◌, ◌∷◌, ◌++◌, Bool, true, false, List, [], ℕ, Option}
-use Rattle.std.specs.Prelude.{None, Some}
-use Rattle.std.specs.Prelude.{length, map}
+use Rattle.std.specs.Prelude.{◌≡◌, ◌⊎◌, ◌^◌, ◌<◌, ◌≤◌, ◌++◌, Bool, true, false, List, [], ℕ, Option, None}
+use Rattle.std.specs.Prelude.{Some, length, map, Contains}
 use Rattle.std.specs.List.{flat_map, AllByRecursion}
 use Rattle.std.specs.Io.KnownBytes.{Appends}
 use Rattle.gw_switch.specs.Events.{Event}
@@ -22,13 +21,9 @@ tells_of tells None = record { ended = true; failures = 0; taken = None }
 tells_of tells (Some tape) = tells tape
 
 -- a datagram among events is longer than a record can say
-pub record HasLong (es : List Event) : Type 0 where
-  pub before : List Event
-  pub circuit : ℕ
-  pub bytes : List ℕ
-  pub after : List Event
-  pub events_are : es ≡ before ++ Event.Datagram circuit bytes ∷ after
-  pub long : 2 ^ 16 ≤ length bytes
+abbrev pub HasLong : List Event → Type 0
+HasLong es =
+    (circuit : ℕ) × (bytes : List ℕ) × Contains es (Event.Datagram circuit bytes) × (2 ^ 16 ≤ length bytes)
 
 -- Events were recorded: the tape took the octets of good records, or a prefix of them, and the events of
 -- these records are the first of the events that happened. As long as the tape has not ended, they are all of

@@ -1,4 +1,4 @@
-use Rattle.std.proofs.Common.{◌-◌, ◌++◌, [], ◌∷◌, ℕ, List, length, take, drop, ap, length-append, arith}
+use Rattle.std.proofs.Common.{◌++◌, [], ◌∷◌, length, ap, length-append, arith}
 use Rattle.gw_records.specs.declared.outcome.RunFault.TheVariants as faults
 use Rattle.gw_records.specs.Records.{record_at}
 use Rattle.gw_records.specs.Reader.{held}
@@ -14,7 +14,7 @@ attending-init g c = (
   [],
   record {
     stage = starts _ _ _ c.requires.holds c.requires.turns;
-    through = through_none _ _ _ _ _ _ _ c.requires.waiting c.requires.totals;
+    through = through_none c.requires.waiting c.requires.totals;
     none_waits = λ none. ap length c.requires.waiting;
     room = c.requires.room;
   },
@@ -24,16 +24,16 @@ pub act-requires-clause-good : goal.act-requires-clause-good
 act-requires-clause-good g c =
     let f = c.in-Ok.first in
     let found = first_held f c.held.ensures c.in-Ok.ensures.good in
-    rw (record_is f (held c.attending.reader) _ found.more (ap (λ (xs : List ℕ). take (f.len - 4) (drop 4 xs))
-    c.held-in-Ok.ensures)) (good_in_all c.args.kinds.now _ found.good)
+    rw (record_is f (held c.attending.reader) _ found.more c.held-in-Ok.ensures)
+    (good_in_all c.args.kinds.now _ found.good)
 
 pub returns-in_err-act-in-Ok-clause-fault : goal.returns-in_err-act-in-Ok-clause-fault
 returns-in_err-act-in-Ok-clause-fault g c =
     let w = c.attending.invariant in
     let f = c.in-Ok.first in
     let found = first_held f c.held.ensures c.in-Ok.ensures.good in
-    let q = rw (record_is f (held c.attending.reader) _ found.more (ap (λ (xs : List ℕ). take (f.len - 4) (drop 4 xs))
-    c.held-in-Ok.ensures)) at c.in_err-act-in-Ok.ensures.acts in
+    let q = rw (record_is f (held c.attending.reader) _ found.more c.held-in-Ok.ensures) at
+    c.in_err-act-in-Ok.ensures.acts in
     let stopped = act_failed w.2.through q.1 in
     goes_up _ _ faults.Write c.from_residual.ensures.1 q.0 (stops_in f w.2.stage found stopped.0 stopped.1)
 
@@ -42,18 +42,15 @@ attending-preserved-in-Ok g c =
     let w = c.attending.invariant in
     let f = c.in-Ok.first in
     let found = first_held f c.held.ensures c.in-Ok.ensures.good in
-    let q = rw (record_is f (held c.attending.reader) _ found.more (ap (λ (xs : List ℕ). take (f.len - 4) (drop 4 xs))
-    c.held-in-Ok.ensures)) at c.in_ok-act-in-Ok.ensures.acts in (
+    let q = rw (record_is f (held c.attending.reader) _ found.more c.held-in-Ok.ensures) at
+    c.in_ok-act-in-Ok.ensures.acts in
+    let more = length-append w.1 (record_at f (held c.attending.reader) ∷ []) in (
       w.0,
       w.1 ++ record_at f (held c.attending.reader) ∷ [],
       record {
         stage = takes f w.2.stage found c.pass.ensures.holds c.pass.ensures.turns q.no_failure;
         through = through_done w.2.through q;
-        none_waits = λ none. absurd (omega (
-          arith,
-          none,
-          length-append w.1 (record_at f (held c.attending.reader) ∷ []),
-        ));
+        none_waits = λ none. absurd (omega (arith, none, more));
         room = omega (arith, w.2.room, c.act.ensures.room);
       },
     )
@@ -69,32 +66,28 @@ returns-in_err-flush-in-Err-clause-fault g c =
 pub attending-preserved : goal.attending-preserved
 attending-preserved g c =
     let w = c.attending.invariant in
-    let r = rw c.if-not-branch.false at c.in_ok-read_on-in-Err.ensures.ok in (
+    let r = rw c.if-not-branch.false at c.in_ok-read_on-in-Err.ensures.ok in
+    let flushed = c.in_ok-flush-in-Err.ensures in (
       w.0 ++ r.octets,
       w.1,
       record {
-        stage = reads_more w.2.stage r c.requires.begins.turns c.in_ok-flush-in-Err.ensures.writes.1;
-        through = through_on w.2.through c.in_ok-flush-in-Err.ensures.writes.0 c.in_ok-flush-in-Err.ensures.empty;
-        none_waits = λ none. ap length c.in_ok-flush-in-Err.ensures.empty;
+        stage = reads_more w.2.stage r c.requires.begins.turns flushed.writes.1;
+        through = through_on w.2.through flushed.writes.0 flushed.empty;
+        none_waits = λ none. ap length flushed.empty;
         room = w.2.room;
       },
     )
 
-pub returns-then-not-branch-clause-ok : goal.returns-then-not-branch-clause-ok
-returns-then-not-branch-clause-ok g c =
+pub returns-then-not-branch : goal.returns-then-not-branch
+returns-then-not-branch g c =
     let w = c.attending.invariant in
     let r = rw c.if-not-branch.true at c.in_ok-read_on-in-Err.ensures.ok in
     let e = ended c.attending.session.totals w.2.stage r c.held.ensures c.in-Err.ensures.end
     c.in_ok-flush-in-Err.ensures.writes.1 (through_all _ w.2.through c.in_ok-flush-in-Err.ensures.writes.0) in
-    (ends_so (λ records. Unit {0}) ⊥ _ _ _ e.0 r.ended e.1 c.answer.ensures).0
-
-pub returns-then-not-branch-clause-fault : goal.returns-then-not-branch-clause-fault
-returns-then-not-branch-clause-fault g c =
-    let w = c.attending.invariant in
-    let r = rw c.if-not-branch.true at c.in_ok-read_on-in-Err.ensures.ok in
-    let e = ended c.attending.session.totals w.2.stage r c.held.ensures c.in-Err.ensures.end
-    c.in_ok-flush-in-Err.ensures.writes.1 (through_all _ w.2.through c.in_ok-flush-in-Err.ensures.writes.0) in
-    (ends_so _ _ _ _ _ e.0 r.ended e.1 c.answer.ensures).1
+    record {
+      ok = (ends_so (λ records. Unit {0}) ⊥ _ _ _ e.0 r.ended e.1 c.answer.ensures).0;
+      fault = (ends_so _ _ _ _ _ e.0 r.ended e.1 c.answer.ensures).1;
+    }
 
 pub returns-in_err-read_on-in-Err-clause-fault : goal.returns-in_err-read_on-in-Err-clause-fault
 returns-in_err-read_on-in-Err-clause-fault g c =

@@ -4,6 +4,6 @@ use Rattle.gw_session.proofs.serves.serve_recorded.Goals as goal
 
 pub returns : goal.returns
 returns g c = record {
-  ok = all_as _ _ _ _ _ c.attend.result serves c.attend.ensures.ok;
-  fault = until_as _ _ _ _ _ c.attend.result (λ e. absurd e) serves serves_until c.attend.ensures.fault;
+  ok = all_as _ _ _ _ _ serves c.attend.result c.attend.ensures.ok;
+  fault = until_as _ _ _ _ _ serves c.attend.result (λ e. absurd e) serves_until c.attend.ensures.fault;
 }
