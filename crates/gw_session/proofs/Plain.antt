@@ -78,18 +78,18 @@ acts_events (act ∷ acts) p =
     let q = plain_parts (turns_of act) (turns acts) p in
     rw (act_events act q.0, acts_events acts q.1)
 
--- what answers a record after these events, and what answers records
-abbrev answer_of : GatewayConfig → List Event → Record → List ℕ
-answer_of config before r = flat_map written_out (answers r (whole_from config before (events_of r)))
+-- what answers a record after these events, and what answers records, as octets
+abbrev render_one : GatewayConfig → List Event → Record → List ℕ
+render_one config before r = flat_map written_out (answers r (whole_from config before (events_of r)))
 
-abbrev answers_of : GatewayConfig → List Event → List Record → List ℕ
-answers_of config before records = render records (replies_to config before records)
+abbrev render_all : GatewayConfig → List Event → List Record → List ℕ
+render_all config before records = render records (replies_to config before records)
 
 -- what answers records is what answers the first, and then the others
-answers_first : (config : GatewayConfig) (before : List Event) (r : Record) (records : List Record)
-    → answers_of config before (r ∷ records)
-    ≡ answer_of config before r ++ answers_of config (before ++ events_of r) records
-answers_first config before r records =
+render_first : (config : GatewayConfig) (before : List Event) (r : Record) (records : List Record)
+    → render_all config before (r ∷ records)
+    ≡ render_one config before r ++ render_all config (before ++ events_of r) records
+render_first config before r records =
     ap (flat_map written_out) (answered_first config before r records) ∙ flat_map-append written_out _ _
 
 -- packets put their records, in front of the record of the octets
@@ -104,25 +104,25 @@ packets_put (p ∷ ps) sent =
 trunk_written : (config : GatewayConfig) (before : List Event) (octets : List ℕ)
     → spelled_for in_record config before (map Event.Octet octets)
     ++ record_of 0x54 0 (octets_for config before (map Event.Octet octets))
-    ≡ answer_of config before (Record.Trunk octets)
+    ≡ render_one config before (Record.Trunk octets)
 unfolding spelled_for given_by
 trunk_written config before octets = packets_put _ _
 
 -- what is put for an act is what answers its record
 act_written : (config : GatewayConfig) (before : List Event) (act : Act) → Plain (turns_of act)
-    → written_for in_record config before act ≡ answer_of config before (told act)
+    → written_for in_record config before act ≡ render_one config before (told act)
 unfolding written_for spelled_for answer_to given_by
 act_written config before (Act.Trunk ts) p = rw (turns_events ts p) (trunk_written config before (map octet_of ts))
 act_written config before _ p = refl
 
 -- what answers the records of acts, and then more records, is what is put for the acts, and then their answers
 acts_written : (config : GatewayConfig) (before : List Event) (acts : List Act) (records : List Record)
-    → Plain (turns acts) → answers_of config before (map told acts ++ records)
-    ≡ written_by in_record config before acts ++ answers_of config (before ++ events_through acts) records
+    → Plain (turns acts) → render_all config before (map told acts ++ records)
+    ≡ written_by in_record config before acts ++ render_all config (before ++ events_through acts) records
 acts_written config before [] records p = rw (append-nil before)
 acts_written config before (act ∷ acts) records p =
     let q = plain_parts (turns_of act) (turns acts) p in
-    answers_first config before (told act) (map told acts ++ records)
+    render_first config before (told act) (map told acts ++ records)
     ∙ rw (
       ← act_written config before act q.0,
       ← act_events act q.0,
@@ -133,7 +133,7 @@ acts_written config before (act ∷ acts) records p =
 
 -- what is put for acts is what answers their records
 all_written : (config : GatewayConfig) (before : List Event) (acts : List Act) → Plain (turns acts)
-    → written_by in_record config before acts ≡ answers_of config before (map told acts)
+    → written_by in_record config before acts ≡ render_all config before (map told acts)
 all_written config before acts p = sym (simp append-nil at (acts_written config before acts [] p))
 
 -- counts
@@ -215,7 +215,7 @@ whole_until records some p =
 cut_written : (config : GatewayConfig) (before : List Event) (acts : List Act) (heard : List Turn) (rest : List ℕ)
     → Plain (turns acts) → Plain heard → (more : List ℕ) × ((written_by in_record config before acts
     ++ spelled_for in_record config (before ++ events_through acts) (events_of_turns heard)) ++ more
-    ≡ answers_of config before (map told acts ++ Record.Trunk (map octet_of heard ++ rest) ∷ []))
+    ≡ render_all config before (map told acts ++ Record.Trunk (map octet_of heard ++ rest) ∷ []))
 cut_written config before acts heard rest p q =
     let now = before ++ events_through acts in
     let octets = map octet_of heard ++ rest in
@@ -225,7 +225,7 @@ cut_written config before acts heard rest p q =
       rw (
         acts_written config before acts (Record.Trunk octets ∷ []) p,
         turns_events heard q,
-        answers_first config now (Record.Trunk octets) [],
+        render_first config now (Record.Trunk octets) [],
         append-nil,
         ← trunk_written config now octets,
         map-append Event.Octet (map octet_of heard) rest,

@@ -1,5 +1,5 @@
 -- Events recorded one after another.
-use Rattle.std.proofs.Common.{◌≡◌, ◌^◌, ◌<◌, ◌≤◌, ℕ, Bool, true, false, inl, inr, Option, Some, Result, Ok, Err, List}
+use Rattle.std.proofs.Common.{◌≡◌, ◌^◌, ◌<◌, ◌≤◌, ℕ, Bool, true, false, inl, inr, Some, Result, Ok, Err, List}
 use Rattle.std.proofs.Common.{[], ◌∷◌, ◌++◌, length, drop, map, OnOk, IfErr, is_err, refl, sym, ap, ◌∙◌}
 use Rattle.std.proofs.Common.{append_assoc, append-nil, arith}
 use Rattle.std.specs.Io.KnownBytes.{Appends}
@@ -19,14 +19,6 @@ use Rattle.gw_session.specs.Tape.{TapeState, Recorded, RecordedBut, HasEnded, Ha
 use Rattle.gw_session.proofs.Receiving.{of_more}
 use Rattle.gw_session.proofs.Turns.{All-join}
 
--- a prefix of nothing
-pub prefix_none : (a : Option (List ℕ)) → AppendsPrefix a a []
-prefix_none a = record { written = []; rest = []; whole = refl; appended = Appends-none a }
-
--- all that was appended is a prefix of it
-pub prefix_all : (a b : Option (List ℕ)) (all : List ℕ) → Appends a b all → AppendsPrefix a b all
-prefix_all a b all p = record { written = all; rest = []; whole = sym (append-nil all); appended = p }
-
 -- the tape took nothing of these events
 took_none : (a b : TapeState) (es : List Event) → b.taken ≡ a.taken
     → (b.ended ≡ false → (es ≡ []) × (b.failures ≡ a.failures))
@@ -36,7 +28,7 @@ took_none a b es same whole cause stays = record {
   good = tt;
   lost = es;
   events_are = refl;
-  took = rw same (prefix_none a.taken);
+  took = rw same (record { written = []; rest = []; whole = refl; appended = Appends-none a.taken });
   whole = λ f. ((whole f).0, rw same (Appends-none a.taken), (whole f).1);
   cause = λ e f. inr (cause e f);
   stays = stays;
@@ -126,7 +118,9 @@ pub recorded_written : (old new : Bool) (s s' : SinkState) (r : Record) (octets 
     (record { ended = new; failures = s'.failures; taken = s'.taken }) (events_of r)
 recorded_written old new s s' r octets (Ok u) fault good going up e took same broke =
     let all = rw e at took in
-    recorded_one _ _ r good going (prefix_all _ _ _ all) (λ f. (all, same)) (λ f. cc)
+    recorded_one _ _ r good going
+    (record { written = spelled r; rest = []; whole = sym (append-nil (spelled r)); appended = all })
+    (λ f. (all, same)) (λ f. cc)
 recorded_written old new s s' r octets (Err x) fault good going up e took same broke =
     recorded_one _ _ r good going (rw e at broke.1.took) (λ f. cc) (λ f. broke.1.counted)
 
