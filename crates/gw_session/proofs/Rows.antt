@@ -104,7 +104,7 @@ packet_first : render (Record.Trunk (1 ∷ 2 ∷ []) ∷ [])
     ≡ 0x44 ∷ 7 ∷ 0 ∷ 2 ∷ 5 ∷ 6 ∷ 0x54 ∷ 0 ∷ 0 ∷ 2 ∷ 3 ∷ 4 ∷ []
 packet_first = refl
 
--- how the session ends, cut to each length
+-- the session cut to each length
 cut_to_each_length : map (λ n. end_of all_kinds (take n session)) (0 ∷ 1 ∷ 2 ∷ 3 ∷ 4 ∷ [])
     ≡ Some endings.End ∷ replicate 4 (Some endings.Truncated)
 unfolding end_of has_bad_kind has_bad_circuit has_bad_length is_cut has_bad_command
@@ -113,7 +113,7 @@ cut_to_each_length = refl
 abbrev later : List ℕ
 later = 0x44 ∷ 1 ∷ 0 ∷ 1 ∷ 0 ∷ []
 
--- .. and a datagram record, cut to each length, and whole
+-- a datagram record cut to each length, and whole
 cut_datagram : map (λ n. end_of all_kinds (take n later)) (0 ∷ 1 ∷ 2 ∷ 3 ∷ 4 ∷ 5 ∷ [])
     ≡ Some endings.End ∷ (replicate 4 (Some endings.Truncated) ++ None ∷ [])
 unfolding end_of has_bad_kind has_bad_circuit has_bad_length is_cut has_bad_command
