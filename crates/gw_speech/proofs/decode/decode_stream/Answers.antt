@@ -1,14 +1,13 @@
-use Rattle.std.proofs.Common.{◌-◌, ◌++◌, [], ◌∷◌, ap, sym, ◌∙◌, take, drop, List, ℕ}
-use Rattle.std.specs.Prelude.{Option, is_some}
+use Rattle.std.proofs.Common.{◌++◌, [], ◌∷◌, ◌∙◌}
+use Rattle.std.proofs.lemmas.List.{nil_from_length}
 use Rattle.gw_records.specs.declared.outcome.RunFault.TheVariants as faults
 use Rattle.gw_records.specs.Records.{record_at}
 use Rattle.gw_records.specs.Reader.{held}
-use Rattle.gw_speech.specs.Decode.{words_in}
-use Rattle.gw_records.proofs.Writes.{Passes-start, Passes-empty, Passes-same, Passes-appended, Breaks-waiting}
-use Rattle.gw_speech.proofs.Speech.{speech_at_reset}
+use Rattle.gw_records.proofs.Writes.{Passes-start, Passes-empty, Passes-appended, Breaks-waiting}
 use Rattle.gw_records.proofs.Sessions.{goes_up, starts, first_held, takes, stops_in, stops_behind, reads_more, ended}
 use Rattle.gw_records.proofs.Sessions.{gives_up}
-use Rattle.gw_speech.proofs.Taking.{words_at, stands_more, record_passes, record_breaks, totals_more, decode_ends}
+use Rattle.gw_speech.specs.Decode.{words_in}
+use Rattle.gw_speech.proofs.Taking.{words_more, words_at, record_passes, record_breaks, totals_more, decode_ends}
 use Rattle.gw_speech.proofs.decode.decode_stream.Goals as goal
 
 pub decoding-init : goal.decoding-init
@@ -17,8 +16,8 @@ decoding-init g c = (
   [],
   record {
     stage = starts _ _ _ c.in-Ok.ensures.holds c.in-Ok.ensures.turns;
-    passes = Passes-same _ _ _ _ _ (sym (speech_at_reset c.args.spec.now c.words_are_counted.ensures))
-        (Passes-start _ c.new-under_way.result.waiting.items c.new-under_way.ensures.waiting);
+    passes = rw (nil_from_length _ ((c.words_are_counted.ensures c.args.spec.now.law c.args.spec.now.codec).1 []))
+        (Passes-start _ _ c.new-under_way.ensures.waiting);
     stands = c.new-under_way.ensures.stands;
     totals_are = c.new-under_way.ensures.totals;
   },
@@ -31,11 +30,10 @@ returns-in_err-act-in-Ok-first_record-clause-fault g c =
     let w = c.decoding.invariant in
     let f = c.in-Ok-first_record.first in
     let found = first_held f c.held.ensures c.in-Ok-first_record.ensures.good in
-    let words = words_at s f (held c.decoding.reader) _ found (ap (λ (xs : List ℕ). take (f.len - 4) (drop 4 xs))
-    c.held-in-Ok-first_record.ensures) in
+    let words = words_at s f found c.held-in-Ok-first_record.ensures in
     let put = c.in_err-act-in-Ok-first_record.ensures.puts (words_in s w.1) w.2.stands in
     goes_up _ _ faults.Write c.from_residual.ensures.1 put.0 (stops_in f w.2.stage found put.1.counted
-    (record_breaks s _ _ _ _ w.1 _ _ words c.prefixes_come_first.ensures w.2.passes w.2.stage.no_write put.1).took)
+    (record_breaks s w.1 _ words c.prefixes_come_first.ensures w.2.passes w.2.stage.no_write put.1).took)
 
 pub decoding-preserved-in-Ok-first_record : goal.decoding-preserved-in-Ok-first_record
 decoding-preserved-in-Ok-first_record g c =
@@ -44,18 +42,16 @@ decoding-preserved-in-Ok-first_record g c =
     let f = c.in-Ok-first_record.first in
     let found = first_held f c.held.ensures c.in-Ok-first_record.ensures.good in
     let it = record_at f (held c.decoding.reader) in
-    let words = words_at s f (held c.decoding.reader) _ found (ap (λ (xs : List ℕ). take (f.len - 4) (drop 4 xs))
-    c.held-in-Ok-first_record.ensures) in
+    let words = words_at s f found c.held-in-Ok-first_record.ensures in
     let done = c.in_ok-act-in-Ok-first_record.ensures in
     let put = done.puts (words_in s w.1) w.2.stands in (
       w.0,
       w.1 ++ it ∷ [],
       record {
         stage = takes f w.2.stage found c.pass.ensures.holds c.pass.ensures.turns put.1;
-        passes = record_passes s _ _ _ _ _ w.1 it _ words c.prefixes_come_first.ensures w.2.passes put.0;
-        stands = stands_more s _ w.1 it _ words (done.stands (words_in s w.1) w.2.stands);
-        totals_are = done.counts ∙ totals_more s c.decoding.under_way.totals w.1 it _ w.2.totals_are
-            (ap (λ (o : Option (List ℕ)). is_some o) (sym words));
+        passes = record_passes s w.1 it words c.prefixes_come_first.ensures w.2.passes put.0;
+        stands = rw (words_more s w.1 it _ words) (done.stands (words_in s w.1) w.2.stands);
+        totals_are = done.counts ∙ totals_more s _ w.1 it _ words w.2.totals_are;
       },
     )
 

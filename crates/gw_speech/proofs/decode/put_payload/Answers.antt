@@ -1,13 +1,10 @@
 use Rattle.std.proofs.Common.{◌≡◌, rules, arith}
 use Rattle.g726_codec.specs.declared.CodecKind.TheVariants.{G711}
-use Rattle.gw_records.proofs.Writes.{Puts-same}
 use Rattle.gw_speech.proofs.Speech.{speech_of_octets}
 use Rattle.gw_speech.proofs.decode.put_payload.Goals as goal
 
 pub returns-then-eq-clause-puts : goal.returns-then-eq-clause-puts
 returns-then-eq-clause-puts g c = λ before at.
     let kind : c.args.spec.now.codec ≡ G711 = search rules in
-    let same = speech_of_octets c.args.spec.now c.args.waiting.now.items before c.args.payload.now kind
-    (λ i. omega (arith, c.type_inv.payload i))
-    c.octets_are_words.ensures.words c.octets_are_words-then-eq.ensures.read in
-    Puts-same _ _ _ _ _ _ same c.put.ensures
+    rw (speech_of_octets c.args.spec.now before c.args.payload.now kind (λ i. omega (arith, c.type_inv.payload i))
+    c.octets_are_words.ensures.words c.octets_are_words-then-eq.ensures.read) c.put.ensures

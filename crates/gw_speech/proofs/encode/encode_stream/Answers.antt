@@ -1,16 +1,14 @@
-use Rattle.std.proofs.Common.{◌+◌, ◌-◌, ◌^◌, ◌<◌, inl, inr, ℕ, [], ◌++◌, refl, sym, ap, ◌∙◌, length-append, arith}
+use Rattle.std.proofs.Common.{◌+◌, ◌-◌, ◌^◌, ◌<◌, inl, inr, [], ◌++◌, refl, ap, ◌∙◌, length-append, arith}
+use Rattle.std.proofs.lemmas.List.{nil_from_length}
 use Rattle.std.proofs.lemmas.List.Elements.{All-nil}
 use borrow.Rule.Slice.PartMut.{same_len_mid}
 use Rattle.g726_codec.specs.Kinds.{CodecState}
 use Rattle.gw_records.specs.declared.outcome.RunFault.TheVariants as faults
-use Rattle.gw_records.specs.declared.outcome.Totals.{Totals}
-use Rattle.gw_speech.specs.Encode.{word_bits, full_packets, encode_totals}
-use Rattle.gw_records.specs.Outcome.{nothing_counted}
-use Rattle.gw_records.proofs.Writes.{Appends-none, Appends-join, Appends-same, Gives-none, Gives-join, Gives-end}
-use Rattle.gw_records.proofs.Writes.{Breaks-after, Breaks-more, Breaks-same, read_failed}
+use Rattle.gw_records.proofs.Writes.{Appends-none, Appends-join, Gives-none, Gives-join, Gives-end}
+use Rattle.gw_records.proofs.Writes.{Breaks-after, Breaks-more, read_failed}
 use Rattle.gw_records.proofs.Sessions.{goes_up}
+use Rattle.gw_speech.specs.Encode.{word_bits, full_packets}
 use Rattle.gw_speech.proofs.PacketLemmas.{reads_no_more, coded_way, words_left, window_begins, last_written}
-use Rattle.gw_speech.proofs.PacketLemmas.{full_and_left, words_of_none}
 use Rattle.gw_speech.proofs.encode.encode_stream.Goals as goal
 
 pub reading-init : goal.reading-init
@@ -22,7 +20,7 @@ reading-init g c = (
     stage = record {
       way = record {
         stands = c.new-codec.ensures;
-        words = words_of_none c.args.spec.now c.words_are_counted.ensures;
+        words = nil_from_length _ ((c.words_are_counted.ensures _ _).0 []);
         whole = omega arith;
       };
       fit = All-nil (λ w. w < 2 ^ word_bits c.args.spec.now);
@@ -45,8 +43,7 @@ pub write_packets-requires-in-reading-clause-fit : goal.write_packets-requires-i
 write_packets-requires-in-reading-clause-fit g c =
     let w = c.reading.invariant in
     let e = c.encode_all.ensures in
-    (coded_way _ _ w.3.stage c.in-Ok.ensures.gives c.in-Ok.ensures.fits (e.words w.0 w.3.stage.way.stands)
-    (e.stands w.0 w.3.stage.way.stands) e.len e.fit).1
+    (coded_way _ _ w.3.stage c.in-Ok.ensures.gives c.in-Ok.ensures.fits (e.words w.0) (e.stands w.0) e.len e.fit).1
 
 pub returns-in_default-clause-fault : goal.returns-in_default-clause-fault
 returns-in_default-clause-fault g c =
@@ -64,16 +61,14 @@ pub returns-then-n-eq0-clause-ok : goal.returns-then-n-eq0-clause-ok
 returns-then-n-eq0-clause-ok g c =
     let w = c.reading.invariant in
     let came = c.in-Ok.ensures.gives in
-    let all = last_written _ c.words_are_counted.ensures w.3.stage came c.if-n-eq0.true
-    (c.fill_last-end.ensures.filled w.0 w.1 w.2) in
+    let all = last_written _ c.words_are_counted.ensures w.3.stage came (c.fill_last-end.ensures.filled w.0 w.1 w.2) in
     let wrote = c.in_ok-write_packets.ensures.writes w.2 w.3.at in
-    let made : ℕ → Totals = λ n. record nothing_counted { datagrams = n } in
     record {
       octets = w.0;
       gives = Gives-end _ _ _ w.0 came.octets (came.counted ∙ c.if-n-eq0.true) w.3.stage.gives came.gives;
       ended = came.ended c.if-n-eq0.true;
-      took = Appends-same _ _ _ _ (sym all.0) (Appends-join _ _ _ _ _ w.3.stage.took wrote.0);
-      totals_are = ap made (c.in_ok-write_packets.ensures.next w.2 w.3.at).counted ∙ ap encode_totals (sym all.1);
+      took = rw (all.0) (Appends-join _ _ _ _ _ w.3.stage.took wrote.0);
+      totals_are = rw ((c.in_ok-write_packets.ensures.next w.2 w.3.at).counted, all.1) refl;
       no_read = c.in-Ok.ensures.counts ∙ w.3.stage.no_read;
       no_write = wrote.1 ∙ w.3.stage.no_write;
     }
@@ -82,31 +77,27 @@ pub returns-in_err-write_packets-clause-fault : goal.returns-in_err-write_packet
 returns-in_err-write_packets-clause-fault g c =
     let w = c.reading.invariant in
     let came = c.in-Ok.ensures.gives in
-    let all = last_written _ c.words_are_counted.ensures w.3.stage came c.if-n-eq0.true
-    (c.fill_last-end.ensures.filled w.0 w.1 w.2) in
+    let all = last_written _ c.words_are_counted.ensures w.3.stage came (c.fill_last-end.ensures.filled w.0 w.1 w.2) in
     let broken = c.in_err-write_packets.ensures.writes w.2 w.3.at in
     goes_up _ _ faults.Write c.from_residual.ensures.1 broken.0 (record {
       octets = w.0;
       gives = Gives-end _ _ _ w.0 came.octets (came.counted ∙ c.if-n-eq0.true) w.3.stage.gives came.gives;
-      breaks = Breaks-same _ _ _ _ (sym all.0) (Breaks-after _ _ _ _ _ w.3.stage.took w.3.stage.no_write broken.1);
+      breaks = rw (all.0) (Breaks-after _ _ _ _ _ w.3.stage.took w.3.stage.no_write broken.1);
       no_read = c.in-Ok.ensures.counts ∙ w.3.stage.no_read;
     })
 
 pub returns-in_err-left-clause-fault : goal.returns-in_err-left-clause-fault
 returns-in_err-left-clause-fault g c =
-    let s = c.args.spec.now in
     let w = c.reading.invariant in
     let came = c.in-Ok.ensures.gives in
     let e = c.encode_all.ensures in
-    let way = coded_way _ _ w.3.stage came c.in-Ok.ensures.fits (e.words w.0 w.3.stage.way.stands)
-    (e.stands w.0 w.3.stage.way.stands) e.len e.fit in
-    let all = window_begins s c.encode_all.new.codec (w.0 ++ came.octets) w.1 _ w.2 _ _ c.prefixes_come_first.ensures
-    c.words_are_counted.ensures way.0 (omega (arith, s.ptime_fits.least)) (full_and_left s _) in
+    let way = coded_way _ _ w.3.stage came c.in-Ok.ensures.fits (e.words w.0) (e.stands w.0) e.len e.fit in
+    let all = window_begins c.prefixes_come_first.ensures c.words_are_counted.ensures way.0 in
     let broken = c.in_err-left.ensures.writes w.2 w.3.at in
     goes_up _ _ faults.Write c.from_residual-in_err-left.ensures.1 broken.0 (record {
       octets = w.0 ++ came.octets;
       gives = Gives-join _ _ _ _ _ w.3.stage.gives came.gives;
-      breaks = Breaks-same _ _ _ _ (sym all.1) (Breaks-more _ _ _ all.0
+      breaks = rw (all.1) (Breaks-more _ _ _ _
           (Breaks-after _ _ _ _ _ w.3.stage.took w.3.stage.no_write broken.1));
       no_read = c.in-Ok.ensures.counts ∙ w.3.stage.no_read;
     })
@@ -116,24 +107,23 @@ reading-preserved g c =
     let w = c.reading.invariant in
     let came = c.in-Ok.ensures.gives in
     let e = c.encode_all.ensures in
-    let way = coded_way _ _ w.3.stage came c.in-Ok.ensures.fits (e.words w.0 w.3.stage.way.stands)
-    (e.stands w.0 w.3.stage.way.stands) e.len e.fit in
+    let way = coded_way _ _ w.3.stage came c.in-Ok.ensures.fits (e.words w.0) (e.stands w.0) e.len e.fit in
     let long = same_len_mid c.reading.held (c.reading.held + c.in-Ok.n - c.reading.held) c.read_behind.new.buffer
     c.encode_all.new.octets e.len in
-    let left = words_left c.args.spec.now c.encode_all.new.codec (w.0 ++ came.octets) w.1 _ c.copy_within.new.self _ w.2
-    _ (omega (arith, long, c.in-Ok.ensures.fits)) way.0 way.1 c.in_ok-left.ensures.left.1 c.copy_within.ensures.after in
+    let left = words_left _ c.copy_within.new.self _ _ (omega (arith, long, c.in-Ok.ensures.fits)) way.0 way.1
+    c.in_ok-left.ensures.left.1 c.copy_within.ensures.after in
     let wrote = c.in_ok-left.ensures.writes w.2 w.3.at in (
       w.0 ++ came.octets,
-      left.now_sent,
+      left.0.now_sent,
       w.2 + full_packets c.args.spec.now _,
       record {
         stage = record {
-          way = left.way;
-          fit = left.fit;
+          way = left.0.way;
+          fit = left.1;
           open_packet = c.in_ok-left.ensures.left.0;
           fits = omega (arith, c.copy_within.ensures.len, long, c.in-Ok.ensures.len, w.3.stage.fits);
           gives = Gives-join _ _ _ _ _ w.3.stage.gives came.gives;
-          took = Appends-same _ _ _ _ (sym left.records) (Appends-join _ _ _ _ _ w.3.stage.took wrote.0);
+          took = rw (left.0.records) (Appends-join _ _ _ _ _ w.3.stage.took wrote.0);
           no_read = c.in-Ok.ensures.counts ∙ w.3.stage.no_read;
           no_write = wrote.1 ∙ w.3.stage.no_write;
         };

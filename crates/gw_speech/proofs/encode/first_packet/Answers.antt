@@ -1,10 +1,10 @@
-use Rattle.std.proofs.Common.{refl, arith}
-use Rattle.gw_speech.proofs.PacketLemmas.{header_at-zero}
+use Rattle.std.proofs.Common.{◌≡◌, ◌+◌, ◌*◌, ◌%◌, ◌^◌, refl, arith}
+use Rattle.gw_speech.specs.Encode.{packet_len, header_at}
 use Rattle.gw_speech.proofs.encode.first_packet.Goals as goal
 
 pub returns : goal.returns
-returns c = λ s e f. record {
-  header = header_at-zero s c.args.sequence c.args.timestamp e f (omega arith)
-      (omega arith);
-  counted = refl;
-}
+unfolding header_at
+returns c = λ s e f.
+    let sequence : (s.sequence + 0) % 2 ^ 16 ≡ c.args.sequence = omega arith in
+    let timestamp : (s.timestamp + packet_len s * 0) % 2 ^ 32 ≡ c.args.timestamp = omega arith in
+    record { header = rw (sequence, timestamp) refl; counted = refl }

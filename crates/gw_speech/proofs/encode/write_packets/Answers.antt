@@ -1,18 +1,18 @@
-use Rattle.std.proofs.Common.{◌≡◌, ◌+◌, ◌*◌, ◌^◌, ◌<◌, ℕ, length, take, drop, ap, sym, refl, ◌∙◌, arith}
+use Rattle.std.proofs.Common.{◌≡◌, ◌+◌, ◌*◌, ◌^◌, ◌<◌, length, refl, ◌∙◌, arith}
 use Rattle.std.proofs.lemmas.List.Elements.{All-drop}
-use Rattle.gw_speech.specs.Encode.{packet_len, word_bits, full_packets}
+use Rattle.std.proofs.lemmas.Nat.{le-div}
 use Rattle.std.proofs.lemmas.Result.{err_from_is_err_and}
-use Rattle.gw_speech.proofs.PacketLemmas.{one_more_packet, first_packets, full_are, is_full, next_place}
-use Rattle.gw_records.proofs.Writes.{Passes-start, Passes-join, Passes-same, Passes-appended}
-use Rattle.gw_records.proofs.Writes.{Breaks-join, Breaks-more, Breaks-same, Breaks-waiting}
+use Rattle.gw_records.proofs.Writes.{Passes-start, Passes-join, Passes-appended}
+use Rattle.gw_records.proofs.Writes.{Breaks-join, Breaks-more, Breaks-waiting}
+use Rattle.gw_speech.specs.Encode.{packet_len, word_bits, full_packets}
+use Rattle.gw_speech.proofs.PacketLemmas.{one_more_packet, first_packets, full_are, next_place}
 use Rattle.gw_speech.proofs.encode.write_packets.Goals as goal
 
 pub packets-init : goal.packets-init
 packets-init g c = (
   0,
   record {
-    place = let none : packet_len c.args.spec.now * 0 ≡ 0 = omega arith in sym (ap (λ
-        (n : ℕ). drop n c.args.words.now) none);
+    place = let none : packet_len c.args.spec.now * 0 ≡ 0 = omega arith in rw none refl;
     whole = omega arith;
     fit = c.requires.fit;
     next = λ k at. let e : k + 0 ≡ k = omega arith in rw e at;
@@ -25,20 +25,17 @@ pub packets-preserved : goal.packets-preserved
 packets-preserved g c =
     let s = c.args.spec.now in
     let w = c.packets.invariant in
-    let rest = c.packets.rest.now in
-    let len : c.packet_len-len.result ≡ packet_len c.args.spec.now = c.packet_len-len.ensures.value in
-    let packet = c.split_at.ensures.front ∙ ap (λ (n : ℕ). take n c.packets.rest.now) len in (
+    let len = c.packet_len-len.ensures.value in (
       w.0 + 1,
       record {
-        place = next_place s c.args.words.now rest _ w.0 _ len w.1.place c.split_at.ensures.back;
+        place = next_place s c.args.words.now _ _ w.0 _ len w.1.place c.split_at.ensures.back;
         whole = omega (arith, w.1.whole, c.split_at.ensures.back_len, len);
         fit = rw c.split_at.ensures.back (All-drop
             (λ w. w < 2 ^ word_bits c.args.spec.now) c.packet_len-len.result c.packets.rest.now w.1.fit);
         next = λ k at. let e : k + (w.0 + 1) ≡ (k + w.0) + 1 = omega arith in rw e (c.next_packet.ensures (k + w.0)
             (w.1.next k at));
-        passes = λ k at. Passes-same _ _ _ _ _ (sym (one_more_packet s c.packets.progress k w.0 c.args.words.now rest
-            c.split_at.result.0.now (w.1.next k at) w.1.place packet))
-            (Passes-join _ _ _ _ _ _ _ (w.1.passes k at) c.in_ok-put_packet.ensures.0);
+        passes = λ k at. rw (one_more_packet s _ k w.0 _ c.args.words.now _ _ (w.1.next k at) len w.1.place
+            c.split_at.ensures.front) (Passes-join _ _ _ _ _ _ _ (w.1.passes k at) c.in_ok-put_packet.ensures.0);
         same = c.in_ok-put_packet.ensures.1 ∙ w.1.same;
       },
     )
@@ -49,16 +46,14 @@ returns-in_err-put_packet-clause-writes g c =
     rw (p.1, p.2) (λ k at.
     let s = c.args.spec.now in
     let w = c.packets.invariant in
-    let rest = c.packets.rest.now in
-    let len : c.packet_len-len.result ≡ packet_len c.args.spec.now = c.packet_len-len.ensures.value in
-    let packet = c.split_at.ensures.front ∙ ap (λ (n : ℕ). take n c.packets.rest.now) len in
-    let one = one_more_packet s c.packets.progress k w.0 c.args.words.now rest c.split_at.result.0.now
-    (w.1.next k at) w.1.place packet in
-    let full = is_full s c.args.words.now w.0 (length rest) (omega (arith, len)) w.1.whole (omega (arith, len)) in
+    let len = c.packet_len-len.ensures.value in
+    let one = one_more_packet s _ k w.0 _ c.args.words.now _ _ (w.1.next k at) len w.1.place c.split_at.ensures.front in
+    let full = le-div (w.0 + 1) (length c.args.words.now) (packet_len s) (omega (arith, len))
+    (omega (arith, w.1.whole, len)) in
     let all = first_packets s k c.args.words.now (w.0 + 1) (full_packets s c.args.words.now) full in (
       c.in_err-put_packet.ensures.0,
-      Breaks-same _ _ _ _ (sym all.1) (Breaks-more _ _ _ all.0 (Breaks-same _ _ _ _ (sym one)
-          (Breaks-join _ _ _ _ _ _ (w.1.passes k at) w.1.same c.in_err-put_packet.ensures.1))),
+      rw (all.1, one) (Breaks-more _ _ _ _ (Breaks-join _ _ _ _ _ _ (w.1.passes k at) w.1.same
+          c.in_err-put_packet.ensures.1)),
     ))
 
 pub returns : goal.returns
