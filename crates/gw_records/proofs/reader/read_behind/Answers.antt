@@ -1,8 +1,8 @@
-use Rattle.std.proofs.Common.{◌<◌, length, take, arith, length-take-le}
+use Rattle.std.proofs.Common.{◌<◌, [], length, take, arith, length-take-le}
 use Rattle.std.proofs.lemmas.Grind.{common_steps}
 use Rattle.std.proofs.lemmas.Result.{err_from_is_err_and}
 use Rattle.gw_records.proofs.Buffers.{behind}
-use Rattle.gw_records.proofs.Writes.{Appends-keeps, Consumes-keeps}
+use Rattle.std.proofs.KnownBytes.{Appends-kept, Appends-nil, Consumes-kept, Consumes-nil}
 use Rattle.gw_records.proofs.reader.read_behind.Goals as goal
 
 pub returns-clause-gives : goal.returns-clause-gives
@@ -20,6 +20,6 @@ pub returns-in_err-n-clause-none : goal.returns-in_err-n-clause-none
 returns-in_err-n-clause-none g c =
     let p = err_from_is_err_and c.from_residual.result c.from_residual.ensures.1 in
     rw (p.1) (record {
-      gave = Appends-keeps _ _ c.in_err-n.ensures.gives;
-      consumed = Consumes-keeps _ _ c.in_err-n.ensures.consumes;
+      gave = Appends-kept _ _ _ [] (Appends-nil _) c.in_err-n.ensures.gives;
+      consumed = Consumes-kept _ _ _ [] (Consumes-nil _) c.in_err-n.ensures.consumes;
     })
