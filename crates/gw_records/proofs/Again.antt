@@ -1,5 +1,6 @@
 -- Octets of commands and codecs, there and back.
-use Rattle.std.proofs.Common.{◌≡◌, ◌≤◌, ℕ, zero, suc, refl, arith}
+use Rattle.std.proofs.Common.{◌≡◌, ◌≤◌, ℕ, refl, arith}
+use Rattle.std.proofs.lemmas.Bool.Decides.{nat_tests}
 use Rattle.q421_line.specs.declared.Cmd.{Cmd}
 use Rattle.q421_line.specs.declared.Cmd.TheVariants as commands
 use Rattle.g726_codec.specs.declared.CodecKind.{CodecKind}
@@ -25,21 +26,8 @@ codec_again codecs.G40 = refl
 
 -- an octet from 1 to 6 is that of its command
 pub octet_of_command_again : (n : ℕ) → 1 ≤ n → n ≤ 6 → octet_of_command (command_of n) ≡ n
-octet_of_command_again (suc zero) p q = refl
-octet_of_command_again (suc (suc zero)) p q = refl
-octet_of_command_again (suc (suc (suc zero))) p q = refl
-octet_of_command_again (suc (suc (suc (suc zero)))) p q = refl
-octet_of_command_again (suc (suc (suc (suc (suc zero))))) p q = refl
-octet_of_command_again (suc (suc (suc (suc (suc (suc zero)))))) p q = refl
-octet_of_command_again zero p q = absurd (omega (arith, p))
-octet_of_command_again (suc (suc (suc (suc (suc (suc (suc n))))))) p q = absurd (omega (arith, q))
+octet_of_command_again n p q = grind (arith, nat_tests)
 
 -- an octet from 1 to 5 is that of its codec
 pub octet_of_codec_again : (n : ℕ) → 1 ≤ n → n ≤ 5 → octet_of_codec (codec_of n) ≡ n
-octet_of_codec_again (suc zero) p q = refl
-octet_of_codec_again (suc (suc zero)) p q = refl
-octet_of_codec_again (suc (suc (suc zero))) p q = refl
-octet_of_codec_again (suc (suc (suc (suc zero)))) p q = refl
-octet_of_codec_again (suc (suc (suc (suc (suc zero))))) p q = refl
-octet_of_codec_again zero p q = absurd (omega (arith, p))
-octet_of_codec_again (suc (suc (suc (suc (suc (suc n)))))) p q = absurd (omega (arith, q))
+octet_of_codec_again n p q = grind (arith, nat_tests)

@@ -1,12 +1,12 @@
 -- Octets in a buffer.
-use Rattle.std.proofs.Common.{◌≡◌, ◌+◌, ◌-◌, ◌<◌, ◌≤◌, ℕ, true, List, [], ◌∷◌, ◌++◌, length}
-use Rattle.std.proofs.Common.{take, drop, sym, ap, ◌∙◌, inl, inr, append-nil, length-take-le}
+use Rattle.std.proofs.Common.{◌≡◌, ◌+◌, ◌-◌, ◌<◌, ◌≤◌, ℕ, true, List, ◌++◌, length}
+use Rattle.std.proofs.Common.{take, drop, sym, ap, ◌∙◌, inl, inr, length-take-le}
 use Rattle.std.proofs.Common.{length-drop, arith}
 use Rattle.std.specs.List.{copy_within}
 use Rattle.std.specs.Prelude.{Some, slice_index}
 use Rattle.gw_records.specs.declared.reader.Reader.{Reader}
 use Rattle.gw_records.specs.Reader.{held}
-use Rattle.std.proofs.lemmas.List.{take-append-le, drop-append-le, take_all, drop-take}
+use Rattle.std.proofs.lemmas.List.{take_at, take-append-le, drop-take}
 use Rattle.std.proofs.lemmas.List.Edits.{take-paste}
 use Rattle.std.proofs.Math.Seq.{paste, take-append-add}
 use Rattle.std.proofs.lemmas.Bool.Decides.{nat_tests}
@@ -18,22 +18,15 @@ use Rattle.gw_records.specs.Records.{end_of, is_open, is_cut}
 use Rattle.gw_records.proofs.Firsts.{found_in}
 
 -- moved to the front
-pub moved : (xs : List ℕ) (start filled : ℕ) → start ≤ filled → filled ≤ length xs
-    → drop 0 (take (filled - start) (copy_within xs start filled 0)) ≡ drop start (take filled xs)
-moved xs start filled h k =
-    let m = filled - start in
-    let none : filled - start ≡ 0 + (filled - start) = omega arith in
+pub moved : (xs : List ℕ) (start filled n : ℕ) → start ≤ filled → filled ≤ length xs → n ≡ filled - start
+    → take n (copy_within xs start filled 0) ≡ drop start (take filled xs)
+moved xs start filled n h k e =
+    let none : n ≡ 0 + (filled - start) = omega arith in
     let all : start + (filled - start) ≡ filled = omega arith in
-    ap (λ (n : ℕ). take n (paste xs 0 (drop start xs) (filled - start))) none
+    let cut = sym (drop-take start (filled - start) xs) in
+    ap (λ (m : ℕ). take m (paste xs 0 (drop start xs) (filled - start))) none
     ∙ take-paste xs 0 (drop start xs) (filled - start) (omega arith) (omega (arith, length-drop start xs))
-    ∙ sym (drop-take start (filled - start) xs)
-    ∙ ap (λ (n : ℕ). drop start (take n xs)) all
-
--- what is dropped stands before the octets that come
-pub drop_behind : (start filled : ℕ) (xs octets : List ℕ) → start ≤ filled → filled ≤ length xs
-    → drop start (take filled xs ++ octets) ≡ drop start (take filled xs) ++ octets
-drop_behind start filled xs octets h k =
-    drop-append-le start (take filled xs) octets (omega (arith, h, length-take-le filled xs k))
+    ∙ rw all at cut
 
 -- read behind what was there
 pub behind : (xs buf post : List ℕ) (filled n : ℕ) → filled ≤ length xs → n ≤ length buf
@@ -58,37 +51,13 @@ open_is_short kinds octets endings.Truncated bytes e o =
       | inl h ↦ grind (arith, nat_tests)
       | inr h ↦ grind (arith, nat_tests)
     ]
-open_is_short kinds octets endings.BadKind bytes e o = cc
-open_is_short kinds octets endings.BadCircuit bytes e o = cc
-open_is_short kinds octets endings.BadCommand bytes e o = cc
+open_is_short kinds octets _ bytes e o = cc
 
 -- what is held fits the buffer
 pub held_fits : (r : Reader) → length (held r) ≤ 131078
 unfolding held
 held_fits r = let f = r.within in grind (arith, common_steps)
 
--- nothing behind a list leaves it as it is
-pub nothing : (xs ys : List ℕ) → length ys ≡ 0 → xs ++ ys ≡ xs
-nothing xs [] e = append-nil xs
-nothing xs (y ∷ ys) e = absurd (omega arith)
-
 -- the first items of two lists, as many as the first list has, are that list
 pub kept : (len : ℕ) (xs ys : List ℕ) → length xs ≡ len → take len (xs ++ ys) ≡ xs
-kept len xs ys e = take-append-le len xs ys (omega arith) ∙ take_all len xs (omega arith)
-
--- where nothing came, what is held is what was held
-pub nothing_came : (held n : ℕ) (old new octets : List ℕ) → n ≡ 0 → length octets ≡ n
-    → take (held + n) new ≡ take held old ++ octets
-    → take held new ≡ take held old
-nothing_came held n old new octets e l h =
-    let same : held ≡ held + n = omega (arith, e) in
-    ap (λ (k : ℕ). take k new) same ∙ h ∙ nothing (take held old) octets (l ∙ e)
-
--- what is left at the end, moved to the front
-pub moved_left : (buffer : List ℕ) (end left : ℕ) (new : List ℕ) → left ≤ end → end ≤ length buffer
-    → new ≡ copy_within buffer (end - left) end 0
-    → take left new ≡ drop (end - left) (take end buffer)
-moved_left buffer end left new h f e =
-    let len : left ≡ end - (end - left) = omega arith in
-    ap (take left) e ∙ ap (λ (n : ℕ). take n (copy_within buffer (end - left) end 0)) len
-    ∙ moved buffer (end - left) end (omega arith) f
+kept len xs ys e = take_at xs ys len e

@@ -15,7 +15,7 @@ use Rattle.gw_records.specs.Records.{has_bad_command, is_cut, end_of}
 use Rattle.gw_records.specs.declared.records.Ending.{Ending}
 use Rattle.gw_records.specs.declared.records.Ending.TheVariants as endings
 use Rattle.gw_records.specs.Octets.{command_of, codec_of}
-use Rattle.gw_records.specs.Records.{IsFirst, head_of, named}
+use Rattle.gw_records.specs.Records.{IsCircuit, IsFirst, head_of, named}
 use Rattle.gw_records.proofs.Again.{octet_of_command_again, octet_of_codec_again}
 
 -- what is known of the tests of end_of, by what they give
@@ -65,65 +65,31 @@ kinds_are kinds octets h = grind (arith, nat_tests)
 -- a good kind that is no trunk, datagram or command is a codec
 pub kind_left : (kinds : Kinds) (octets : List ℕ) → has_bad_kind kinds octets ≡ false → slice_index octets 0 ≢ 84
     → slice_index octets 0 ≢ 68 → slice_index octets 0 ≢ 67 → slice_index octets 0 ≡ 75
-kind_left kinds octets h p q r = elim (kinds_are kinds octets h) [
-  | inl e ↦ absurd (p e.0)
-  | inr s ↦ elim s [ inl e ↦ absurd (q e.0) | inr t ↦ elim t [ inl e ↦ absurd (r e.0) | inr e ↦ e.0 ] ]
-]
+kind_left kinds octets h p q r = let k = kinds_are kinds octets h in grind arith
 
--- a good circuit, but of a trunk record, is from 1 to 30
-pub circuit_is : (octets : List ℕ) → has_bad_circuit octets ≡ false → slice_index octets 0 ≢ 84
-    → (1 ≤ slice_index octets 1) × (slice_index octets 1 ≤ 30)
+-- a good circuit of a trunk record is 0, and of another from 1 to 30
+pub circuit_is : (octets : List ℕ) → has_bad_circuit octets ≡ false
+    → (slice_index octets 0 ≢ 84 → IsCircuit (slice_index octets 1))
+    × (slice_index octets 0 ≡ 84 → slice_index octets 1 ≡ 0)
 unfolding has_bad_circuit
-circuit_is octets h p = (grind (arith, nat_tests), grind (arith, nat_tests))
+circuit_is octets h = (λ p. (grind (arith, nat_tests), grind (arith, nat_tests)), λ p. grind (arith, nat_tests))
 
--- a good circuit of a trunk record is 0
-circuit_none : (octets : List ℕ) → has_bad_circuit octets ≡ false → slice_index octets 0 ≡ 84 → slice_index octets 1 ≡ 0
-unfolding has_bad_circuit
-circuit_none octets h p = grind (arith, nat_tests)
-
--- a good length of a command is one octet
-pub length_is : (octets : List ℕ) → has_bad_length octets ≡ false → slice_index octets 0 ≡ 67 → body_len octets ≡ 1
+-- a good length of a command is one octet, and of a codec two
+pub length_is : (octets : List ℕ) → has_bad_length octets ≡ false
+    → (slice_index octets 0 ≡ 67 → body_len octets ≡ 1) × (slice_index octets 0 ≡ 75 → body_len octets ≡ 2)
 unfolding has_bad_length
-length_is octets h p = grind (arith, nat_tests)
+length_is octets h = (λ p. grind (arith, nat_tests), λ p. grind (arith, nat_tests))
 
--- a good length of a codec is two octets
-pub two_long : (octets : List ℕ) → has_bad_length octets ≡ false → slice_index octets 0 ≡ 75 → body_len octets ≡ 2
-unfolding has_bad_length
-two_long octets h p = grind (arith, nat_tests)
-
--- a good command is from 1 to 6
-command_is : (octets : List ℕ) → has_bad_command octets ≡ false → slice_index octets 0 ≡ 67
-    → (1 ≤ slice_index octets 4) × (slice_index octets 4 ≤ 6)
+-- a good command is from 1 to 6, a good codec from 1 to 5, and its payload type at most 127
+command_is : (octets : List ℕ) → has_bad_command octets ≡ false
+    → (slice_index octets 0 ≡ 67 → (1 ≤ slice_index octets 4) × (slice_index octets 4 ≤ 6))
+    × (slice_index octets 0 ≡ 75 → (1 ≤ slice_index octets 4) × (slice_index octets 4 ≤ 5)
+    × (slice_index octets 5 ≤ 127))
 unfolding has_bad_command
-command_is octets h p = (grind (arith, nat_tests), grind (arith, nat_tests))
-
--- a good codec is from 1 to 5, and its payload type at most 127
-codec_is : (octets : List ℕ) → has_bad_command octets ≡ false → slice_index octets 0 ≡ 75
-    → (1 ≤ slice_index octets 4) × (slice_index octets 4 ≤ 5) × (slice_index octets 5 ≤ 127)
-unfolding has_bad_command
-codec_is octets h p = (grind (arith, nat_tests), grind (arith, nat_tests), grind (arith, nat_tests))
-
--- the head of a trunk record
-head_trunk : (octets : List ℕ) → slice_index octets 0 ≡ 84 → head_of octets ≡ heads.Trunk
-unfolding head_of
-head_trunk octets e = rw e refl
-
--- the head of a datagram, with its circuit
-head_datagram : (octets : List ℕ) → slice_index octets 0 ≡ 68 → head_of octets ≡ heads.Datagram (slice_index octets 1)
-unfolding head_of
-head_datagram octets e = rw e refl
-
--- the head of a command, with its circuit and command
-head_command : (octets : List ℕ) → slice_index octets 0 ≡ 67
-    → head_of octets ≡ heads.Command (slice_index octets 1) (command_of (slice_index octets 4))
-unfolding head_of
-head_command octets e = rw e refl
-
--- the head of a codec record, with its circuit, codec and payload type
-head_codec : (octets : List ℕ) → slice_index octets 0 ≡ 75
-    → head_of octets ≡ heads.Codec (slice_index octets 1) (codec_of (slice_index octets 4)) (slice_index octets 5)
-unfolding head_of
-head_codec octets e = rw e refl
+command_is octets h = (
+  λ p. (grind (arith, nat_tests), grind (arith, nat_tests)),
+  λ p. (grind (arith, nat_tests), grind (arith, nat_tests), grind (arith, nat_tests)),
+)
 
 -- two octets that spell a length
 spells : (h l n : ℕ) → h < 256 → l < 256 → n ≡ h * 256 + l → big_bytes 2 n ≡ h ∷ l ∷ []
@@ -144,15 +110,12 @@ firstly kinds head k c h l rest fits whole good =
 
 -- a body of one octet is the first octet of the rest
 one_octet : (n : ℕ) (rest : List ℕ) → n ≡ 1 → n ≤ length rest → take n rest ≡ get_or rest 0 0 ∷ []
-one_octet n [] e h = absurd (omega arith)
-one_octet n (x ∷ rest) e h = rw e refl
+one_octet n rest e h = rw e (grind (arith, common_steps))
 
 -- a body of two octets is the first two of the rest
 two_octets : (n : ℕ) (rest : List ℕ) → n ≡ 2 → n ≤ length rest
     → take n rest ≡ get_or rest 0 0 ∷ get_or rest 1 0 ∷ []
-two_octets n [] e h = absurd (omega arith)
-two_octets n (x ∷ []) e h = absurd (omega arith)
-two_octets n (x ∷ y ∷ rest) e h = rw e refl
+two_octets n rest e h = rw e (grind (arith, common_steps))
 
 -- a head that is told is that of the first octets, which say no bad command
 pub told : (octets : List ℕ) (o : Option Head) (head : Head)
@@ -166,6 +129,7 @@ pub good_first : (kinds : Kinds) (octets : List ℕ) → ((i : ℕ) → slice_in
     → has_bad_kind kinds octets ≡ false → has_bad_circuit octets ≡ false → has_bad_length octets ≡ false
     → 4 + body_len octets ≤ length octets → has_bad_command octets ≡ false
     → IsFirst kinds (record { head = head_of octets; len = 4 + body_len octets }) octets
+unfolding head_of
 good_first kinds [] bytes len a b c d e = absurd (omega arith)
 good_first kinds (k ∷ []) bytes len a b c d e = absurd (omega arith)
 good_first kinds (k ∷ c ∷ []) bytes len a b cc' d e = absurd (omega arith)
@@ -180,33 +144,32 @@ good_first kinds (k ∷ c ∷ h ∷ l ∷ rest) bytes len kind circuit one whole
     let counted : length (take (h * 256 + l) rest) ≡ h * 256 + l = length-take-le (h * 256 + l) rest fits in
     let short : length (take (h * 256 + l) rest) < 2 ^ 16 = omega arith in
     let spelt : big_bytes 2 (length (take (h * 256 + l) rest)) ≡ h ∷ l ∷ [] = spells h l _ high low counted in
+    let lone = circuit_is octets circuit in
+    let long = length_is octets one in
+    let known = command_is octets command in
     elim (kinds_are kinds octets kind) [
       | inl t ↦
-          let zero : c ≡ 0 = circuit_none octets circuit t.0 in
-          rw (head_trunk octets t.0) (firstly kinds heads.Trunk k c h l rest fits (cc) (t.1, short))
+          let zero = lone.1 (t.0) in
+          rw (t.0) (firstly kinds heads.Trunk 84 c h l rest fits (cc) (t.1, short))
       | inr r ↦ elim r [
         | inl t ↦
-            let in_range = circuit_is octets circuit (λ p. absurd (omega (arith, p, t.0))) in
-            rw (head_datagram octets t.0) (firstly kinds (heads.Datagram c) k c h l rest fits (cc)
-            (t.1, short, in_range))
+            let in_range = lone.0 (λ p. absurd (omega (arith, p, t.0))) in
+            rw (t.0) (firstly kinds (heads.Datagram c) 68 c h l rest fits (cc) (t.1, short, in_range))
         | inr s ↦ elim s [
           | inl t ↦
-              let in_range = circuit_is octets circuit (λ p. absurd (omega (arith, p, t.0))) in
-              let single : h * 256 + l ≡ 1 = length_is octets one t.0 in
-              let body_is : take (h * 256 + l) rest ≡ get_or rest 0 0 ∷ [] = one_octet (h * 256 + l) rest single fits in
-              let known = command_is octets command t.0 in
-              let again = octet_of_command_again (get_or rest 0 0) known.0 known.1 in
-              rw (head_command octets t.0) (firstly kinds (heads.Command c (command_of (get_or rest 0 0))) k c h l rest
-              fits (rw (again, body_is) (cc)) (rw again (t.1, in_range, known.0, known.1)))
+              let in_range = lone.0 (λ p. absurd (omega (arith, p, t.0))) in
+              let body_is = one_octet (h * 256 + l) rest (long.0 (t.0)) fits in
+              let order = known.0 (t.0) in
+              let again = octet_of_command_again (get_or rest 0 0) order.0 order.1 in
+              rw (t.0) (firstly kinds (heads.Command c (command_of (get_or rest 0 0))) 67 c h l rest fits
+              (rw (again, body_is) (cc)) (rw again (t.1, in_range, order.0, order.1)))
           | inr t ↦
-              let in_range = circuit_is octets circuit (λ p. absurd (omega (arith, p, t.0))) in
-              let double : h * 256 + l ≡ 2 = two_long octets one t.0 in
-              let body_is : take (h * 256 + l) rest ≡ get_or rest 0 0 ∷ get_or rest 1 0 ∷ [] =
-              two_octets (h * 256 + l) rest double fits in
-              let known = codec_is octets command t.0 in
-              let again = octet_of_codec_again (get_or rest 0 0) known.0 known.1 in
-              rw (head_codec octets t.0) (firstly kinds (heads.Codec c (codec_of (get_or rest 0 0)) (get_or rest 1 0)) k
-              c h l rest fits (rw (again, body_is) (cc)) (rw again (t.1, in_range, known.0, known.1, known.2)))
+              let in_range = lone.0 (λ p. absurd (omega (arith, p, t.0))) in
+              let body_is = two_octets (h * 256 + l) rest (long.1 (t.0)) fits in
+              let codec = known.1 (t.0) in
+              let again = octet_of_codec_again (get_or rest 0 0) codec.0 codec.1 in
+              rw (t.0) (firstly kinds (heads.Codec c (codec_of (get_or rest 0 0)) (get_or rest 1 0)) 75 c h l rest fits
+              (rw (again, body_is) (cc)) (rw again (t.1, in_range, codec.0, codec.1, codec.2)))
         ]
       ]
     ]

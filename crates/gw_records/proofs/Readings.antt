@@ -1,5 +1,5 @@
 -- Octets are read in one way.
-use Rattle.std.proofs.Common.{◌≡◌, ◌+◌, ◌*◌, ◌/◌, ◌%◌, ◌<◌, ◌≤◌, ◌^◌, ℕ, true, List, [], ◌∷◌, ◌++◌, length, take, drop}
+use Rattle.std.proofs.Common.{◌≡◌, ◌+◌, ◌*◌, ◌/◌, ◌%◌, ℕ, List, [], ◌∷◌, ◌++◌, length, take, drop}
 use Rattle.std.proofs.Common.{refl, sym, ap, ◌∙◌, append_assoc, append-nil, length-append, arith}
 use Rattle.std.specs.Prelude.{Some, None}
 use Rattle.std.specs.List.{flat_map, AllByRecursion}
@@ -25,45 +25,28 @@ unspelled : (kinds : Kinds) (r : Record) (x : List ℕ) → IsGood kinds r
     → (end_of kinds (spelled r ++ x) ≡ None) × (said (spelled r ++ x) ≡ r) × (after (spelled r ++ x) ≡ x)
 unfolding end_of has_bad_kind has_bad_circuit has_bad_length is_cut has_bad_command head_of
 unspelled kinds (Record.Trunk octets) x good =
-    let n = length octets in
-    let kind : kinds.trunk ≡ true = good.0 in
-    let fits : length octets < 2 ^ 16 = good.1 in
-    let len : length octets / 256 % 256 * 256 + length octets % 256 ≡ length octets = omega arith in
-    let long : length (octets ++ x) ≡ length octets + length x = length-append octets x in (
-      grind (arith, nat_tests),
+    let len : length octets / 256 % 256 * 256 + length octets % 256 ≡ length octets = omega (arith, good.1) in (
+      grind (arith, nat_tests, good.0, good.1, length-append octets x),
       ap (λ (k : ℕ). Record.Trunk (take k (octets ++ x))) len ∙ ap Record.Trunk (take-append_seam octets x),
       ap (λ (k : ℕ). drop k (octets ++ x)) len ∙ drop-append_seam octets x,
     )
 unspelled kinds (Record.Datagram circuit octets) x good =
-    let kind : kinds.datagrams ≡ true = good.0 in
-    let fits : length octets < 2 ^ 16 = good.1 in
-    let low : 1 ≤ circuit = good.2.0 in
-    let high : circuit ≤ 30 = good.2.1 in
-    let len : length octets / 256 % 256 * 256 + length octets % 256 ≡ length octets = omega arith in
-    let long : length (octets ++ x) ≡ length octets + length x = length-append octets x in (
-      grind (arith, nat_tests),
+    let len : length octets / 256 % 256 * 256 + length octets % 256 ≡ length octets = omega (arith, good.1) in (
+      grind (arith, nat_tests, good.0, good.1, good.2.0, good.2.1, length-append octets x),
       ap (λ (k : ℕ). Record.Datagram circuit (take k (octets ++ x))) len
           ∙ ap (Record.Datagram circuit) (take-append_seam octets x),
       ap (λ (k : ℕ). drop k (octets ++ x)) len ∙ drop-append_seam octets x,
     )
-unspelled kinds (Record.Command circuit command) x good =
-    let kind : kinds.commands ≡ true = good.0 in
-    let low : 1 ≤ circuit = good.1.0 in
-    let high : circuit ≤ 30 = good.1.1 in
-    let first : 1 ≤ command = good.2 in
-    let last : command ≤ 6 = good.3 in
-    (grind (arith, nat_tests), ap (Record.Command circuit) (octet_of_command_again command first last), refl)
-unspelled kinds (Record.Codec circuit codec payload_type) x good =
-    let kind : kinds.codecs ≡ true = good.0 in
-    let low : 1 ≤ circuit = good.1.0 in
-    let high : circuit ≤ 30 = good.1.1 in
-    let first : 1 ≤ codec = good.2 in
-    let last : codec ≤ 5 = good.3 in
-    let most : payload_type ≤ 127 = good.4 in (
-      grind (arith, nat_tests),
-      ap (λ (n : ℕ). Record.Codec circuit n payload_type) (octet_of_codec_again codec first last),
-      refl,
-    )
+unspelled kinds (Record.Command circuit command) x good = (
+  grind (arith, nat_tests, good.0, good.1.0, good.1.1, good.2, good.3),
+  ap (Record.Command circuit) (octet_of_command_again command good.2 good.3),
+  refl,
+)
+unspelled kinds (Record.Codec circuit codec payload_type) x good = (
+  grind (arith, nat_tests, good.0, good.1.0, good.1.1, good.2, good.3, good.4),
+  ap (λ (n : ℕ). Record.Codec circuit n payload_type) (octet_of_codec_again codec good.2 good.3),
+  refl,
+)
 
 -- the octets of a record and of others, and the rest, grouped the other way
 pub regroup : (r : Record) (rs : List Record) (rest : List ℕ)

@@ -1,6 +1,6 @@
 -- What sessions have in common that act on one record after another.
 use Rattle.std.proofs.Common.{◌≡◌, ◌+◌, ◌^◌, ◌<◌, ◌≤◌, inl, inr, ℕ, true, List, [], ◌∷◌, ◌++◌, length, drop}
-use Rattle.std.proofs.Common.{refl, sym, ap, ◌∙◌, subst, append_assoc, append-nil, length-append, arith}
+use Rattle.std.proofs.Common.{refl, sym, ap, ◌∙◌, append_assoc, append-nil, length-append, arith}
 use Rattle.std.proofs.Common.{take-append-drop}
 use Rattle.std.specs.Prelude.{Some, Result, Ok, Err, IfOk, IfErr, IsErrAnd}
 use Rattle.std.specs.List.{flat_map, AllByRecursion}
@@ -31,7 +31,7 @@ five p q r s t = cc
 pub goes_up : {T E : Type 0} {e : E} (P : E → Type 0) (r : Result T E) (f : E) → IsErrAnd r (λ y. y ≡ e) → e ≡ f → P f
     → IfErr r P
 goes_up P (Ok x) f up met p = tt
-goes_up P (Err y) f up met p = subst P (sym (up ∙ met)) p
+goes_up P (Err y) f up met p = rw (up, met) p
 
 -- where a session stands between two records: what it has read are good records, and what its reader holds
 pub record Stage (kinds : Kinds) (source source' : SourceState) (sink sink' : SinkState) (reader : Reader)
@@ -62,13 +62,8 @@ take_record : (kinds : Kinds) (octets held : List ℕ) (records : List Record) (
     → octets ≡ flat_map spelled records ++ held → IsFirst kinds f held
     → octets ≡ flat_map spelled (records ++ record_at f held ∷ []) ++ drop f.len held
 take_record kinds octets held records f e first =
-    let r = record_at f held in
-    let split : held ≡ spelled (record_at f held) ++ drop f.len held =
-    sym (take-append-drop f.len held) ∙ ap (λ (xs : List ℕ). xs ++ drop f.len held) first.whole in
-    e ∙ ap (λ (xs : List ℕ). flat_map spelled records ++ xs) split
-    ∙ sym (append_assoc (flat_map spelled records) (spelled r) (drop f.len held))
-    ∙ ap (λ (xs : List ℕ). (flat_map spelled records ++ xs) ++ drop f.len held) (sym (append-nil (spelled r)))
-    ∙ ap (λ (xs : List ℕ). xs ++ drop f.len held) (sym (flat_map-append spelled records (r ∷ [])))
+    let more = flat_map-append spelled records (record_at f held ∷ []) in
+    rw (more, append-nil, append_assoc, ← first.whole, take-append-drop) e
 
 -- one good record more
 good_more : {X : Type 0} (P : X → Type 0) (xs : List X) (x : X) → AllByRecursion P xs → P x
@@ -79,7 +74,7 @@ good_more P (y ∷ xs) x all p = (all.0, good_more P xs x all.1 p)
 -- .. of a slice that is held
 pub first_held : {kinds : Kinds} {slice held : List ℕ} (f : First) → slice ≡ held → IsFirst kinds f slice
     → IsFirst kinds f held
-first_held {kinds} f e first = let P : List ℕ → Type 0 = λ xs. IsFirst kinds f xs in subst P e first
+first_held f e first = rw e at first
 
 -- a record was acted on and passed
 pub takes : {kinds : Kinds} {a b : SourceState} {c d d' : SinkState} {reader reader' : Reader} {octets : List ℕ}
@@ -207,7 +202,5 @@ pub ends_so : {kinds : Kinds} {a b : SourceState} {c d : SinkState} {Done : Tota
     → result ≡ answer_of ending totals
     → (IfOk result (EndsAll kinds a b c d Done)) × (IfErr result (EndsUntil kinds a b c d Done Begun kept))
 ends_so Begun kept endings.End totals result e o t r = rw r (record { ends = e; ended = o refl; totals_are = t }, tt)
-ends_so Begun kept endings.BadKind totals result e o t r = rw r (tt, e)
-ends_so Begun kept endings.BadCircuit totals result e o t r = rw r (tt, e)
-ends_so Begun kept endings.BadCommand totals result e o t r = rw r (tt, e)
 ends_so Begun kept endings.Truncated totals result e o t r = rw r (tt, (e, o refl))
+ends_so Begun kept _ totals result e o t r = rw r (tt, e)

@@ -1,7 +1,7 @@
 -- Each list of octets is read.
-use Rattle.std.proofs.Common.{◌≡◌, ◌+◌, ◌<◌, ◌≤◌, ◌++◌, ℕ, zero, suc, false, Option, Some, None, List}
+use Rattle.std.proofs.Common.{◌≡◌, ◌+◌, ◌<◌, ◌≤◌, ◌++◌, ℕ, zero, suc, Option, Some, None, List}
 use Rattle.std.proofs.Common.{[], ◌∷◌, length, drop, refl, sym, ap, ◌∙◌, length-drop, take-append-drop, arith}
-use Rattle.std.specs.Prelude.{slice_index, nat_lt}
+use Rattle.std.specs.Prelude.{slice_index}
 use Rattle.std.proofs.lemmas.List.{get_or-drop}
 use Rattle.std.proofs.lemmas.Bool.Decides.{nat_tests}
 use Rattle.gw_records.specs.declared.records.Kinds.{Kinds}
@@ -14,21 +14,15 @@ use Rattle.gw_records.specs.Laws.{EachIsRead}
 use Rattle.gw_records.proofs.Firsts.{good_first, found_in}
 use Rattle.gw_records.proofs.Readings.{regroup}
 
--- octets that are not fewer than four are at least four
-long_enough : (octets : List ℕ) → nat_lt (length octets) 4 ≡ false → 4 ≤ length octets
-long_enough octets e = grind (arith, nat_tests)
-
--- a record that is not cut is all there
-not_cut : (octets : List ℕ) → is_cut octets ≡ false → 4 + body_len octets ≤ length octets
-unfolding is_cut
-not_cut octets e = grind (arith, nat_tests)
-
 -- where octets are no end, a record stands first
 first_of_none : (kinds : Kinds) (octets : List ℕ) → ((i : ℕ) → slice_index octets i < 256) → end_of kinds octets ≡ None
     → IsFirst kinds (record { head = head_of octets; len = 4 + body_len octets }) octets
+unfolding is_cut
 first_of_none kinds octets bytes e =
     let t = found_in kinds octets None e in
-    good_first kinds octets bytes (long_enough octets t.0) t.1 t.2 t.3 (not_cut octets t.4) t.5
+    let long : 4 ≤ length octets = grind (arith, nat_tests) in
+    let whole : 4 + body_len octets ≤ length octets = grind (arith, nat_tests) in
+    good_first kinds octets bytes long t.1 t.2 t.3 whole t.5
 
 -- at most n octets that end in this way are read as records
 readings : (n : ℕ) (kinds : Kinds) (octets : List ℕ) (o : Option Ending) → end_of kinds octets ≡ o
@@ -42,12 +36,8 @@ readings (suc n) kinds octets None e h bytes =
     let f : First = record { head = head_of octets; len = 4 + body_len octets } in
     let p = first_of_none kinds octets bytes e in
     let rest = drop (4 + body_len octets) octets in
-    let fewer : length (drop (4 + body_len octets) octets) ≤ n = omega (
-      arith,
-      p.more,
-      length-drop
-          (4 + body_len octets) octets,
-    ) in
+    let fewer : length (drop (4 + body_len octets) octets) ≤ n = omega
+    (arith, p.more, length-drop (4 + body_len octets) octets) in
     let r = readings n kinds rest (end_of kinds rest) refl fewer (λ i. rw (get_or-drop
     (4 + body_len octets) octets i 0) (bytes (4 + body_len octets + i))) in
     let it = record_at (record { head = head_of octets; len = 4 + body_len octets }) octets in (

@@ -13,7 +13,7 @@ use Rattle.e1_g711.specs.Law.{idle_code}
 use Rattle.g726_codec.specs.Kinds.{CodecState}
 use Rattle.g726_codec.specs.Laws.{OneWordAnOctet, PrefixesComeFirst}
 use Rattle.gw_records.specs.Streams.{SourceState, SinkState, Gives, GivesUp, Refills}
-use Rattle.gw_records.proofs.Buffers.{moved_left}
+use Rattle.gw_records.proofs.Buffers.{moved}
 use Rattle.gw_records.proofs.Writes.{Gives-end}
 use Rattle.gw_speech.specs.declared.spec.StreamSpec.{StreamSpec}
 use Rattle.gw_speech.specs.declared.encode.Progress.{Progress}
@@ -226,16 +226,16 @@ moves_on {s} {sent = sent} {window = window} {count = count} n way e h =
     }
 
 -- the words left of a buffer stand at its front, and the full packets before them are sent
-pub words_left : {s : StreamSpec} {codec : CodecState} {given sent : List ℕ} {count : ℕ} (buffer moved : List ℕ)
+pub words_left : {s : StreamSpec} {codec : CodecState} {given sent : List ℕ} {count : ℕ} (buffer new : List ℕ)
     (end left : ℕ) → end ≤ length buffer → IsUnderWay s codec given sent count (take end buffer)
     → All (λ w. w < 2 ^ word_bits s) (take end buffer)
     → length (take end buffer) ≡ packet_len s * full_packets s (take end buffer) + left
-    → moved ≡ copy_within buffer (end - left) end 0
-    → MovesOn s codec given sent (take end buffer) (take left moved) count
-    × All (λ w. w < 2 ^ word_bits s) (take left moved)
-words_left {s} buffer moved end left h way fit w e =
+    → new ≡ copy_within buffer (end - left) end 0
+    → MovesOn s codec given sent (take end buffer) (take left new) count
+    × All (λ w. w < 2 ^ word_bits s) (take left new)
+words_left {s} buffer new end left h way fit w e =
     let len : length (take end buffer) ≡ end = length-take-le end buffer h in
-    rw (moved_left buffer end left moved (omega (arith, len, w)) h e) (
+    rw (e, moved buffer (end - left) end left (omega arith) h (omega (arith, len, w))) (
       moves_on (end - left) way (omega (arith, len, w)) (omega (arith, len)),
       All-drop (λ w. w < 2 ^ word_bits s) (end - left) (take end buffer) fit,
     )

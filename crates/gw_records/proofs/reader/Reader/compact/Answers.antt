@@ -1,4 +1,4 @@
-use Rattle.std.proofs.Common.{◌-◌, ℕ, List, take, drop, ap, ◌∙◌, arith}
+use Rattle.std.proofs.Common.{◌-◌, ℕ, List, take, drop, ap, ◌∙◌, refl, arith}
 use Rattle.gw_records.specs.Reader.{held}
 use Rattle.gw_records.proofs.Buffers.{moved}
 use Rattle.gw_records.proofs.reader.Reader.compact.Goals as goal
@@ -8,4 +8,4 @@ unfolding held
 returns-clause-holds c =
     let s = c.args.self.now in
     ap (λ (xs : List ℕ). drop 0 (take (s.filled - s.start) xs)) c.copy_within.ensures.items
-    ∙ moved s.buffer.items s.start s.filled (omega arith) (omega (arith, s.room))
+    ∙ moved s.buffer.items s.start s.filled _ (omega arith) (omega (arith, s.room)) refl

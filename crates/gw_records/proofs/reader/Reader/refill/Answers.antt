@@ -1,7 +1,8 @@
-use Rattle.std.proofs.Common.{◌≡◌, ◌≤◌, ◌++◌, ℕ, List, length, take, drop, ap, ◌∙◌, arith, refl}
+use Rattle.std.proofs.Common.{◌≡◌, ◌≤◌, ◌++◌, ℕ, List, length, take, drop, ap, ◌∙◌, arith, refl, length-take}
 use Rattle.gw_records.specs.Reader.{held}
 use Rattle.std.proofs.lemmas.Result.{err_from_is_err_and}
-use Rattle.gw_records.proofs.Buffers.{kept, drop_behind}
+use Rattle.std.proofs.lemmas.List.{drop-append-le}
+use Rattle.gw_records.proofs.Buffers.{kept}
 use Rattle.gw_records.proofs.reader.Reader.refill.Goals as goal
 
 pub returns-clause-gives : goal.returns-clause-gives
@@ -12,20 +13,15 @@ returns-clause-gives g c =
     let items = c.as_mut_slice.result.now in
     let here : held s ≡ held c.args.self.now = c.make_room.ensures.holds in
     let same : drop s.start (take s.filled items) ≡ held s = rw c.as_mut_slice.ensures.value refl in
+    let len = ap length c.as_mut_slice.ensures.value in
     let whole = kept s.buffer.len c.read_behind.new.buffer (drop (length c.read_behind.new.buffer) s.buffer.items)
-    (omega (arith, s.buffer.ok.0, c.read_behind.ensures.len, ap length c.as_mut_slice.ensures.value)) in
-    let within : s.filled ≤ length items = omega (
-      arith,
-      s.within,
-      s.room,
-      s.buffer.ok.0,
-      ap length
-          c.as_mut_slice.ensures.value,
-    ) in
+    (omega (arith, s.buffer.ok.0, c.read_behind.ensures.len, len)) in
+    let within : s.start ≤ length (take s.filled items) = omega
+    (arith, s.order, s.within, s.room, s.buffer.ok.0, len, length-take s.filled items) in
     record {
       octets = r.octets;
       counted = r.counted;
-      holds = rw whole (ap (drop s.start) r.holds ∙ drop_behind s.start s.filled items r.octets s.order within
+      holds = rw whole (ap (drop s.start) r.holds ∙ drop-append-le s.start (take s.filled items) r.octets within
           ∙ ap (λ (xs : List ℕ). xs ++ r.octets) (same ∙ here));
       gives = r.gives;
       ended = r.ended;
