@@ -1,7 +1,6 @@
 -- Octets in a buffer.
-use Rattle.std.proofs.Common.{◌≡◌, ◌+◌, ◌-◌, ◌<◌, ◌≤◌, ℕ, true, List, ◌++◌, length}
-use Rattle.std.proofs.Common.{take, drop, sym, ap, ◌∙◌, inl, inr, length-take-le}
-use Rattle.std.proofs.Common.{length-drop, arith}
+use Rattle.std.proofs.Common.{◌≡◌, ◌+◌, ◌-◌, ◌<◌, ◌≤◌, ℕ, true, List, ◌++◌, length, take, drop, sym, ap, ◌∙◌, inl, inr}
+use Rattle.std.proofs.Common.{length-take-le, length-drop, arith}
 use Rattle.std.specs.List.{copy_within}
 use Rattle.std.specs.Prelude.{Some, slice_index}
 use Rattle.gw_records.specs.declared.reader.Reader.{Reader}

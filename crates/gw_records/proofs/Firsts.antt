@@ -1,8 +1,7 @@
 -- The record that stands first.
 use Rattle.std.proofs.Common.{◌≡◌, ◌≢◌, ◌+◌, ◌*◌, ◌<◌, ◌≤◌, ◌^◌, ◌⊎◌, inl, inr, ℕ, suc, true, false, List, [], ◌∷◌}
-use Rattle.std.proofs.Common.{Bool, cond, Option, Some, None, nat_lt, ◌==◌}
-use Rattle.std.proofs.Common.{SomeIff, Ok, ok_or}
-use Rattle.std.proofs.Common.{length, take, drop, get_or, refl, sym, ◌∙◌, subst, length-take-le, arith}
+use Rattle.std.proofs.Common.{Bool, cond, Option, Some, None, nat_lt, ◌==◌, SomeIff, Ok, ok_or, length, take}
+use Rattle.std.proofs.Common.{get_or, refl, sym, ◌∙◌, length-take-le, arith}
 use Rattle.std.specs.Prelude.{slice_index}
 use Rattle.std.proofs.lemmas.Bool.Decides.{nat_tests}
 use Rattle.std.proofs.lemmas.Grind.{common_steps}
@@ -11,11 +10,10 @@ use Rattle.gw_records.specs.declared.records.Kinds.{Kinds}
 use Rattle.gw_records.specs.declared.records.Head.{Head}
 use Rattle.gw_records.specs.declared.records.Head.TheVariants as heads
 use Rattle.gw_records.specs.Records.{spelled, IsGood, body_len, has_bad_kind, has_bad_circuit, has_bad_length}
-use Rattle.gw_records.specs.Records.{has_bad_command, is_cut, end_of}
+use Rattle.gw_records.specs.Records.{has_bad_command, is_cut, end_of, IsCircuit, IsFirst, head_of, named}
 use Rattle.gw_records.specs.declared.records.Ending.{Ending}
 use Rattle.gw_records.specs.declared.records.Ending.TheVariants as endings
 use Rattle.gw_records.specs.Octets.{command_of, codec_of}
-use Rattle.gw_records.specs.Records.{IsCircuit, IsFirst, head_of, named}
 use Rattle.gw_records.proofs.Again.{octet_of_command_again, octet_of_codec_again}
 
 -- what is known of the tests of end_of, by what they give
@@ -48,10 +46,7 @@ pub found_in : (kinds : Kinds) (octets : List ℕ) (o : Option Ending) → end_o
     (has_bad_length octets) (is_cut octets) (has_bad_command octets) o
 unfolding end_of
 found_in kinds octets o e =
-    let P : Option Ending → Type 0 = λ o. Found (length octets == 0) (nat_lt (length octets) 4)
-    (has_bad_kind kinds octets) (has_bad_circuit octets) (has_bad_length octets) (is_cut octets)
-    (has_bad_command octets) o in
-    subst P e (first_found (length octets == 0) (nat_lt (length octets) 4) (has_bad_kind kinds octets)
+    rw (← e) (first_found (length octets == 0) (nat_lt (length octets) 4) (has_bad_kind kinds octets)
     (has_bad_circuit octets) (has_bad_length octets) (is_cut octets) (has_bad_command octets))
 
 -- the kind of a record that is not of a bad kind
@@ -102,11 +97,7 @@ firstly : (kinds : Kinds) (head : Head) (k c h l : ℕ) (rest : List ℕ) → h 
     → IsFirst kinds (record { head = head; len = 4 + (h * 256 + l) }) (k ∷ c ∷ h ∷ l ∷ rest)
 firstly kinds head k c h l rest fits whole good =
     let e : 4 + (h * 256 + l) ≡ suc (suc (suc (suc (h * 256 + l)))) = omega arith in
-    let P : ℕ → Type 0 = λ len. (take len (k ∷ c ∷ h ∷ l ∷ rest) ≡ spelled (named head (drop 4 (take len
-    (k ∷ c ∷ h ∷ l ∷ rest)))))
-    × IsGood kinds (named head (drop 4 (take len (k ∷ c ∷ h ∷ l ∷ rest)))) in
-    let both : P (4 + (h * 256 + l)) = subst P (sym e) (whole, good) in
-    record { more = omega arith; fits = omega arith; whole = both.0; good = both.1 }
+    record { more = omega arith; fits = omega arith; whole = rw e whole; good = rw e good }
 
 -- a body of one octet is the first octet of the rest
 one_octet : (n : ℕ) (rest : List ℕ) → n ≡ 1 → n ≤ length rest → take n rest ≡ get_or rest 0 0 ∷ []
@@ -130,20 +121,12 @@ pub good_first : (kinds : Kinds) (octets : List ℕ) → ((i : ℕ) → slice_in
     → 4 + body_len octets ≤ length octets → has_bad_command octets ≡ false
     → IsFirst kinds (record { head = head_of octets; len = 4 + body_len octets }) octets
 unfolding head_of
-good_first kinds [] bytes len a b c d e = absurd (omega arith)
-good_first kinds (k ∷ []) bytes len a b c d e = absurd (omega arith)
-good_first kinds (k ∷ c ∷ []) bytes len a b cc' d e = absurd (omega arith)
-good_first kinds (k ∷ c ∷ h ∷ []) bytes len a b cc' d e = absurd (omega arith)
 good_first kinds (k ∷ c ∷ h ∷ l ∷ rest) bytes len kind circuit one whole command =
     let octets = k ∷ c ∷ h ∷ l ∷ rest in
-    let n = h * 256 + l in
-    let body = take (h * 256 + l) rest in
     let fits : h * 256 + l ≤ length rest = omega (arith, whole) in
-    let high : h < 256 = bytes 2 in
-    let low : l < 256 = bytes 3 in
     let counted : length (take (h * 256 + l) rest) ≡ h * 256 + l = length-take-le (h * 256 + l) rest fits in
-    let short : length (take (h * 256 + l) rest) < 2 ^ 16 = omega arith in
-    let spelt : big_bytes 2 (length (take (h * 256 + l) rest)) ≡ h ∷ l ∷ [] = spells h l _ high low counted in
+    let short : length (take (h * 256 + l) rest) < 2 ^ 16 = omega (arith, bytes 2, bytes 3) in
+    let spelt = spells h l _ (bytes 2) (bytes 3) counted in
     let lone = circuit_is octets circuit in
     let long = length_is octets one in
     let known = command_is octets command in
@@ -151,25 +134,22 @@ good_first kinds (k ∷ c ∷ h ∷ l ∷ rest) bytes len kind circuit one whole
       | inl t ↦
           let zero = lone.1 (t.0) in
           rw (t.0) (firstly kinds heads.Trunk 84 c h l rest fits (cc) (t.1, short))
-      | inr r ↦ elim r [
-        | inl t ↦
-            let in_range = lone.0 (λ p. absurd (omega (arith, p, t.0))) in
-            rw (t.0) (firstly kinds (heads.Datagram c) 68 c h l rest fits (cc) (t.1, short, in_range))
-        | inr s ↦ elim s [
-          | inl t ↦
-              let in_range = lone.0 (λ p. absurd (omega (arith, p, t.0))) in
-              let body_is = one_octet (h * 256 + l) rest (long.0 (t.0)) fits in
-              let order = known.0 (t.0) in
-              let again = octet_of_command_again (get_or rest 0 0) order.0 order.1 in
-              rw (t.0) (firstly kinds (heads.Command c (command_of (get_or rest 0 0))) 67 c h l rest fits
-              (rw (again, body_is) (cc)) (rw again (t.1, in_range, order.0, order.1)))
-          | inr t ↦
-              let in_range = lone.0 (λ p. absurd (omega (arith, p, t.0))) in
-              let body_is = two_octets (h * 256 + l) rest (long.1 (t.0)) fits in
-              let codec = known.1 (t.0) in
-              let again = octet_of_codec_again (get_or rest 0 0) codec.0 codec.1 in
-              rw (t.0) (firstly kinds (heads.Codec c (codec_of (get_or rest 0 0)) (get_or rest 1 0)) 75 c h l rest fits
-              (rw (again, body_is) (cc)) (rw again (t.1, in_range, codec.0, codec.1, codec.2)))
-        ]
-      ]
+      | inr (inl t) ↦
+          let in_range = lone.0 (λ p. absurd (omega (arith, p, t.0))) in
+          rw (t.0) (firstly kinds (heads.Datagram c) 68 c h l rest fits (cc) (t.1, short, in_range))
+      | inr (inr (inl t)) ↦
+          let in_range = lone.0 (λ p. absurd (omega (arith, p, t.0))) in
+          let body_is = one_octet (h * 256 + l) rest (long.0 (t.0)) fits in
+          let order = known.0 (t.0) in
+          let again = octet_of_command_again (get_or rest 0 0) order.0 order.1 in
+          rw (t.0) (firstly kinds (heads.Command c (command_of (get_or rest 0 0))) 67 c h l rest fits
+          (rw (again, body_is) (cc)) (rw again (t.1, in_range, order.0, order.1)))
+      | inr (inr (inr t)) ↦
+          let in_range = lone.0 (λ p. absurd (omega (arith, p, t.0))) in
+          let body_is = two_octets (h * 256 + l) rest (long.1 (t.0)) fits in
+          let codec = known.1 (t.0) in
+          let again = octet_of_codec_again (get_or rest 0 0) codec.0 codec.1 in
+          rw (t.0) (firstly kinds (heads.Codec c (codec_of (get_or rest 0 0)) (get_or rest 1 0)) 75 c h l rest fits
+          (rw (again, body_is) (cc)) (rw again (t.1, in_range, codec.0, codec.1, codec.2)))
     ]
+good_first kinds _ bytes len kind circuit one whole command = absurd (omega arith)

@@ -8,8 +8,7 @@ use Rattle.std.proofs.lemmas.Bool.Decides.{nat_tests}
 use Rattle.gw_records.specs.declared.records.Kinds.{Kinds}
 use Rattle.gw_records.specs.declared.records.Ending.{Ending}
 use Rattle.gw_records.specs.Records.{Record, spelled, IsGood, body_len, has_bad_kind, has_bad_circuit, has_bad_length}
-use Rattle.gw_records.specs.Records.{is_cut, has_bad_command, end_of}
-use Rattle.gw_records.specs.Records.{named, head_of}
+use Rattle.gw_records.specs.Records.{is_cut, has_bad_command, end_of, named, head_of}
 use Rattle.gw_records.proofs.Again.{octet_of_command_again, octet_of_codec_again}
 use Rattle.gw_records.specs.Laws.{AtMostOneReading, MoreKeepsRecords}
 
@@ -27,15 +26,14 @@ unfolding end_of has_bad_kind has_bad_circuit has_bad_length is_cut has_bad_comm
 unspelled kinds (Record.Trunk octets) x good =
     let len : length octets / 256 % 256 * 256 + length octets % 256 ≡ length octets = omega (arith, good.1) in (
       grind (arith, nat_tests, good.0, good.1, length-append octets x),
-      ap (λ (k : ℕ). Record.Trunk (take k (octets ++ x))) len ∙ ap Record.Trunk (take-append_seam octets x),
-      ap (λ (k : ℕ). drop k (octets ++ x)) len ∙ drop-append_seam octets x,
+      rw (len, take-append_seam octets x) refl,
+      rw (len, drop-append_seam octets x) refl,
     )
 unspelled kinds (Record.Datagram circuit octets) x good =
     let len : length octets / 256 % 256 * 256 + length octets % 256 ≡ length octets = omega (arith, good.1) in (
       grind (arith, nat_tests, good.0, good.1, good.2.0, good.2.1, length-append octets x),
-      ap (λ (k : ℕ). Record.Datagram circuit (take k (octets ++ x))) len
-          ∙ ap (Record.Datagram circuit) (take-append_seam octets x),
-      ap (λ (k : ℕ). drop k (octets ++ x)) len ∙ drop-append_seam octets x,
+      rw (len, take-append_seam octets x) refl,
+      rw (len, drop-append_seam octets x) refl,
     )
 unspelled kinds (Record.Command circuit command) x good = (
   grind (arith, nat_tests, good.0, good.1.0, good.1.1, good.2, good.3),
@@ -100,6 +98,5 @@ one_reading kinds octets records records' ending ending' a b =
 pub more_keeps : MoreKeepsRecords
 more_keeps kinds octets more records records' ending ending' a b =
     let all = more_go kinds records records' (a.rest ++ more) b.rest ending'
-    (sym (append_assoc (flat_map spelled records) a.rest more) ∙ ap (λ (xs : List ℕ). xs ++ more) (sym a.whole)
-    ∙ b.whole) a.good b.good b.ends in
+    (rw (← append_assoc (flat_map spelled records) a.rest more, ← a.whole) b.whole) a.good b.good b.ends in
     (all.0, all.1)

@@ -1,7 +1,6 @@
 -- What sessions have in common that act on one record after another.
-use Rattle.std.proofs.Common.{◌≡◌, ◌+◌, ◌^◌, ◌<◌, ◌≤◌, inl, inr, ℕ, true, List, [], ◌∷◌, ◌++◌, length, drop}
-use Rattle.std.proofs.Common.{refl, sym, ap, ◌∙◌, append_assoc, append-nil, length-append, arith}
-use Rattle.std.proofs.Common.{take-append-drop}
+use Rattle.std.proofs.Common.{◌≡◌, ◌+◌, ◌^◌, ◌<◌, ◌≤◌, inl, inr, ℕ, true, List, [], ◌∷◌, ◌++◌, length, drop, refl, sym}
+use Rattle.std.proofs.Common.{ap, ◌∙◌, append_assoc, append-nil, length-append, arith, take-append-drop}
 use Rattle.std.specs.Prelude.{Some, Result, Ok, Err, IfOk, IfErr, IsErrAnd}
 use Rattle.std.specs.List.{flat_map, AllByRecursion}
 use Rattle.std.specs.Io.KnownBytes.{IsAtEnd}
@@ -81,7 +80,7 @@ pub takes : {kinds : Kinds} {a b : SourceState} {c d d' : SinkState} {reader rea
     {records : List Record} (f : First) → Stage kinds a b c d reader octets records → IsFirst kinds f (held reader)
     → held reader' ≡ drop f.len (held reader) → reader'.reads_left ≡ reader.reads_left → d'.failures ≡ d.failures
     → Stage kinds a b c d' reader' octets (records ++ record_at f (held reader) ∷ [])
-takes {kinds} {a} {b} {c} {d} {d'} {reader} {reader'} {octets} {records} f w first passed left kept =
+takes {kinds} {reader = reader} {octets = octets} {records = records} f w first passed left kept =
     let it = record_at f (held reader) in
     record {
       gives = w.gives;
@@ -99,7 +98,7 @@ pub stops_in : {kinds : Kinds} {a b : SourceState} {c d e : SinkState} {reader :
     {records : List Record} {Begun : List Record → Type 0} (f : First) → Stage kinds a b c d reader octets records
     → IsFirst kinds f (held reader) → d.failures < e.failures
     → Begun (records ++ record_at f (held reader) ∷ []) → FailsToWrite kinds a b c e Begun
-stops_in {kinds} {a} {b} {c} {d} {e} {reader} {octets} {records} f w first failed begun = record {
+stops_in {kinds} {reader = reader} {octets = octets} {records = records} f w first failed begun = record {
   octets = octets;
   gives = w.gives;
   records = records ++ record_at f (held reader) ∷ [];
@@ -117,7 +116,7 @@ stops_in {kinds} {a} {b} {c} {d} {e} {reader} {octets} {records} f w first faile
 pub stops_behind : {kinds : Kinds} {a b : SourceState} {c d e : SinkState} {reader : Reader} {octets : List ℕ}
     {records : List Record} {Begun : List Record → Type 0} → Stage kinds a b c d reader octets records
     → d.failures < e.failures → Begun records → FailsToWrite kinds a b c e Begun
-stops_behind {kinds} {a} {b} {c} {d} {e} {reader} {octets} {records} w failed begun = record {
+stops_behind {reader = reader} {octets = octets} {records = records} w failed begun = record {
   octets = octets;
   gives = w.gives;
   records = records;
@@ -127,19 +126,14 @@ stops_behind {kinds} {a} {b} {c} {d} {e} {reader} {octets} {records} w failed be
   no_read = w.no_read;
 }
 
--- octets that came behind
-pub more_octets : (octets before held held' more : List ℕ) → octets ≡ before ++ held → held' ≡ held ++ more
-    → octets ++ more ≡ before ++ held'
-more_octets octets before held held' more e h = rw (e, h) (append_assoc before held more)
-
 -- the source gave more octets
 pub reads_more : {kinds : Kinds} {a b b' : SourceState} {c d d' : SinkState} {reader reader' : Reader}
     {octets : List ℕ} {records : List Record} → Stage kinds a b c d reader octets records
     → (r : Brings b b' reader reader') → a.reads < 2 ^ 63 → d'.failures ≡ d.failures
     → Stage kinds a b' c d' reader' (octets ++ r.octets) records
-reads_more {kinds} {a} {b} {b'} {c} {d} {d'} {reader} {reader'} {octets} w r few kept = record {
+reads_more {reader = reader} {octets = octets} {records = records} w r few kept = record {
   gives = Gives-join _ _ _ octets r.octets w.gives r.gives;
-  whole = more_octets _ _ _ _ r.octets w.whole r.holds;
+  whole = rw (w.whole, r.holds) (append_assoc (flat_map spelled records) (held reader) r.octets);
   good = w.good;
   no_read = r.same ∙ w.no_read;
   no_write = kept ∙ w.no_write;
@@ -153,21 +147,15 @@ unfoldable session : {kinds : Kinds} {a b b' : SourceState} {c d d' : SinkState}
     (totals : Totals) → Stage kinds a b c d reader octets records → Gives b b' [] → slice ≡ held reader
     → end_of kinds slice ≡ Some ending → d'.failures ≡ d.failures → Done totals records
     → Session kinds a b' c d' Done ending
-session {kinds} {a} {b} {b'} {c} {d} {d'} {reader} {octets} {slice} {records} totals w gives same ends kept done =
-    record {
-      octets = octets;
-      gives = Gives-end _ _ _ _ [] refl w.gives gives;
-      records = records;
-      reads = record {
-        rest = held reader;
-        whole = w.whole;
-        good = w.good;
-        ends = ap (end_of kinds) (sym same) ∙ ends;
-      };
-      totals = totals;
-      done = done;
-      no_write = kept ∙ w.no_write;
-    }
+session {kinds} {reader = reader} {octets = octets} {records = records} totals w gives same ends kept done = record {
+  octets = octets;
+  gives = Gives-end _ _ _ _ [] refl w.gives gives;
+  records = records;
+  reads = record { rest = held reader; whole = w.whole; good = w.good; ends = rw same at ends };
+  totals = totals;
+  done = done;
+  no_write = kept ∙ w.no_write;
+}
 
 -- the records end so
 pub ended : {kinds : Kinds} {a b b' : SourceState} {c d d' : SinkState} {reader reader' : Reader}

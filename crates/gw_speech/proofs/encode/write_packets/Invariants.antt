@@ -1,8 +1,7 @@
 use Rattle.std.proofs.Common.{◌≡◌, ◌+◌, ◌*◌, ◌^◌, ◌<◌, ℕ, length, drop}
 use Rattle.std.specs.List.{All}
 use Rattle.gw_records.specs.Streams.{Passes}
-use Rattle.gw_speech.specs.Encode.{packet_len, word_bits, records_from}
-use Rattle.gw_speech.specs.Encode.{IsPacket}
+use Rattle.gw_speech.specs.Encode.{packet_len, word_bits, records_from, IsPacket}
 use Rattle.gw_speech.proofs.encode.write_packets.Given as goal
 
 abbrev pub invariant-packets : goal.invariant-packets
