@@ -31,21 +31,23 @@ speech_splits s before words first =
 pub speech_of_none : (s : StreamSpec) (before : List ℕ) → OneWordAnOctet → speech_behind s before [] ≡ []
 speech_of_none s before counted = speech_is s before [] [] counted (simp append-nil)
 
--- the speech of words and of more words behind them
-pub speech_joins : (s : StreamSpec) (before done more : List ℕ) → OneWordAnOctet → PrefixesComeFirst
-    → speech_behind s before (done ++ more) ≡ speech_behind s before done ++ speech_behind s (before ++ done) more
-speech_joins s before done more counted first =
+-- the speech of words and of more words behind them, behind what was there
+pub speech_joins : (s : StreamSpec) (start before done more : List ℕ) → OneWordAnOctet → PrefixesComeFirst
+    → start ++ speech_behind s before (done ++ more)
+    ≡ (start ++ speech_behind s before done) ++ speech_behind s (before ++ done) more
+speech_joins s start before done more counted first =
     let all = speech_splits s (before ++ done) more first in
-    speech_is s before (done ++ more) (speech_behind s before done ++ speech_behind s (before ++ done) more) counted
-    (rw (← append_assoc before done more, all, speech_splits s before done first, append_assoc) refl)
+    let both = speech_is s before (done ++ more) (speech_behind s before done ++ speech_behind s (before ++ done) more)
+    counted (rw (← append_assoc before done more, all, speech_splits s before done first, append_assoc) refl) in
+    rw (both, append_assoc) refl
 
--- the octet of one word more
-pub speech_more : (s : StreamSpec) (before done : List ℕ) (word octet : ℕ) → OneWordAnOctet → PrefixesComeFirst
+-- .. of one word more
+pub speech_more : (s : StreamSpec) (start before done : List ℕ) (word octet : ℕ) → OneWordAnOctet → PrefixesComeFirst
     → speech_of s ((before ++ done) ++ word ∷ []) ≡ speech_of s (before ++ done) ++ octet ∷ []
-    → speech_behind s before (done ++ word ∷ []) ≡ speech_behind s before done ++ octet ∷ []
-speech_more s before done word octet counted first e =
+    → start ++ speech_behind s before (done ++ word ∷ []) ≡ (start ++ speech_behind s before done) ++ octet ∷ []
+speech_more s start before done word octet counted first e =
     let last = speech_is s (before ++ done) (word ∷ []) (octet ∷ []) counted e in
-    rw (speech_joins s before done (word ∷ []) counted first, last) refl
+    rw (speech_joins s start before done (word ∷ []) counted first, last) refl
 
 -- in G.711 the octets of a payload are their own speech
 pub speech_of_octets : (s : StreamSpec) (before octets : List ℕ) → s.codec ≡ G711

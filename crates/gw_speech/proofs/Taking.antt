@@ -17,10 +17,9 @@ use Rattle.gw_records.specs.declared.outcome.Totals.{Totals}
 use Rattle.gw_records.specs.declared.outcome.RunFault.{RunFault}
 use Rattle.gw_records.specs.Records.{Record, IsGood, IsFirst, is_open, end_of, has_bad_kind, has_bad_length}
 use Rattle.gw_records.specs.Records.{has_bad_command, named, record_at}
-use Rattle.gw_records.specs.Streams.{SourceState, SinkState, Passes, Breaks}
+use Rattle.gw_records.specs.Streams.{SourceState, SinkState}
 use Rattle.gw_records.specs.Outcome.{answer_of, Ends}
 use Rattle.gw_records.proofs.Firsts.{found_in}
-use Rattle.gw_records.proofs.Writes.{Passes-join, Breaks-join}
 use Rattle.gw_records.proofs.Sessions.{five}
 use Rattle.gw_speech.specs.declared.spec.StreamSpec.{StreamSpec}
 use Rattle.gw_speech.specs.Decode.{datagram_words, record_words, words_in, speech_of, speech_in, only_datagrams}
@@ -34,28 +33,11 @@ words_more s records r words e =
     rw (flat_map-append (λ r. unwrap_or (record_words s r) []) records (r ∷ []), append-nil, e) refl
 
 -- the speech of one record more
-decoded_more : (s : StreamSpec) (records : List Record) (r : Record) (words : Option (List ℕ))
+pub decoded_more : (s : StreamSpec) (records : List Record) (r : Record) (words : Option (List ℕ))
     → record_words s r ≡ words → PrefixesComeFirst
     → speech_in s (records ++ r ∷ []) ≡ speech_in s records ++ speech_behind s (words_in s records) (unwrap_or words [])
 decoded_more s records r words e first =
     ap (speech_of s) (words_more s records r words e) ∙ speech_splits s (words_in s records) (unwrap_or words []) first
-
--- the speech of one record more passes behind that of the records before it
-pub record_passes : {a b c : Option (List ℕ)} {waiting waiting' : List ℕ} {words : Option (List ℕ)} (s : StreamSpec)
-    (records : List Record) (r : Record) → record_words s r ≡ words → PrefixesComeFirst
-    → Passes a b waiting (speech_in s records)
-    → Passes b c waiting' (waiting ++ speech_behind s (words_in s records) (unwrap_or words []))
-    → Passes a c waiting' (speech_in s (records ++ r ∷ []))
-record_passes s records r e first p q = rw (decoded_more s records r _ e first) (Passes-join _ _ _ _ _ _ _ p q)
-
--- .. or breaks off there
-pub record_breaks : {a b c : SinkState} {waiting : List ℕ} {words : Option (List ℕ)} (s : StreamSpec)
-    (records : List Record) (r : Record) → record_words s r ≡ words → PrefixesComeFirst
-    → Passes a.taken b.taken waiting (speech_in s records) → b.failures ≡ a.failures
-    → Breaks b c (waiting ++ speech_behind s (words_in s records) (unwrap_or words []))
-    → Breaks a c (speech_in s (records ++ r ∷ []))
-record_breaks s records r e first p same q =
-    rw (decoded_more s records r _ e first) (Breaks-join _ _ _ _ _ _ p same q)
 
 -- the code words of a good record of datagrams are those of its body
 words_named : (s : StreamSpec) (head : Head) (body : List ℕ) → IsGood only_datagrams (named head body)

@@ -3,11 +3,12 @@ use Rattle.std.proofs.lemmas.List.{nil_from_length}
 use Rattle.gw_records.specs.declared.outcome.RunFault.TheVariants as faults
 use Rattle.gw_records.specs.Records.{record_at}
 use Rattle.gw_records.specs.Reader.{held}
-use Rattle.gw_records.proofs.Writes.{Passes-start, Passes-empty, Passes-appended, Breaks-waiting}
+use Rattle.gw_records.proofs.Writes.{Passes-start, Passes-empty, Passes-join, Passes-appended, AppendsPrefix-behind}
+use Rattle.gw_records.proofs.Writes.{Breaks-waiting}
 use Rattle.gw_records.proofs.Sessions.{goes_up, starts, first_held, takes, stops_in, stops_behind, reads_more, ended}
 use Rattle.gw_records.proofs.Sessions.{gives_up}
 use Rattle.gw_speech.specs.Decode.{words_in}
-use Rattle.gw_speech.proofs.Taking.{words_more, words_at, record_passes, record_breaks, totals_more, decode_ends}
+use Rattle.gw_speech.proofs.Taking.{words_more, decoded_more, words_at, totals_more, decode_ends}
 use Rattle.gw_speech.proofs.decode.decode_stream.Goals as goal
 
 pub decoding-init : goal.decoding-init
@@ -32,8 +33,9 @@ returns-in_err-act-in-Ok-first_record-clause-fault g c =
     let found = first_held f c.held.ensures c.in-Ok-first_record.ensures.good in
     let words = words_at s f found c.held-in-Ok-first_record.ensures in
     let put = c.in_err-act-in-Ok-first_record.ensures.puts (words_in s w.1) w.2.stands in
+    let speech = decoded_more s w.1 _ _ words c.prefixes_come_first.ensures in
     goes_up _ _ faults.Write c.from_residual.ensures.1 put.0 (stops_in f w.2.stage found put.1.counted
-    (record_breaks s w.1 _ words c.prefixes_come_first.ensures w.2.passes w.2.stage.no_write put.1).took)
+    (rw speech (AppendsPrefix-behind _ _ _ _ _ _ w.2.passes put.1.took)))
 
 pub decoding-preserved-in-Ok-first_record : goal.decoding-preserved-in-Ok-first_record
 decoding-preserved-in-Ok-first_record g c =
@@ -49,7 +51,8 @@ decoding-preserved-in-Ok-first_record g c =
       w.1 ++ it ∷ [],
       record {
         stage = takes f w.2.stage found c.pass.ensures.holds c.pass.ensures.turns put.1;
-        passes = record_passes s w.1 it words c.prefixes_come_first.ensures w.2.passes put.0;
+        passes = rw (decoded_more s w.1 it _ words c.prefixes_come_first.ensures)
+            (Passes-join _ _ _ _ _ _ _ w.2.passes put.0);
         stands = rw (words_more s w.1 it _ words) (done.stands (words_in s w.1) w.2.stands);
         totals_are = done.counts ∙ totals_more s _ w.1 it _ words w.2.totals_are;
       },
