@@ -34,10 +34,6 @@ pub Passes-same : (a b : Option (List ℕ)) (waiting xs ys : List ℕ) → xs �
     → Passes a b waiting ys
 Passes-same a b waiting xs ys e p = rw (← e) p
 
--- .. of what breaks off
-pub Breaks-same : (a b : SinkState) (xs ys : List ℕ) → xs ≡ ys → Breaks a b xs → Breaks a b ys
-Breaks-same a b xs ys e p = rw (← e) p
-
 -- an append, and then a prefix
 pub AppendsPrefix-join : (a b c : Option (List ℕ)) (xs ys all : List ℕ) → Appends a b xs → AppendsPrefix b c ys
     → all ≡ xs ++ ys → AppendsPrefix a c all

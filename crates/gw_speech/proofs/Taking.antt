@@ -42,10 +42,8 @@ decoded_more s records r words e first =
 -- the code words of a good record of datagrams are those of its body
 words_named : (s : StreamSpec) (head : Head) (body : List ℕ) → IsGood only_datagrams (named head body)
     → record_words s (named head body) ≡ datagram_words s body
-words_named s heads.Trunk body good = cc (good.0)
 words_named s (heads.Datagram circuit) body good = refl
-words_named s (heads.Command circuit command) body good = cc (good.0)
-words_named s (heads.Codec circuit codec payload_type) body good = cc (good.0)
+words_named s _ body good = cc (good.0)
 
 -- the words of the record that stands first are those of its body
 pub words_at : {held slice : List ℕ} (s : StreamSpec) (f : First) → IsFirst only_datagrams f held → slice ≡ held
@@ -82,7 +80,6 @@ pub decode_ends : (s : StreamSpec) {a b : SourceState} {c d : SinkState} (ending
     → (is_open ending ≡ true → IsAtEnd b.to_come) → totals ≡ e.0.totals → result ≡ answer_of ending totals
     → (IfOk result (DecodesAll s a b c d)) × (IfErr result (DecodesUntil s a b c d))
 decode_ends s endings.End totals result e o t r = rw r (record { ends = e; ended = o refl; totals_are = t }, tt)
-decode_ends s endings.BadKind totals result e o t r = rw r (tt, e)
-decode_ends s endings.BadCircuit totals result e o t r = rw r (tt, e)
 decode_ends s endings.BadCommand totals result e o t r = absurd (no_command e.0.reads.rest e.0.reads.ends)
 decode_ends s endings.Truncated totals result e o t r = rw r (tt, (e, o refl))
+decode_ends s _ totals result e o t r = rw r (tt, e)

@@ -5,7 +5,7 @@ use Rattle.gw_records.specs.declared.outcome.RunFault.TheVariants as faults
 use Rattle.gw_records.specs.declared.outcome.Totals.{Totals}
 use Rattle.gw_records.specs.Outcome.{nothing_counted}
 use Rattle.gw_records.proofs.Writes.{Appends-none, Appends-join, Appends-same, Gives-none, Gives-join, Gives-end}
-use Rattle.gw_records.proofs.Writes.{Breaks-after, Breaks-same, read_failed}
+use Rattle.gw_records.proofs.Writes.{Breaks-after, read_failed}
 use Rattle.gw_records.proofs.Sessions.{goes_up}
 use Rattle.gw_align.specs.Align.{aligned_after}
 use Rattle.gw_align.proofs.Stages.{came-is, answered}
@@ -79,8 +79,7 @@ returns-in_err-write_all-clause-fault g c =
     goes_up _ _ faults.Write c.from_residual.ensures.1 broken.0 (record {
       octets = w.0 ++ came.octets;
       gives = Gives-join _ _ _ _ _ w.1.stage.gives came.gives;
-      breaks = Breaks-same _ _ _ _
-          (answered w.0 c.read_behind.new.buffer _ _ _ _ came (e.aligned w.0 w.1.stage.stands) e.len)
+      breaks = rw (← answered w.0 c.read_behind.new.buffer _ _ _ _ came (e.aligned w.0 w.1.stage.stands) e.len)
           (Breaks-after _ _ _ _ _ w.1.stage.took w.1.stage.no_write broken.1);
       no_read = c.in-Ok.ensures.counts ∙ w.1.stage.no_read;
     })

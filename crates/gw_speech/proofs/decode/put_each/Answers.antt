@@ -1,4 +1,4 @@
-use Rattle.std.proofs.Common.{◌≡◌, ◌^◌, ◌<◌, ◌++◌, ◌∷◌, [], ℕ, List, ap, sym, refl, ◌∙◌, append_assoc}
+use Rattle.std.proofs.Common.{◌^◌, ◌<◌, ◌++◌, ◌∷◌, [], ap, sym, refl, ◌∙◌, append_assoc}
 use Rattle.std.proofs.Common.{append-nil}
 use Rattle.std.proofs.lemmas.List.Elements.{All-tail}
 use Rattle.std.proofs.lemmas.Result.{err_from_is_err_and}
@@ -7,11 +7,6 @@ use Rattle.gw_records.proofs.Writes.{Passes-none, Passes-join, Breaks-join, Brea
 use Rattle.gw_speech.specs.Encode.{word_bits}
 use Rattle.gw_speech.proofs.Speech.{speech_of_none, speech_joins, speech_more}
 use Rattle.gw_speech.proofs.decode.put_each.Goals as goal
-
--- one word more of those that are left
-word_taken : (words done left rest : List ℕ) (word : ℕ) → words ≡ done ++ left → left ≡ word ∷ rest
-    → words ≡ (done ++ word ∷ []) ++ rest
-word_taken words done left rest word e f = rw (e, f, append_assoc) refl
 
 pub loop-word-init : goal.loop-word-init
 loop-word-init g c = (
@@ -38,7 +33,7 @@ loop-word-preserved g c =
       record {
         goes = tt;
         ends = tt;
-        whole = word_taken _ w.0 _ _ word w.1.whole first;
+        whole = rw (w.1.whole, first, append_assoc) refl;
         fit = All-tail (λ w. w < 2 ^ word_bits s) word c.next.new.self (rw first at w.1.fit);
         kind = ap (λ (a : CodecState). a.kind) c.decode.ensures.state ∙ w.1.kind;
         stands = λ before at. rw (← append_assoc before w.0 (word ∷ []))
@@ -62,10 +57,11 @@ returns-in_err-put_octet-clause-puts g c =
     let counted = c.words_are_counted.ensures in
     let first = c.prefixes_come_first.ensures in
     let octet = c.decode.ensures.octets _ _ [] (before ++ w.0) (w.1.stands before at) in
-    let whole = word_taken _ w.0 _ _ word w.1.whole c.in-Some.ensures.steps in
+    let all = append_assoc w.0 (word ∷ []) c.next.new.self in
     let split = speech_joins s start before (w.0 ++ word ∷ []) c.next.new.self counted first in
     let one = speech_more s start before w.0 word c.decode.result counted first octet in (
       c.in_err-put_octet.ensures.0,
-      rw (whole, split, one) (Breaks-more _ _ _ _ (Breaks-join _ _ _ _ _ _ (w.1.passes before at) w.1.same
+      rw (w.1.whole, c.in-Some.ensures.steps, ← all, split, one)
+          (Breaks-more _ _ _ _ (Breaks-join _ _ _ _ _ _ (w.1.passes before at) w.1.same
           c.in_err-put_octet.ensures.1)),
     ))
