@@ -31,10 +31,7 @@ moved xs start filled n h k e =
 pub behind : (xs buf post : List ℕ) (filled n : ℕ) → filled ≤ length xs → n ≤ length buf
     → take (filled + n) (take filled xs ++ (buf ++ post)) ≡ take filled xs ++ take n buf
 behind xs buf post filled n q r =
-    let len : filled ≡ length (take filled xs) = sym (length-take-le filled xs q) in
-    ap (λ (k : ℕ). take (k + n) (take filled xs ++ (buf ++ post))) len
-    ∙ take-append-add (take filled xs) (buf ++ post) n
-    ∙ ap (λ (ys : List ℕ). take filled xs ++ ys) (take-append-le n buf post r)
+    rw (length-take-le filled xs q, take-append-le n buf post r) at (take-append-add (take filled xs) (buf ++ post) n)
 
 -- where more octets may matter the octets are few
 pub open_is_short : (kinds : Kinds) (octets : List ℕ) (ending : Ending) → ((i : ℕ) → slice_index octets i < 256)

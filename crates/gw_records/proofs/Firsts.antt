@@ -99,14 +99,10 @@ firstly kinds head k c h l rest fits whole good =
     let e : 4 + (h * 256 + l) ≡ suc (suc (suc (suc (h * 256 + l)))) = omega arith in
     record { more = omega arith; fits = omega arith; whole = rw e whole; good = rw e good }
 
--- a body of one octet is the first octet of the rest
-one_octet : (n : ℕ) (rest : List ℕ) → n ≡ 1 → n ≤ length rest → take n rest ≡ get_or rest 0 0 ∷ []
-one_octet n rest e h = rw e (grind (arith, common_steps))
-
--- a body of two octets is the first two of the rest
-two_octets : (n : ℕ) (rest : List ℕ) → n ≡ 2 → n ≤ length rest
-    → take n rest ≡ get_or rest 0 0 ∷ get_or rest 1 0 ∷ []
-two_octets n rest e h = rw e (grind (arith, common_steps))
+-- a body of one octet is the first octet of the rest, and one of two the first two
+first_octets : (n : ℕ) (rest : List ℕ) → n ≤ length rest → (n ≡ 1 → take n rest ≡ get_or rest 0 0 ∷ [])
+    × (n ≡ 2 → take n rest ≡ get_or rest 0 0 ∷ get_or rest 1 0 ∷ [])
+first_octets n rest h = (λ e. rw e (grind (arith, common_steps)), λ e. rw e (grind (arith, common_steps)))
 
 -- a head that is told is that of the first octets, which say no bad command
 pub told : (octets : List ℕ) (o : Option Head) (head : Head)
@@ -130,6 +126,7 @@ good_first kinds (k ∷ c ∷ h ∷ l ∷ rest) bytes len kind circuit one whole
     let lone = circuit_is octets circuit in
     let long = length_is octets one in
     let known = command_is octets command in
+    let front = first_octets (h * 256 + l) rest fits in
     elim (kinds_are kinds octets kind) [
       | inl t ↦
           let zero = lone.1 (t.0) in
@@ -139,14 +136,14 @@ good_first kinds (k ∷ c ∷ h ∷ l ∷ rest) bytes len kind circuit one whole
           rw (t.0) (firstly kinds (heads.Datagram c) 68 c h l rest fits (cc) (t.1, short, in_range))
       | inr (inr (inl t)) ↦
           let in_range = lone.0 (λ p. absurd (omega (arith, p, t.0))) in
-          let body_is = one_octet (h * 256 + l) rest (long.0 (t.0)) fits in
+          let body_is = front.0 (long.0 (t.0)) in
           let order = known.0 (t.0) in
           let again = octet_of_command_again (get_or rest 0 0) order.0 order.1 in
           rw (t.0) (firstly kinds (heads.Command c (command_of (get_or rest 0 0))) 67 c h l rest fits
           (rw (again, body_is) (cc)) (rw again (t.1, in_range, order.0, order.1)))
       | inr (inr (inr t)) ↦
           let in_range = lone.0 (λ p. absurd (omega (arith, p, t.0))) in
-          let body_is = two_octets (h * 256 + l) rest (long.1 (t.0)) fits in
+          let body_is = front.1 (long.1 (t.0)) in
           let codec = known.1 (t.0) in
           let again = octet_of_codec_again (get_or rest 0 0) codec.0 codec.1 in
           rw (t.0) (firstly kinds (heads.Codec c (codec_of (get_or rest 0 0)) (get_or rest 1 0)) 75 c h l rest fits

@@ -1,4 +1,4 @@
-use Rattle.std.proofs.Common.{◌≡◌, ◌≤◌, ◌++◌, ℕ, List, length, take, drop, ap, ◌∙◌, arith, refl, length-take}
+use Rattle.std.proofs.Common.{◌≤◌, ◌++◌, ℕ, List, length, take, drop, ap, arith, length-take}
 use Rattle.gw_records.specs.Reader.{held}
 use Rattle.std.proofs.lemmas.Result.{err_from_is_err_and}
 use Rattle.std.proofs.lemmas.List.{drop-append-le}
@@ -11,9 +11,8 @@ returns-clause-gives g c =
     let s = c.make_room.new.self in
     let r = c.in_ok-n.ensures.gives in
     let items = c.as_mut_slice.result.now in
-    let here : held s ≡ held c.args.self.now = c.make_room.ensures.holds in
-    let same : drop s.start (take s.filled items) ≡ held s = rw c.as_mut_slice.ensures.value refl in
-    let len = ap length c.as_mut_slice.ensures.value in
+    let same = c.as_mut_slice.ensures.value in
+    let len = ap length same in
     let whole = kept s.buffer.len c.read_behind.new.buffer (drop (length c.read_behind.new.buffer) s.buffer.items)
     (omega (arith, s.buffer.ok.0, c.read_behind.ensures.len, len)) in
     let within : s.start ≤ length (take s.filled items) = omega
@@ -21,8 +20,8 @@ returns-clause-gives g c =
     record {
       octets = r.octets;
       counted = r.counted;
-      holds = rw whole (ap (drop s.start) r.holds ∙ drop-append-le s.start (take s.filled items) r.octets within
-          ∙ ap (λ (xs : List ℕ). xs ++ r.octets) (same ∙ here));
+      holds = rw (whole, r.holds, drop-append-le s.start (take s.filled items) r.octets within, same)
+          (ap (λ (xs : List ℕ). xs ++ r.octets) c.make_room.ensures.holds);
       gives = r.gives;
       ended = r.ended;
     }
@@ -31,10 +30,8 @@ pub returns-in_err-n-clause-kept : goal.returns-in_err-n-clause-kept
 unfolding held
 returns-in_err-n-clause-kept g c =
     let p = err_from_is_err_and c.from_residual.result c.from_residual.ensures.1 in
-    rw (p.1) (let s = c.make_room.new.self in
-    let items = c.as_mut_slice.result.now in
-    let here : held s ≡ held c.args.self.now = c.make_room.ensures.holds in
-    let same : drop s.start (take s.filled items) ≡ held s = rw c.as_mut_slice.ensures.value refl in
+    let s = c.make_room.new.self in
+    let same = c.as_mut_slice.ensures.value in
     let whole = kept s.buffer.len c.read_behind.new.buffer (drop (length c.read_behind.new.buffer) s.buffer.items)
-    (omega (arith, s.buffer.ok.0, c.read_behind.ensures.len, ap length c.as_mut_slice.ensures.value)) in
-    rw whole (ap (drop s.start) c.in_err-n.ensures.kept ∙ same ∙ here))
+    (omega (arith, s.buffer.ok.0, c.read_behind.ensures.len, ap length same)) in
+    rw (p.1) (rw (whole, c.in_err-n.ensures.kept, same) c.make_room.ensures.holds)
