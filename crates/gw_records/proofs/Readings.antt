@@ -46,17 +46,12 @@ unspelled kinds (Record.Codec circuit codec payload_type) x good = (
   refl,
 )
 
--- the octets of a record and of others, and the rest, grouped the other way
-pub regroup : (r : Record) (rs : List Record) (rest : List ℕ)
-    → flat_map spelled (r ∷ rs) ++ rest ≡ spelled r ++ (flat_map spelled rs ++ rest)
-regroup r rs rest = append_assoc (spelled r) (flat_map spelled rs) rest
-
 -- a good record does not end octets
 no_end : (kinds : Kinds) (r : Record) (rs : List Record) (octets rest : List ℕ) (ending : Ending) → IsGood kinds r
     → octets ≡ flat_map spelled (r ∷ rs) ++ rest → end_of kinds octets ≡ Some ending → ⊥
 no_end kinds r rs octets rest ending good e h =
     let none = (unspelled kinds r (flat_map spelled rs ++ rest) good).0 in
-    let same : end_of kinds octets ≡ None = ap (end_of kinds) (e ∙ regroup r rs rest) ∙ none in
+    let same : end_of kinds octets ≡ None = rw (e, append_assoc) none in
     cc
 
 -- records that come first in octets come first in all that is read of them
@@ -68,7 +63,7 @@ more_go : (kinds : Kinds) (rs rs' : List Record) (rest rest' : List ℕ) (ending
 more_go kinds [] rs' rest rest' ending' e g g' h' = (rs', refl, e, g')
 more_go kinds (r ∷ rs) [] rest rest' ending' e g g' h' = absurd (no_end kinds r rs rest' rest ending' g.0 (sym e) h')
 more_go kinds (r ∷ rs) (r' ∷ rs') rest rest' ending' e g g' h' =
-    let f = sym (regroup r rs rest) ∙ e ∙ regroup r' rs' rest' in
+    let f = simp append_assoc at e in
     let u = unspelled kinds r (flat_map spelled rs ++ rest) g.0 in
     let u' = unspelled kinds r' (flat_map spelled rs' ++ rest') g'.0 in
     let first : r ≡ r' = sym u.1 ∙ ap said f ∙ u'.1 in
