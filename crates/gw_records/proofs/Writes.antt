@@ -2,6 +2,7 @@
 use Rattle.std.proofs.Common.{◌+◌, ◌≡◌, ◌-◌, ◌<◌, ◌≤◌, ◌^◌, ◌==◌, ◌&&◌, cond, ℕ, List, [], ◌∷◌, ◌++◌, length, take}
 use Rattle.std.proofs.Common.{drop, Option, refl, sym, append_assoc, append-nil, nat_lt, arith}
 use Rattle.std.proofs.KnownBytes.{Consumes-nil, Consumes-trans}
+-- nothing appended and nothing lost, and two appends that are one
 pub use Rattle.std.proofs.KnownBytes.{Appends-nil as Appends-none, Appends-trans as Appends-join}
 use Rattle.std.proofs.lemmas.Grind.{common_steps}
 use Rattle.std.specs.Io.KnownBytes.{Appends}

@@ -41,7 +41,7 @@ speech_joins s start before done more counted first =
     counted (rw (← append_assoc before done more, all, speech_splits s before done first, append_assoc) refl) in
     rw (both, append_assoc) refl
 
--- .. of one word more
+-- the octet of one word more, behind what was there
 pub speech_more : (s : StreamSpec) (start before done : List ℕ) (word octet : ℕ) → OneWordAnOctet → PrefixesComeFirst
     → speech_of s ((before ++ done) ++ word ∷ []) ≡ speech_of s (before ++ done) ++ octet ∷ []
     → start ++ speech_behind s before (done ++ word ∷ []) ≡ (start ++ speech_behind s before done) ++ octet ∷ []
