@@ -1,5 +1,5 @@
--- What a session of a gateway makes of its records, and what it writes for them (modules `acting`, `sending`
--- and `service`).
+-- What a session of a gateway makes of its records, and what it writes for them (modules `act`, `exchange`
+-- and `attend`).
 use Rattle.std.specs.Prelude.{ℕ, List, [], ◌∷◌, ◌++◌, length, take, drop, map, Option, Some, None, Err}
 use Rattle.std.specs.List.{flat_map}
 use Rattle.q421_line.specs.Commands.{fault_number}

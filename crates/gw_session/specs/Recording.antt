@@ -1,4 +1,4 @@
--- Serving with a tape: what `serve_recorded` promises ((module `serves`)).
+-- Serving with a tape: what `serve_recorded` promises (module `serves`).
 use Rattle.std.specs.Prelude.{◌≡◌, ℕ, List}
 use Rattle.std.specs.Io.KnownBytes.{Appends}
 use Rattle.gw_switch.specs.declared.gateway.Gateway.{Gateway}
