@@ -38,7 +38,7 @@ good_in_all kinds (Record.Datagram circuit octets) good = (refl, good.1, good.2)
 good_in_all kinds (Record.Command circuit command) good = (refl, good.1, good.2, good.3)
 good_in_all kinds (Record.Codec circuit codec payload_type) good = (refl, good.1, good.2, good.3, good.4)
 
--- the octets of an act are those of its turns
+-- the octets of acts are those of their turns
 act_octets : (act : Act) → length (octets (events_in act)) ≡ length (turns_of act)
 act_octets (Act.Trunk ts) = turns_have_octets ts
 act_octets _ = refl
@@ -140,7 +140,7 @@ module _ {spells : Spells} {a b : PortsState} {g g' : Gateway} {x y : TapeState}
             (written_by spells config before p.acts) (p.took config before at));
       }
 
-      -- the answer of which passes
+      -- records that were gone through, and then one more whose answer passes
       pub through_done : {o : Option (List ℕ)} {s' s'' : SinkState} {w w' : List ℕ}
           → Through spells a b g g' x y (λ xs. Passes o s'.taken w xs) t records
           → Finishes spells b c g' g'' t t' y z s' s'' w w' r

@@ -44,7 +44,7 @@ none_comes v (Some circuit) came e h = (
   λ c. elim (c == circuit) as (λ b. cond b (drop 4 (v c)) (v c) ≡ []) [ true ↦ ap (drop 4) (e c) | false ↦ e c ],
 )
 
--- .. and so nothing comes in any turn
+-- where nothing waits, nothing comes in any turn
 none_came : (v w : Waiting) (ts : List Turn) → ((c : ℕ) → v c ≡ []) → FirstFour v w ts → Plain ts
 none_came v w [] e h = tt
 none_came v w (t ∷ ts) e h =
