@@ -87,8 +87,8 @@ command_is octets h = (
 )
 
 -- two octets that spell a length
-spells : (h l n : ℕ) → h < 256 → l < 256 → n ≡ h * 256 + l → big_bytes 2 n ≡ h ∷ l ∷ []
-spells h l n p q e = rw e (grind (arith, common_steps))
+length_spelled : (h l n : ℕ) → h < 256 → l < 256 → n ≡ h * 256 + l → big_bytes 2 n ≡ h ∷ l ∷ []
+length_spelled h l n p q e = rw e (grind (arith, common_steps))
 
 -- a head of four octets, and a body
 firstly : (kinds : Kinds) (head : Head) (k c h l : ℕ) (rest : List ℕ) → h * 256 + l ≤ length rest
@@ -105,11 +105,11 @@ first_octets : (n : ℕ) (rest : List ℕ) → n ≤ length rest → (n ≡ 1 �
 first_octets n rest h = (λ e. rw e (grind (arith, common_steps)), λ e. rw e (grind (arith, common_steps)))
 
 -- a head that is told is that of the first octets, which say no bad command
-pub told : (octets : List ℕ) (o : Option Head) (head : Head)
+pub head_told : (octets : List ℕ) (o : Option Head) (head : Head)
     → SomeIff o (has_bad_command octets ≡ false) (head_of octets) → ok_or o endings.BadCommand ≡ Ok head
     → (has_bad_command octets ≡ false) × (head_of octets ≡ head)
-told octets None head h e = cc
-told octets (Some x) head h e = (h.0, let same : x ≡ head = cc in sym h.1 ∙ same)
+head_told octets None head h e = cc
+head_told octets (Some x) head h e = (h.0, let same : x ≡ head = cc in sym h.1 ∙ same)
 
 -- the record that stands first is good where nothing is wrong with it
 pub good_first : (kinds : Kinds) (octets : List ℕ) → ((i : ℕ) → slice_index octets i < 256) → 4 ≤ length octets
@@ -122,7 +122,7 @@ good_first kinds (k ∷ c ∷ h ∷ l ∷ rest) bytes len kind circuit one whole
     let fits : h * 256 + l ≤ length rest = omega (arith, whole) in
     let counted : length (take (h * 256 + l) rest) ≡ h * 256 + l = length-take-le (h * 256 + l) rest fits in
     let short : length (take (h * 256 + l) rest) < 2 ^ 16 = omega (arith, bytes 2, bytes 3) in
-    let spelt = spells h l _ (bytes 2) (bytes 3) counted in
+    let spelt = length_spelled h l _ (bytes 2) (bytes 3) counted in
     let lone = circuit_is octets circuit in
     let long = length_is octets one in
     let known = command_is octets command in

@@ -14,7 +14,7 @@ use Rattle.gw_records.specs.declared.records.Ending.{Ending}
 use Rattle.gw_records.specs.declared.records.Ending.TheVariants as endings
 use Rattle.gw_records.specs.Records.{Record, spelled, IsGood, IsFirst, record_at, end_of, is_open}
 use Rattle.gw_records.specs.Streams.{SourceState, SinkState, Gives, GivesUp}
-use Rattle.gw_records.specs.Outcome.{answer_of, Session, Ends, EndsAll, EndsUntil, FailsToWrite}
+use Rattle.gw_records.specs.Outcome.{answer_of, SessionTo, Ends, EndsAll, EndsUntil, FailsToWrite}
 use Rattle.gw_records.specs.Reader.{held, Brings, RunsOut, FailsToRead}
 use Rattle.gw_records.proofs.Writes.{Gives-none, Gives-join, Gives-end}
 
@@ -76,11 +76,11 @@ pub first_held : {kinds : Kinds} {slice held : List ℕ} (f : First) → slice �
 first_held f e first = rw e at first
 
 -- a record was acted on and passed
-pub takes : {kinds : Kinds} {a b : SourceState} {c d d' : SinkState} {reader reader' : Reader} {octets : List ℕ}
+pub record_taken : {kinds : Kinds} {a b : SourceState} {c d d' : SinkState} {reader reader' : Reader} {octets : List ℕ}
     {records : List Record} (f : First) → Stage kinds a b c d reader octets records → IsFirst kinds f (held reader)
     → held reader' ≡ drop f.len (held reader) → reader'.reads_left ≡ reader.reads_left → d'.failures ≡ d.failures
     → Stage kinds a b c d' reader' octets (records ++ record_at f (held reader) ∷ [])
-takes {kinds} {reader = reader} {octets = octets} {records = records} f w first passed left kept =
+record_taken {kinds} {reader = reader} {octets = octets} {records = records} f w first passed left kept =
     let it = record_at f (held reader) in
     record {
       gives = w.gives;
@@ -142,12 +142,12 @@ reads_more {reader = reader} {octets = octets} {records = records} w r few kept 
 }
 
 -- what is held ends so, and nothing came behind it
-unfoldable session : {kinds : Kinds} {a b b' : SourceState} {c d d' : SinkState} {reader : Reader}
+unfoldable session_to : {kinds : Kinds} {a b b' : SourceState} {c d d' : SinkState} {reader : Reader}
     {octets slice : List ℕ} {records : List Record} {ending : Ending} {Done : Totals → List Record → Type 0}
     (totals : Totals) → Stage kinds a b c d reader octets records → Gives b b' [] → slice ≡ held reader
     → end_of kinds slice ≡ Some ending → d'.failures ≡ d.failures → Done totals records
-    → Session kinds a b' c d' Done ending
-session {kinds} {reader = reader} {octets = octets} {records = records} totals w gives same ends kept done = record {
+    → SessionTo kinds a b' c d' Done ending
+session_to {kinds} {reader = reader} {octets = octets} {records = records} totals w gives same ends kept done = record {
   octets = octets;
   gives = Gives-end _ _ _ _ [] refl w.gives gives;
   records = records;
@@ -163,19 +163,19 @@ pub ended : {kinds : Kinds} {a b b' : SourceState} {c d d' : SinkState} {reader 
     (totals : Totals) → Stage kinds a b c d reader octets records → RunsOut b b' reader reader' ending
     → slice ≡ held reader → end_of kinds slice ≡ Some ending → d'.failures ≡ d.failures → Done totals records
     → (e : Ends kinds a b' c d' Done ending) × (totals ≡ e.0.totals)
-unfolding session
-ended totals w r same ends kept done = ((session totals w r.gives same ends kept done, r.same ∙ w.no_read), refl)
+unfolding session_to
+ended totals w r same ends kept done = ((session_to totals w r.gives same ends kept done, r.same ∙ w.no_read), refl)
 
 -- a read failed, or there were too many
 pub gives_up : {kinds : Kinds} {a b b' : SourceState} {c d d' : SinkState} {reader reader' : Reader}
     {octets slice : List ℕ} {records : List Record} {ending : Ending} {Done : Totals → List Record → Type 0}
     (totals : Totals) → Stage kinds a b c d reader octets records → FailsToRead b b' reader reader' ending
     → slice ≡ held reader → end_of kinds slice ≡ Some ending → d'.failures ≡ d.failures → Done totals records
-    → (ending : Ending) × (s : Session kinds a b' c d' Done ending) × GivesUp a b' s.octets × (is_open ending ≡ true)
-unfolding session
+    → (ending : Ending) × (s : SessionTo kinds a b' c d' Done ending) × GivesUp a b' s.octets × (is_open ending ≡ true)
+unfolding session_to
 gives_up totals w r same ends kept done = (
   _,
-  session totals w r.gives same ends kept done,
+  session_to totals w r.gives same ends kept done,
   elim r.cause [
     | inl h ↦ inl (omega (arith, h, w.no_read))
     | inr h ↦ inr (omega (arith, h, w.calls, r.uncounted), omega (arith, h, w.turns))

@@ -33,7 +33,7 @@ nothing_counted = record { records = 0; octets = 0; datagrams = 0; dropped = 0; 
 
 -- The source gave octets, which are good records and then end so; this was done with the records, counted by
 -- these totals, and no write failed.
-pub record Session (kinds : Kinds) (source source' : SourceState) (sink sink' : SinkState)
+pub record SessionTo (kinds : Kinds) (source source' : SourceState) (sink sink' : SinkState)
     (Done : Totals → List Record → Type 0) (ending : Ending) : Type 0 where
   pub octets : List ℕ
   pub gives : Gives source source' octets
@@ -47,7 +47,7 @@ pub record Session (kinds : Kinds) (source source' : SourceState) (sink sink' : 
 abbrev pub Ends : Kinds → SourceState → SourceState → SinkState → SinkState → (Totals → List Record → Type 0)
     → Ending → Type 0
 Ends kinds source source' sink sink' Done ending =
-    Session kinds source source' sink sink' Done ending × (source'.failures ≡ source.failures)
+    SessionTo kinds source source' sink sink' Done ending × (source'.failures ≡ source.failures)
 
 -- .. up to the end of the source, and the totals are these
 pub record EndsAll (kinds : Kinds) (source source' : SourceState) (sink sink' : SinkState)
@@ -82,7 +82,7 @@ EndsUntil kinds source source' sink sink' Done Begun kept faults.BadCommand =
 EndsUntil kinds source source' sink sink' Done Begun kept faults.Truncated =
     Ends kinds source source' sink sink' Done endings.Truncated × IsAtEnd source'.to_come
 EndsUntil kinds source source' sink sink' Done Begun kept faults.Read = (ending : Ending)
-    × (s : Session kinds source source' sink sink' Done ending) × GivesUp source source' s.octets
+    × (s : SessionTo kinds source source' sink sink' Done ending) × GivesUp source source' s.octets
     × (is_open ending ≡ true)
 EndsUntil kinds source source' sink sink' Done Begun kept faults.Write =
     FailsToWrite kinds source source' sink sink' Begun

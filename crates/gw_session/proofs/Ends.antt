@@ -8,13 +8,13 @@ use Rattle.gw_records.specs.declared.records.Kinds.{Kinds}
 use Rattle.gw_records.specs.declared.records.Ending.{Ending}
 use Rattle.gw_records.specs.Records.{Record}
 use Rattle.gw_records.specs.Streams.{SourceState, SinkState}
-use Rattle.gw_records.specs.Outcome.{Session, EndsAll, EndsUntil}
+use Rattle.gw_records.specs.Outcome.{SessionTo, EndsAll, EndsUntil}
 
 module _ (kinds : Kinds) (a b : SourceState) (c d : SinkState) {P Q : Totals → List Record → Type 0}
     (f : (t : Totals) (rs : List Record) → P t rs → Q t rs)
   where
     -- what is known of the totals and records of a session, and what follows from it
-    session_as : {ending : Ending} → Session kinds a b c d P ending → Session kinds a b c d Q ending
+    session_as : {ending : Ending} → SessionTo kinds a b c d P ending → SessionTo kinds a b c d Q ending
     session_as s = record {
       octets = s.octets;
       gives = s.gives;

@@ -141,16 +141,16 @@ up_to : {t n m : ℕ} → t ≡ counted 0 n → n ≡ m → t ≡ at_most m
 up_to {n = n} p q = let e = counted_is 0 n (omega arith) in omega (arith, e, p, q)
 
 -- acts have as many turns as their trunk records have octets
-acts_octets : (acts : List Act) → length (turns acts) ≡ length (flat_map trunk_octets (map told acts))
-acts_octets [] = refl
-acts_octets (Act.Trunk ts ∷ acts) = omega (
+as_many_octets : (acts : List Act) → length (turns acts) ≡ length (flat_map trunk_octets (map told acts))
+as_many_octets [] = refl
+as_many_octets (Act.Trunk ts ∷ acts) = omega (
   arith,
-  acts_octets acts,
+  as_many_octets acts,
   length-map ts octet_of,
   length-append ts (turns acts),
   length-append (map octet_of ts) (flat_map trunk_octets (map told acts)),
 )
-acts_octets (_ ∷ acts) = acts_octets acts
+as_many_octets (_ ∷ acts) = as_many_octets acts
 
 -- the totals of acts are those of a session that had the replies to their records
 plain_totals : {g g' : Gateway} {t : Totals} {acts : List Act} → Does no_ports no_ports g g' t acts
@@ -164,7 +164,7 @@ plain_totals {acts = acts} d plain config before at =
     let received : k.failed_receives ≡ 0 = unmoved 0 k.failed_receives (omega arith) (sym k.receives) in
     let same = ap (whole_from config before) (acts_events acts plain) in
     let took = LeavesOut-all k.took _ (rw sent at h.packets) in
-    five (up_to d.records (sym (length-map acts told))) (up_to d.trunk_octets (acts_octets acts))
+    five (up_to d.records (sym (length-map acts told))) (up_to d.trunk_octets (as_many_octets acts))
     (up_to d.goes.datagrams (ap length took ∙ ap (λ (rs : List Reply). length (flat_map packets_in rs)) same))
     (up_to h.dropped (ap (count_by is_refusal) same)) (rw (received, sent) at d.goes.faults)
 

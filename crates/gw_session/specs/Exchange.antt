@@ -107,7 +107,7 @@ pub record SendsPacket (ports ports' : PortsState) (totals totals' : Totals) (pa
 
 -- the gateway heard an octet and sends this one, the packet that it sends with it went to the outlet, and
 -- what that puts passes
-pub record Answers (spells : Spells) (ports ports' : PortsState) (gateway gateway' : Gateway)
+pub record SendsBack (spells : Spells) (ports ports' : PortsState) (gateway gateway' : Gateway)
     (totals totals' : Totals) (sink sink' : SinkState) (waiting waiting' : List ℕ) (octet sent : ℕ) : Type 0
   where
     pub packet : Option (ℕ × List ℕ)
@@ -133,7 +133,7 @@ abbrev pub Hearing : Spells → PortsState → PortsState → Gateway → Gatewa
     → SinkState → List ℕ → List ℕ → ℕ → Result ℕ RunFault → Type 0
 Hearing spells ports ports' gateway gateway' totals totals' sink sink' waiting waiting' octet result =
     MatchResult result
-    (λ sent. Answers spells ports ports' gateway gateway' totals totals' sink sink' waiting waiting' octet
+    (λ sent. SendsBack spells ports ports' gateway gateway' totals totals' sink sink' waiting waiting' octet
     sent)
     (λ e. (e ≡ Write) × Misses spells ports ports' gateway gateway' totals totals' sink sink' waiting octet)
 

@@ -1,5 +1,5 @@
 use Rattle.std.proofs.Common.{arith, sym, ◌∙◌}
-use Rattle.gw_records.proofs.Firsts.{kind_left, circuit_is, length_is, good_first, told}
+use Rattle.gw_records.proofs.Firsts.{kind_left, circuit_is, length_is, good_first, head_told}
 use Rattle.gw_records.proofs.records.first_record.Goals as goal
 
 pub head_of-requires-clause-kind : goal.head_of-requires-clause-kind
@@ -21,7 +21,7 @@ head_of-requires-clause-codec c = (length_is c.args.held.now (sym c.has_bad_leng
 pub returns-clause-good : goal.returns-clause-good
 returns-clause-good c =
     let held = c.args.held.now in
-    let head = told held c.head_of.result c.in_ok-head.head c.head_of.ensures (sym c.ok_or.ensures.value
+    let head = head_told held c.head_of.result c.in_ok-head.head c.head_of.ensures (sym c.ok_or.ensures.value
     ∙ c.in_ok-head.was) in
     rw (sym head.1, c.body_len-len.ensures.value) (good_first c.args.kinds.now held
     (λ i. omega (arith, c.type_inv.held i)) (omega arith) (sym c.has_bad_kind.ensures ∙ c.if-has_bad_kind.false)

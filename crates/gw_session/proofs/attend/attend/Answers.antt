@@ -2,8 +2,8 @@ use Rattle.std.proofs.Common.{◌++◌, [], ◌∷◌, length, ap, length-append
 use Rattle.gw_records.specs.declared.outcome.RunFault.TheVariants as faults
 use Rattle.gw_records.specs.Records.{record_at}
 use Rattle.gw_records.specs.Reader.{held}
-use Rattle.gw_records.proofs.Sessions.{goes_up, starts, first_held, takes, stops_in, stops_behind, reads_more, ended}
-use Rattle.gw_records.proofs.Sessions.{gives_up, ends_so}
+use Rattle.gw_records.proofs.Sessions.{goes_up, starts, first_held, record_taken, stops_in, stops_behind}
+use Rattle.gw_records.proofs.Sessions.{reads_more, ended, gives_up, ends_so}
 use Rattle.gw_session.proofs.Attending.{record_is, good_in_all, through_none, through_done, through_all, through_on}
 use Rattle.gw_session.proofs.Attending.{waiting_failed, some_records, act_failed}
 use Rattle.gw_session.proofs.attend.attend.Goals as goal
@@ -48,7 +48,7 @@ attending-preserved-in-Ok g c =
       w.0,
       w.1 ++ record_at f (held c.attending.reader) ∷ [],
       record {
-        stage = takes f w.2.stage found c.pass.ensures.holds c.pass.ensures.turns q.no_failure;
+        stage = record_taken f w.2.stage found c.pass.ensures.holds c.pass.ensures.turns q.no_failure;
         through = through_done w.2.through q;
         none_waits = λ none. absurd (omega (arith, none, more));
         room = omega (arith, w.2.room, c.act.ensures.room);

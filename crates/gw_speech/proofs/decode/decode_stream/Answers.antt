@@ -5,8 +5,8 @@ use Rattle.gw_records.specs.Records.{record_at}
 use Rattle.gw_records.specs.Reader.{held}
 use Rattle.gw_records.proofs.Writes.{Passes-start, Passes-empty, Passes-join, Passes-appended, AppendsPrefix-behind}
 use Rattle.gw_records.proofs.Writes.{Breaks-waiting}
-use Rattle.gw_records.proofs.Sessions.{goes_up, starts, first_held, takes, stops_in, stops_behind, reads_more, ended}
-use Rattle.gw_records.proofs.Sessions.{gives_up}
+use Rattle.gw_records.proofs.Sessions.{goes_up, starts, first_held, record_taken, stops_in, stops_behind}
+use Rattle.gw_records.proofs.Sessions.{reads_more, ended, gives_up}
 use Rattle.gw_speech.specs.Decode.{words_in}
 use Rattle.gw_speech.proofs.Taking.{words_more, decoded_more, words_at, totals_more, decode_ends}
 use Rattle.gw_speech.proofs.decode.decode_stream.Goals as goal
@@ -50,7 +50,7 @@ decoding-preserved-in-Ok-first_record g c =
       w.0,
       w.1 ++ it ∷ [],
       record {
-        stage = takes f w.2.stage found c.pass.ensures.holds c.pass.ensures.turns put.1;
+        stage = record_taken f w.2.stage found c.pass.ensures.holds c.pass.ensures.turns put.1;
         passes = rw (decoded_more s w.1 it _ words c.prefixes_come_first.ensures)
             (Passes-join _ _ _ _ _ _ _ w.2.passes put.0);
         stands = rw (words_more s w.1 it _ words) (done.stands (words_in s w.1) w.2.stands);
