@@ -6,7 +6,8 @@ use Rattle.std.proofs.KnownBytes.{Consumes-nil, Consumes-trans}
 pub use Rattle.std.proofs.KnownBytes.{Appends-nil as Appends-none, Appends-trans as Appends-join}
 use Rattle.std.proofs.lemmas.Grind.{common_steps}
 use Rattle.std.specs.Io.KnownBytes.{Appends}
-use Rattle.gw_records.specs.Streams.{SourceState, SinkState, Gives, at_most, AppendsPrefix, Passes, Breaks}
+use Rattle.std.proofs.Common.{length-append, ap, ◌∙◌}
+use Rattle.gw_records.specs.Streams.{SourceState, SinkState, Gives, at_most, AppendsPrefix, AppendsBut, Passes, Breaks}
 
 -- what is left after a piece was taken
 pub split_more : (octets written rest : List ℕ) (n : ℕ) → n ≤ length rest → octets ≡ written ++ rest
@@ -60,6 +61,35 @@ pub AppendsPrefix-behind : (a b c : Option (List ℕ)) (waiting before more : Li
     → Passes a b waiting before → AppendsPrefix b c (waiting ++ more) → AppendsPrefix a c (before ++ more)
 AppendsPrefix-behind a b c waiting before more p q =
     AppendsPrefix-join a b c p.written (waiting ++ more) (before ++ more) p.appended q (rw (p.whole, append_assoc) refl)
+
+-- octets of which few wait, and then a prefix of those that wait and of more
+pub AppendsBut-behind : (late : ℕ) (a b c : Option (List ℕ)) (waiting before more : List ℕ) → length waiting ≤ late
+    → Passes a b waiting before → AppendsPrefix b c (waiting ++ more) → AppendsBut late a c before (before ++ more)
+unfolding AppendsPrefix-behind AppendsPrefix-join
+AppendsBut-behind late a b c waiting before more few p q =
+    let len = ap length p.whole ∙ length-append p.written waiting in
+    record {
+      written = p.written ++ q.written;
+      rest = q.rest;
+      whole = (AppendsPrefix-behind a b c waiting before more p q).whole;
+      appended = Appends-join a b c p.written q.written p.appended q.appended;
+      few = omega (arith, few, len, length-append p.written q.written);
+    }
+
+-- .. of equal octets, and of more octets
+pub AppendsBut-same : {late : ℕ} {a b : Option (List ℕ)} {first ones xs ys : List ℕ} → first ≡ ones → xs ≡ ys
+    → AppendsBut late a b first xs → AppendsBut late a b ones ys
+AppendsBut-same e f p = rw (← e, ← f) p
+
+pub AppendsBut-more : {late : ℕ} {a b : Option (List ℕ)} {first octets : List ℕ} (more : List ℕ)
+    → AppendsBut late a b first octets → AppendsBut late a b first (octets ++ more)
+AppendsBut-more more p = record {
+  written = p.written;
+  rest = p.rest ++ more;
+  whole = rw (p.whole, append_assoc) refl;
+  appended = p.appended;
+  few = p.few;
+}
 
 -- what waited is written, and then other octets pass
 pub Passes-after : (a b c : Option (List ℕ)) (before waiting octets : List ℕ)

@@ -72,6 +72,15 @@ pub record AppendsPrefix (old new : Option (List ℕ)) (octets : List ℕ) : Typ
   pub whole : octets ≡ written ++ rest
   pub appended : Appends old new written
 
+-- Octets were put, these first ones before the others. A prefix of all was taken: all of the first ones but so
+-- many at most.
+pub record AppendsBut (late : ℕ) (old new : Option (List ℕ)) (first octets : List ℕ) : Type 0 where
+  pub written : List ℕ
+  pub rest : List ℕ
+  pub whole : octets ≡ written ++ rest
+  pub appended : Appends old new written
+  pub few : length first ≤ length written + late
+
 -- of these octets the last ones wait, and the sink took those before
 pub record Passes (old new : Option (List ℕ)) (waiting octets : List ℕ) : Type 0 where
   pub written : List ℕ

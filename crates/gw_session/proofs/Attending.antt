@@ -11,14 +11,14 @@ use Rattle.gw_records.specs.declared.outcome.Totals.{Totals}
 use Rattle.gw_records.specs.declared.records.First.{First}
 use Rattle.gw_records.specs.declared.records.Kinds.{Kinds}
 use Rattle.gw_records.specs.Records.{Record, IsGood, named, record_at}
-use Rattle.gw_records.specs.Streams.{SinkState, Passes, Breaks}
+use Rattle.gw_records.specs.Streams.{SinkState, Passes, Breaks, AppendsBut}
 use Rattle.gw_records.specs.Outcome.{nothing_counted}
 use Rattle.gw_records.specs.Ports.{PortsState}
-use Rattle.gw_records.proofs.Writes.{Passes-start, Passes-appended, Passes-empty, Passes-join, AppendsPrefix-behind}
-use Rattle.gw_records.proofs.Writes.{AppendsPrefix-join}
+use Rattle.gw_records.proofs.Writes.{Passes-start, Passes-appended, Passes-empty, Passes-join, Appends-join}
+use Rattle.gw_records.proofs.Writes.{AppendsBut-behind}
 use Rattle.gw_session.specs.Running.{all_kinds}
 use Rattle.gw_session.specs.Outlet.{Spells}
-use Rattle.gw_session.specs.Serve.{Act, told, turns_of, turns, events_in, events_through, Does}
+use Rattle.gw_session.specs.Serve.{Act, told, turns_of, turns, events_in, events_through, Does, but_last}
 use Rattle.gw_session.specs.Exchange.{written_for, written_by, ActsOn, Finishes, Unwritten, Cut, Through, Begun}
 use Rattle.gw_session.specs.Tape.{TapeState}
 use Rattle.gw_session.proofs.Turns.{Goes-none, Goes-join, counted-more, octets-append, turns_have_octets}
@@ -73,10 +73,48 @@ written_more spells config before (a ∷ acts) act = rw (
   append_assoc,
 )
 
+-- the last of acts is the one that came last
+pub but_last_more : (acts : List Act) (act : Act) → but_last (acts ++ act ∷ []) ≡ acts
+unfolding but_last
+but_last_more [] act = refl
+but_last_more (a ∷ []) act = refl
+but_last_more (a ∷ b ∷ acts) act = ap (λ (xs : List Act). a ∷ xs) (but_last_more (b ∷ acts) act)
+
+-- what is put for all acts but the last is no more than what is put for all
+less_written : (spells : Spells) (config : GatewayConfig) (before : List Event) (acts : List Act)
+    → length (written_by spells config before (but_last acts)) ≤ length (written_by spells config before acts)
+unfolding but_last
+less_written spells config before [] = omega arith
+less_written spells config before (a ∷ []) = omega arith
+less_written spells config before (a ∷ b ∷ acts) = omega (
+  arith,
+  less_written spells config (before ++ events_in a) (b ∷ acts),
+  length-append (written_for spells config before a)
+      (written_by spells config (before ++ events_in a) (but_last (b ∷ acts))),
+  length-append (written_for spells config before a) (written_by spells config (before ++ events_in a) (b ∷ acts)),
+)
+
+-- octets of which few wait, and a write of these failed
+waiting_cut : (late : ℕ) (s s' s'' : SinkState) (w first xs : List ℕ) → length w ≤ late → length first ≤ length xs
+    → Passes s.taken s'.taken w xs → Breaks s' s'' w → AppendsBut late s.taken s''.taken first xs
+waiting_cut late s s' s'' w first xs few less took breaks = record {
+  written = took.written ++ breaks.took.written;
+  rest = breaks.took.rest;
+  whole = rw (took.whole, breaks.took.whole, append_assoc) refl;
+  appended = Appends-join _ _ _ took.written breaks.took.written took.appended breaks.took.appended;
+  few = omega (
+    arith,
+    few,
+    less,
+    ap length took.whole ∙ length-append took.written w,
+    length-append took.written breaks.took.written,
+  );
+}
+
 -- before the first record
 pub through_none : {spells : Spells} {a : PortsState} {g : Gateway} {tape : TapeState} {o : Option (List ℕ)}
     {w : List ℕ} {t : Totals} → w ≡ [] → t ≡ nothing_counted
-    → Through spells a a g g tape tape (λ xs. Passes o o w xs) t []
+    → Through spells a a g g tape tape (λ first xs. Passes o o w xs) t []
 through_none none nothing = rw nothing (record {
   acts = [];
   recorded = recorded_none _;
@@ -89,80 +127,84 @@ through_none none nothing = rw nothing (record {
 module _ {spells : Spells} {a b : PortsState} {g g' : Gateway} {x y : TapeState} {t : Totals} {records : List Record}
   where
     -- what is known of what was put
-    through_as : {Took More : List ℕ → Type 0} → ((xs : List ℕ) → Took xs → More xs)
+    through_as : {Took More : List ℕ → List ℕ → Type 0}
+        → ((first xs : List ℕ) → length first ≤ length xs → Took first xs → More first xs)
         → Through spells a b g g' x y Took t records → Through spells a b g g' x y More t records
     through_as f p = record {
       acts = p.acts;
       recorded = p.recorded;
       told_are = p.told_are;
       does = p.does;
-      took = λ config before at. f (written_by spells config before p.acts) (p.took config before at);
+      took = λ config before at. f (written_by spells config before (but_last p.acts))
+          (written_by spells config before p.acts) (less_written spells config before p.acts)
+          (p.took config before at);
     }
 
     -- all of it was taken
     pub through_all : {o p : Option (List ℕ)} {w : List ℕ} (q : Option (List ℕ))
-        → Through spells a b g g' x y (λ xs. Passes o p w xs) t records → Appends p q w
-        → Through spells a b g g' x y (Appends o q) t records
-    through_all q h wrote = through_as (λ xs took. Passes-appended _ _ _ _ _ took wrote) h
+        → Through spells a b g g' x y (λ first xs. Passes o p w xs) t records → Appends p q w
+        → Through spells a b g g' x y (λ first. Appends o q) t records
+    through_all q h wrote = through_as (λ first xs less took. Passes-appended _ _ _ _ _ took wrote) h
 
     -- when what waits is written nothing waits, and the rest is as it was
     pub through_on : {o p q : Option (List ℕ)} {w w' : List ℕ}
-        → Through spells a b g g' x y (λ xs. Passes o p w xs) t records → Appends p q w → w' ≡ []
-        → Through spells a b g g' x y (λ xs. Passes o q w' xs) t records
+        → Through spells a b g g' x y (λ first xs. Passes o p w xs) t records → Appends p q w → w' ≡ []
+        → Through spells a b g g' x y (λ first xs. Passes o q w' xs) t records
     through_on h wrote none =
-        through_as (λ xs took. Passes-empty _ _ _ none (Passes-appended _ _ _ _ _ took wrote)) h
+        through_as (λ first xs less took. Passes-empty _ _ _ none (Passes-appended _ _ _ _ _ took wrote)) h
 
     -- .. or a write of what waits failed
-    pub waiting_failed : {s s' s'' : SinkState} {w : List ℕ}
-        → Through spells a b g g' x y (λ xs. Passes s.taken s'.taken w xs) t records
-        → 0 < length records → Breaks s' s'' w → Begun spells a b g g' x y s s'' records
-    waiting_failed p some breaks = inl (
+    pub waiting_failed : (late : ℕ) {s s' s'' : SinkState} {w : List ℕ} → length w ≤ late
+        → Through spells a b g g' x y (λ first xs. Passes s.taken s'.taken w xs) t records
+        → 0 < length records → Breaks s' s'' w → Begun late spells a b g g' x y s s'' records
+    waiting_failed late {s} {s'} {s''} {w} few p some breaks = inl (
       t,
       some,
-      through_as (λ xs took. AppendsPrefix-join _ _ _ took.written _ _ took.appended breaks.took took.whole) p,
+      through_as (λ first xs less took. waiting_cut late s s' s'' w first xs few less took breaks) p,
     )
 
     -- .. and then one more
     module _ {c : PortsState} {g'' : Gateway} {z : TapeState} {t' : Totals} {r : Record} where
       -- one record more, for which this is put
-      through_more : {Took More : List ℕ → Type 0} → Through spells a b g g' x y Took t records
+      through_more : {Took More : List ℕ → List ℕ → Type 0} → Through spells a b g g' x y Took t records
           → (q : ActsOn b c g' g'' t t' y z r)
-          → ((config : GatewayConfig) (now : List Event) → Stands config g' now → (xs : List ℕ) → Took xs
-          → More (xs ++ written_for spells config now q.act))
+          → ((config : GatewayConfig) (now : List Event) → Stands config g' now → (first xs : List ℕ)
+          → Took first xs → More xs (xs ++ written_for spells config now q.act))
           → Through spells a c g g'' x z More t' (records ++ r ∷ [])
       through_more p q more = record {
         acts = p.acts ++ q.act ∷ [];
         recorded = rw (← flat_map_more events_in [] p.acts q.act) (recorded_join _ _ _ _ _ p.recorded q.recorded);
         told_are = rw (map_push told p.acts q.act, p.told_are, q.told_is);
         does = does_more p.does q;
-        took = λ config before at. rw (written_more spells config before p.acts q.act)
+        took = λ config before at. rw (but_last_more p.acts q.act, written_more spells config before p.acts q.act)
             (more config (before ++ events_through p.acts) ((p.does.goes.hears config before at).stands)
-            (written_by spells config before p.acts) (p.took config before at));
+            (written_by spells config before (but_last p.acts)) (written_by spells config before p.acts)
+            (p.took config before at));
       }
 
       -- records that were gone through, and then one more whose answer passes
       pub through_done : {o : Option (List ℕ)} {s' s'' : SinkState} {w w' : List ℕ}
-          → Through spells a b g g' x y (λ xs. Passes o s'.taken w xs) t records
+          → Through spells a b g g' x y (λ first xs. Passes o s'.taken w xs) t records
           → Finishes spells b c g' g'' t t' y z s' s'' w w' r
-          → Through spells a c g g'' x z (λ xs. Passes o s''.taken w' xs) t' (records ++ r ∷ [])
+          → Through spells a c g g'' x z (λ first xs. Passes o s''.taken w' xs) t' (records ++ r ∷ [])
       through_done p q = through_more p q.acts
-          (λ config now at xs took. Passes-join _ _ _ _ _ _ _ took (q.passes config now at))
+          (λ config now at first xs took. Passes-join _ _ _ _ _ _ _ took (q.passes config now at))
 
       -- a write failed in it, when it was done or when its first octets were heard
-      pub act_failed : {s s' s'' : SinkState} {w : List ℕ}
-          → Through spells a b g g' x y (λ xs. Passes s.taken s'.taken w xs) t records
+      pub act_failed : (late : ℕ) {s s' s'' : SinkState} {w : List ℕ} → length w ≤ late
+          → Through spells a b g g' x y (λ first xs. Passes s.taken s'.taken w xs) t records
           → Unwritten spells b c g' g'' t t' y z s' s'' w r ⊎ Cut spells b c g' g'' s' s'' w r
-          → (s'.failures < s''.failures) × Begun spells a c g g'' x z s s'' (records ++ r ∷ [])
-      act_failed p (inl q) = (
+          → (s'.failures < s''.failures) × Begun late spells a c g g'' x z s s'' (records ++ r ∷ [])
+      act_failed late few p (inl q) = (
         q.failed,
         inl (
           t',
           omega (arith, length-append records (r ∷ [])),
           through_more p q.acts
-              (λ config now at xs took. AppendsPrefix-behind _ _ _ _ _ _ took (q.took config now at)),
+              (λ config now at first xs took. AppendsBut-behind late _ _ _ _ _ _ few took (q.took config now at)),
         ),
       )
-      act_failed p (inr q) =
+      act_failed late few p (inr q) =
           let k = q.stops in (
             k.failed,
             inr (record {
@@ -181,7 +223,7 @@ module _ {spells : Spells} {a b : PortsState} {g g' : Gateway} {x y : TapeState}
               trades = k.trades;
               stands = λ config before at. rw append_assoc at
                   (k.stands config (before ++ events_through p.acts) ((p.does.goes.hears config before at).stands));
-              took = λ config before at. AppendsPrefix-behind _ _ _ _ _ _ (p.took config before at)
+              took = λ config before at. AppendsBut-behind late _ _ _ _ _ _ few (p.took config before at)
                   (k.took config (before ++ events_through p.acts) ((p.does.goes.hears config before at).stands));
               packet = k.packet;
               some = k.some;

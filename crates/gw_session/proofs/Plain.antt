@@ -4,7 +4,7 @@ use Rattle.std.proofs.Common.{length, take, drop, map, flat_map, count_by, refl,
 use Rattle.std.proofs.Common.{length-append, take_all, take_at, arith}
 use Rattle.std.specs.List.{AllByRecursion}
 use Rattle.std.specs.Io.KnownBytes.{Appends}
-use Rattle.std.proofs.lemmas.List.{map-append, length-map, flat_map_more}
+use Rattle.std.proofs.lemmas.List.{map-append, map_push, length-map, flat_map_more}
 use Rattle.std.proofs.lemmas.List.Concat.{flat_map-append}
 use Rattle.gw_switch.specs.declared.GatewayConfig.{GatewayConfig}
 use Rattle.gw_switch.specs.declared.gateway.Gateway.{Gateway}
@@ -13,9 +13,9 @@ use Rattle.gw_switch.specs.Standing.{Stands}
 use Rattle.gw_switch.specs.Whole.{Reply, whole_from}
 use Rattle.gw_records.specs.declared.outcome.Totals.{Totals}
 use Rattle.gw_records.specs.Records.{Record, record_of}
-use Rattle.gw_records.specs.Streams.{SinkState, AppendsPrefix, at_most}
+use Rattle.gw_records.specs.Streams.{SinkState, AppendsBut, at_most}
 use Rattle.gw_records.specs.Ports.{Waiting, counted}
-use Rattle.gw_records.proofs.Writes.{AppendsPrefix-same, AppendsPrefix-more}
+use Rattle.gw_records.proofs.Writes.{AppendsBut-same, AppendsBut-more}
 use Rattle.gw_records.proofs.Sessions.{five}
 use Rattle.gw_session.specs.Answers.{Written, written_out, packets_in, as_record, answers, events_of, events, render}
 use Rattle.gw_session.specs.Running.{replies_to, trunk_octets, is_refusal, run_totals, RunsThrough, AreFirst}
@@ -23,10 +23,11 @@ use Rattle.gw_session.specs.Running.{RunsUntilWrite}
 use Rattle.gw_session.specs.Outlet.{in_record, no_ports}
 use Rattle.gw_session.specs.Serve.{Act, Turn, told, octet_of, turns_of, turns, events_in, events_through}
 use Rattle.gw_session.specs.Serve.{events_of_turns, of_circuit, arrivals, first_four, behind_four, FirstFour, Trades}
-use Rattle.gw_session.specs.Serve.{Does, given_by, octets_for, dropped_for, answer_to}
+use Rattle.gw_session.specs.Serve.{Does, given_by, octets_for, dropped_for, answer_to, but_last}
 use Rattle.gw_session.specs.Tape.{TapeState}
 use Rattle.gw_session.specs.Exchange.{spelled_for, written_for, written_by, Through, CutThrough, Begun}
 use Rattle.gw_session.proofs.Turns.{Trades-join, LeavesOut-all, counted_is}
+use Rattle.gw_session.proofs.Attending.{but_last_more}
 use Rattle.gw_session.proofs.Cutting.{answered_first}
 use Rattle.gw_session.proofs.Exchanging.{spelled_for-append}
 use Rattle.gw_session.proofs.ServeLaws.{unmoved}
@@ -170,7 +171,7 @@ plain_totals {acts = acts} d plain config before at =
 
 -- a session went through records
 pub runs : {g g' : Gateway} {x y : TapeState} {s s' : SinkState} (t : Totals) (records : List Record)
-    → Through in_record no_ports no_ports g g' x y (Appends s.taken s'.taken) t records
+    → Through in_record no_ports no_ports g g' x y (λ first. Appends s.taken s'.taken) t records
     → RunsThrough g g' s s' t records
 runs t records p =
     let plain = plain_trades (turns p.acts) p.does.goes.trades in
@@ -194,21 +195,26 @@ last_of (x ∷ y ∷ xs) h = let l = last_of (y ∷ xs) (omega arith) in (x ∷ 
 
 -- .. and a write failed when it had acted on the last one
 whole_until : {g g' : Gateway} {x y : TapeState} {s s' : SinkState} {t : Totals} (records : List Record)
-    → 0 < length records → Through in_record no_ports no_ports g g' x y (AppendsPrefix s.taken s'.taken) t records
+    → 0 < length records
+    → Through in_record no_ports no_ports g g' x y (AppendsBut 65536 s.taken s'.taken) t records
     → RunsUntilWrite g g' s s' records
 whole_until records some p =
-    let l = last_of records some in
+    let l = last_of p.acts (omega (arith, some, ap length p.told_are, length-map p.acts told)) in
+    let all : records ≡ map told l.0 ++ told l.1 ∷ [] = sym p.told_are ∙ ap (map told) l.2 ∙ map_push told l.0 l.1 in
     let plain = plain_trades (turns p.acts) p.does.goes.trades in
+    let early = (plain_parts (turns l.0) (turns_of l.1) (rw (l.2, ← flat_map_more turns_of [] l.0 l.1) at plain)).0 in
     record {
-      records = l.0;
-      last = l.1;
-      all = l.2;
-      acted = events_of l.1;
-      first = are_all l.1;
+      records = map told l.0;
+      last = told l.1;
+      all = all;
+      acted = events_of (told l.1);
+      first = are_all (told l.1);
       stands = λ config before at.
-          rw (acts_events p.acts plain, p.told_are, l.2, ← flat_map_more events_of [] l.0 l.1) at
+          rw (acts_events p.acts plain, p.told_are, all, ← flat_map_more events_of [] (map told l.0) (told l.1)) at
           ((p.does.goes.hears config before at).stands);
-      took = λ config before at. rw (all_written config before p.acts plain, p.told_are) at (p.took config before at);
+      took = λ config before at. AppendsBut-same (ap (λ (xs : List Act). written_by in_record config before (but_last xs)) l.2
+          ∙ ap (written_by in_record config before) (but_last_more l.0 l.1) ∙ all_written config before l.0 early)
+          (all_written config before p.acts plain ∙ ap (render_all config before) p.told_are) (p.took config before at);
     }
 
 -- what is put for acts and the first turns of one more stands first in what answers their records
@@ -235,7 +241,7 @@ cut_written config before acts heard rest p q =
 
 -- .. or the first octets of it
 cut_until : {g g' : Gateway} {s s' : SinkState} (begun : List Record)
-    → CutThrough in_record no_ports no_ports g g' s s' begun → RunsUntilWrite g g' s s' begun
+    → CutThrough 65536 in_record no_ports no_ports g g' s s' begun → RunsUntilWrite g g' s s' begun
 cut_until begun p =
     let joined = Trades-join no_ports p.between no_ports (turns p.acts) p.turns p.does.goes.trades p.trades in
     let plain = plain_parts (turns p.acts) p.turns (plain_trades (turns p.acts ++ p.turns) joined) in
@@ -250,12 +256,12 @@ cut_until begun p =
           rw (acts_events p.acts plain.0, p.told_are, turns_events p.turns plain.1) at (p.stands config before at);
       took = λ config before at.
           let w = cut_written config before p.acts p.turns p.rest plain.0 plain.1 in
-          rw (p.all, ← p.told_are, p.split)
-          (AppendsPrefix-same _ _ _ _ w.1 (AppendsPrefix-more _ _ _ w.0 (p.took config before at)));
+          rw (p.all, ← p.told_are, p.split) (AppendsBut-same (all_written config before p.acts plain.0) w.1
+          (AppendsBut-more w.0 (p.took config before at)));
     }
 
 -- where a write failed, the records begun ran up to that write
 pub runs_until : {g g' : Gateway} {x y : TapeState} {s s' : SinkState} (records : List Record)
-    → Begun in_record no_ports no_ports g g' x y s s' records → RunsUntilWrite g g' s s' records
+    → Begun 65536 in_record no_ports no_ports g g' x y s s' records → RunsUntilWrite g g' s s' records
 runs_until records (inl w) = whole_until records w.1 w.2
 runs_until records (inr w) = cut_until records w

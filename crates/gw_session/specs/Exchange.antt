@@ -1,6 +1,6 @@
 -- What the parts of a session do, for the private functions of modules `exchange`, `act` and `attend`.
 use Rattle.std.specs.Prelude.{◌≡◌, ◌⊎◌, ◌<◌, ◌≤◌, ◌++◌, ℕ, List, [], ◌∷◌, length, map, drop, Option, Bool}
-use Rattle.std.specs.Prelude.{Some, Result, MatchResult}
+use Rattle.std.specs.Prelude.{true, false, Some, Result, MatchResult}
 use Rattle.std.specs.List.{flat_map}
 use Rattle.gw_switch.specs.declared.GatewayConfig.{GatewayConfig}
 use Rattle.gw_switch.specs.declared.gateway.Gateway.{Gateway}
@@ -11,7 +11,7 @@ use Rattle.gw_records.specs.declared.outcome.Totals.{Totals}
 use Rattle.gw_records.specs.declared.outcome.RunFault.{RunFault}
 use Rattle.gw_records.specs.declared.outcome.RunFault.TheVariants.{Write}
 use Rattle.gw_records.specs.Records.{Record}
-use Rattle.gw_records.specs.Streams.{SinkState, AppendsPrefix, Passes, Breaks}
+use Rattle.gw_records.specs.Streams.{SinkState, AppendsPrefix, AppendsBut, Passes, Breaks}
 use Rattle.gw_session.specs.Answers.{code_of, packet_in}
 use Rattle.gw_session.specs.Outlet.{Spells}
 use Rattle.gw_records.specs.Ports.{Waiting, PortsState, IfKnown, Grows, TakesOut, KeepsSends, KeepsReceives}
@@ -19,7 +19,7 @@ use Rattle.gw_records.specs.Ports.{counted}
 use Rattle.gw_session.specs.Serve.{Act, Turn, told, octet_of, turns_of, events_in, events_of_turns, answer_to}
 use Rattle.gw_session.specs.Serve.{Goes, Trades, Stop, StopsSo, as_call, receives_of, send_of, of_circuit}
 use Rattle.gw_session.specs.Serve.{coming, first_four, behind_four, LeavesOut, packets_for, octets_for}
-use Rattle.gw_session.specs.Serve.{dropped_for, Does, events_through}
+use Rattle.gw_session.specs.Serve.{dropped_for, Does, events_through, but_last}
 use Rattle.gw_session.specs.Tape.{TapeState, Recorded, RecordedBut}
 
 -- the gateway took an event, and the number of its reply is this
@@ -42,6 +42,12 @@ abbrev pub written_by : Spells → GatewayConfig → List Event → List Act →
 written_by spells config before [] = []
 written_by spells config before (act ∷ acts) =
     written_for spells config before act ++ written_by spells config (before ++ events_in act) acts
+
+-- how many octets wait at most when a record was acted on: none if it is answered at once, else as many as the
+-- buffer holds
+unfoldable pub most_waiting : Bool → ℕ
+most_waiting true = 0
+most_waiting false = 65536
 
 -- records and their octets are counted as before
 abbrev pub KeepsRecords : Totals → Totals → Type 0
@@ -240,19 +246,20 @@ Acts spells ports ports' gateway gateway' totals totals' tape tape' sink sink' w
     × (Unwritten spells ports ports' gateway gateway' totals totals' tape tape' sink sink' waiting r
     ⊎ Cut spells ports ports' gateway gateway' sink sink' waiting r))
 
--- the ports and the gateway went through the acts of records, which were recorded, and this is known of all
--- that is put for them
+-- the ports and the gateway went through the acts of records, which were recorded, and this is known of what is
+-- put for all but the last, and of all that is put
 pub record Through (spells : Spells) (ports ports' : PortsState) (gateway gateway' : Gateway)
-    (tape tape' : TapeState) (Took : List ℕ → Type 0) (totals : Totals) (records : List Record) : Type 0 where
+    (tape tape' : TapeState) (Took : List ℕ → List ℕ → Type 0) (totals : Totals) (records : List Record) : Type 0
+  where
   pub acts : List Act
   pub recorded : Recorded tape tape' (events_through acts)
   pub told_are : map told acts ≡ records
   pub does : Does ports ports' gateway gateway' totals acts
   pub took : (config : GatewayConfig) (before : List Event) → Stands config gateway before
-      → Took (written_by spells config before acts)
+      → Took (written_by spells config before (but_last acts)) (written_by spells config before acts)
 
 -- .. but for the last record, which was cut: of that, the first turns
-pub record CutThrough (spells : Spells) (ports ports' : PortsState) (gateway gateway' : Gateway)
+pub record CutThrough (late : ℕ) (spells : Spells) (ports ports' : PortsState) (gateway gateway' : Gateway)
     (sink sink' : SinkState) (begun : List Record) : Type 0 where
   pub records : List Record
   pub octets : List ℕ
@@ -270,15 +277,16 @@ pub record CutThrough (spells : Spells) (ports ports' : PortsState) (gateway gat
   pub stands : (config : GatewayConfig) (before : List Event) → Stands config gateway before
       → Stands config gateway' (before ++ (events_through acts ++ events_of_turns turns))
   pub took : (config : GatewayConfig) (before : List Event) → Stands config gateway before
-      → AppendsPrefix sink.taken sink'.taken (written_by spells config before acts
+      → AppendsBut late sink.taken sink'.taken (written_by spells config before acts)
+      (written_by spells config before acts
       ++ spelled_for spells config (before ++ events_through acts) (events_of_turns turns))
   pub packet : ℕ × List ℕ
   pub some : 0 < length (spells packet)
 
--- so much was done of records in which a write failed
-abbrev pub Begun : Spells → PortsState → PortsState → Gateway → Gateway → TapeState → TapeState → SinkState
+-- so much was done of records in which a write failed, when so many octets waited at most
+abbrev pub Begun : ℕ → Spells → PortsState → PortsState → Gateway → Gateway → TapeState → TapeState → SinkState
     → SinkState → List Record → Type 0
-Begun spells ports ports' gateway gateway' tape tape' sink sink' records =
+Begun late spells ports ports' gateway gateway' tape tape' sink sink' records =
     ((totals : Totals) × (0 < length records)
-    × Through spells ports ports' gateway gateway' tape tape' (AppendsPrefix sink.taken sink'.taken) totals
-    records) ⊎ CutThrough spells ports ports' gateway gateway' sink sink' records
+    × Through spells ports ports' gateway gateway' tape tape' (AppendsBut late sink.taken sink'.taken) totals
+    records) ⊎ CutThrough late spells ports ports' gateway gateway' sink sink' records

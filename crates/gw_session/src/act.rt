@@ -1,11 +1,11 @@
 //! Records that a gateway acts on, and what is written for them.
-ghost use Rattle.std.specs.Prelude.{◌≡◌, ◌^◌, ◌<◌, ◌∷◌, ◌++◌};
+ghost use Rattle.std.specs.Prelude.{◌≡◌, ◌^◌, ◌<◌, ◌≤◌, ◌∷◌, ◌++◌, length, OnOk};
 ghost use Rattle.byteorder.specs.Endian.{big_bytes};
 ghost use Rattle.gw_switch.specs.Events.{Event};
 ghost use Rattle.gw_switch.specs.Whole.{Reply};
 ghost use Rattle.gw_records.specs.Streams.{CanCount, Puts};
 ghost use Rattle.gw_session.specs.Answers.{code_of};
-ghost use Rattle.gw_session.specs.Exchange.{Takes};
+ghost use Rattle.gw_session.specs.Exchange.{Takes, most_waiting};
 
 use crate::exchange::{Session, give};
 use crate::outlet::Outlet;
@@ -73,24 +73,27 @@ fn put_out<K: Sink>(
     sink: &mut K,
 ) -> Result<(), RunFault>
     requires { CanCount (K.tells sink.old).failures }
-    ensures { Puts (K.tells sink.old) (K.tells sink.new) waiting.new.items
+    ensures puts { Puts (K.tells sink.old) (K.tells sink.new) waiting.new.items
         (waiting.old.items ++ octets.now) result }
+    ensures few { OnOk result (length waiting.new.items ≤ most_waiting at_once) }
 {
     put(sink, waiting, octets)?;
     if at_once {
         flush(sink, waiting)?;
+    } else {
+        prove!(waiting.len() <= waiting.capacity());
     }
     Ok(())
 }
 
 impl Session {
-    ghost use Rattle.std.specs.Prelude.{◌≡◌, ◌+◌, ◌^◌, ◌<◌, ◌≤◌, ◌++◌, length, vec_len};
+    ghost use Rattle.std.specs.Prelude.{◌≡◌, ◌+◌, ◌^◌, ◌<◌, ◌≤◌, ◌++◌, length, vec_len, OnOk};
     ghost use Rattle.gw_records.specs.Records.{Record, IsGood, named};
     ghost use Rattle.gw_records.specs.Streams.{CanCount, Puts, at_most};
     ghost use Rattle.gw_session.specs.Answers.{written_out};
     ghost use Rattle.gw_session.specs.Answers.Written.{Answered};
     ghost use Rattle.gw_session.specs.Running.{all_kinds};
-    ghost use Rattle.gw_session.specs.Exchange.{Acts};
+    ghost use Rattle.gw_session.specs.Exchange.{Acts, most_waiting};
 
     // Hears the octets of a trunk record, and puts the record that answers it.
     fn act_on_trunk<O: Outlet, K: Sink, T: Tape>(
@@ -108,6 +111,8 @@ impl Session {
             self.old.totals self.new.totals (T.tells tape.old) (T.tells tape.new)
             (K.tells sink.old) (K.tells sink.new)
             self.old.waiting.items self.new.waiting.items (Record.Trunk body.now) result }
+        ensures few { OnOk result (length self.new.waiting.items ≤ most_waiting self.old.at_once) }
+        ensures at_once { self.new.at_once ≡ self.old.at_once }
         ensures room { vec_len self.new.room ≡ vec_len self.old.room }
     {
         self.totals.records = self.totals.records.saturating_add(1);
@@ -136,6 +141,8 @@ impl Session {
             (self.old.waiting.items ++ written_out (Answered circuit kind code)) result }
         ensures counts { self.new.totals
             ≡ record self.old.totals { records = at_most (self.old.totals.records + 1) } }
+        ensures few { OnOk result (length self.new.waiting.items ≤ most_waiting self.old.at_once) }
+        ensures at_once { self.new.at_once ≡ self.old.at_once }
         ensures room { vec_len self.new.room ≡ vec_len self.old.room }
     {
         self.totals.records = self.totals.records.saturating_add(1);
@@ -160,6 +167,8 @@ impl Session {
             self.old.totals self.new.totals (T.tells tape.old) (T.tells tape.new)
             (K.tells sink.old) (K.tells sink.new)
             self.old.waiting.items self.new.waiting.items (named head body.now) result }
+        ensures few { OnOk result (length self.new.waiting.items ≤ most_waiting self.old.at_once) }
+        ensures at_once { self.new.at_once ≡ self.old.at_once }
         ensures room { vec_len self.new.room ≡ vec_len self.old.room }
     {
         match head {

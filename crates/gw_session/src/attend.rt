@@ -4,7 +4,7 @@ ghost use Rattle.std.specs.Io.KnownBytes.{Appends};
 ghost use Rattle.gw_records.specs.Streams.{CanBegin};
 ghost use Rattle.gw_records.specs.Reader.{held};
 ghost use Rattle.gw_records.specs.Outcome.{nothing_counted, EndsAll, EndsUntil};
-ghost use Rattle.gw_session.specs.Exchange.{Through, Begun};
+ghost use Rattle.gw_session.specs.Exchange.{Through, Begun, most_waiting};
 
 use crate::exchange::Session;
 use crate::outlet::Outlet;
@@ -37,13 +37,13 @@ pub fn attend<O: Outlet, S: Source, K: Sink, T: Tape>(
         (S.tells source.old) (S.tells source.new) (K.tells sink.old) (K.tells sink.new)
         (Through O.spells (O.tells outlet.old) (O.tells outlet.new) gateway.old gateway.new
         (T.tells tape.old) (T.tells tape.new)
-        (Appends (K.tells sink.old).taken (K.tells sink.new).taken))) }
+        (λ first. Appends (K.tells sink.old).taken (K.tells sink.new).taken))) }
     ensures fault { IfErr result (EndsUntil kinds.now
         (S.tells source.old) (S.tells source.new) (K.tells sink.old) (K.tells sink.new)
         (Through O.spells (O.tells outlet.old) (O.tells outlet.new) gateway.old gateway.new
         (T.tells tape.old) (T.tells tape.new)
-        (Appends (K.tells sink.old).taken (K.tells sink.new).taken))
-        (Begun O.spells (O.tells outlet.old) (O.tells outlet.new) gateway.old gateway.new
+        (λ first. Appends (K.tells sink.old).taken (K.tells sink.new).taken))
+        (Begun (most_waiting session.old.at_once) O.spells (O.tells outlet.old) (O.tells outlet.new) gateway.old gateway.new
         (T.tells tape.old) (T.tells tape.new) (K.tells sink.old) (K.tells sink.new)) ⊥) }
 {
     'attending: loop {

@@ -57,6 +57,7 @@ impl Session {
     pub fn new(room: Vec<u8>, at_once: bool) -> Session
         ensures totals { result.totals ≡ nothing_counted }
         ensures waiting { result.waiting.items ≡ [] }
+        ensures at_once { result.at_once ≡ at_once }
         ensures room { vec_len result.room ≡ vec_len room }
     {
         Session {
@@ -183,6 +184,7 @@ impl Session {
             gateway.old gateway.new self.old.totals self.new.totals (K.tells sink.old) (K.tells sink.new)
             self.old.waiting.items self.new.waiting.items octets.now
             self.old.answer.items self.new.answer.items (T.tells tape.old) (T.tells tape.new) result }
+        ensures at_once { self.new.at_once ≡ self.old.at_once }
         ensures room { vec_len self.new.room ≡ vec_len self.old.room }
     {
         self.recorded = 0;

@@ -1,17 +1,22 @@
-use Rattle.std.proofs.Common.{◌∙◌}
+use Rattle.std.proofs.Common.{◌∙◌, arith}
+use Rattle.gw_session.specs.Exchange.{most_waiting}
 use Rattle.std.proofs.lemmas.Result.{err_from_is_err_and}
 use Rattle.gw_records.proofs.Writes.{Passes-empty, Passes-appended, Breaks-waiting}
 use Rattle.gw_session.proofs.act.put_out.Goals as goal
 
-pub returns-in_err-flush : goal.returns-in_err-flush
-returns-in_err-flush g c =
+pub returns-in_err-flush-clause-puts : goal.returns-in_err-flush-clause-puts
+returns-in_err-flush-clause-puts g c =
     let p = err_from_is_err_and c.from_residual-in_err-flush.result c.from_residual-in_err-flush.ensures.1 in
     let broken = c.in_err-flush.ensures.writes in
     rw (p.1, p.2) (broken.0, Breaks-waiting _ _ _ _ _ c.in_ok-put.ensures.0 c.in_ok-put.ensures.1 broken.1)
 
-pub returns-in_ok-flush : goal.returns-in_ok-flush
-returns-in_ok-flush g c = (
+pub returns-in_ok-flush-clause-puts : goal.returns-in_ok-flush-clause-puts
+returns-in_ok-flush-clause-puts g c = (
   Passes-empty _ _ _ c.in_ok-flush.ensures.empty
       (Passes-appended _ _ _ _ _ c.in_ok-put.ensures.0 c.in_ok-flush.ensures.writes.0),
   c.in_ok-flush.ensures.writes.1 ∙ c.in_ok-put.ensures.1,
 )
+
+pub returns-else-at_once-clause-few : goal.returns-else-at_once-clause-few
+unfolding most_waiting
+returns-else-at_once-clause-few g c = rw c.if-at_once.false (omega (arith, c.len.ensures.value, c.len.ensures.fits))

@@ -1,4 +1,4 @@
-use Rattle.std.proofs.Common.{◌++◌, [], ◌∷◌, length, ap, length-append, arith}
+use Rattle.std.proofs.Common.{◌++◌, [], ◌∷◌, length, ap, ◌∙◌, refl, length-append, arith}
 use Rattle.gw_records.specs.declared.outcome.RunFault.TheVariants as faults
 use Rattle.gw_records.specs.Records.{record_at}
 use Rattle.gw_records.specs.Reader.{held}
@@ -16,6 +16,8 @@ attending-init g c = (
     stage = starts _ _ _ c.requires.holds c.requires.turns;
     through = through_none c.requires.waiting c.requires.totals;
     none_waits = λ none. ap length c.requires.waiting;
+    few = omega (arith, ap length c.requires.waiting);
+    at_once = refl;
     room = c.requires.room;
   },
 )
@@ -34,7 +36,7 @@ returns-in_err-act-in-Ok-clause-fault g c =
     let found = first_held f c.held.ensures c.in-Ok.ensures.good in
     let q = rw (record_is f (held c.attending.reader) _ found.more c.held-in-Ok.ensures) at
     c.in_err-act-in-Ok.ensures.acts in
-    let stopped = act_failed w.2.through q.1 in
+    let stopped = act_failed _ w.2.few w.2.through q.1 in
     goes_up _ _ faults.Write c.from_residual.ensures.1 q.0 (stops_in f w.2.stage found stopped.0 stopped.1)
 
 pub attending-preserved-in-Ok : goal.attending-preserved-in-Ok
@@ -51,6 +53,8 @@ attending-preserved-in-Ok g c =
         stage = record_taken f w.2.stage found c.pass.ensures.holds c.pass.ensures.turns q.no_failure;
         through = through_done w.2.through q;
         none_waits = λ none. absurd (omega (arith, none, more));
+        few = rw w.2.at_once at c.in_ok-act-in-Ok.ensures.few;
+        at_once = c.act.ensures.at_once ∙ w.2.at_once;
         room = omega (arith, w.2.room, c.act.ensures.room);
       },
     )
@@ -60,7 +64,7 @@ returns-in_err-flush-in-Err-clause-fault g c =
     let w = c.attending.invariant in
     let fault = c.in_err-flush-in-Err.ensures.writes in
     goes_up _ _ faults.Write c.from_residual-in_err-flush-in-Err.ensures.1 fault.0 (stops_behind w.2.stage
-    fault.1.counted (waiting_failed w.2.through
+    fault.1.counted (waiting_failed _ w.2.few w.2.through
     (some_records _ _ w.2.none_waits c.in_err-flush-in-Err.ensures.some) fault.1))
 
 pub attending-preserved : goal.attending-preserved
@@ -74,6 +78,8 @@ attending-preserved g c =
         stage = reads_more w.2.stage r c.requires.begins.turns flushed.writes.1;
         through = through_on w.2.through flushed.writes.0 flushed.empty;
         none_waits = λ none. ap length flushed.empty;
+        few = omega (arith, ap length flushed.empty);
+        at_once = w.2.at_once;
         room = w.2.room;
       },
     )

@@ -1,9 +1,12 @@
 use Rattle.gw_session.proofs.Ends.{all_as, until_as}
 use Rattle.gw_session.proofs.Silent.{serves, serves_until}
+use Rattle.gw_session.specs.Exchange.{most_waiting}
 use Rattle.gw_session.proofs.serves.serve_recorded.Goals as goal
 
 pub returns : goal.returns
+unfolding most_waiting
 returns g c = record {
   ok = all_as _ _ _ _ _ serves c.attend.result c.attend.ensures.ok;
-  fault = until_as _ _ _ _ _ serves c.attend.result (λ e. absurd e) serves_until c.attend.ensures.fault;
+  fault = until_as _ _ _ _ _ serves c.attend.result (λ e. absurd e) serves_until
+      (rw c.new-session.ensures.at_once at c.attend.ensures.fault);
 }

@@ -15,7 +15,7 @@ split_at xs i h =
     sym (take-append-drop (i + 1) xs) ∙ ap (λ (ys : List ℕ). ys ++ drop (i + 1) xs) (take_more xs i 0 h)
 
 pub loop-i-init : goal.loop-i-init
-loop-i-init g c = record { heard = heard_none _ _ _ _ _ _ _ _ _; room = refl }
+loop-i-init g c = record { heard = heard_none _ _ _ _ _ _ _ _ _; at_once = refl; room = refl }
 
 pub push-requires : goal.push-requires
 push-requires g c =
@@ -52,9 +52,19 @@ loop-i-preserved g c =
     record {
       heard = rw same (heard_more c.args.octets.now c.loop-i.i c.loop-i.self.recorded _ c.in_ok-sent.sent
           c.loop-i.invariant.heard c.loop-i-test.true q (rw kept at c.push.ensures.items));
+      at_once = ap (λ (s : Session). s.at_once) c.hear.ensures.others
+          ∙ ap (λ (s : Session). s.at_once) c.receive_next.ensures.others ∙ c.loop-i.invariant.at_once;
       room = ap (λ (s : Session). vec_len s.room) c.hear.ensures.others ∙ c.receive_next.ensures.room
           ∙ c.loop-i.invariant.room;
     }
+
+pub returns-in_err-sent-clause-at_once : goal.returns-in_err-sent-clause-at_once
+returns-in_err-sent-clause-at_once g c =
+    ap (λ (s : Session). s.at_once) c.hear.ensures.others
+    ∙ ap (λ (s : Session). s.at_once) c.receive_next.ensures.others ∙ c.loop-i.invariant.at_once
+
+pub returns-clause-at_once : goal.returns-clause-at_once
+returns-clause-at_once g c = c.loop-i.invariant.at_once
 
 pub returns-clause-exchanges : goal.returns-clause-exchanges
 returns-clause-exchanges g c =

@@ -10,5 +10,6 @@ invariant-loop-i g l = record {
       (g.K.Sink.tells l.initial.sink) (g.K.Sink.tells l.sink) l.initial.self.waiting.items l.self.waiting.items
       l.octets l.i l.self.recorded l.initial.self.answer.items l.self.answer.items
       (g.T.Tape.tells l.initial.tape) (g.T.Tape.tells l.tape);
+  at_once : l.self.at_once ≡ l.initial.self.at_once;
   room : vec_len l.self.room ≡ vec_len l.initial.self.room;
 }
