@@ -20,6 +20,7 @@ use Rattle.gw_session.specs.Serve.{Act, told, turns_of, events_in, events_of_tur
 use Rattle.gw_session.specs.Serve.{packets_for, sent_with_octets, dropped_for}
 use Rattle.gw_session.specs.Exchange.{Takes, spelled_for, written_for, Exchanges, ActsOn, Acts}
 use Rattle.gw_session.specs.Tape.{TapeState, Recorded}
+use Rattle.gw_session.specs.declared.tape.OnTape.{OnTape}
 use Rattle.gw_session.proofs.Turns.{Trades-none, counted_is}
 
 -- an act was done, and behind what passes the rest of all that is put for it was put, or a write failed
@@ -80,7 +81,7 @@ trunk_acts t r o s'' w'' result x fronts same counts trunk fits puts =
       rw (append_assoc, same, x.2, fronts, p.sent_are config before h, p.lengths),
     )) p.no_failure puts
 
--- an act of one event was done, and the one answer of its circuit was put
+-- an act of one event was done, and the one answer of its circuit, whose record is on the tape, was put
 pub one_acts : (act : Act) (event : Event) (u : Totals) (spells : Spells) (p : PortsState) (g g' : Gateway)
     (t : Totals) {t' : Totals} {tape tape' : TapeState} (s s' : SinkState) (w w' : List ℕ) {circuit kind code : ℕ}
     (result : Result (Unit {0}) RunFault) → turns_of act ≡ [] → events_in act ≡ event ∷ []
@@ -88,14 +89,15 @@ pub one_acts : (act : Act) (event : Event) (u : Totals) (spells : Spells) (p : P
     → ((config : GatewayConfig) (before : List Event) → sent_with_octets config before (event ∷ []) ≡ [])
     → ((config : GatewayConfig) (before : List Event) → answer_to config before act
     ≡ written_out (Written.Answered circuit kind (code_of (reply_to config before event))))
-    → Takes g g' event code
+    → Takes g g' event code → {on_tape : OnTape} → on_tape ≡ record { kind = kind; circuit = circuit }
     → u ≡ record t { dropped = u.dropped } → t' ≡ record u { records = at_most (u.records + 1) }
     → ((config : GatewayConfig) (before : List Event) → Stands config g before
     → u.dropped ≡ counted t.dropped (dropped_for config before (event ∷ [])))
-    → Puts s s' w' (w ++ written_out (Written.Answered circuit kind code)) result → Recorded tape tape' (events_in act)
+    → Puts s s' w' (w ++ written_out (Written.Answered on_tape.circuit on_tape.kind code)) result
+    → Recorded tape tape' (events_in act)
     → Acts spells p p g g' t t' tape tape' s s' w w' (told act) result
 unfolding Trades-none written_for spelled_for
-one_acts act event u spells p g g' t s s' w w' result none one packets places answer takes others counts dropped puts
+one_acts act event u spells p g g' t s s' w w' result none one packets places answer takes taped others counts dropped puts
     recorded =
     acts_put _ _ _ _ _ w _ _ result (record {
       act = act;
@@ -119,4 +121,4 @@ one_acts act event u spells p g g' t s s' w w' result none one packets places an
       w,
       record { written = []; whole = refl; appended = Appends-none _ },
       rw (one, packets config before, answer config before, (takes config before h).1),
-    )) refl puts
+    )) refl (rw taped at puts)

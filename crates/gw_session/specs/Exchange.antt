@@ -177,9 +177,9 @@ pub record StopsAt (spells : Spells) (ports ports' : PortsState) (gateway gatewa
   pub some : 0 < length (spells packet)
 
 -- octets, those to send behind those of the answer; they and the datagrams that came were recorded
-abbrev pub ExchangingAll : Spells → PortsState → PortsState → Gateway → Gateway → Totals → Totals → SinkState
-    → SinkState → List ℕ → List ℕ → List ℕ → List ℕ → List ℕ → TapeState → TapeState → Result (Unit {0})
-    RunFault → Type 0
+abbrev pub ExchangingAll : {T : Type 0} → Spells → PortsState → PortsState → Gateway → Gateway → Totals → Totals → SinkState
+    → SinkState → List ℕ → List ℕ → List ℕ → List ℕ → List ℕ → TapeState → TapeState → Result T RunFault
+    → Type 0
 ExchangingAll spells ports ports' gateway gateway' totals totals' sink sink' waiting waiting' octets answer
     answer' tape tape' result = MatchResult result
     (λ _. (sent : List ℕ)
@@ -251,12 +251,12 @@ Acts spells ports ports' gateway gateway' totals totals' tape tape' sink sink' w
 pub record Through (spells : Spells) (ports ports' : PortsState) (gateway gateway' : Gateway)
     (tape tape' : TapeState) (Took : List ℕ → List ℕ → Type 0) (totals : Totals) (records : List Record) : Type 0
   where
-  pub acts : List Act
-  pub recorded : Recorded tape tape' (events_through acts)
-  pub told_are : map told acts ≡ records
-  pub does : Does ports ports' gateway gateway' totals acts
-  pub took : (config : GatewayConfig) (before : List Event) → Stands config gateway before
-      → Took (written_by spells config before (but_last acts)) (written_by spells config before acts)
+    pub acts : List Act
+    pub recorded : Recorded tape tape' (events_through acts)
+    pub told_are : map told acts ≡ records
+    pub does : Does ports ports' gateway gateway' totals acts
+    pub took : (config : GatewayConfig) (before : List Event) → Stands config gateway before
+        → Took (written_by spells config before (but_last acts)) (written_by spells config before acts)
 
 -- .. but for the last record, which was cut: of that, the first turns
 pub record CutThrough (late : ℕ) (spells : Spells) (ports ports' : PortsState) (gateway gateway' : Gateway)

@@ -4,9 +4,12 @@ use Rattle.std.specs.Prelude.{Some, length, map, Contains}
 use Rattle.std.specs.List.{flat_map, AllByRecursion}
 use Rattle.std.specs.Io.KnownBytes.{Appends}
 use Rattle.gw_switch.specs.Events.{Event}
+use Rattle.gw_records.specs.declared.records.Head.{Head}
+use Rattle.gw_records.specs.declared.records.Head.TheVariants as heads
 use Rattle.gw_records.specs.Records.{Record, IsGood, spelled}
 use Rattle.gw_records.specs.Streams.{AppendsPrefix}
 use Rattle.gw_session.specs.Answers.{events}
+use Rattle.gw_session.specs.declared.tape.OnTape.{OnTape}
 use Rattle.gw_session.specs.Running.{all_kinds}
 
 -- a tape: whether it has ended, its writes that failed and, where they are known, the octets that it took
@@ -43,6 +46,13 @@ pub record Recorded (tape tape' : TapeState) (happened : List Event) : Type 0 wh
 -- a tape ends, with what it has taken
 abbrev pub HasEnded : TapeState → TapeState → Type 0
 HasEnded tape tape' = (tape'.ended ≡ true) × (tape'.taken ≡ tape.taken) × (tape.ended ≡ true → tape' ≡ tape)
+
+-- the kind and the circuit of a record that was put on a tape
+unfoldable pub kind_and_circuit : Head → OnTape
+kind_and_circuit heads.Trunk = record { kind = 0x54; circuit = 0 }
+kind_and_circuit (heads.Datagram circuit) = record { kind = 0x44; circuit = circuit }
+kind_and_circuit (heads.Command circuit command) = record { kind = 0x43; circuit = circuit }
+kind_and_circuit (heads.Codec circuit codec payload_type) = record { kind = 0x4B; circuit = circuit }
 
 -- events happened and were recorded, but for octets of the trunk at their end
 abbrev pub RecordedBut : TapeState → TapeState → List Event → List ℕ → Type 0

@@ -9,12 +9,12 @@ ghost use Rattle.gw_session.specs.Exchange.{Takes, most_waiting};
 
 use crate::exchange::{Session, give};
 use crate::outlet::Outlet;
-use crate::tape::Tape;
+use crate::tape::{OnTape, Tape, record};
 use byteorder::{BigEndian, ByteOrder};
 use g704_cas::CircuitNo;
 use g726_codec::CodecKind;
 use gw_circuit::CodecFault;
-use gw_records::{CODEC, COMMAND, DATAGRAM, Head, OutputBuffer, RunFault, Sink, TRUNK, flush, put};
+use gw_records::{Head, OutputBuffer, RunFault, Sink, TRUNK, flush, put};
 use gw_switch::Gateway;
 use q421_line::{Cmd, LineFault};
 
@@ -65,8 +65,10 @@ fn trunk_front(len: usize) -> [u8; 4]
     front
 }
 
-// Puts octets behind those that wait, and writes all of them where none is to wait.
+// Puts octets behind those that wait, and writes all of them where none is to wait. They answer a record that
+// is on the tape.
 fn put_out<K: Sink>(
+    _answered: OnTape,
     octets: &[u8],
     waiting: &mut OutputBuffer,
     at_once: bool,
@@ -119,8 +121,9 @@ impl Session {
         self.totals.octets = self.totals.octets.saturating_add(body.len() as u64);
         self.answer.clear();
         let _ = self.answer.try_extend_from_slice(&trunk_front(body.len()));
-        self.exchange_all(gateway, outlet, body, sink, tape)?;
+        let recorded = self.exchange_all(gateway, outlet, body, sink, tape)?;
         put_out(
+            recorded,
             self.answer.as_slice(),
             &mut self.waiting,
             self.at_once,
@@ -128,17 +131,16 @@ impl Session {
         )
     }
 
-    // Counts a record, and puts the answer of a circuit to it.
+    // Counts a record that is on the tape, and puts the answer of its circuit.
     fn put_answer<K: Sink>(
         &mut self,
-        circuit: CircuitNo,
-        kind: u8,
+        recorded: OnTape,
         code: u8,
         sink: &mut K,
     ) -> Result<(), RunFault>
         requires writes { CanCount (K.tells sink.old).failures }
         ensures puts { Puts (K.tells sink.old) (K.tells sink.new) self.new.waiting.items
-            (self.old.waiting.items ++ written_out (Answered circuit kind code)) result }
+            (self.old.waiting.items ++ written_out (Answered recorded.circuit recorded.kind code)) result }
         ensures counts { self.new.totals
             ≡ record self.old.totals { records = at_most (self.old.totals.records + 1) } }
         ensures few { OnOk result (length self.new.waiting.items ≤ most_waiting self.old.at_once) }
@@ -146,8 +148,8 @@ impl Session {
         ensures room { vec_len self.new.room ≡ vec_len self.old.room }
     {
         self.totals.records = self.totals.records.saturating_add(1);
-        let octets = [ANSWER, circuit.get(), 0, 2, kind, code];
-        put_out(&octets, &mut self.waiting, self.at_once, sink)
+        let octets = [ANSWER, recorded.circuit(), 0, 2, recorded.kind(), code];
+        put_out(recorded, &octets, &mut self.waiting, self.at_once, sink)
     }
 
     /// Acts on a record, which is recorded before, and puts what answers it behind the octets that wait.
@@ -174,19 +176,19 @@ impl Session {
         match head {
             Head::Trunk => self.act_on_trunk(gateway, outlet, body, sink, tape),
             Head::Datagram(circuit) => {
-                tape.put(head, body);
+                let recorded = record(tape, head, body);
                 let code = give(gateway, circuit, body, &mut self.totals);
-                self.put_answer(circuit, DATAGRAM, code, sink)
+                self.put_answer(recorded, code, sink)
             }
             Head::Command(circuit, command) => {
-                tape.put(head, body);
+                let recorded = record(tape, head, body);
                 let code = give_command(gateway, circuit, command);
-                self.put_answer(circuit, COMMAND, code, sink)
+                self.put_answer(recorded, code, sink)
             }
             Head::Codec(circuit, codec, payload_type) => {
-                tape.put(head, body);
+                let recorded = record(tape, head, body);
                 let code = give_codec(gateway, circuit, codec, payload_type);
-                self.put_answer(circuit, CODEC, code, sink)
+                self.put_answer(recorded, code, sink)
             }
         }
     }

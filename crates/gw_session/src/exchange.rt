@@ -8,7 +8,7 @@ ghost use Rattle.gw_session.specs.Answers.{code_of};
 ghost use Rattle.gw_session.specs.Exchange.{IsGiven};
 
 use crate::outlet::Outlet;
-use crate::tape::{Tape, record_arrival, record_octets};
+use crate::tape::{OnTape, Tape, record_arrival, record_octets};
 use g704_cas::CircuitNo;
 use gw_circuit::Datagram;
 use gw_records::{NO_TOTALS, OutputBuffer, RunFault, Sink, Totals, TrunkRecord};
@@ -175,7 +175,7 @@ impl Session {
         octets: &[u8],
         sink: &mut K,
         tape: &mut T,
-    ) -> Result<(), RunFault>
+    ) -> Result<OnTape, RunFault>
         requires fits { length self.old.answer.items + length octets.now ≤ 65539 }
         requires short { length octets.now < 2 ^ 16 }
         requires room { O.place ≤ vec_len self.old.room }
@@ -194,7 +194,6 @@ impl Session {
             let sent = self.hear(gateway, outlet, octets[i], sink)?;
             self.answer.push(sent);
         }
-        record_octets(tape, &octets[self.recorded..]);
-        Ok(())
+        Ok(record_octets(tape, &octets[self.recorded..]))
     }
 }

@@ -3,12 +3,13 @@ use Rattle.gw_switch.specs.Events.{Event}
 use Rattle.gw_records.specs.Octets.{octet_of_command, octet_of_codec}
 use Rattle.gw_records.proofs.Again.{command_again, codec_again}
 use Rattle.gw_session.specs.Exchange.{Takes}
+use Rattle.gw_session.specs.Tape.{kind_and_circuit}
 use Rattle.gw_session.specs.Serve.{Act, answer_to, given_by, dropped_for}
 use Rattle.gw_session.proofs.Acts.{one_acts}
 use Rattle.gw_session.proofs.exchange.Session.act.Goals as goal
 
 pub returns-in-Datagram-clause-acts : goal.returns-in-Datagram-clause-acts
-unfolding answer_to given_by
+unfolding answer_to given_by kind_and_circuit
 returns-in-Datagram-clause-acts g c =
     let circuit = c.in-Datagram.circuit in
     let body = c.args.body.now in
@@ -18,25 +19,27 @@ returns-in-Datagram-clause-acts g c =
     λ config before h. ((given config before h).0, code config before h) in
     rw c.in-Datagram.is (one_acts (Act.Datagram circuit body) _ c.give-code.new.totals _ _ _ _ _ _ _ _ _
     c.put_answer.result refl refl (λ config before. refl) (λ config before. refl) (λ config before. refl) takes
-    c.give-code.ensures.others c.put_answer.ensures.counts (λ config before h. (given config before h).1)
-    c.put_answer.ensures.puts c.put.ensures)
+    c.record-recorded.ensures.on_tape c.give-code.ensures.others c.put_answer.ensures.counts (λ config before h. (given config before h).1)
+    c.put_answer.ensures.puts c.record-recorded.ensures.recorded)
 
 pub returns-in-Command-clause-acts : goal.returns-in-Command-clause-acts
-unfolding answer_to given_by dropped_for
+unfolding answer_to given_by dropped_for kind_and_circuit
 returns-in-Command-clause-acts g c =
     let command = c.in-Command.command in
     rw c.in-Command.is (one_acts (Act.Command c.in-Command.circuit (octet_of_command command)) _
     c.args.self.now.totals _ _ _ _ _ _ _ _ _ c.put_answer-in-Command.result refl refl (λ config before. refl)
-    (λ config before. refl) (λ config before. refl) (rw (← command_again command) at c.give_command-code.ensures) refl
-    c.put_answer-in-Command.ensures.counts (λ config before h. refl) c.put_answer-in-Command.ensures.puts
-    c.put-in-Command.ensures)
+    (λ config before. refl) (λ config before. refl) (rw (← command_again command) at c.give_command-code.ensures)
+    c.record-recorded-in-Command.ensures.on_tape refl
+    c.put_answer-in-Command.ensures.counts (λ config before h. refl)
+    c.put_answer-in-Command.ensures.puts c.record-recorded-in-Command.ensures.recorded)
 
 pub returns-in-Codec-clause-acts : goal.returns-in-Codec-clause-acts
-unfolding answer_to given_by dropped_for
+unfolding answer_to given_by dropped_for kind_and_circuit
 returns-in-Codec-clause-acts g c =
     let codec = c.in-Codec.codec in
     rw c.in-Codec.is (one_acts (Act.Codec c.in-Codec.circuit (octet_of_codec codec) c.in-Codec.payload_type) _
     c.args.self.now.totals _ _ _ _ _ _ _ _ _ c.put_answer-in-Codec.result refl refl (λ config before. refl)
-    (λ config before. refl) (λ config before. refl) (rw (← codec_again codec) at c.give_codec-code.ensures) refl
-    c.put_answer-in-Codec.ensures.counts (λ config before h. refl) c.put_answer-in-Codec.ensures.puts
-    c.put-in-Codec.ensures)
+    (λ config before. refl) (λ config before. refl) (rw (← codec_again codec) at c.give_codec-code.ensures)
+    c.record-recorded-in-Codec.ensures.on_tape refl
+    c.put_answer-in-Codec.ensures.counts (λ config before h. refl)
+    c.put_answer-in-Codec.ensures.puts c.record-recorded-in-Codec.ensures.recorded)
