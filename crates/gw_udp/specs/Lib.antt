@@ -2,3 +2,4 @@ pub mod Senders
 pub mod Socket
 pub mod Udp
 pub mod Opening
+pub mod Resting

@@ -1,11 +1,14 @@
 //! The ports of circuits over UDP: sockets, and from whom they take datagrams in.
 #![tactic(auto)]
 
+mod asking;
+mod resting;
 mod senders;
 mod socket;
 mod sockets;
 mod udp;
 
+pub use resting::Resting;
 pub use senders::Senders;
 pub use socket::Socket;
 pub use sockets::open_sockets;
