@@ -3,8 +3,9 @@ use Rattle.std.specs.Prelude.{◌≡◌, ◌≢◌, ◌⊎◌, ◌-◌, ◌<◌,
 use Rattle.std.specs.Prelude.{Option, Some, None, Result, Ok, Err, string_bytes}
 use Rattle.std.specs.declared.net.ip_addr.IpAddr.{IpAddr}
 use Rattle.std.specs.declared.net.socket_addr.SocketAddr.{SocketAddr}
+use Rattle.std.specs.Net.Addr.{is_ipv4}
 use Rattle.std.specs.Net.Grammar.{IsIpText}
-use Rattle.std.specs.Net.Socket.{socket_port}
+use Rattle.std.specs.Net.Socket.{socket_ip, socket_port}
 use Rattle.std.specs.Net.ToAddrs.{IsHostAndPort}
 use Rattle.gw_config.specs.declared.config.Port.{Port}
 use Rattle.gw_records.specs.declared.ports.PortFault.{PortFault}
@@ -20,7 +21,8 @@ pub record IsAddressOf (host : List ℕ) (port : ℕ) (a : SocketAddr) : Type 0 
   pub port_is : socket_port a ≡ port
   pub ip_is : (ip : IpAddr) → IsIpText host ip → IsHostAndPort host port a
 
--- the socket is bound to the host at the circuit's local port, and its datagrams go to the circuit's peer
+-- the socket is bound to the host at the circuit's local port, its datagrams go to the circuit's peer, and both
+-- addresses are of one family
 pub record IsEndpointOf {S : Type 0} (is_bound : Bound S) (host : List ℕ) (senders : Senders) (port : Port)
     (e : Endpoint S) : Type 0 where
   pub here : SocketAddr
@@ -28,6 +30,7 @@ pub record IsEndpointOf {S : Type 0} (is_bound : Bound S) (host : List ℕ) (sen
   pub here_is : IsAddressOf host port.local_port here
   pub senders_are : e.senders ≡ senders
   pub peer_is : IsAddressOf (string_bytes port.peer_host) port.peer_port e.peer
+  pub one_family : is_ipv4 (socket_ip here) ≡ is_ipv4 (socket_ip e.peer)
 
 -- there is a socket exactly where there are ports, and it is theirs
 abbrev pub IsEndpoint : {S : Type 0} → Bound S → List ℕ → Senders → Option Port → Option (Endpoint S) → Type 0
