@@ -2,4 +2,5 @@ pub mod Senders
 pub mod Socket
 pub mod Udp
 pub mod Opening
+pub mod Outcome
 pub mod Resting

@@ -2,6 +2,7 @@
 #![tactic(auto)]
 
 mod asking;
+mod outcome;
 mod resting;
 mod senders;
 mod socket;
