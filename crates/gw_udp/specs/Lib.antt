@@ -1,5 +1,6 @@
 pub mod Senders
 pub mod Socket
+pub mod Names
 pub mod Udp
 pub mod Opening
 pub mod Outcome

@@ -15,8 +15,8 @@ abbrev pub IsByKind : {X : Type 0} → ErrorKind → Result (Option X) PortFault
 IsByKind kind (Ok got) = (got ≡ None) × IsNoFault kind
 IsByKind kind (Err e) = ¬ IsNoFault kind
 
--- A receive that failed so found that none waits: by the kind of its error, or by the system's number, EAGAIN,
--- which is 11.
+-- A receive that failed so found that none waits: by the kind of its error, or by the system's number, EAGAIN
+-- (11).
 abbrev pub FoundNone : Error → Type 0
 FoundNone error = (raw_os_error error ≡ Some (pos 11)) ⊎ IsNoFault (error_kind error)
 

@@ -5,8 +5,8 @@ use Rattle.gw_records.specs.declared.ports.PortFault.{PortFault}
 use Rattle.gw_udp.specs.Socket.{Bound, Received, Sent}
 use Rattle.gw_udp.specs.declared.resting.Resting.{Resting}
 
--- How many receives rest after one with this answer: seven after one that found none, so that with it they are
--- the eight octets of a circuit in 1 ms, and no receive after a datagram or a fault.
+-- How many receives rest after one with this answer: seven after one that found none, so that with it they
+-- are the eight octets of a circuit in 1 ms, and no receive after a datagram or a fault.
 abbrev pub rests_after : {X : Type 0} → Result (Option X) PortFault → ℕ
 rests_after (Ok None) = 7
 rests_after (Ok (Some x)) = 0

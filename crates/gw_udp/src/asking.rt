@@ -10,8 +10,8 @@ use gw_records::PortFault;
 use std::io;
 use std::net::{Net, SocketAddr};
 
-// How many receives after one that found none are answered without the socket. A circuit receives once in each
-// frame of the trunk, so with these it asks once a millisecond.
+// How many receives after one that found none are answered without the socket. A circuit receives once in
+// each frame of the trunk, so with these it asks once a millisecond.
 const RESTS: u8 = 7;
 
 // How many receives rest after one with this answer.

@@ -2,6 +2,7 @@
 #![tactic(auto)]
 
 mod asking;
+mod names;
 mod outcome;
 mod resting;
 mod senders;
@@ -9,6 +10,7 @@ mod socket;
 mod sockets;
 mod udp;
 
+pub use names::NameLookup;
 pub use resting::Resting;
 pub use senders::Senders;
 pub use socket::Socket;

@@ -23,8 +23,8 @@ fn by_kind<T>(error: &Error) -> Result<Option<T>, PortFault>
     }
 }
 
-/// What a receive of the system's comes to. (That none waits is told at most octets of the trunk, by its number,
-/// without a look for its kind.)
+/// What a receive of the system's comes to. (That none waits is told most often, by its number, without a look
+/// for its kind.)
 #[inline]
 pub fn received<T>(answer: io::Result<T>) -> Result<Option<T>, PortFault>
     ensures { IsReceived answer result }

@@ -2,10 +2,10 @@
 
 ghost use Rattle.std.specs.Prelude.{◌≡◌, ◌-◌, ◌<◌, ◌≤◌, ◌↔◌, IsTrue};
 
-/// A socket over another one, which it asks in one receive out of eight while none waits: after a receive that
-/// found none it answers the next seven itself, that none waits. A datagram that comes meanwhile stays in the
-/// socket, and is received up to seven octets of its circuit later, 0.9 ms. No receive rests after one that gave
-/// a datagram, so those that wait are received one after the other.
+/// A socket over another one, which it asks in one receive out of eight while none waits: after a receive
+/// that found none it answers the next seven itself, that none waits. A datagram that comes meanwhile stays
+/// in the socket, and is received up to seven octets of its circuit later, 0.9 ms. No receive rests after one
+/// that gave a datagram, so those that wait are received one after the other.
 #[derive(Drop)]
 pub struct Resting<S> {
     pub(crate) socket: S,

@@ -51,8 +51,8 @@ pub trait Socket: Drop {
         ensures { sends self.old self.new to datagram.now result };
 }
 
-// Std's. What its calls do with the system's socket is in no clause; what comes of their answers is in those of
-// `outcome`.
+// Std's. What its calls do with the system's socket is in no clause; what comes of their answers is in those
+// of `outcome`.
 impl Socket for UdpSocket {
     fn bind<N: Net>(net: &N, address: SocketAddr) -> io::Result<UdpSocket> {
         let socket = UdpSocket::bind(net, address)?;
