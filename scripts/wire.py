@@ -46,16 +46,18 @@ class Call:
     """Circuits of one gateway in calls over UDP, each with its own peer, and the exchange of their trunk."""
 
     def __init__(self, program: str, room: str, circuits: tuple[int, ...], host: str, *options: str,
-                 peer_host: str | None = None) -> None:
+                 peer_host: str | None = None, names: tuple[str, str] | None = None) -> None:
+        """The hosts in the configuration are `host` and that of the peers, or as `names` has them."""
+        named, peer_named = names or (host, peer_host or host)
         self.host, self.circuits = host, circuits
         self.held = contextlib.ExitStack()
         self.peers = {c: self.socket(peer_host or host) for c in circuits}
         self.locals = {c: free_port(host) for c in circuits}
         path = os.path.join(room, 'wire.toml')
         with open(path, 'w', encoding='ascii') as text:
-            text.write(CONFIG.format(host=host))
+            text.write(CONFIG.format(host=named))
             for c in circuits:
-                text.write(CIRCUIT.format(number=c, local=self.locals[c], peer_host=peer_host or host,
+                text.write(CIRCUIT.format(number=c, local=self.locals[c], peer_host=peer_named,
                                           peer=self.peers[c].getsockname()[1]))
         self.serve = Serve(program, path, '--totals', *options, stderr=subprocess.PIPE)
         self.guard = threading.Timer(SECONDS, self.serve.process.kill)
@@ -100,11 +102,11 @@ class Call:
         """What the circuit played since the calls are up: the octets beside idle ones."""
         return bytes(octet for octet in self.exchange.heard[circuit] if octet != IDLE)
 
-    def end(self, sent: int, first: str = '') -> Wrongs:
-        """Ends the session, in which so many packets were sent. Yields what is wrong with its end, whose totals stand
-        behind these lines."""
+    def end(self, sent: int, first: str = '', faults: int = 0) -> Wrongs:
+        """Ends the session, in which so many packets were sent and so many calls of its sockets failed. Yields what is
+        wrong with its end, whose totals stand behind these lines."""
         wanted = (f'{first}records {len(self.serve.given)}\noctets {self.octets}\ndatagrams {sent}\n'
-                  'dropped 0\nport_faults 0\n')
+                  f'dropped 0\nport_faults {faults}\n')
         self.serve.process.stdin.close()
         said = self.serve.process.stderr.read().decode(errors='replace')
         status = self.serve.process.wait()
@@ -205,6 +207,42 @@ def only_at_its_host(program: str, room: str) -> Wrongs:
         if call.played(1) != b'\x62' * PACKET:
             yield f'played {call.played(1).hex(" ")}'
         yield from call.end(len(list(packets(call.peers[1]))))
+
+
+# An address of this machine that is not the first one of a name, but one at which an open interface would receive.
+OTHER = {'127.0.0.1': '127.0.0.2', '::1': '127.0.0.1'}
+
+
+def only_at_its_name(program: str, room: str) -> Wrongs:
+    """A gateway at localhost, and its peer there: datagrams come and go at that address, and not at another one."""
+    host = str(socket.getaddrinfo('localhost', None, type=socket.SOCK_DGRAM)[0][4][0])
+    with Call(program, room, (1,), host, names=('localhost', 'localhost')) as call:
+        yield from call.up()
+        for octet, place in ((0x61, OTHER[host]), (0x62, host)):
+            call.socket(place).sendto(speech(octet), (place, call.locals[1]))
+        call.multiframes(30)
+        if call.played(1) != b'\x62' * PACKET:
+            yield f'played {call.played(1).hex(" ")}'
+        sent = len(list(packets(call.peers[1])))
+        if sent < 480 // PACKET:
+            yield f'the peer got {sent} packets'
+        yield from call.end(sent)
+
+
+def sends_fail(program: str, room: str) -> Wrongs:
+    """The system refuses a datagram to all hosts (ip(7), EACCES): a fault for each packet that the same call sends to
+    a peer, and none is sent."""
+    with Call(program, room, (1,), '127.0.0.1') as call:
+        yield from call.up()
+        call.multiframes(30)
+        sent = len(list(packets(call.peers[1])))
+        if sent < 480 // PACKET:
+            yield f'the peer got {sent} packets'
+        yield from call.end(sent)
+    with Call(program, room, (1,), '127.0.0.1', names=('127.0.0.1', '255.255.255.255')) as call:
+        yield from call.up()
+        call.multiframes(30)
+        yield from call.end(0, faults=sent)
 
 
 # Who is let in by each choice of --senders: the peer, its address at another port, another address.
@@ -370,6 +408,8 @@ def rows() -> Iterator[tuple[Any, ...]]:
         for senders in LET_IN:
             yield f'senders over {name}: {senders or "none named"}', let_in, senders, host, other
     yield 'a datagram at another address', only_at_its_host
+    yield 'a datagram at another address than that of the name', only_at_its_name
+    yield 'sends that the system refuses', sends_fail
     for senders in ('host', 'peer'):
         yield f'strangers before the peer: {senders}', strangers_first, senders
     for senders in ('any', 'peer'):

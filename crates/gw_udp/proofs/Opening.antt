@@ -5,9 +5,11 @@ use Rattle.std.proofs.lemmas.Bool.{ltb-true, ltb-false}
 use Rattle.std.proofs.lemmas.List.{get_or_append_left}
 use Rattle.std.proofs.Math.Seq.{get_or-append_seam}
 use Rattle.std.specs.Prelude.{IsSomeAnd, slice_index_or}
+use Rattle.std.specs.declared.io.ErrorKind as kinds
 use Rattle.gw_config.specs.declared.config.Port.{Port}
 use Rattle.gw_udp.specs.declared.senders.Senders.{Senders}
-use Rattle.gw_udp.specs.Opening.{IsFaultOf, LacksSocket, FailsToOpen}
+use Rattle.gw_udp.specs.Opening.{Blames, IsFaultOf, LacksSocket, FailsToOpen}
+use Rattle.gw_udp.specs.Names.{LookUp}
 use Rattle.gw_udp.specs.Socket.{Bound, Refused}
 use Rattle.gw_udp.specs.Udp.{IsEndpoint, HasEndpoints}
 use Rattle.gw_udp.specs.declared.udp.Endpoint.{Endpoint}
@@ -20,28 +22,37 @@ pub fault_since : (circuit : ℕ) (why since : Type 0) (f : OpenFault) → (why 
 fault_since circuit why since faults.OutOfMemory follows is = tt
 fault_since circuit why since (faults.Socket c) follows is = (is.0, follows is.1)
 
+-- what a failed call for a circuit comes to is a fault of the circuit for the reason that the call failed
+pub fault_of_call : (circuit : ℕ) (kind : kinds.ErrorKind) (why : Type 0) (f : OpenFault) → Blames circuit kind f → why
+    → IsFaultOf circuit why f
+fault_of_call circuit kind why faults.OutOfMemory is since = tt
+fault_of_call circuit kind why (faults.Socket c) is since = (is.0, since)
+
 -- a fault of a circuit behind circuits that have their sockets is that of the first one without
-pub first_without : {S : Type 0} (is_bound : Bound S) (refuses : Refused) (host : List ℕ) (senders : Senders)
-    (ports : List (Option Port)) (earlier : List (Option (Endpoint S))) (circuit : ℕ) (f : OpenFault)
-    → 1 ≤ circuit → circuit ≤ 30 → HasEndpoints is_bound host senders ports earlier (circuit - 1)
+pub first_without : {S : Type 0} (is_bound : Bound S) (refuses : Refused) (looks_up : LookUp)
+    (host : List ℕ) (senders : Senders) (ports : List (Option Port)) (earlier : List (Option (Endpoint S)))
+    (circuit : ℕ) (f : OpenFault)
+    → 1 ≤ circuit → circuit ≤ 30 → HasEndpoints is_bound looks_up host senders ports earlier (circuit - 1)
     → IsFaultOf circuit ((d : Option Port)
-    → IsSomeAnd (slice_index_or ports (circuit - 1) d) (LacksSocket refuses host)) f
-    → FailsToOpen is_bound refuses host senders ports f
-first_without is_bound refuses host senders ports earlier circuit faults.OutOfMemory least most opened is = tt
-first_without is_bound refuses host senders ports earlier circuit (faults.Socket c) least most opened is =
+    → IsSomeAnd (slice_index_or ports (circuit - 1) d) (LacksSocket refuses looks_up host)) f
+    → FailsToOpen is_bound refuses looks_up host senders ports f
+first_without is_bound refuses looks_up host senders ports earlier circuit faults.OutOfMemory least most opened is = tt
+first_without is_bound refuses looks_up host senders ports earlier circuit (faults.Socket c) least most opened is =
     rw is.0 (record { least = least; most = most; earlier = earlier; opened = opened; lacks = is.1 })
 
 -- where the first circuits have the sockets of their own ports, and so does the next one, one more has
-pub one_more : {S : Type 0} (is_bound : Bound S) (host : List ℕ) (senders : Senders) (ports : List (Option Port))
-    (endpoints : List (Option (Endpoint S))) (port : Option Port) (e : Option (Endpoint S)) (n : ℕ)
+pub one_more : {S : Type 0} (is_bound : Bound S) (looks_up : LookUp) (host : List ℕ) (senders : Senders)
+    (ports : List (Option Port)) (endpoints : List (Option (Endpoint S))) (port : Option Port)
+    (e : Option (Endpoint S)) (n : ℕ)
     → length endpoints ≡ n → ((d : Option Port) → slice_index_or ports n d ≡ port)
-    → HasEndpoints is_bound host senders ports endpoints n → IsEndpoint is_bound host senders port e
-    → HasEndpoints is_bound host senders ports (endpoints ++ e ∷ []) (n + 1)
-one_more {S} is_bound host senders ports endpoints port e n len at have is =
+    → HasEndpoints is_bound looks_up host senders ports endpoints n → IsEndpoint is_bound looks_up host senders port e
+    → HasEndpoints is_bound looks_up host senders ports (endpoints ++ e ∷ []) (n + 1)
+one_more {S} is_bound looks_up host senders ports endpoints port e n len at have is =
     λ i d f below. go i d f below (nat_lt i n) refl
   where
     go : (i : ℕ) (d : Option Port) (f : Option (Endpoint S)) → i < n + 1 → (b : Bool) → nat_lt i n ≡ b
-        → IsEndpoint is_bound host senders (slice_index_or ports i d) (slice_index_or (endpoints ++ e ∷ []) i f)
+        → IsEndpoint is_bound looks_up host senders (slice_index_or ports i d)
+        (slice_index_or (endpoints ++ e ∷ []) i f)
     go i d f below true early =
         let old : i < n = ltb-true i n early in
         rw (get_or_append_left endpoints (e ∷ []) f i (omega (arith, old, len))) (have i d f old)

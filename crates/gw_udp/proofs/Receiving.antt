@@ -1,6 +1,6 @@
 -- A receive that asks for no sender.
-use Rattle.std.proofs.Common.{◌≡◌, ℕ, List, [], ◌∷◌, Option, Some, None, Result, Ok, Err, refl, inl, arith}
-use Rattle.std.specs.Prelude.{IfOk, ⊤}
+use Rattle.std.proofs.Common.{ℕ, List, [], ◌∷◌, Option, Some, None, Result, Ok, Err, refl, inl, arith}
+use Rattle.std.specs.Prelude.{⊤}
 use Rattle.std.specs.declared.net.socket_addr.SocketAddr.TheVariants.{V4}
 use Rattle.std.specs.declared.net.socket_addr.SocketAddr.{SocketAddr}
 use Rattle.gw_records.specs.declared.ports.PortFault.{PortFault}
@@ -9,15 +9,15 @@ use Rattle.gw_udp.specs.Socket.{Received, ReceivesAny}
 use Rattle.gw_udp.specs.Udp.{ReceivesFrom}
 
 -- an address, since a datagram has a sender
-pub some_sender : SocketAddr
+abbrev some_sender : SocketAddr
 some_sender = V4 (record { ip = record { octets = 0 ∷ 0 ∷ 0 ∷ 0 ∷ [] }; port = 0 })
 
--- a receive that gave no datagram told no sender
-pub none_of_any : {S : Type 0} (old new : S) (r : Result (Option ℕ) PortFault) (room : List ℕ)
-    → IfOk r (λ got. got ≡ None) → ReceivesAny (λ _ _ _ _. ⊤) old new r room
-none_of_any old new (Ok (Some len)) room none = absurd cc
-none_of_any old new (Ok None) room none = tt
-none_of_any old new (Err e) room none = tt
+-- where any answer may come with any sender, it may come without one
+pub any_of_all : {S : Type 0} (old new : S) (r : Result (Option ℕ) PortFault) (room : List ℕ)
+    → ReceivesAny (λ _ _ _ _. ⊤) old new r room
+any_of_all old new (Ok (Some len)) room = (some_sender, tt)
+any_of_all old new (Ok None) room = tt
+any_of_all old new (Err e) room = tt
 
 -- where all senders are let in, the first datagram is one that is let in
 pub first_of_any : {S : Type 0} (receives : Received S) (peer : SocketAddr) (old new : S)

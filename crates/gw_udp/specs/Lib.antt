@@ -1,4 +1,7 @@
 pub mod Senders
 pub mod Socket
+pub mod Names
 pub mod Udp
 pub mod Opening
+pub mod Outcome
+pub mod Resting

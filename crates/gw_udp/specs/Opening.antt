@@ -4,15 +4,14 @@ use Rattle.std.specs.Prelude.{string_bytes}
 use Rattle.std.specs.declared.io.Error.{Error}
 use Rattle.std.specs.declared.io.ErrorKind as kinds
 use Rattle.std.specs.declared.io.ErrorKind.TheVariants as errors
-use Rattle.std.specs.declared.net.ip_addr.IpAddr.{IpAddr}
 use Rattle.std.specs.declared.net.socket_addr.SocketAddr.{SocketAddr}
 use Rattle.std.specs.Net.Addr.{is_ipv4}
-use Rattle.std.specs.Net.Grammar.{IsIpText}
 use Rattle.std.specs.Net.Socket.{socket_ip}
 use Rattle.gw_config.specs.declared.config.Port.{Port}
 use Rattle.gw_udp.specs.declared.senders.Senders.{Senders}
+use Rattle.gw_udp.specs.Names.{LookUp, IsAddressOf, LacksAddress}
 use Rattle.gw_udp.specs.Socket.{Bound, Refused}
-use Rattle.gw_udp.specs.Udp.{IsAddressOf, HasEndpoints}
+use Rattle.gw_udp.specs.Udp.{HasEndpoints}
 use Rattle.gw_udp.specs.declared.udp.Endpoint.{Endpoint}
 use Rattle.gw_udp.specs.declared.udp.OpenFault.{OpenFault}
 use Rattle.gw_udp.specs.declared.udp.OpenFault.TheVariants as faults
@@ -23,30 +22,28 @@ abbrev pub Blames : ℕ → kinds.ErrorKind → OpenFault → Type 0
 Blames circuit kind faults.OutOfMemory = kind ≡ errors.OutOfMemory
 Blames circuit kind (faults.Socket c) = (c ≡ circuit) × (kind ≢ errors.OutOfMemory)
 
--- the text spells no IP, so the system was asked for its address
-abbrev pub IsName : List ℕ → Type 0
-IsName host = (ip : IpAddr) → ¬ IsIpText host ip
-
 -- the addresses of a host and of a peer are of different families
-pub record AreOfTwoFamilies (host : List ℕ) (port : Port) : Type 0 where
+pub record AreOfTwoFamilies (looks_up : LookUp) (host : List ℕ) (port : Port) : Type 0 where
   pub here : SocketAddr
   pub peer : SocketAddr
-  pub here_is : IsAddressOf host port.local_port here
-  pub peer_is : IsAddressOf (string_bytes port.peer_host) port.peer_port peer
+  pub here_is : IsAddressOf looks_up host port.local_port here
+  pub peer_is : IsAddressOf looks_up (string_bytes port.peer_host) port.peer_port peer
   pub differ : is_ipv4 (socket_ip here) ≢ is_ipv4 (socket_ip peer)
 
 -- the system gave no socket at the host's address
-pub record IsRefused (refuses : Refused) (host : List ℕ) (port : ℕ) : Type 0 where
+pub record IsRefused (refuses : Refused) (looks_up : LookUp) (host : List ℕ) (port : ℕ) : Type 0 where
   pub here : SocketAddr
   pub error : Error
-  pub here_is : IsAddressOf host port here
+  pub here_is : IsAddressOf looks_up host port here
   pub refused : refuses here error
 
--- A circuit with these ports has no socket: its host or its peer is a name, whose address the system did not
--- tell, or their addresses are of different families, or the system gave no socket at the host's.
-abbrev pub LacksSocket : Refused → List ℕ → Port → Type 0
-LacksSocket refuses host port = (IsName host ⊎ IsName (string_bytes port.peer_host))
-    ⊎ (AreOfTwoFamilies host port ⊎ IsRefused refuses host port.local_port)
+-- A circuit with these ports has no socket: its host or its peer is a name for which the lookup gave no
+-- address, or their addresses are of different families, or the system gave no socket at the host's.
+abbrev pub LacksSocket : Refused → LookUp → List ℕ → Port → Type 0
+LacksSocket refuses looks_up host port =
+    (LacksAddress looks_up host port.local_port
+    ⊎ LacksAddress looks_up (string_bytes port.peer_host) port.peer_port)
+    ⊎ (AreOfTwoFamilies looks_up host port ⊎ IsRefused refuses looks_up host port.local_port)
 
 -- a fault of this circuit, for this reason, or want of memory
 abbrev pub IsFaultOf : ℕ → Type 0 → OpenFault → Type 0
@@ -54,17 +51,18 @@ IsFaultOf circuit why faults.OutOfMemory = ⊤
 IsFaultOf circuit why (faults.Socket c) = (c ≡ circuit) × why
 
 -- the first circuit that has no socket where the configuration has ports for it: all before it had theirs
-pub record IsFirstWithout {S : Type 0} (is_bound : Bound S) (refuses : Refused) (host : List ℕ)
-    (senders : Senders) (ports : List (Option Port)) (circuit : ℕ) : Type 0 where
+pub record IsFirstWithout {S : Type 0} (is_bound : Bound S) (refuses : Refused) (looks_up : LookUp)
+    (host : List ℕ) (senders : Senders) (ports : List (Option Port)) (circuit : ℕ) : Type 0 where
   pub least : 1 ≤ circuit
   pub most : circuit ≤ 30
   pub earlier : List (Option (Endpoint S))
-  pub opened : HasEndpoints is_bound host senders ports earlier (circuit - 1)
-  pub lacks : (d : Option Port) → IsSomeAnd (slice_index_or ports (circuit - 1) d) (LacksSocket refuses host)
+  pub opened : HasEndpoints is_bound looks_up host senders ports earlier (circuit - 1)
+  pub lacks : (d : Option Port)
+      → IsSomeAnd (slice_index_or ports (circuit - 1) d) (LacksSocket refuses looks_up host)
 
 -- the sockets are not to be had for this reason: memory was refused, or this is the first circuit without one
-abbrev pub FailsToOpen : {S : Type 0} → Bound S → Refused → List ℕ → Senders → List (Option Port) → OpenFault
-    → Type 0
-FailsToOpen is_bound refuses host senders ports faults.OutOfMemory = ⊤
-FailsToOpen is_bound refuses host senders ports (faults.Socket circuit) =
-    IsFirstWithout is_bound refuses host senders ports circuit
+abbrev pub FailsToOpen : {S : Type 0} → Bound S → Refused → LookUp → List ℕ → Senders → List (Option Port)
+    → OpenFault → Type 0
+FailsToOpen is_bound refuses looks_up host senders ports faults.OutOfMemory = ⊤
+FailsToOpen is_bound refuses looks_up host senders ports (faults.Socket circuit) =
+    IsFirstWithout is_bound refuses looks_up host senders ports circuit

@@ -1,47 +1,44 @@
 -- What the sockets of circuits are, and what a receive and a send for a circuit do.
 use Rattle.std.specs.Prelude.{◌≡◌, ◌≢◌, ◌⊎◌, ◌-◌, ◌<◌, ◌≤◌, ℕ, zero, suc, List, slice_index_or, ⊤}
 use Rattle.std.specs.Prelude.{Option, Some, None, Result, Ok, Err, string_bytes}
-use Rattle.std.specs.declared.net.ip_addr.IpAddr.{IpAddr}
 use Rattle.std.specs.declared.net.socket_addr.SocketAddr.{SocketAddr}
-use Rattle.std.specs.Net.Grammar.{IsIpText}
-use Rattle.std.specs.Net.Socket.{socket_port}
-use Rattle.std.specs.Net.ToAddrs.{IsHostAndPort}
+use Rattle.std.specs.Net.Addr.{is_ipv4}
+use Rattle.std.specs.Net.Socket.{socket_ip}
 use Rattle.gw_config.specs.declared.config.Port.{Port}
 use Rattle.gw_records.specs.declared.ports.PortFault.{PortFault}
 use Rattle.gw_records.specs.Ports.{PortsState}
+use Rattle.gw_udp.specs.Names.{LookUp, IsAddressOf}
 use Rattle.gw_udp.specs.Senders.{IsLetIn}
 use Rattle.gw_udp.specs.Socket.{Bound, Received, Sent}
 use Rattle.gw_udp.specs.declared.senders.Senders.{Senders}
 use Rattle.gw_udp.specs.declared.udp.Endpoint.{Endpoint}
 
--- The address has this port and, where the text spells an IP, that IP. Which address a name has, nothing
--- tells.
-pub record IsAddressOf (host : List ℕ) (port : ℕ) (a : SocketAddr) : Type 0 where
-  pub port_is : socket_port a ≡ port
-  pub ip_is : (ip : IpAddr) → IsIpText host ip → IsHostAndPort host port a
-
--- the socket is bound to the host at the circuit's local port, and its datagrams go to the circuit's peer
-pub record IsEndpointOf {S : Type 0} (is_bound : Bound S) (host : List ℕ) (senders : Senders) (port : Port)
-    (e : Endpoint S) : Type 0 where
+-- the socket is bound to the host at the circuit's local port, its datagrams go to the circuit's peer, and
+-- both addresses are of one family
+pub record IsEndpointOf {S : Type 0} (is_bound : Bound S) (looks_up : LookUp) (host : List ℕ)
+    (senders : Senders) (port : Port) (e : Endpoint S) : Type 0 where
   pub here : SocketAddr
   pub bound : is_bound e.socket here
-  pub here_is : IsAddressOf host port.local_port here
+  pub here_is : IsAddressOf looks_up host port.local_port here
   pub senders_are : e.senders ≡ senders
-  pub peer_is : IsAddressOf (string_bytes port.peer_host) port.peer_port e.peer
+  pub peer_is : IsAddressOf looks_up (string_bytes port.peer_host) port.peer_port e.peer
+  pub one_family : is_ipv4 (socket_ip here) ≡ is_ipv4 (socket_ip e.peer)
 
 -- there is a socket exactly where there are ports, and it is theirs
-abbrev pub IsEndpoint : {S : Type 0} → Bound S → List ℕ → Senders → Option Port → Option (Endpoint S) → Type 0
-IsEndpoint is_bound host senders None None = ⊤
-IsEndpoint is_bound host senders None (Some e) = ⊥
-IsEndpoint is_bound host senders (Some port) None = ⊥
-IsEndpoint is_bound host senders (Some port) (Some e) = IsEndpointOf is_bound host senders port e
+abbrev pub IsEndpoint : {S : Type 0} → Bound S → LookUp → List ℕ → Senders → Option Port
+    → Option (Endpoint S) → Type 0
+IsEndpoint is_bound looks_up host senders None None = ⊤
+IsEndpoint is_bound looks_up host senders None (Some e) = ⊥
+IsEndpoint is_bound looks_up host senders (Some port) None = ⊥
+IsEndpoint is_bound looks_up host senders (Some port) (Some e) =
+    IsEndpointOf is_bound looks_up host senders port e
 
 -- each of the first circuits, so many, has the socket of its own ports
-abbrev pub HasEndpoints : {S : Type 0} → Bound S → List ℕ → Senders → List (Option Port)
+abbrev pub HasEndpoints : {S : Type 0} → Bound S → LookUp → List ℕ → Senders → List (Option Port)
     → List (Option (Endpoint S)) → ℕ → Type 0
-HasEndpoints {S} is_bound host senders ports endpoints n =
+HasEndpoints {S} is_bound looks_up host senders ports endpoints n =
     (i : ℕ) (d : Option Port) (e : Option (Endpoint S)) → i < n
-    → IsEndpoint is_bound host senders (slice_index_or ports i d) (slice_index_or endpoints i e)
+    → IsEndpoint is_bound looks_up host senders (slice_index_or ports i d) (slice_index_or endpoints i e)
 
 -- all circuits but this one are as they were
 abbrev pub KeepsOthers : {S : Type 0} → ℕ → List (Option (Endpoint S)) → List (Option (Endpoint S)) → Type 0

@@ -1,11 +1,17 @@
 //! The ports of circuits over UDP: sockets, and from whom they take datagrams in.
 #![tactic(auto)]
 
+mod asking;
+mod names;
+mod outcome;
+mod resting;
 mod senders;
 mod socket;
 mod sockets;
 mod udp;
 
+pub use names::NameLookup;
+pub use resting::Resting;
 pub use senders::Senders;
 pub use socket::Socket;
 pub use sockets::open_sockets;

@@ -1,11 +1,11 @@
 //! A socket of datagrams that never waits, and std's as one.
 
-ghost use Rattle.std.specs.Prelude.{◌≡◌, ◌≤◌, length, IfOk, IfErr, IfSome, None, ⊤};
+ghost use Rattle.std.specs.Prelude.{◌≡◌, ◌≤◌, length, IfOk, IfErr, IfSome, ⊤};
 ghost use Rattle.gw_udp.specs.Socket.{Bound, Refused, Received, ReceivesAny, Sent};
 
+use crate::outcome::{received, sent, was_refused};
 use gw_records::PortFault;
 use std::io;
-use std::io::{Error, ErrorKind};
 use std::net::{Net, SocketAddr, UdpSocket};
 
 /// A socket of datagrams. The relations are the type's own: a caller that knows nothing of the type has them
@@ -51,32 +51,8 @@ pub trait Socket: Drop {
         ensures { sends self.old self.new to datagram.now result };
 }
 
-// The system's number where none waits, EAGAIN.
-const NONE_WAITS: i32 = 11;
-
-// What a receive that the system refused comes to, by the kind of its error: none waits, or a fault. A peer
-// that is not there is no fault of the port.
-#[inline(never)]
-fn by_kind<T>(error: &Error) -> Result<Option<T>, PortFault>
-    ensures { IfOk result (λ got. got ≡ None) }
-{
-    match error.kind() {
-        ErrorKind::WouldBlock | ErrorKind::ConnectionRefused => Ok(None),
-        _ => Err(PortFault),
-    }
-}
-
-// The same. That none waits is told at most octets of the trunk, by its number, without a look for its kind.
-#[inline]
-fn none_or_fault<T>(error: &Error) -> Result<Option<T>, PortFault>
-    ensures { IfOk result (λ got. got ≡ None) }
-{
-    if error.raw_os_error() == Some(NONE_WAITS) {
-        return Ok(None);
-    }
-    by_kind(error)
-}
-
+// Std's. What its calls do with the system's socket is in no clause; what comes of their answers is in those
+// of `outcome`.
 impl Socket for UdpSocket {
     fn bind<N: Net>(net: &N, address: SocketAddr) -> io::Result<UdpSocket> {
         let socket = UdpSocket::bind(net, address)?;
@@ -89,30 +65,18 @@ impl Socket for UdpSocket {
     }
 
     fn receive(&mut self, room: &mut [u8]) -> Result<Option<(usize, SocketAddr)>, PortFault> {
-        match self.recv_from(room) {
-            Ok(received) => Ok(Some(received)),
-            Err(error) => none_or_fault(&error),
-        }
+        received(self.recv_from(room))
     }
 
     fn receive_any(&mut self, room: &mut [u8]) -> Result<Option<usize>, PortFault> {
-        match self.recv(room) {
-            Ok(len) => Ok(Some(len)),
-            Err(error) => none_or_fault(&error),
-        }
+        received(self.recv(room))
     }
 
     fn send(&mut self, datagram: &[u8], to: SocketAddr) -> Result<(), PortFault> {
-        let sent = match self.send_to(datagram, to) {
-            // It tells of an earlier datagram, and this one was not sent.
-            Err(error) if error.kind() == ErrorKind::ConnectionRefused => self.send_to(
-                datagram, to,
-            ),
-            sent => sent,
-        };
-        match sent {
-            Ok(len) if len == datagram.len() => Ok(()),
-            _ => Err(PortFault),
+        let mut answer = self.send_to(datagram, to);
+        if was_refused(&answer) {
+            answer = self.send_to(datagram, to);
         }
+        sent(&answer, datagram.len())
     }
 }

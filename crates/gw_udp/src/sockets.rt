@@ -1,6 +1,7 @@
 //! The sockets that a configuration asks for.
 
 ghost use Rattle.std.specs.Prelude.{IfOk, IfErr, string_bytes};
+ghost use Rattle.gw_udp.specs.Names.{SystemLooksUp};
 ghost use Rattle.gw_udp.specs.Opening.{FailsToOpen};
 ghost use Rattle.gw_udp.specs.Udp.{HasEndpoints};
 
@@ -18,10 +19,10 @@ pub fn open_sockets<S: Socket>(
     config: &Config,
     senders: Senders,
 ) -> Result<UdpPorts<S>, OpenFault>
-    ensures ok { IfOk result (λ opened. HasEndpoints S.is_bound (string_bytes config.now.host) senders
-        config.now.ports opened.endpoints.items 30) }
-    ensures err { IfErr result (FailsToOpen S.is_bound S.refuses (string_bytes config.now.host) senders
-        config.now.ports) }
+    ensures ok { IfOk result (λ opened. HasEndpoints S.is_bound SystemLooksUp (string_bytes config.now.host)
+        senders config.now.ports opened.endpoints.items 30) }
+    ensures err { IfErr result (FailsToOpen S.is_bound S.refuses SystemLooksUp (string_bytes config.now.host)
+        senders config.now.ports) }
 {
     UdpPorts::open(net, alloc, config.host.as_str(), &config.ports, senders)
 }

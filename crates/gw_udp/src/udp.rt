@@ -3,10 +3,12 @@
 ghost use Rattle.std.specs.Prelude.{◌≡◌, ◌≤◌, vec_len, length, IfOk, IfErr, IfSome, IsSomeAnd, string_bytes};
 ghost use Rattle.std.specs.IoError.{error_kind};
 ghost use Rattle.gw_records.specs.Ports.{Receives, Sends, CountsFault, KeepsSends, KeepsReceives};
-ghost use Rattle.gw_udp.specs.Udp.{IsAddressOf, IsEndpointOf, IsEndpoint, HasEndpoints, KeepsOthers};
-ghost use Rattle.gw_udp.specs.Opening.{Blames, IsName, LacksSocket, IsFaultOf, FailsToOpen};
+ghost use Rattle.gw_udp.specs.Names.{IsAddressOf, LacksAddress, SystemLooksUp};
+ghost use Rattle.gw_udp.specs.Udp.{IsEndpointOf, IsEndpoint, HasEndpoints, KeepsOthers};
+ghost use Rattle.gw_udp.specs.Opening.{Blames, LacksSocket, IsFaultOf, FailsToOpen};
 ghost use Rattle.gw_udp.specs.Udp.{ReceivesFrom, EndpointReceives, EndpointSends, told};
 
+use crate::names::NameLookup;
 use crate::senders::Senders;
 use crate::socket::Socket;
 use g704_cas::CircuitNo;
@@ -14,7 +16,7 @@ use gw_config::Port;
 use gw_records::{PortFault, Ports};
 use std::alloc::Global;
 use std::io::{Error, ErrorKind};
-use std::net::{Net, SocketAddr, ToSocketAddrs};
+use std::net::{IpAddr, Net, SocketAddr};
 
 const CIRCUITS: usize = 30;
 
@@ -59,40 +61,44 @@ fn fault_of(circuit: u8, error: &Error) -> OpenFault
     }
 }
 
-// The first address of a host, with this port.
-fn first_address(
-    net: &impl Net,
+// The address of a host, with this port: where it is a name, the first one that a lookup of it gives.
+fn address_of<L: NameLookup>(
+    names: &L,
     circuit: u8,
     host: &str,
     port: u16,
 ) -> Result<SocketAddr, OpenFault>
-    ensures ok { IfOk result (IsAddressOf host.now port) }
-    ensures err { IfErr result (IsFaultOf circuit (IsName host.now)) }
+    ensures ok { IfOk result (IsAddressOf (L.looks_up names.now) host.now port) }
+    ensures err { IfErr result (IsFaultOf circuit (LacksAddress (L.looks_up names.now) host.now port)) }
 {
-    let mut addresses = match (host, port).to_socket_addrs(net) {
-        Ok(addresses) => addresses,
-        Err(error) => return Err(fault_of(circuit, &error)),
-    };
-    let Some(mut address) = addresses.next() else {
-        return Err(OpenFault::Socket(circuit));
-    };
-    address.set_port(port);
-    Ok(address)
+    if let Ok(ip) = host.parse::<IpAddr>() {
+        return Ok(SocketAddr::new(ip, port));
+    }
+    match names.look_up(host, port) {
+        Ok(Some(mut address)) => {
+            address.set_port(port);
+            Ok(address)
+        }
+        Ok(None) => Err(OpenFault::Socket(circuit)),
+        Err(error) => Err(fault_of(circuit, &error)),
+    }
 }
 
 // The socket of a circuit by its configuration.
-fn open_endpoint<S: Socket>(
+fn open_endpoint<S: Socket, L: NameLookup>(
     net: &impl Net,
+    names: &L,
     circuit: u8,
     host: &str,
     port: &Port,
     senders: Senders,
 ) -> Result<Endpoint<S>, OpenFault>
-    ensures ok { IfOk result (IsEndpointOf S.is_bound host.now senders port.now) }
-    ensures err { IfErr result (IsFaultOf circuit (LacksSocket S.refuses host.now port.now)) }
+    ensures ok { IfOk result (IsEndpointOf S.is_bound (L.looks_up names.now) host.now senders port.now) }
+    ensures err { IfErr result (IsFaultOf circuit
+        (LacksSocket S.refuses (L.looks_up names.now) host.now port.now)) }
 {
-    let here = first_address(net, circuit, host, port.local_port)?;
-    let peer = first_address(net, circuit, port.peer_host.as_str(), port.peer_port)?;
+    let here = address_of(names, circuit, host, port.local_port)?;
+    let peer = address_of(names, circuit, port.peer_host.as_str(), port.peer_port)?;
     // A socket of one family sends nothing to an address of the other.
     if here.is_ipv4() != peer.is_ipv4() {
         return Err(OpenFault::Socket(circuit));
@@ -113,18 +119,20 @@ fn open_endpoint<S: Socket>(
 }
 
 // The socket of a circuit, where it has ports.
-fn endpoint_of<S: Socket>(
+fn endpoint_of<S: Socket, L: NameLookup>(
     net: &impl Net,
+    names: &L,
     circuit: u8,
     host: &str,
     port: &Option<Port>,
     senders: Senders,
 ) -> Result<Option<Endpoint<S>>, OpenFault>
-    ensures ok { IfOk result (IsEndpoint S.is_bound host.now senders port.now) }
-    ensures err { IfErr result (IsFaultOf circuit (IsSomeAnd port.now (LacksSocket S.refuses host.now))) }
+    ensures ok { IfOk result (IsEndpoint S.is_bound (L.looks_up names.now) host.now senders port.now) }
+    ensures err { IfErr result (IsFaultOf circuit
+        (IsSomeAnd port.now (LacksSocket S.refuses (L.looks_up names.now) host.now))) }
 {
     match port {
-        Some(port) => Ok(Some(open_endpoint(net, circuit, host, port, senders)?)),
+        Some(port) => Ok(Some(open_endpoint(net, names, circuit, host, port, senders)?)),
         None => Ok(None),
     }
 }
@@ -225,14 +233,16 @@ impl<S: Socket> UdpPorts<S> {
         senders: Senders,
     ) -> Result<UdpPorts<S>, OpenFault>
         ensures ok { IfOk result (λ opened.
-            HasEndpoints S.is_bound host.now senders ports.now opened.endpoints.items 30) }
-        ensures err { IfErr result (FailsToOpen S.is_bound S.refuses host.now senders ports.now) }
+            HasEndpoints S.is_bound SystemLooksUp host.now senders ports.now opened.endpoints.items 30) }
+        ensures err { IfErr result
+            (FailsToOpen S.is_bound S.refuses SystemLooksUp host.now senders ports.now) }
     {
         let Ok(mut endpoints) = Vec::with_capacity(alloc, CIRCUITS) else {
             return Err(OpenFault::OutOfMemory);
         };
         for number in 1..=30u8 {
             let endpoint = endpoint_of(
+                net,
                 net,
                 number,
                 host,

@@ -2,12 +2,13 @@ use Rattle.std.proofs.Common.{◌≡◌, ◌+◌, ◌-◌, arith, rules}
 use Rattle.std.proofs.lemmas.List.{get_or_default}
 use Rattle.std.proofs.lemmas.Result.{err_from_is_err_and}
 use Rattle.gw_udp.proofs.Opening.{fault_since, first_without, one_more}
+use Rattle.gw_udp.specs.Names.{SystemLooksUp}
 use Rattle.gw_udp.proofs.udp.UdpPorts.open.Goals as goal
 
 pub returns-in_err-endpoint-clause-err : goal.returns-in_err-endpoint-clause-err
 returns-in_err-endpoint-clause-err g c =
     let p = err_from_is_err_and c.from_residual.result c.from_residual.ensures.1 in
-    rw (p.1, p.2) (first_without g.S.Socket.is_bound g.S.Socket.refuses c.args.host.now c.args.senders
+    rw (p.1, p.2) (first_without g.S.Socket.is_bound g.S.Socket.refuses SystemLooksUp c.args.host.now c.args.senders
     c.args.ports.now c.loop-number.endpoints.items c.loop-number.number _ c.loop-number.invariant.some
     (omega arith) c.loop-number.invariant.own
     (fault_since _ _ _ _ (λ why d. rw (
@@ -24,8 +25,8 @@ loop-number-preserved g c =
     record {
       some = omega arith;
       len = search rules;
-      own = rw (count, c.in-Ok-push.ensures.items) (one_more g.S.Socket.is_bound c.args.host.now c.args.senders
-          c.args.ports.now c.loop-number.endpoints.items _ _ (c.loop-number.number - 1)
+      own = rw (count, c.in-Ok-push.ensures.items) (one_more g.S.Socket.is_bound SystemLooksUp c.args.host.now
+          c.args.senders c.args.ports.now c.loop-number.endpoints.items _ _ (c.loop-number.number - 1)
           (omega (arith, c.loop-number.invariant.len, c.loop-number.endpoints.ok))
           (λ d. rw (← c.from.ensures) (get_or_default c.args.ports.now (c.from.result - 1) d
           c.index-ports-from.result (omega (arith, c.type_inv.ports, c.from.ensures, c.loop-number.invariant.some))))

@@ -1,0 +1,23 @@
+use Rattle.std.proofs.Common.{rules, refl, inl, inr}
+use Rattle.gw_udp.proofs.Opening.{fault_of_call}
+use Rattle.gw_udp.proofs.udp.open_endpoint.Goals as goal
+
+pub returns-then-is_ipv4-clause-err : goal.returns-then-is_ipv4-clause-err
+returns-then-is_ipv4-clause-err g c = (
+  refl,
+  inr (inl (record {
+    here = c.in_ok-here.here;
+    peer = c.in_ok-peer.peer;
+    here_is = c.in_ok-here.ensures.ok;
+    peer_is = search rules;
+    differ = search rules;
+  })),
+)
+
+pub returns-in-Err-clause-err : goal.returns-in-Err-clause-err
+returns-in-Err-clause-err g c = fault_of_call c.args.circuit _ _ _ c.fault_of.ensures (inr (inr (record {
+  here = c.in_ok-here.here;
+  error = c.in-Err.error;
+  here_is = c.in_ok-here.ensures.ok;
+  refused = search rules;
+})))

@@ -1,0 +1,27 @@
+//! What looks the names of hosts up.
+
+ghost use Rattle.gw_udp.specs.Names.{LookUp, SystemLooksUp};
+
+use std::io;
+use std::net::{Net, SocketAddr, ToSocketAddrs};
+
+/// What looks the names of hosts up. The relation is the type's own: a caller that knows nothing of the type
+/// has it of a call alone.
+pub trait NameLookup {
+    /// Holds of what looks up, a host, a port, and what it answered.
+    ghost looks_up: { Self → LookUp };
+
+    /// The first address of a host, None where it has none. The error is the system's.
+    fn look_up(&self, host: &str, port: u16) -> io::Result<Option<SocketAddr>>
+        ensures { looks_up self.now host.now port result };
+}
+
+/// The system's lookup, by its net.
+impl<N: Net> NameLookup for N {
+    ghost looks_up = { λ _. SystemLooksUp };
+
+    #[tactic(auto, unfolding(crate::specs::Names::SystemLooksUp))]
+    fn look_up(&self, host: &str, port: u16) -> io::Result<Option<SocketAddr>> {
+        Ok((host, port).to_socket_addrs(self)?.next())
+    }
+}
