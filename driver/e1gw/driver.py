@@ -23,15 +23,14 @@ from .metrics import exposition, table
 from .options import Options
 from .outlets import Journal, Outlet, to_descriptor
 from .pictures import Pictures
-from .session import SAMPLES_A_SECOND, Codec, Command, Kind, Record, codec_record, command_record, trunk_record
+from .restarts import Restarts
+from .session import Codec, Command, Kind, Record, codec_record, command_record, trunk_record
 from .sockets import sockets_of
 from .trunks import Trunk
 from .web import Visitor
 
 BESIDE = ('shadow', 'recording', 'session', 'json', 'metrics', 'picture')     # what may end without the calls
 REOPEN_MOST = 30.0              # seconds between two tries to open the trunk
-DISPLACED = 0.02                # seconds by which a call's first datagram may be displaced
-LOOKED_AT = 10.0                # seconds after it in which octets may come to be in time again
 
 
 class Driver:
@@ -42,7 +41,8 @@ class Driver:
         self.lines = Lines(options.config, self.tell)
         self.began = time.monotonic()
         self.clock = Clock(self.began, options.gap)
-        self.counts = Counts(self._admitted)
+        self.restarts = Restarts(self._restart, self.tell)
+        self.counts = Counts(self.restarts.counted)
         self.guards = Guards(options.on_loss, self.clear_all)
         self.trunk: Trunk | None = None
         self.status_code: int | None = None         # once it is there the driver ends
@@ -53,8 +53,6 @@ class Driver:
         self._doors: list[Door] = []
         self._paused = False
         self._slowest: deque[float] = deque([0.0], maxlen=60)
-        # Of open circuits: how late the octet of the first datagram was, and until when that is looked at.
-        self._first: dict[int, tuple[float, float]] = {}
         self._dark_since: float | None = None
         self._dark_cleared = False
         self._notes: deque[tuple[str, str]] = deque()   # from other threads: what has ended, and why
@@ -189,16 +187,15 @@ class Driver:
             began = time.monotonic()
             if trunk.paced:
                 self.clock.took(len(octets), began, trunk.unread())
-            self.gateway.give(trunk_record(octets), functools.partial(self._answered, octets, began))
+            self.gateway.give(trunk_record(octets), functools.partial(self._answered, trunk, octets, began))
             self.gateway.settle()
             if self.gateway.busy() or trunk.waiting():
                 self._pause()
 
-    def _answered(self, octets: bytes, began: float, record: Record) -> None:
-        trunk = self.trunk
+    def _answered(self, trunk: Trunk, octets: bytes, began: float, record: Record) -> None:
         if record.kind is not Kind.TRUNK or len(record.body) != len(octets):
             return self._gateway_ended('it answers what is no answer')
-        if trunk:
+        if trunk is self.trunk:     # and not an earlier one
             try:
                 trunk.write(record.body)
             except OSError as fault:
@@ -319,27 +316,19 @@ class Driver:
         if cleared:
             self.tell({'event': 'cleared', 'why': why, 'circuits': cleared})
 
-    def renew(self, circuits: list[int], why: str) -> None:
-        """Gives open circuits the codec that they have, which begins their playout anew."""
-        if not circuits:
-            return
+    def _restart(self, circuits: list[int]) -> None:
+        """Gives open circuits the codec that they have, which restarts their playout."""
         for n in circuits:
             line = self.lines.lines[n]
             codec = next(each for each in Codec if each.word(self.lines.law) == line.codec)
             self.gateway.give(codec_record(n, codec, line.payload), lambda answer: None)
-            self._first.pop(n, None)
         self.renewed += len(circuits)
         self.gateway.settle()
         if self.gateway.busy():
             self._pause()
-        self.tell({'event': 'renewed', 'why': why, 'circuits': circuits})
 
     def _open_circuits(self) -> list[int]:
         return [n for n, line in self.lines.lines.items() if line.state in OPEN]
-
-    def _admitted(self, circuit: int, place: int) -> None:
-        if circuit not in self._first:
-            self._first[circuit] = self.clock.late_at(place), time.monotonic() + LOOKED_AT
 
     # ---- time ----
 
@@ -352,8 +341,7 @@ class Driver:
         if self.trunk and self.trunk.paced and not self.gateway.busy():
             for finding in self.clock.look(now):
                 self._found(finding)
-            if self._first:
-                self._look_at_first()
+            self.restarts.look(now, self.lines.place, self._open_circuits(), not self.counts.stale())
         self._look_at_opening()
         while self._notes:
             self._end_beside(*self._notes.popleft())
@@ -366,18 +354,7 @@ class Driver:
         seconds = round(finding.value, 3)
         self.tell({'event': finding.what, 'seconds': seconds})
         if finding.what in ('gap', 'ahead'):
-            self.renew(self._open_circuits(), f'{finding.what} of {seconds} s')
-
-    def _look_at_first(self) -> None:
-        """Calls whose first datagram came with octets that had waited, where octets are in time again: all later ones
-        would be late."""
-        lines, now, late = self.lines.lines, time.monotonic(), self.clock.late()
-        for n in [n for n in self._first if lines[n].state not in OPEN]:
-            del self._first[n]
-        if late is not None:
-            self.renew([n for n, (behind, until) in self._first.items() if now < until
-                        and behind - late > max(DISPLACED, lines[n].prefill / SAMPLES_A_SECOND / 2)],
-                       'octets had waited')
+            self.restarts.want(self._open_circuits(), f'{finding.what} of {seconds} s')
 
     def _look_at_dark(self, now: float) -> None:
         if self.dark_words() is None and not self.clock.stalled:

@@ -16,7 +16,7 @@ _WORDS: dict[str, Callable[[Event], str]] = {
     'lost': lambda e: f'{e["what"]} alignment lost',
     'codec': lambda e: f'{e["circuit"]}: codec {e["codec"]}, payload type {e["payload"]}',
     'command': lambda e: f'{e["circuit"]}: {e["command"]}: {e["answer"]}',
-    'renewed': lambda e: f'playout begun anew, {e["why"]}: circuits {", ".join(map(str, e["circuits"]))}',
+    'renewed': lambda e: f'playout restarted{_times(e)}, {e["why"]}: circuits {", ".join(map(str, e["circuits"]))}',
     'cleared': lambda e: f'calls cleared, {e["why"]}: circuits {", ".join(map(str, e["circuits"]))}',
     'stalled': lambda e: f'no octets for {e["seconds"]} s',
     'flows': lambda e: f'octets again after {e["seconds"]} s',
@@ -32,6 +32,10 @@ _WORDS: dict[str, Callable[[Event], str]] = {
 
 def _why(event: Event) -> str:
     return f': {event["why"]}' if 'why' in event else ''
+
+
+def _times(event: Event) -> str:
+    return f' {event["count"]} times more' if 'count' in event else ''
 
 
 def words_of(event: Event) -> str:

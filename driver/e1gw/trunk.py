@@ -144,7 +144,7 @@ def _add_calls(words: argparse._ArgumentGroup) -> None:
     words.add_argument('--session', metavar='FILE', help='keeps all that the gateway takes, for e1gw replay and check')
     words.add_argument('--keep', metavar='TIME', help='--session is a folder for the last 30m, 1h, 2d, in twelve files')
     words.add_argument('--gap', type=_number(20, 10_000), default=100, metavar='MS',
-                       help='lost octets of so many milliseconds begin the playout of open calls anew [default: 100]')
+                       help='lost octets of so many milliseconds restart the playout of open calls [default: 100]')
     words.add_argument('--dark', type=_number(0, 86_400, float), metavar='SECONDS',
                        help='clears the calls of a trunk that has been in alarm for so long [default: never]')
 

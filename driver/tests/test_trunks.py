@@ -135,9 +135,11 @@ class Service(unittest.TestCase):
             self.assertTrue(gaps and max(gaps) > 0.4, told)
             self.assertIn([1], renewed)
 
-    def test_without_that_the_call_stays_deaf(self) -> None:
+    def test_refused_datagrams_restart_the_playout(self) -> None:
+        """The same where it is no gap: all datagrams are Full then."""
         with World(config_of(FOUR, prefill=160), '--gap', '10000') as world:
-            self.assertEqual(self.admitted_after_a_gap(world), 0)
+            self.assertGreater(self.admitted_after_a_gap(world), 20)
+            self.assertEqual(world.status()['renewed'], 1)
 
     def test_octets_that_waited_at_a_first_datagram(self) -> None:
         with World(config_of(FOUR, prefill=160)) as world:
