@@ -20,12 +20,13 @@ from typing import Callable, NoReturn
 
 from . import satop
 from .aligned import align
-from .clear import Clear
+from .clear import Clear, Place
 from .control import DoorTaken
 from .driver import Driver
 from .gateway import ConfigRefused, check_config
 from .guards import OnLoss, on_loss_of
 from .keep import seconds_of
+from .lines import law_of, read_config
 from .loop import Loop
 from .options import Options
 from .outlets import Journal, hold_descriptors
@@ -66,9 +67,17 @@ def trunk_of(asked: argparse.Namespace) -> Callable[..., Trunk]:
         opens = lambda: open_tcp(host, port)                        # noqa: E731
     else:
         opens = lambda: open_files(asked.input, asked.out)          # noqa: E731
-    if not asked.clear:
-        return opens
-    return lambda: Clear(opens())
+    return _clear_of(opens, asked.config) if asked.clear else opens
+
+
+def _clear_of(opens: Callable[[], Trunk], config: str) -> Callable[[], Trunk]:
+    """Opens devices that have slots 1 to 31, one after another beside one gateway."""
+    place = Place()
+
+    def opened() -> Trunk:
+        place.law = place.law or law_of(read_config(config))
+        return Clear(opens(), place)
+    return opened
 
 
 def _satop_of(asked: argparse.Namespace) -> Callable[[str], Trunk]:
