@@ -269,6 +269,8 @@ class Driver:
         """Why no seizure can reach the other end, or None."""
         if self.trunk is None:
             return 'no trunk'
+        if self.clock.stalled:
+            return 'the trunk is stalled'
         if self.lines.alarm():
             return 'no alignment'
         return 'the other end has no alignment' if any(self.lines.remote.values()) else None
@@ -357,7 +359,7 @@ class Driver:
             self.restarts.want(self._open_circuits(), f'{finding.what} of {seconds} s')
 
     def _look_at_dark(self, now: float) -> None:
-        if self.dark_words() is None and not self.clock.stalled:
+        if self.dark_words() is None:
             self._dark_since, self._dark_cleared = None, False
             return
         if self._dark_since is None:

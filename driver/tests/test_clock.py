@@ -2,10 +2,13 @@
 from __future__ import annotations
 
 import unittest
+from types import SimpleNamespace
 
 from . import support
 from e1gw.clock import TICK, Clock, Finding
 from e1gw.counts import Counts, Stream
+from e1gw.driver import Driver
+from e1gw.lines import Alignment, Lines
 from e1gw.session import codec_record, datagram_record, spell, trunk_record, Codec, Kind, Packet
 
 assert support.TOP
@@ -120,6 +123,20 @@ class Flow(unittest.TestCase):
         trunk.stand_still(0)
         trunk.quiet(0.2)
         self.assertEqual(trunk.words(), ['stalled'])
+
+    def test_no_seizure_while_no_octets_come(self) -> None:
+        trunk = Trunk()
+        driver = SimpleNamespace(trunk=trunk, clock=trunk.clock, lines=Lines({}))
+        driver.lines.alarms = dict.fromkeys(Alignment, False)
+        words = lambda: Driver.dark_words(driver)       # noqa: E731
+        trunk.go(2)
+        self.assertIsNone(words())
+        trunk.quiet(0.15)
+        self.assertEqual(words(), 'the trunk is stalled')
+        trunk.go(0.1)
+        self.assertIsNone(words())
+        trunk.stand_still(0.5)
+        self.assertIsNone(words())
 
     def test_small_gaps_add_up(self) -> None:
         trunk = Trunk()

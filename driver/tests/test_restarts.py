@@ -182,6 +182,16 @@ class Simulated(unittest.TestCase):
                 self.assertEqual(len(call.restarts), int(counts))
                 (self.assertLessEqual if counts else self.assertGreater)(call.lost(), 0.5 + LESS + 0.4)
 
+    def test_octets_that_stay_late(self) -> None:
+        """A loss that is no gap before the first packet: it is of the time that all later ones have."""
+        with Call(160) as call:
+            call.flow(1)
+            call.lose(0.06)
+            call.speak()
+            call.flow(12)
+            self.assertEqual(call.restarts, [])
+            self.assertLess(call.lost(), 0.01)
+
     def test_gaps_one_after_another(self) -> None:
         """The first one restarts the call; those behind it add up until all is Full."""
         with Call(160) as call:
