@@ -22,6 +22,7 @@ from .loop import READ, WRITE, Loop
 from .metrics import exposition, table
 from .options import Options
 from .outlets import Journal, Outlet, to_descriptor
+from .pace import Pace
 from .pictures import Pictures
 from .restarts import Restarts
 from .session import Codec, Command, Kind, Record, codec_record, command_record, trunk_record
@@ -52,6 +53,7 @@ class Driver:
         self.peers: set[Peer] = set()
         self._doors: list[Door] = []
         self._paused = False
+        self._pace = Pace(options.pace)
         self._slowest: deque[float] = deque([0.0], maxlen=60)
         self._dark_since: float | None = None
         self._dark_cleared = False
@@ -163,6 +165,7 @@ class Driver:
     def _pause(self) -> None:
         if self.trunk and not self._paused:
             self._paused = True
+            self._pace.stop()
             self.loop.forget(self.trunk.fileno())
 
     def _resume(self) -> None:
@@ -170,7 +173,26 @@ class Driver:
         if self.trunk and self._paused and not self.trunk.waiting() and not self.gateway.busy():
             self._paused = False
             self.clock.held(time.monotonic())
-            self.loop.watch(self.trunk.fileno(), READ, lambda _: self._readable())
+            self._watch(self.trunk)
+
+    def _watch(self, trunk: Trunk) -> None:
+        self.loop.watch(trunk.fileno(), READ, lambda _: self._readable())
+
+    def _keep_pace(self, trunk: Trunk, count: int) -> None:
+        """After a read: the next one is when octets come, or by time."""
+        if trunk.paced and trunk.may_wait:
+            by_time = self._pace.due is not None
+            self._pace.took(count, self.options.most, time.monotonic())
+            if by_time and self._pace.due is None:
+                self._watch(trunk)
+            elif not by_time and self._pace.due is not None:
+                self.loop.forget(trunk.fileno())
+
+    def _deadline(self) -> float | None:
+        """When the trunk is read though nothing tells that octets have come."""
+        if self.trunk is None or self._paused:
+            return None
+        return self.trunk.deadline if self._pace.due is None else self._pace.due
 
     def _readable(self) -> None:
         """Octets have come: gives them to the gateway, and its answer to the trunk."""
@@ -183,10 +205,12 @@ class Driver:
             return self._trunk_lost('the trunk has ended', 0)
         except OSError as fault:
             return self._trunk_lost(f'the trunk cannot be read: {fault}', 1)
+        self._keep_pace(trunk, len(octets))
         if octets:
             began = time.monotonic()
             if trunk.paced:
-                self.clock.took(len(octets), began, trunk.unread())
+                all_read = trunk.gives_all and len(octets) < self.options.most
+                self.clock.took(len(octets), began, 0 if all_read else trunk.unread())
             self.gateway.give(trunk_record(octets), functools.partial(self._answered, trunk, octets, began))
             self.gateway.settle()
             if self.gateway.busy() or trunk.waiting():
@@ -451,7 +475,7 @@ class Driver:
             self.loop.every(0.5, self.show)
         self._open_trunk()
         while self.status_code is None:
-            deadline = self.trunk.deadline if self.trunk and not self._paused else None
+            deadline = self._deadline()
             self.loop.turn(deadline)
             if deadline is not None and time.monotonic() >= deadline:
                 self._readable()

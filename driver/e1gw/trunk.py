@@ -124,8 +124,12 @@ def _add_trunk(words: argparse._ArgumentGroup) -> None:
     words.add_argument('--clear', action='store_true', help='the device gives time slots 1 to 31 alone')
     words.add_argument('--align', action='store_true',
                        help='octets of the trunk may begin at any bit; e1gw align runs between it and the gateway')
-    words.add_argument('--most', type=_number(1, 65535), default=256, metavar='OCTETS',
-                       help='octets in a record at most, 1 to 65535; a frame has 32 [default: 256, 1 ms]')
+    words.add_argument('--pace', type=_number(0, 20), default=4, metavar='MS',
+                       help='a trunk that flows is read each so many milliseconds, 0 to 20; 0 reads it when octets come; '
+                       'not with --satop [default: 4]')
+    words.add_argument('--most', type=_number(1, 65535), metavar='OCTETS',
+                       help='octets in a record at most, 1 to 65535; a frame has 32 [default: 2048, 8 ms; 256 with '
+                       '--satop or --pace 0]')
     words.add_argument('--reopen', action='store_true', help='opens a trunk that ends or fails again, within 30 s')
 
 
@@ -179,7 +183,8 @@ def options_of(words: list[str]) -> Options:
     if asked.satop:
         opens = functools.partial(opens, program)
     return Options(
-        config=asked.config, program=program, name=name, open_trunk=opens, most=asked.most,
+        config=asked.config, program=program, name=name, open_trunk=opens,
+        most=asked.most or (2048 if asked.pace and not asked.satop else 256), pace=asked.pace / 1000,
         serve=_serve_words(asked), reopen=asked.reopen, watch=asked.watch, top=asked.top, control=asked.control,
         control_mode=asked.control_mode, control_group=asked.control_group, http=http, metrics=asked.metrics,
         json=asked.json, session=asked.session, keep=keep, gap=asked.gap / 1000, dark=asked.dark, on_loss=on_loss,

@@ -274,7 +274,8 @@ class Gateway(unittest.TestCase):
             self.assertEqual(octets[-wire.PACKET:], bytes([wire.spoken(n)]) * wire.PACKET)
             self.assertLessEqual(octets.count(IDLE), FOUND)
         told = [(event['event'], event['what']) for event in events if 'alarm' not in event['event']]
-        self.assertEqual(told, [('slots', 'lost'), ('lost', 'multiframe'), ('slots', 'moved'), ('aligned', 'multiframe')])
+        self.assertEqual(told, [('slots', 'lost'), ('lost', 'multiframe'), ('slots', 'moved'),
+                                ('aligned', 'multiframe')])
         self.assertEqual({str(line.state) for line in lines.lines.values()}, {'acked'})
 
     def heard(self, call: wire.Call) -> dict[int, bytes]:
