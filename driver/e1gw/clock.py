@@ -7,7 +7,6 @@ late, and none is lost.
 """
 from __future__ import annotations
 
-import bisect
 from collections import deque
 from dataclasses import dataclass
 from typing import Any
@@ -20,7 +19,6 @@ STEADY = 0.02               # seconds by which octets of a steady flow are early
 DRIFT = 200e-6              # a clock that is off by no more than this is followed
 MINUTE = 60
 RATE_LIMIT = 200            # parts in a million
-NOTED = 0.01                # seconds of displacement from which places are kept
 
 
 @dataclass(frozen=True)
@@ -48,48 +46,26 @@ class Clock:
         self.ppm: float | None = None
         self.off_rate = False
         self._began = self._last = self._stood = self._looked = now
-        # The least that octets were behind since the last look: when they had come, and when they were read.
-        self._low: tuple[float, float] | None = None
+        self._low: float | None = None      # the least that octets were behind since the last look, as they came
         self._lows: deque[float] = deque(maxlen=WINDOW)
-        self._read_lows: deque[float] = deque(maxlen=WINDOW)
         self._base: float | None = None     # what octets are behind by as a rule
         self._steps = 0.0                   # of that, what gaps have added
         self._rates: deque[tuple[float, float]] = deque()
-        self._late_places: deque[int] = deque(maxlen=4096)
-        self._late: deque[float] = deque(maxlen=4096)
 
     def took(self, count: int, now: float, unread: int = 0) -> None:
         """So many octets were read, behind which so many others had come."""
-        behind = now - self._began - self.octets / OCTETS_A_SECOND
-        if self._base is not None and behind - self._base > NOTED:
-            self._late_places.append(self.octets)
-            self._late.append(behind - self._base)
         self.octets += count
-        behind -= count / OCTETS_A_SECOND
-        came = behind - unread / OCTETS_A_SECOND
+        behind = now - self._began - (self.octets + unread) / OCTETS_A_SECOND
         self._last = now
-        self._low = (min(came, self._low[0]), min(behind, self._low[1])) if self._low else (came, behind)
+        self._low = behind if self._low is None else min(behind, self._low)
 
     def held(self, now: float) -> None:
         """Until now nothing was read, whether octets came or not."""
         self._last = now
 
-    def late_at(self, place: int) -> float:
-        """By how much the octet at a place was later than usual, as far as that is kept."""
-        at = bisect.bisect_right(self._late_places, place) - 1
-        if at < 0 or place - self._late_places[at] > OCTETS_A_SECOND // 10:
-            return 0.0
-        return self._late[at]
-
     def steady(self) -> bool:
         """Whether octets flow at their rate."""
         return not self.stalled and len(self._lows) == WINDOW and _spread(self._lows) < STEADY
-
-    def late(self) -> float | None:
-        """By how much octets are read later than usual, where that does not change."""
-        if self._base is None or not self.steady() or _spread(self._read_lows) >= STEADY:
-            return None
-        return min(self._read_lows) - self._base
 
     def look(self, now: float) -> list[Finding]:
         """To be called each TICK: what has become of the flow since."""
@@ -117,11 +93,8 @@ class Clock:
             self.stalled, self._stood = True, self._last
             self.stalls += 1
             self._lows.clear()
-            self._read_lows.clear()
             return [Finding('stalled', quiet)]
-        came, read = self._low
-        self._lows.append(came)
-        self._read_lows.append(read)
+        self._lows.append(self._low)
         self._low = None
         if not self.stalled:
             return []

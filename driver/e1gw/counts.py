@@ -49,7 +49,6 @@ class Circuit:
 
     counts: dict[str, int] = field(default_factory=lambda: {'sent': 0, 'admitted': 0})
     stream: Stream = field(default_factory=Stream)
-    admitted_at: int | None = None      # the place of the last one that was admitted
 
 
 def _records(held: bytes) -> Iterator[tuple[int, int, int, int]]:
@@ -65,14 +64,14 @@ def _records(held: bytes) -> Iterator[tuple[int, int, int, int]]:
 class Counts:
     """Counts datagrams. `taped` is given the octets of the recording and `answered` those of its replay, in pieces.
 
-    `admitted(circuit, place)` is called with each datagram that was admitted."""
+    `counted(circuit, code, place)` is called with the answer to each datagram that came at this place of the trunk."""
 
-    def __init__(self, admitted: Callable[[int, int], None] | None = None) -> None:
+    def __init__(self, counted: Callable[[int, int, int], None] | None = None) -> None:
         self.circuits = {n: Circuit() for n in CIRCUITS}
         self.place = 0                      # octets of the trunk on the recording
         self.answered_place = 0             # of them those that the replay has answered
         self.ended: str | None = None       # why the counts go on no more
-        self._admitted = admitted or (lambda circuit, place: None)
+        self._counted = counted or (lambda circuit, code, place: None)
         self._tape, self._answers = b'', b''
         self._asked: deque[tuple[int, int, int, int, int]] = deque()
 
@@ -111,9 +110,8 @@ class Counts:
         word = _WORDS.get(code, str(code))
         row.counts[word] = row.counts.get(word, 0) + 1
         if code == 0:
-            row.admitted_at = place
             row.stream.take(sequence, timestamp, ssrc, place // SAMPLE)
-            self._admitted(circuit, place)
+        self._counted(circuit, code, place)
 
     def status(self, circuit: int) -> dict[str, Any]:
         """The counts of a circuit, as plain values."""

@@ -22,16 +22,16 @@ from .loop import READ, WRITE, Loop
 from .metrics import exposition, table
 from .options import Options
 from .outlets import Journal, Outlet, to_descriptor
+from .pace import Pace
 from .pictures import Pictures
-from .session import SAMPLES_A_SECOND, Codec, Command, Kind, Record, codec_record, command_record, trunk_record
+from .restarts import Restarts
+from .session import Codec, Command, Kind, Record, codec_record, command_record, trunk_record
 from .sockets import sockets_of
 from .trunks import Trunk
 from .web import Visitor
 
 BESIDE = ('shadow', 'recording', 'session', 'json', 'metrics', 'picture')     # what may end without the calls
 REOPEN_MOST = 30.0              # seconds between two tries to open the trunk
-DISPLACED = 0.02                # seconds by which a call's first datagram may be displaced
-LOOKED_AT = 10.0                # seconds after it in which octets may come to be in time again
 
 
 class Driver:
@@ -42,7 +42,8 @@ class Driver:
         self.lines = Lines(options.config, self.tell)
         self.began = time.monotonic()
         self.clock = Clock(self.began, options.gap)
-        self.counts = Counts(self._admitted)
+        self.restarts = Restarts(self._restart, self.tell)
+        self.counts = Counts(self.restarts.counted)
         self.guards = Guards(options.on_loss, self.clear_all)
         self.trunk: Trunk | None = None
         self.status_code: int | None = None         # once it is there the driver ends
@@ -52,9 +53,8 @@ class Driver:
         self.peers: set[Peer] = set()
         self._doors: list[Door] = []
         self._paused = False
+        self._pace = Pace(options.pace)
         self._slowest: deque[float] = deque([0.0], maxlen=60)
-        # Of open circuits: how late the octet of the first datagram was, and until when that is looked at.
-        self._first: dict[int, tuple[float, float]] = {}
         self._dark_since: float | None = None
         self._dark_cleared = False
         self._notes: deque[tuple[str, str]] = deque()   # from other threads: what has ended, and why
@@ -165,6 +165,7 @@ class Driver:
     def _pause(self) -> None:
         if self.trunk and not self._paused:
             self._paused = True
+            self._pace.stop()
             self.loop.forget(self.trunk.fileno())
 
     def _resume(self) -> None:
@@ -172,7 +173,26 @@ class Driver:
         if self.trunk and self._paused and not self.trunk.waiting() and not self.gateway.busy():
             self._paused = False
             self.clock.held(time.monotonic())
-            self.loop.watch(self.trunk.fileno(), READ, lambda _: self._readable())
+            self._watch(self.trunk)
+
+    def _watch(self, trunk: Trunk) -> None:
+        self.loop.watch(trunk.fileno(), READ, lambda _: self._readable())
+
+    def _keep_pace(self, trunk: Trunk, count: int) -> None:
+        """After a read: the next one is when octets come, or by time."""
+        if trunk.paced and trunk.may_wait:
+            by_time = self._pace.due is not None
+            self._pace.took(count, self.options.most, time.monotonic())
+            if by_time and self._pace.due is None:
+                self._watch(trunk)
+            elif not by_time and self._pace.due is not None:
+                self.loop.forget(trunk.fileno())
+
+    def _deadline(self) -> float | None:
+        """When the trunk is read though nothing tells that octets have come."""
+        if self.trunk is None or self._paused:
+            return None
+        return self.trunk.deadline if self._pace.due is None else self._pace.due
 
     def _readable(self) -> None:
         """Octets have come: gives them to the gateway, and its answer to the trunk."""
@@ -185,20 +205,21 @@ class Driver:
             return self._trunk_lost('the trunk has ended', 0)
         except OSError as fault:
             return self._trunk_lost(f'the trunk cannot be read: {fault}', 1)
+        self._keep_pace(trunk, len(octets))
         if octets:
             began = time.monotonic()
             if trunk.paced:
-                self.clock.took(len(octets), began, trunk.unread())
-            self.gateway.give(trunk_record(octets), functools.partial(self._answered, octets, began))
+                all_read = trunk.gives_all and len(octets) < self.options.most
+                self.clock.took(len(octets), began, 0 if all_read else trunk.unread())
+            self.gateway.give(trunk_record(octets), functools.partial(self._answered, trunk, octets, began))
             self.gateway.settle()
             if self.gateway.busy() or trunk.waiting():
                 self._pause()
 
-    def _answered(self, octets: bytes, began: float, record: Record) -> None:
-        trunk = self.trunk
+    def _answered(self, trunk: Trunk, octets: bytes, began: float, record: Record) -> None:
         if record.kind is not Kind.TRUNK or len(record.body) != len(octets):
             return self._gateway_ended('it answers what is no answer')
-        if trunk:
+        if trunk is self.trunk:     # and not an earlier one
             try:
                 trunk.write(record.body)
             except OSError as fault:
@@ -272,6 +293,8 @@ class Driver:
         """Why no seizure can reach the other end, or None."""
         if self.trunk is None:
             return 'no trunk'
+        if self.clock.stalled:
+            return 'the trunk is stalled'
         if self.lines.alarm():
             return 'no alignment'
         return 'the other end has no alignment' if any(self.lines.remote.values()) else None
@@ -319,27 +342,19 @@ class Driver:
         if cleared:
             self.tell({'event': 'cleared', 'why': why, 'circuits': cleared})
 
-    def renew(self, circuits: list[int], why: str) -> None:
-        """Gives open circuits the codec that they have, which begins their playout anew."""
-        if not circuits:
-            return
+    def _restart(self, circuits: list[int]) -> None:
+        """Gives open circuits the codec that they have, which restarts their playout."""
         for n in circuits:
             line = self.lines.lines[n]
             codec = next(each for each in Codec if each.word(self.lines.law) == line.codec)
             self.gateway.give(codec_record(n, codec, line.payload), lambda answer: None)
-            self._first.pop(n, None)
         self.renewed += len(circuits)
         self.gateway.settle()
         if self.gateway.busy():
             self._pause()
-        self.tell({'event': 'renewed', 'why': why, 'circuits': circuits})
 
     def _open_circuits(self) -> list[int]:
         return [n for n, line in self.lines.lines.items() if line.state in OPEN]
-
-    def _admitted(self, circuit: int, place: int) -> None:
-        if circuit not in self._first:
-            self._first[circuit] = self.clock.late_at(place), time.monotonic() + LOOKED_AT
 
     # ---- time ----
 
@@ -352,8 +367,7 @@ class Driver:
         if self.trunk and self.trunk.paced and not self.gateway.busy():
             for finding in self.clock.look(now):
                 self._found(finding)
-            if self._first:
-                self._look_at_first()
+            self.restarts.look(now, self.lines.place, self._open_circuits(), not self.counts.stale())
         self._look_at_opening()
         while self._notes:
             self._end_beside(*self._notes.popleft())
@@ -366,21 +380,10 @@ class Driver:
         seconds = round(finding.value, 3)
         self.tell({'event': finding.what, 'seconds': seconds})
         if finding.what in ('gap', 'ahead'):
-            self.renew(self._open_circuits(), f'{finding.what} of {seconds} s')
-
-    def _look_at_first(self) -> None:
-        """Calls whose first datagram came with octets that had waited, where octets are in time again: all later ones
-        would be late."""
-        lines, now, late = self.lines.lines, time.monotonic(), self.clock.late()
-        for n in [n for n in self._first if lines[n].state not in OPEN]:
-            del self._first[n]
-        if late is not None:
-            self.renew([n for n, (behind, until) in self._first.items() if now < until
-                        and behind - late > max(DISPLACED, lines[n].prefill / SAMPLES_A_SECOND / 2)],
-                       'octets had waited')
+            self.restarts.want(self._open_circuits(), f'{finding.what} of {seconds} s')
 
     def _look_at_dark(self, now: float) -> None:
-        if self.dark_words() is None and not self.clock.stalled:
+        if self.dark_words() is None:
             self._dark_since, self._dark_cleared = None, False
             return
         if self._dark_since is None:
@@ -472,7 +475,7 @@ class Driver:
             self.loop.every(0.5, self.show)
         self._open_trunk()
         while self.status_code is None:
-            deadline = self.trunk.deadline if self.trunk and not self._paused else None
+            deadline = self._deadline()
             self.loop.turn(deadline)
             if deadline is not None and time.monotonic() >= deadline:
                 self._readable()

@@ -5,9 +5,11 @@ from typing import Callable
 
 from .lines import Event
 
-WARNED = frozenset(('lost', 'gap', 'ahead', 'stalled', 'ended', 'trunk lost', 'cleared'))
+WARNED = frozenset(('lost', 'gap', 'ahead', 'stalled', 'ended', 'trunk lost', 'cleared', 'slots'))
 NOTICED = frozenset(('aligned', 'alarm', 'remote alarm', 'flows', 'rate', 'renewed', 'satop', 'trunk'))
 
+_SLOTS = {'lost': 'slot 16 lost: both directions silent', 'found': 'slot 16 found again, speech goes on',
+          'moved': 'slots moved by {}: slot 16 found again, speech goes on'}
 _WORDS: dict[str, Callable[[Event], str]] = {
     'state': lambda e: f'{e["circuit"]}: {e["state"]}, was {e["was"]}',
     'alarm': lambda e: f'alarm: no {e["what"]} alignment' if e['on'] else f'alarm over: {e["what"]} alignment',
@@ -16,7 +18,7 @@ _WORDS: dict[str, Callable[[Event], str]] = {
     'lost': lambda e: f'{e["what"]} alignment lost',
     'codec': lambda e: f'{e["circuit"]}: codec {e["codec"]}, payload type {e["payload"]}',
     'command': lambda e: f'{e["circuit"]}: {e["command"]}: {e["answer"]}',
-    'renewed': lambda e: f'playout begun anew, {e["why"]}: circuits {", ".join(map(str, e["circuits"]))}',
+    'renewed': lambda e: f'playout restarted{_times(e)}, {e["why"]}: circuits {", ".join(map(str, e["circuits"]))}',
     'cleared': lambda e: f'calls cleared, {e["why"]}: circuits {", ".join(map(str, e["circuits"]))}',
     'stalled': lambda e: f'no octets for {e["seconds"]} s',
     'flows': lambda e: f'octets again after {e["seconds"]} s',
@@ -24,6 +26,7 @@ _WORDS: dict[str, Callable[[Event], str]] = {
     'ahead': lambda e: f'octets of {e["seconds"]} s came too early',
     'rate': lambda e: f'rate: {e["ppm"]:+} ppm beside this machine\'s clock',
     'ended': lambda e: f'{e["what"]} ended, the calls go on: {e["why"]}',
+    'slots': lambda e: _SLOTS[e['what']].format(e.get('by')),
     'trunk': lambda e: f'trunk open: {e.get("trunk", "")}',
     'trunk lost': lambda e: f'trunk lost: {e["why"]}',
     'satop': lambda e: f'satop: {e["what"]}{"" if e.get("on", True) else " over"}{_why(e)}',
@@ -32,6 +35,10 @@ _WORDS: dict[str, Callable[[Event], str]] = {
 
 def _why(event: Event) -> str:
     return f': {event["why"]}' if 'why' in event else ''
+
+
+def _times(event: Event) -> str:
+    return f' {event["count"]} times more' if 'count' in event else ''
 
 
 def words_of(event: Event) -> str:

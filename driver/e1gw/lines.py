@@ -359,7 +359,7 @@ class Lines:
         frames.start = None
         self.losses[Alignment.FRAME] += 1
         self._lose_multiframes(True)
-        self.remote[Alignment.FRAME] = False
+        self._remote(Alignment.FRAME, False)
         self._event('lost', what='frame', place=place)
         return False
 
@@ -390,7 +390,7 @@ class Lines:
             self.losses[Alignment.MULTIFRAME] += count
             self._event('lost', what='multiframe', place=self.place)
         multi.start = multi.before = None
-        self.remote[Alignment.MULTIFRAME] = False
+        self._remote(Alignment.MULTIFRAME, False)
 
     def _remote(self, what: Alignment, on: bool) -> None:
         if self.remote[what] != on:

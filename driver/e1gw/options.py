@@ -17,6 +17,7 @@ class Options:
     name: str
     open_trunk: Callable[[], Trunk]
     most: int = 256
+    pace: float = 0.0
     serve: list[str] = field(default_factory=list)      # further options of e1gw serve
     reopen: bool = False
     watch: bool = False

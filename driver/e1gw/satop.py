@@ -84,6 +84,7 @@ class Satop(Trunk):
     packets', and {'event': 'satop', 'what': 'bit offset 3', 'bits': 3}."""
 
     tell: Tell | None = None
+    may_wait = False            # it has moments of its own
 
     def __init__(self, end: socket.socket, circuit: Circuit, clock: Callable[[], float] = time.monotonic,
                  program: str | None = None) -> None:

@@ -20,12 +20,13 @@ from typing import Callable, NoReturn
 
 from . import satop
 from .aligned import align
-from .clear import Clear
+from .clear import Clear, Place
 from .control import DoorTaken
 from .driver import Driver
 from .gateway import ConfigRefused, check_config
 from .guards import OnLoss, on_loss_of
 from .keep import seconds_of
+from .lines import law_of, read_config
 from .loop import Loop
 from .options import Options
 from .outlets import Journal, hold_descriptors
@@ -66,9 +67,17 @@ def trunk_of(asked: argparse.Namespace) -> Callable[..., Trunk]:
         opens = lambda: open_tcp(host, port)                        # noqa: E731
     else:
         opens = lambda: open_files(asked.input, asked.out)          # noqa: E731
-    if not asked.clear:
-        return opens
-    return lambda: Clear(opens())
+    return _clear_of(opens, asked.config) if asked.clear else opens
+
+
+def _clear_of(opens: Callable[[], Trunk], config: str) -> Callable[[], Trunk]:
+    """Opens devices that have slots 1 to 31, one after another beside one gateway."""
+    place = Place()
+
+    def opened() -> Trunk:
+        place.law = place.law or law_of(read_config(config))
+        return Clear(opens(), place)
+    return opened
 
 
 def _satop_of(asked: argparse.Namespace) -> Callable[[str], Trunk]:
@@ -115,8 +124,12 @@ def _add_trunk(words: argparse._ArgumentGroup) -> None:
     words.add_argument('--clear', action='store_true', help='the device gives time slots 1 to 31 alone')
     words.add_argument('--align', action='store_true',
                        help='octets of the trunk may begin at any bit; e1gw align runs between it and the gateway')
-    words.add_argument('--most', type=_number(1, 65535), default=256, metavar='OCTETS',
-                       help='octets in a record at most, 1 to 65535; a frame has 32 [default: 256, 1 ms]')
+    words.add_argument('--pace', type=_number(0, 20), default=4, metavar='MS',
+                       help='a trunk that flows is read each so many milliseconds, 0 to 20; 0 reads it when octets come; '
+                       'not with --satop [default: 4]')
+    words.add_argument('--most', type=_number(1, 65535), metavar='OCTETS',
+                       help='octets in a record at most, 1 to 65535; a frame has 32 [default: 2048, 8 ms; 256 with '
+                       '--satop or --pace 0]')
     words.add_argument('--reopen', action='store_true', help='opens a trunk that ends or fails again, within 30 s')
 
 
@@ -144,7 +157,7 @@ def _add_calls(words: argparse._ArgumentGroup) -> None:
     words.add_argument('--session', metavar='FILE', help='keeps all that the gateway takes, for e1gw replay and check')
     words.add_argument('--keep', metavar='TIME', help='--session is a folder for the last 30m, 1h, 2d, in twelve files')
     words.add_argument('--gap', type=_number(20, 10_000), default=100, metavar='MS',
-                       help='lost octets of so many milliseconds begin the playout of open calls anew [default: 100]')
+                       help='lost octets of so many milliseconds restart the playout of open calls [default: 100]')
     words.add_argument('--dark', type=_number(0, 86_400, float), metavar='SECONDS',
                        help='clears the calls of a trunk that has been in alarm for so long [default: never]')
 
@@ -170,7 +183,8 @@ def options_of(words: list[str]) -> Options:
     if asked.satop:
         opens = functools.partial(opens, program)
     return Options(
-        config=asked.config, program=program, name=name, open_trunk=opens, most=asked.most,
+        config=asked.config, program=program, name=name, open_trunk=opens,
+        most=asked.most or (2048 if asked.pace and not asked.satop else 256), pace=asked.pace / 1000,
         serve=_serve_words(asked), reopen=asked.reopen, watch=asked.watch, top=asked.top, control=asked.control,
         control_mode=asked.control_mode, control_group=asked.control_group, http=http, metrics=asked.metrics,
         json=asked.json, session=asked.session, keep=keep, gap=asked.gap / 1000, dark=asked.dark, on_loss=on_loss,

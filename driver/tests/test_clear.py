@@ -1,9 +1,26 @@
 """A device without time slot 0: what the gateway is given, and what the device gets back."""
-import random
-import unittest
+from __future__ import annotations
 
-from e1gw.clear import Clear
+import os
+import random
+import tempfile
+import unittest
+from typing import Any
+
+from . import support
+from .world import World, config_of
+from e1gw.clear import Clear, Place
+from e1gw.events import words_of
+from e1gw.lines import Lines
+from e1gw.session import Command
 from e1gw.trunks import Trunk
+from exchange import ACKNOWLEDGED, Serve
+import wire
+
+IDLE = 0xD5
+LOST = 33               # frames: two multiframe signals in error, 4 ms, and the frame in which octets were lost
+FOUND = 100             # frames from there to a circuit's own octets: three multiframes and one, and what is moved
+LOSSES = (1, 2, 15, 16, 29, 30, -1, 31)         # octets that are lost; -1 is one too many
 
 
 class Device(Trunk):
@@ -68,8 +85,248 @@ class Slots(unittest.TestCase):
         self.assertRaises(EOFError, trunk.read, 256)
 
 
+class Moves(unittest.TestCase):
+    """A device that loses octets. An octet of slot s is 32 + 7 s and 0 to 5 more, so each tells whose it is."""
+
+    def setUp(self) -> None:
+        self.chance = random.Random(7)
+        self.frame = 0
+        self.first: int | None = None       # what slot 1 has in place of its own
+        self.events: list[dict[str, Any]] = []
+
+    def frames(self, count: int) -> bytes:
+        """Frames with a signalling multiframe in slot 16 (ITU-T G.704, 5.1.3.2)."""
+        out = b''
+        for _ in range(count):
+            slots = bytearray(32 + 7 * slot + self.chance.randrange(6) for slot in range(1, 32))
+            slots[0] = self.first or slots[0]
+            slots[15] = 0x0B if self.frame % 16 == 0 else self.chance.choice((0x99, 0xD9, 0x5D))
+            self.frame += 1
+            out += slots
+        return out
+
+    def carry(self, trunk: Clear, device: Device, octets: bytes) -> bytes:
+        """The octets go through, and the gateway sends FF in slot 16 and 33 else. Returns what it was given."""
+        device.left += octets
+        given = b''
+        while device.left:
+            piece = trunk.read(self.chance.choice((31, 256, 1000)))
+            first = len(given) + self.given
+            trunk.write(bytes(0xFF if (first + n) % 32 == 16 else 0x33 for n in range(len(piece))))
+            given += piece
+        self.given += len(given)
+        return given
+
+    def opened(self) -> tuple[Clear, Device]:
+        self.given, self.events = 0, []
+        device = Device(b'')
+        trunk = Clear(device, Place('A'))
+        trunk.tell = self.events.append
+        given = self.carry(trunk, device, self.frames(self.chance.randrange(80, 120)))
+        self.assertEqual((self.foreign(given), self.events), ({}, []))
+        return trunk, device
+
+    def foreign(self, given: bytes) -> dict[int, list[int]]:
+        """By slot: the frames, of these whole ones, with another slot's octet."""
+        found: dict[int, list[int]] = {}
+        for slot in (*range(1, 16), *range(17, 32)):
+            wrong = [n for n, octet in enumerate(given[slot::32]) if octet not in (IDLE, self.first) and (octet - 32) // 7 != slot]
+            if wrong:
+                found[slot] = wrong
+        return found
+
+    def lose(self, count: int, octets: bytes) -> bytes:
+        """Octets of which some in the middle of the third frame are lost, or one comes twice."""
+        at = 62 + self.chance.randrange(31)
+        return octets[:at] + octets[at + count if count > 0 else at - 1:]
+
+    def test_no_slot_is_heard_in_another_one_for_long(self) -> None:
+        for count in LOSSES:
+            self.setUp()
+            for _ in range(10):
+                with self.subTest(count):
+                    trunk, device = self.opened()
+                    given = self.carry(trunk, device, self.lose(count, self.frames(300)))
+                    foreign = self.foreign(given)
+                    self.assertLessEqual(max((len(frames) for frames in foreign.values()), default=0), LOST)
+                    self.assertLessEqual(max((frames[-1] for frames in foreign.values()), default=0), LOST + 3)
+                    own = [n for n, octet in enumerate(given[32 * (LOST + 3) + 3::32]) if (octet - 32) // 7 == 3]
+                    self.assertLessEqual(own[0], FOUND)
+                    self.assertEqual(own, list(range(own[0], len(given[32 * (LOST + 3) + 3::32]))))
+                    whole = count % 31 == 0
+                    self.assertEqual([words_of(event) for event in self.events], [] if whole and count == 0 else [
+                        'slot 16 lost: both directions silent', 'slot 16 found again, speech goes on' if whole else
+                        f'slots moved by {count % 31}: slot 16 found again, speech goes on'])
+
+    def test_a_slot_that_is_like_the_signal(self) -> None:
+        """Slot 1 comes in the place of slot 16, and has 0000 always: one signal more is needed."""
+        self.first = 0x07
+        trunk, device = self.opened()
+        given = self.carry(trunk, device, self.lose(16, self.frames(300)))
+        foreign = self.foreign(given)
+        self.assertLessEqual(max(map(len, foreign.values())), LOST + 16)
+        self.assertEqual([event.get('by') for event in self.events], [None, 16])
+
+    def test_silence_is_in_both_directions(self) -> None:
+        trunk, device = self.opened()
+        device.taken = b''
+        given = self.carry(trunk, device, self.lose(1, self.frames(300)))
+        silent = [n for n in range(299) if given[32 * n + 16] == 0xFF]
+        self.assertEqual(silent, list(range(silent[0], silent[-1] + 1)))
+        self.assertLessEqual(len(silent), FOUND)
+        for n in silent[1:]:
+            self.assertEqual(given[32 * n + 1:32 * n + 32], bytes([IDLE] * 15 + [0xFF] + [IDLE] * 15))
+            self.assertEqual(device.taken[31 * n:31 * n + 31], bytes([IDLE] * 15 + [0xFF] + [IDLE] * 15))
+        for n in (silent[0] - 1, silent[-1] + 1):
+            self.assertEqual(device.taken[31 * n:31 * n + 31], bytes([0x33] * 15 + [0xFF] + [0x33] * 15))
+        # One octet was lost and one was filled in: whole frames were sent, as many as the device has had time for.
+        self.assertEqual(len(device.taken), 31 * 300)
+
+    def test_the_idle_code_is_the_laws(self) -> None:
+        device = Device(self.frames(90) + bytes([0x35]) * 31 * 40)
+        trunk = Clear(device, Place('mu'))
+        given = b''.join(iter(lambda: trunk.read(256) if device.left else b'', b''))
+        self.assertEqual(given[-31:], b'\xFF' * 31)
+
+    def test_slots_that_are_moved_from_the_start(self) -> None:
+        for first in range(31):
+            self.setUp()
+            self.given, device = 0, Device(b'')
+            trunk = Clear(device, Place('A'))
+            trunk.tell = self.events.append
+            given = self.carry(trunk, device, self.frames(200)[first:])
+            self.assertEqual(self.foreign(given[32 * 100:]), {})
+            self.assertEqual([event.get('by') for event in self.events], [first] if first else [])
+
+    def test_one_signal_in_error_is_none_lost(self) -> None:
+        trunk, device = self.opened()
+        while self.frame % 16:
+            self.carry(trunk, device, self.frames(1))
+        octets = bytearray(self.frames(64))
+        octets[15] = octets[31 * 32 + 15] = 0x4B
+        self.assertEqual(self.foreign(self.carry(trunk, device, bytes(octets))), {})
+        self.assertEqual(self.events, [])
+
+    def test_a_second_device(self) -> None:
+        """Behind a device in whose frames slot 16 was found, silence goes before speech."""
+        place = Place('A')
+        for first in (0, 5):
+            self.given, device = place.given, Device(b'')
+            trunk = Clear(device, place)
+            trunk.tell = self.events.append
+            self.assertEqual(trunk.status()['silent'], first > 0)
+            given = self.carry(trunk, device, self.frames(200)[first:-7])
+            missing = -(self.given - len(given)) % 32
+            self.assertEqual(self.foreign(given[missing + 32 * (FOUND if first == 0 else 0):]), {})
+        self.assertEqual(self.events, [{'event': 'slots', 'what': 'moved', 'by': 5}])
+
+
+class Gateway(unittest.TestCase):
+    """The same with the gateway between: what each circuit's peer hears, and how the lines stand."""
+
+    def setUp(self) -> None:
+        self.program = support.program()
+        folder = tempfile.TemporaryDirectory()
+        self.addCleanup(folder.cleanup)
+        self.folder = folder.name
+
+    def multiframes(self, call: wire.Call, count: int) -> bytes:
+        """Slots 1 to 31 of multiframes in which each circuit speaks its own octet."""
+        out = b''
+        for _ in range(count):
+            for n in call.circuits:
+                call.exchange.speech[n] = bytearray([wire.spoken(n)] * 16)
+            octets = call.exchange.multiframe()
+            out += b''.join(octets[at + 1:at + 32] for at in range(0, len(octets), 32))
+        return out
+
+    def test_calls_through_lost_octets(self) -> None:
+        for count in (1, 2, 30, -1):
+            with self.subTest(count), wire.Call(self.program, self.folder, tuple(range(1, 31)), '127.0.0.1') as call:
+                self.calls_through_a_loss(call, count)
+
+    def calls_through_a_loss(self, call: wire.Call, count: int) -> None:
+        events: list[dict[str, Any]] = []
+        device, lines = Device(b''), Lines({'law': 'A'}, events.append)
+        trunk = Clear(device, Place('A'))
+        trunk.tell = events.append
+
+        def carry(octets: bytes) -> None:
+            device.left += octets
+            while device.left:
+                given = trunk.read(256)
+                sent = call.serve.trunk(given)
+                lines.trunk(given, sent)
+                trunk.write(sent)
+        carry(self.multiframes(call, 12))
+        for n in call.circuits:
+            self.assertEqual(call.serve.command(n, 'seize'), 0)
+            lines.command(n, Command.SEIZE)
+        call.exchange.pairs.update({n: ACKNOWLEDGED for n in call.circuits})
+        carry(self.multiframes(call, 24))
+        self.heard(call)
+        del events[:]
+        octets = self.multiframes(call, 30)
+        carry(octets[:1000] + octets[1000 + count if count > 0 else 999:])
+        for n, octets in self.heard(call).items():
+            others = [octet for octet in octets if octet not in (wire.spoken(n), IDLE)]
+            self.assertLessEqual(len(others), LOST)
+            self.assertEqual(octets[-wire.PACKET:], bytes([wire.spoken(n)]) * wire.PACKET)
+            self.assertLessEqual(octets.count(IDLE), FOUND)
+        told = [(event['event'], event['what']) for event in events if 'alarm' not in event['event']]
+        self.assertEqual(told, [('slots', 'lost'), ('lost', 'multiframe'), ('slots', 'moved'),
+                                ('aligned', 'multiframe')])
+        self.assertEqual({str(line.state) for line in lines.lines.values()}, {'acked'})
+
+    def heard(self, call: wire.Call) -> dict[int, bytes]:
+        """The speech that each circuit's peer got."""
+        return {n: b''.join(packet[12:] for packet, _ in wire.packets(call.peers[n])) for n in call.circuits}
+
+    def test_a_device_that_ends_inside_a_frame(self) -> None:
+        config = os.path.join(self.folder, 'trunk.toml')
+        with open(config, 'w', encoding='ascii') as file:
+            file.write('law = "A"\n')
+        for first in range(63):
+            serve, place = Serve(self.program, config), Place('A')
+            for octets in (bytes([IDLE]) * first, bytes([IDLE]) * 31 * 64):
+                device = Device(octets)
+                trunk = Clear(device, place)
+                while device.left:
+                    trunk.write(serve.trunk(trunk.read(256)))
+                self.assertEqual(len(device.taken), len(octets))
+            serve.end()
+            assert serve.process.stdout
+            serve.process.stdout.close()
+            self.assertEqual(wrong_slots(device.taken), [], first)
+
+    def test_the_driver_opens_another_device(self) -> None:
+        with World(config_of(range(1, 2)), '--clear', '--reopen') as world:
+            self.assertEqual(len(self.through(world, 100)), 100)
+            world.line.close()
+            with world.new_door() as door:
+                world.take(door)
+            self.assertEqual(wrong_slots(self.through(world, 31 * 64)), [])
+
+    def through(self, world: World, count: int) -> bytes:
+        """Idle octets to the driver; as many that come back."""
+        world.line.sendall(bytes([IDLE]) * count)
+        back = b''
+        while len(back) < count:
+            back += world.line.recv(count - len(back)) or self.fail('the driver has ended')
+        return back
+
+
+def wrong_slots(octets: bytes) -> list[int]:
+    """The places of whole frames of 31 octets that are no idle slots, and slot 16 where it has no signal each 16 frames
+    (0000 and the alarm, ITU-T G.704) or something else between."""
+    wrong = [at for at in range(31) if at != 15 and set(octets[at::31]) != {IDLE}]
+    signals = [n for n, octet in enumerate(octets[15::31]) if octet >> 4 == 0]
+    regular = len(signals) == 4 and all(b - a == 16 for a, b in zip(signals, signals[1:]))
+    return wrong if regular and IDLE not in octets[15::31] else [*wrong, 15]
+
+
 class Status(unittest.TestCase):
     def test_the_rest_is_the_devices(self) -> None:
         trunk = Clear(Device(b''))
         self.assertEqual((trunk.fileno(), trunk.waiting(), trunk.paced, trunk.status()),
-                         (7, 0, True, {'slots': 'clear'}))
+                         (7, 0, True, {'slots': 'clear', 'silent': False, 'slots_lost': 0, 'slots_moved': 0}))

@@ -2,10 +2,13 @@
 from __future__ import annotations
 
 import unittest
+from types import SimpleNamespace
 
 from . import support
 from e1gw.clock import TICK, Clock, Finding
 from e1gw.counts import Counts, Stream
+from e1gw.driver import Driver
+from e1gw.lines import Alignment, Lines
 from e1gw.session import codec_record, datagram_record, spell, trunk_record, Codec, Kind, Packet
 
 assert support.TOP
@@ -56,11 +59,6 @@ class Trunk:
             self.found += self.clock.look(self._look)
             self._look += TICK
 
-    def late(self) -> float:
-        late = self.clock.late()
-        assert late is not None
-        return late
-
     def words(self) -> list[str]:
         return [finding.what for finding in self.found]
 
@@ -108,26 +106,6 @@ class Flow(unittest.TestCase):
         self.assertEqual(trunk.words(), ['gap'])
         self.assertAlmostEqual(trunk.found[0].value, 0.3, delta=0.02)
 
-    def test_how_late_octets_are_now(self) -> None:
-        trunk = Trunk()
-        trunk.go(2)
-        self.assertAlmostEqual(trunk.late(), 0.0, delta=0.005)
-        # 60 ms are lost, which is no gap: all octets are later from then on.
-        trunk.quiet(0.06)
-        trunk.go(1)
-        self.assertAlmostEqual(trunk.late(), 0.06, delta=0.005)
-        # 50 ms wait from here on: those that are read are later by that too, until they are worked off.
-        trunk.stand_still(0.05)
-        for _ in range(500):
-            trunk._wait(RECORD)
-            trunk.clock.took(256, trunk.now, 12_800)
-        self.assertAlmostEqual(trunk.late(), 0.11, delta=0.005)
-        trunk.catch_up(0.05, 1.5)
-        self.assertIsNone(trunk.clock.late())
-        trunk.go(1)
-        self.assertAlmostEqual(trunk.late(), 0.06, delta=0.005)
-        self.assertEqual(trunk.words(), [])
-
     def test_nothing_is_read_while_it_is_held(self) -> None:
         trunk = Trunk()
         trunk.go(2)
@@ -145,6 +123,20 @@ class Flow(unittest.TestCase):
         trunk.stand_still(0)
         trunk.quiet(0.2)
         self.assertEqual(trunk.words(), ['stalled'])
+
+    def test_no_seizure_while_no_octets_come(self) -> None:
+        trunk = Trunk()
+        driver = SimpleNamespace(trunk=trunk, clock=trunk.clock, lines=Lines({}))
+        driver.lines.alarms = dict.fromkeys(Alignment, False)
+        words = lambda: Driver.dark_words(driver)       # noqa: E731
+        trunk.go(2)
+        self.assertIsNone(words())
+        trunk.quiet(0.15)
+        self.assertEqual(words(), 'the trunk is stalled')
+        trunk.go(0.1)
+        self.assertIsNone(words())
+        trunk.stand_still(0.5)
+        self.assertIsNone(words())
 
     def test_small_gaps_add_up(self) -> None:
         trunk = Trunk()
@@ -181,18 +173,6 @@ class Flow(unittest.TestCase):
         self.assertEqual(trunk.words(), ['rate'])
         self.assertAlmostEqual(trunk.found[0].value, -500, delta=20)
 
-    def test_how_late_an_octet_was(self) -> None:
-        trunk = Trunk()
-        trunk.go(2)
-        place = trunk.clock.octets
-        trunk.quiet(0.06)
-        trunk.at_once(0.06)
-        trunk.go(1)
-        self.assertEqual(trunk.words(), [])
-        self.assertAlmostEqual(trunk.clock.late_at(place), 0.06, delta=0.005)
-        self.assertAlmostEqual(trunk.clock.late_at(place + 256 * 30), 0.03, delta=0.005)
-        self.assertEqual(trunk.clock.late_at(trunk.clock.octets - 256), 0.0)
-
 
 class Streams(unittest.TestCase):
     def test_lost_ones_and_jitter(self) -> None:
@@ -207,8 +187,8 @@ class Streams(unittest.TestCase):
         self.assertEqual((stream.lost, stream.jitter), (1, 0.0))
 
     def test_answers_are_those_of_the_datagrams_before(self) -> None:
-        admitted: list[tuple[int, int]] = []
-        counts = Counts(lambda circuit, place: admitted.append((circuit, place)))
+        answers_of: list[tuple[int, int, int]] = []
+        counts = Counts(lambda *answer: answers_of.append(answer))
         packet = Packet(8, 1, 0, 1, b'\xD5' * 160).spelled()
         tape = (trunk_record(bytes(64)) + datagram_record(3, b'') + codec_record(3, Codec.G711, 8)
                 + datagram_record(4, packet) + trunk_record(bytes(32)))
@@ -220,7 +200,8 @@ class Streams(unittest.TestCase):
             counts.answered(answers[at:at + 5])
         self.assertEqual(counts.status(3)['datagrams'], {'sent': 0, 'admitted': 0, 'Short': 1})
         self.assertEqual(counts.status(4)['datagrams'], {'sent': 1, 'admitted': 1})
-        self.assertEqual((admitted, counts.stale(), counts.answered_place), ([(4, 64)], False, 96))
+        self.assertEqual((counts.stale(), counts.answered_place), (False, 96))
+        self.assertEqual(answers_of, [(3, 1, 64), (4, 0, 64)])
 
 
 if __name__ == '__main__':

@@ -129,6 +129,18 @@ class Alarms(unittest.TestCase):
         trunk.go(1)
         self.assertEqual(trunk.lines.status()['remote_alarm'], {'frame': False, 'multiframe': False})
 
+    def test_remote_alarms_end_with_the_alignment(self) -> None:
+        trunk = Trunk()
+        trunk.go(3)
+        piece = bytearray(trunk.exchange.multiframe())
+        piece[32::64] = bytes([0xFF]) * 8
+        piece[16] = 0x0F
+        trunk.lines.trunk(bytes(piece), bytes(512))
+        trunk.lines.trunk(b'\xD5' * 512, bytes(512))
+        self.assertEqual(trunk.lines.status()['remote_alarm'], {'frame': False, 'multiframe': False})
+        told = [(event['what'], event['on']) for event in trunk.events if event['event'] == 'remote alarm']
+        self.assertEqual(sorted(told), [('frame', False), ('frame', True), ('multiframe', False), ('multiframe', True)])
+
     def test_alarms_that_are_sent(self) -> None:
         trunk = Trunk()
         self.assertEqual(trunk.lines.status()['alarm'], {'frame': True, 'multiframe': True})

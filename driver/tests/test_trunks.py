@@ -9,10 +9,12 @@ import tempfile
 import threading
 import time
 import unittest
+from typing import Any
 
 from . import devices, support
 from .test_driver import FOUR, aligned, call
 from .world import SECONDS, World, child_of, config_of
+from e1gw.restarts import REFUSED
 from e1gw.session import Packet
 from e1gw.trunks import Stream, Trunk, host_and_port, open_files
 
@@ -122,46 +124,46 @@ class Service(unittest.TestCase):
     def setUp(self) -> None:
         support.program()
 
-    def test_lost_octets_begin_the_playout_anew(self) -> None:
-        with World(config_of(FOUR, prefill=160)) as world:
+    def test_lost_octets_restart_the_playout(self) -> None:
+        told = self.told_after_a_loss('100')
+        gaps = [event['seconds'] for event in told if event['event'] == 'gap']
+        renewed = [event['circuits'] for event in told if event['event'] == 'renewed'
+                   and event['why'].startswith('gap')]
+        self.assertTrue(gaps and max(gaps) > 0.4, told)
+        self.assertIn([1], renewed)
+
+    def test_refused_datagrams_restart_the_playout(self) -> None:
+        """The same where it is no gap: all datagrams are Full then."""
+        told = [event for event in self.told_after_a_loss('10000') if event['event'] in ('gap', 'renewed')]
+        self.assertEqual([(event['why'], event['circuits']) for event in told], [(REFUSED, [1])])
+
+    def told_after_a_loss(self, gap: str) -> list[dict[str, Any]]:
+        """Somebody speaks in a call, and 0.7 s of the trunk are lost. What is told until the playout is restarted. (How
+        much speech is lost by that is looked at in simulated time, test_restarts.)"""
+        with World(config_of(FOUR, prefill=160), '--gap', gap) as world:
             events = world.follow()
             self.addCleanup(events.close)
-            self.assertGreater(self.admitted_after_a_gap(world), 20)
-            world.quit()
-            told = [json.loads(line) for line in events]
-            gaps = [event['seconds'] for event in told if event['event'] == 'gap']
-            renewed = [event['circuits'] for event in told if event['event'] == 'renewed'
-                       and event['why'].startswith('gap')]
-            self.assertTrue(gaps and max(gaps) > 0.4, told)
-            self.assertIn([1], renewed)
-
-    def test_without_that_the_call_stays_deaf(self) -> None:
-        with World(config_of(FOUR, prefill=160), '--gap', '10000') as world:
-            self.assertEqual(self.admitted_after_a_gap(world), 0)
-
-    def test_octets_that_waited_at_a_first_datagram(self) -> None:
-        with World(config_of(FOUR, prefill=160)) as world:
             aligned(world)
             call(world, 1)
-            self.in_time(world, 0.6)
             ended = threading.Event()
             thread = threading.Thread(target=speak, args=(port_of(world), ended))
-            time.sleep(0.08)
             thread.start()
             try:
-                time.sleep(0.01)
-                world.give(b''.join(world.exchange.multiframe() for _ in range(45)))
-                self.in_time(world, 0.8)
-                before = world.settled()['circuits'][0]['datagrams']['admitted']
-                self.in_time(world, 0.8)
-                after = world.settled()['circuits'][0]['datagrams']['admitted']
+                self.in_time(world, 0.6)
+                time.sleep(0.7)
+                self.in_time(world, 0.6)
+                for _ in range(50):
+                    if world.status()['renewed']:
+                        break
+                    self.in_time(world, 0.1)
             finally:
                 ended.set()
                 thread.join()
-            self.assertGreater(after - before, 20)
+            world.quit()
+            return [json.loads(line) for line in events]
 
     def test_a_gateway_that_stands_still_is_no_stall_of_the_trunk(self) -> None:
-        with World(config_of(FOUR)) as world:
+        with World(config_of(FOUR), '--gap', '100') as world:
             aligned(world)
             self.in_time(world, 0.3)
             gateway = child_of(world.process.pid, 'serve')
@@ -173,44 +175,6 @@ class Service(unittest.TestCase):
             self.in_time(world, 0.3)
             self.assertEqual(world.status()['clock']['stalls'], 0)
 
-    def test_octets_that_stay_late_begin_nothing_anew(self) -> None:
-        """A loss that is no gap: the first datagram after it comes with octets that are late, and stay so."""
-        with World(config_of(FOUR, prefill=160)) as world:
-            aligned(world)
-            call(world, 1)
-            self.in_time(world, 0.8)
-            time.sleep(0.06)
-            self.in_time(world, 0.4)
-            begun = world.status()['renewed']
-            ended = threading.Event()
-            thread = threading.Thread(target=speak, args=(port_of(world), ended))
-            thread.start()
-            try:
-                self.in_time(world, 1.5)
-            finally:
-                ended.set()
-                thread.join()
-            self.assertLessEqual(world.settled()['renewed'] - begun, 1)
-
-    def admitted_after_a_gap(self, world: World) -> int:
-        """A sender speaks in a call; 0.7 s of the trunk are lost. How many packets are admitted in the last second."""
-        aligned(world)
-        call(world, 1)
-        ended = threading.Event()
-        thread = threading.Thread(target=speak, args=(port_of(world), ended))
-        thread.start()
-        try:
-            self.in_time(world, 0.6)
-            time.sleep(0.7)
-            self.in_time(world, 1.0)
-            before = world.settled()['circuits'][0]['datagrams']['admitted']
-            self.in_time(world, 1.0)
-            after: int = world.settled()['circuits'][0]['datagrams']['admitted']
-        finally:
-            ended.set()
-            thread.join()
-        return after - before
-
     def in_time(self, world: World, seconds: float) -> None:
         """Multiframes at their rate."""
         due = time.monotonic()
@@ -218,6 +182,15 @@ class Service(unittest.TestCase):
             world.step()
             due += 0.002
             time.sleep(max(0.0, due - time.monotonic()))
+
+    def test_a_seizure_while_no_octets_come(self) -> None:
+        with World(config_of(FOUR), '--gap', '100') as world:
+            aligned(world)
+            until = time.monotonic() + SECONDS
+            while not world.status()['clock']['stalled'] and time.monotonic() < until:
+                time.sleep(0.02)
+            self.assertEqual(world.ask('seize 2'), 'seize 2: the trunk is stalled')
+            self.assertEqual(world.state(2), 'idle')
 
     def test_a_trunk_that_comes_again(self) -> None:
         with World(config_of(FOUR), '--reopen') as world:

@@ -66,7 +66,9 @@ def config_of(circuits: range, codec: str = 'pcma', payload: int = 8, prefill: i
 
 
 class World:
-    """A driver at a Unix socket, with a folder of its own. The exchange acknowledges and answers what is seized."""
+    """A driver at a Unix socket, with a folder of its own. The exchange acknowledges and answers what is seized.
+
+    It gives octets when a test does, and not by a clock; so but for an option --gap no pause is a stall."""
 
     def __init__(self, config: str, *options: str, answers: bool = True, front: tuple[str, ...] = (),
                  **streams: Any) -> None:
@@ -79,6 +81,8 @@ class World:
         self.answers = answers
         self.sent, self.heard = bytearray(), bytearray()
         self._ages: dict[int, int] = {}
+        if '--gap' not in options:
+            options += ('--gap', '10000')
         with self._door() as door:
             streams = {'stdin': subprocess.DEVNULL, 'stdout': subprocess.DEVNULL, 'stderr': subprocess.PIPE} | streams
             self.process = subprocess.Popen(

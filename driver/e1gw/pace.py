@@ -1,0 +1,52 @@
+"""When a trunk is read: by time while octets come at their rate, and when octets come while they do not.
+
+Each read costs a turn of driver and gateway, whatever it gives; a card gives octets each millisecond. One who waits for
+answers before he gives more is never read by time for long, since he then gives too few."""
+from __future__ import annotations
+
+from .session import OCTETS_A_SECOND
+
+FLOWS = 0.75 * OCTETS_A_SECOND      # octets a second of a trunk that flows
+FIRST, LONGEST = 0.1, 60.0          # seconds that it has to flow before it is read by time
+GOOD = 1.0                          # seconds by time after which the next time is after FIRST again
+
+
+class Pace:
+    """`due` is when the trunk is read next, of time.monotonic; None if that is when octets come. `seconds` is the time
+    between two reads, 0 for none by time."""
+
+    def __init__(self, seconds: float) -> None:
+        self.seconds = seconds
+        self.due: float | None = None
+        self._after = FIRST
+        self._began = self._last = 0.0      # by time or not, and the last read
+        self._octets: int | None = None     # octets since it began; None before the first read
+
+    def stop(self) -> None:
+        """It is not read by time until it flows again."""
+        self.due = self._octets = None
+
+    def took(self, count: int, most: int, now: float) -> None:
+        """A read gave so many octets where it could give `most`."""
+        if not self.seconds:
+            return
+        if self.due is not None:
+            self._took_by_time(count, most, now)
+        elif self._octets is None:
+            self._began, self._octets = now, 0
+        else:
+            self._octets += count
+            if now - self._began >= self._after:
+                self.due = now + self.seconds if self._octets >= FLOWS * (now - self._began) else None
+                self._began, self._octets = now, 0
+        self._last = now
+
+    def _took_by_time(self, count: int, most: int, now: float) -> None:
+        assert self.due is not None
+        if count == most:
+            self.due = now          # there may be more
+        elif count >= FLOWS * (now - self._last):
+            self.due = max(self.due + self.seconds, now)
+        else:
+            self._after = FIRST if now - self._began >= GOOD else min(LONGEST, 2 * self._after)
+            self.stop()

@@ -1,0 +1,130 @@
+"""Which open calls have their playout restarted, and when.
+
+The playout counts the trunk's time from a call's first datagram. Octets of the trunk that are lost move all later
+datagrams against it: the calls are restarted. A call most of whose datagrams are refused for their time, as Late or as
+Full, is restarted, too. For each of the two no call is restarted again within 10 s.
+"""
+from __future__ import annotations
+
+from collections import deque
+from dataclasses import dataclass, field
+from math import inf
+from typing import Callable, Iterable
+
+from .lines import Event
+from .session import OCTETS_A_SECOND, DatagramRefusal
+
+REFUSED_FOR = 0.5           # seconds of the trunk whose datagrams are looked at
+FEWEST = 3                  # refused datagrams in them
+APART = 10.0                # seconds between two restarts of a call for lost octets, and two for refusals
+TOLD = 60.0                 # seconds in which further restarts of a call are counted and not told
+REFUSED = 'datagrams are refused for their time'
+_SPAN = round(REFUSED_FOR * OCTETS_A_SECOND)
+# What is answered to datagrams of the call itself, and whether it refuses them for their time.
+_OF_TIME = {0: False, int(DatagramRefusal.LATE): True, int(DatagramRefusal.FULL): True}
+
+
+@dataclass(slots=True)
+class Call:
+    """An open call."""
+
+    seen: deque[tuple[int, bool]] = field(default_factory=deque)    # datagrams: the place, whether it was refused
+    refused: int = 0
+    fresh: bool = False                 # a datagram has come since the last look
+    since: int = 0                      # datagrams before this place are of a playout that has ended
+    lost_at: float = -inf               # when it was restarted for lost octets
+    refused_at: float = -inf            # when for refusals
+    why: str | None = None              # why it is to be restarted for lost octets
+
+    def take(self, place: int, refused: bool) -> None:
+        """What was answered to a datagram."""
+        if place < self.since:
+            return
+        self.seen.append((place, refused))
+        self.refused += refused
+        self.fresh = True
+        while self.seen[0][0] <= place - _SPAN:
+            self.refused -= self.seen.popleft()[1]
+
+    def is_refused(self) -> bool:
+        """Whether half of the datagrams are refused, for more than a moment."""
+        if not self.fresh or self.refused < FEWEST or 2 * self.refused < len(self.seen):
+            return False
+        places = [place for place, refused in self.seen if refused]
+        return places[-1] - places[0] >= _SPAN // 2
+
+    def due(self, now: float, counts: bool) -> str | None:
+        """Why it is restarted now, if it is."""
+        why = None
+        if self.why and now - self.lost_at >= APART:
+            why, self.lost_at = self.why, now
+        elif counts and now - self.refused_at >= APART and self.is_refused():
+            why, self.refused_at = REFUSED, now
+        self.fresh = False
+        return why
+
+    def restarted(self, place: int) -> None:
+        self.seen.clear()
+        self.refused, self.since, self.why = 0, place, None
+
+
+class Restarts:
+    """Restarts the playout of calls, by `restart(circuits)`."""
+
+    def __init__(self, restart: Callable[[list[int]], None], tell: Callable[[Event], None]) -> None:
+        self._restart, self._tell = restart, tell
+        self._calls: dict[int, Call] = {}
+        self._told: dict[int, float] = {}       # when a restart of a circuit was last told
+        self._untold: dict[int, int] = {}       # restarts since then
+
+    def counted(self, circuit: int, code: int, place: int) -> None:
+        """What was answered to a datagram that came at this place of the trunk."""
+        refused = _OF_TIME.get(code)
+        if refused is not None:
+            self._call(circuit).take(place, refused)
+
+    def want(self, circuits: Iterable[int], why: str) -> None:
+        """Open calls are to be restarted."""
+        for n in circuits:
+            self._call(n).why = why
+
+    def _call(self, circuit: int) -> Call:
+        return self._calls.setdefault(circuit, Call())
+
+    def look(self, now: float, place: int, opened: list[int], counts: bool) -> None:
+        """To be called each tick, with the trunk's place, the open circuits, and whether the counts are those of now."""
+        due: dict[str, list[int]] = {}
+        for n in [n for n in self._calls if n not in opened]:
+            del self._calls[n]
+        for n, call in self._calls.items():
+            why = call.due(now, counts)
+            if why:
+                due.setdefault(why, []).append(n)
+                call.restarted(place)
+        for why, circuits in due.items():
+            self._restart(circuits)
+            self._tell_of(circuits, why, now)
+        self._tell_rest(now)
+
+    def _tell_of(self, circuits: list[int], why: str, now: float) -> None:
+        fresh = [n for n in circuits if n not in self._told]
+        self._told |= dict.fromkeys(fresh, now)
+        for n in circuits:
+            if n not in fresh:
+                self._untold[n] = self._untold.get(n, 0) + 1
+        if fresh:
+            self._tell({'event': 'renewed', 'why': why, 'circuits': sorted(fresh)})
+
+    def _tell_rest(self, now: float) -> None:
+        """The restarts that were only counted, in one line."""
+        over = [n for n, at in self._told.items() if now - at >= TOLD]
+        if not over:
+            return
+        count = sum(self._untold.get(n, 0) for n in over)
+        circuits = [n for n in sorted(over) if n in self._untold]
+        for n in over:
+            del self._told[n]
+            if self._untold.pop(n, 0):
+                self._told[n] = now
+        if circuits:
+            self._tell({'event': 'renewed', 'why': 'again within a minute', 'circuits': circuits, 'count': count})
