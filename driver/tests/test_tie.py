@@ -18,7 +18,7 @@ from e1gw.session import CIRCUITS, Command
 from e1gw.tie import site as site_module
 from e1gw.tie.circuit import End
 from e1gw.tie.kept import Kept, read
-from e1gw.tie.main import parser
+from e1gw.tie.main import ANYBODY, is_loopback, parser
 from e1gw.tie.messages import All, Alive, BadMessage, Change, Dark, Greeting, message_of, spell
 from e1gw.tie.pairs import BadPairs, agreed, pairs_of
 from e1gw.tie.site import Site, context_of, has_name
@@ -67,8 +67,8 @@ class Messages(unittest.TestCase):
 class Help(unittest.TestCase):
     def test_help(self) -> None:
         said = subprocess.run([os.path.join(HERE, 'e1gw-tie'), '--help'], check=True, stdout=subprocess.PIPE).stdout
-        for option in ('--control', '--listen', '--connect', '--map', '--tls', '--peer', '--hold', '--congestion',
-                       '--state'):
+        for option in ('--control', '--listen', '--connect', '--map', '--tls', '--insecure', '--peer', '--hold',
+                       '--congestion', '--state'):
             self.assertIn(option.encode(), said)
 
     def test_refused(self) -> None:
@@ -78,6 +78,45 @@ class Help(unittest.TestCase):
             with self.subTest(words=words), self.assertRaises(SystemExit) as end, mock.patch('sys.stderr'):
                 parser().parse_args(words)
             self.assertEqual(end.exception.code, 2)
+
+
+class Doors(unittest.TestCase):
+    """Where a tie may listen."""
+
+    def said(self, *words: str) -> tuple[int | None, str, list[dict[str, Any]]]:
+        """The status, standard error, and the events of a tie that is ended when it has found no driver."""
+        process = subprocess.Popen([os.path.join(HERE, 'e1gw-tie'), '--control', '/none', *words],
+                                   stdin=subprocess.DEVNULL, stdout=subprocess.PIPE, stderr=subprocess.PIPE, text=True)
+        assert process.stdout
+        events = []
+        for line in process.stdout:
+            events.append(json.loads(line))
+            if events[-1]['event'] == 'trunk gone':
+                process.terminate()
+        _, error = process.communicate(timeout=20)
+        return process.returncode, error, events
+
+    def test_beyond_loopback(self) -> None:
+        """Without TLS and beyond loopback it is refused, with a line that names the cure."""
+        for host in ('0.0.0.0', '192.0.2.1', '[::]', 'localhost.example'):
+            with self.subTest(host):
+                status, error, events = self.said('--listen', f'{host}:7301')
+                self.assertEqual((status, events, error.count('\n')), (2, [], 1))
+                self.assertIn('no loopback address', error)
+                self.assertIn('--insecure', error)
+
+    def test_loopback(self) -> None:
+        for host in ('127.0.0.1', '127.5.5.5', '[::1]', 'localhost'):
+            self.assertTrue(is_loopback(parser().parse_args(['--control', 'a', '--listen', f'{host}:1']).listen[0]))
+
+    def test_asked_for(self) -> None:
+        status, error, events = self.said('--listen', f'0.0.0.0:{free_port()}', '--insecure')
+        self.assertEqual((error, events[0]['event']), ('', 'start'))
+        self.assertIn('neither secret nor authenticated', events[0]['connection'])
+
+    def test_not_with_tls(self) -> None:
+        with self.assertRaises(SystemExit), mock.patch('sys.stderr'):
+            parser().parse_args('--control a --listen 127.0.0.1:1 --insecure --tls a b c'.split())
 
 
 class Crowd(unittest.TestCase):
@@ -539,6 +578,14 @@ class Certificates(Sites):
 
     async def test_another_name_of_the_listener(self) -> None:
         await self.refused(peer='north')
+
+    def test_any_certificate_is_told(self) -> None:
+        """Who listens without a name for the other site is told what that means, and who names one is not."""
+        files = [os.path.join(self.folder.name, each) for each in ('west.pem', 'west.key', 'ours.pem')]
+        for more, told in (([], [ANYBODY]), (['--peer', 'east'], [])):
+            words = ('--listen', f'127.0.0.1:{free_port()}', '--tls', *files, *more)
+            events = Doors().said(*words)[2]
+            self.assertEqual([each['about'] for each in events if each['event'] == 'warning'], told)
 
     async def test_without_tls(self) -> None:
         await self.refused(context=None)
