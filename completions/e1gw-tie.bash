@@ -4,7 +4,7 @@
 . "${BASH_SOURCE[0]%e1gw-tie*}e1gw-options${BASH_SOURCE[0]##*e1gw-tie}"
 
 _e1gw_tie() {
-  local options='--control --listen --connect --map --tls --peer --hold --congestion --state --help'
+  local options='--control --listen --connect --map --tls --insecure --peer --hold --congestion --state --help'
   _e1gw_offer "$options" '--listen --connect --peer --hold' --congestion 'clear-back wait'
 }
 

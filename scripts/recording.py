@@ -8,6 +8,7 @@ wrong.
 import contextlib
 import os
 import random
+import stat
 import subprocess
 import threading
 
@@ -206,6 +207,19 @@ def old_file(program, room):
         yield f'recorded {open(recording, "rb").read()[:40].hex(" ")}'
 
 
+def permissions(program, room):
+    """Others may not read a new recording, whatever the umask is; one that is written over keeps its permissions."""
+    for umask, wanted in ((0, 0o640), (0o077, 0o600)):
+        recording = path_in(room)
+        asked(program, room, '--record', recording, given=FRAME, umask=umask)
+        if (mode := stat.S_IMODE(os.stat(recording).st_mode)) != wanted:
+            yield f'mode {mode:o} at umask {umask:o}'
+    os.chmod(recording, 0o660)
+    asked(program, room, '--record', recording, '--record-over', given=FRAME, umask=0)
+    if (mode := stat.S_IMODE(os.stat(recording).st_mode)) != 0o660:
+        yield f'mode {mode:o} of an old recording'
+
+
 def no_file(program, room):
     """A file that can't be opened is told before the sockets are opened."""
     with bound('127.0.0.1') as taken:
@@ -244,5 +258,6 @@ def recording_looks():
     yield 'a recording whose reader goes', reader_goes
     yield 'a recording of a session that is killed', killed
     yield 'a recording over an old file', old_file
+    yield 'a recording and who may read it', permissions
     yield 'a recording that cannot be opened', no_file
     yield 'a recording to an open file', open_file

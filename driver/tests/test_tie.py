@@ -5,6 +5,7 @@ import os
 import shutil
 import socket
 import subprocess
+import sys
 import tempfile
 import time
 import unittest
@@ -17,10 +18,11 @@ from e1gw.session import CIRCUITS, Command
 from e1gw.tie import site as site_module
 from e1gw.tie.circuit import End
 from e1gw.tie.kept import Kept, read
-from e1gw.tie.main import parser
+from e1gw.tie.main import ANYBODY, is_loopback, parser
 from e1gw.tie.messages import All, Alive, BadMessage, Change, Dark, Greeting, message_of, spell
 from e1gw.tie.pairs import BadPairs, agreed, pairs_of
 from e1gw.tie.site import Site, context_of, has_name
+from e1gw.tie.strangers import Stage, Stranger, Strangers, address_of
 from e1gw.tie.tie import Options, Tie
 from tests.test_tie_circuit import CALLED, COLUMN, DONE, INCOMING, OUTGOING
 
@@ -65,8 +67,8 @@ class Messages(unittest.TestCase):
 class Help(unittest.TestCase):
     def test_help(self) -> None:
         said = subprocess.run([os.path.join(HERE, 'e1gw-tie'), '--help'], check=True, stdout=subprocess.PIPE).stdout
-        for option in ('--control', '--listen', '--connect', '--map', '--tls', '--peer', '--hold', '--congestion',
-                       '--state'):
+        for option in ('--control', '--listen', '--connect', '--map', '--tls', '--insecure', '--peer', '--hold',
+                       '--congestion', '--state'):
             self.assertIn(option.encode(), said)
 
     def test_refused(self) -> None:
@@ -76,6 +78,119 @@ class Help(unittest.TestCase):
             with self.subTest(words=words), self.assertRaises(SystemExit) as end, mock.patch('sys.stderr'):
                 parser().parse_args(words)
             self.assertEqual(end.exception.code, 2)
+
+
+class Doors(unittest.TestCase):
+    """Where a tie may listen."""
+
+    def said(self, *words: str) -> tuple[int | None, str, list[dict[str, Any]]]:
+        """The status, standard error, and the events of a tie that is ended when it has found no driver."""
+        process = subprocess.Popen([os.path.join(HERE, 'e1gw-tie'), '--control', '/none', *words],
+                                   stdin=subprocess.DEVNULL, stdout=subprocess.PIPE, stderr=subprocess.PIPE, text=True)
+        assert process.stdout
+        events = []
+        for line in process.stdout:
+            events.append(json.loads(line))
+            if events[-1]['event'] == 'trunk gone':
+                process.terminate()
+        _, error = process.communicate(timeout=20)
+        return process.returncode, error, events
+
+    def test_beyond_loopback(self) -> None:
+        """Without TLS and beyond loopback it is refused, with a line that names the cure."""
+        for host in ('0.0.0.0', '192.0.2.1', '[::]', 'localhost.example'):
+            with self.subTest(host):
+                status, error, events = self.said('--listen', f'{host}:7301')
+                self.assertEqual((status, events, error.count('\n')), (2, [], 1))
+                self.assertIn('no loopback address', error)
+                self.assertIn('--insecure', error)
+
+    def test_loopback(self) -> None:
+        for host in ('127.0.0.1', '127.5.5.5', '[::1]', 'localhost'):
+            self.assertTrue(is_loopback(parser().parse_args(['--control', 'a', '--listen', f'{host}:1']).listen[0]))
+
+    def test_asked_for(self) -> None:
+        status, error, events = self.said('--listen', f'0.0.0.0:{free_port()}', '--insecure')
+        self.assertEqual((error, events[0]['event']), ('', 'start'))
+        self.assertIn('neither secret nor authenticated', events[0]['connection'])
+
+    def test_not_with_tls(self) -> None:
+        with self.assertRaises(SystemExit), mock.patch('sys.stderr'):
+            parser().parse_args('--control a --listen 127.0.0.1:1 --insecure --tls a b c'.split())
+
+
+class Crowd(unittest.TestCase):
+    """Who is closed where too many connect, at a peer of 10.0.0.1."""
+
+    def setUp(self) -> None:
+        self.strangers = Strangers('10.0.0.1')
+
+    def add(self, address: str, stage: Stage = Stage.SILENT) -> Stranger:
+        made = Stranger(address, stage)
+        self.strangers.add(made)
+        return made
+
+    @property
+    def found(self) -> list[Stranger]:
+        return self.strangers._all
+
+    def test_two_of_an_address(self) -> None:
+        """The third one of an address takes the place of its first, and of nobody else."""
+        other = self.add('10.0.0.3')
+        first, second, third = (self.add('10.0.0.2') for _ in range(3))
+        self.assertEqual(self.found, [other, second, third])
+        self.assertNotIn(first, self.found)
+
+    def test_eight_of_the_peers_address(self) -> None:
+        added = [self.add('10.0.0.1') for _ in range(9)]
+        self.assertEqual(self.found, added[1:])
+
+    def test_eight_in_all(self) -> None:
+        """The ninth takes the place of the oldest one that is not of the peer's address."""
+        mine = self.add('10.0.0.1')
+        added = [self.add(f'10.0.1.{n}') for n in range(8)]
+        self.assertEqual(self.found, [mine, *added[1:]])
+
+    def test_silent_ones_go_first(self) -> None:
+        """Who has sent something, or shown a certificate, stays while there is one that has not."""
+        shown = self.add('10.0.0.1', Stage.CERTIFIED)
+        speaks = self.add('10.0.0.1', Stage.SPEAKS)
+        added = [self.add('10.0.0.1') for _ in range(20)]
+        self.assertEqual(self.found, [shown, speaks, *added[-6:]])
+        more = [self.add('10.0.0.1', Stage.SPEAKS) for _ in range(7)]
+        self.assertEqual(self.found, [shown, *more])
+
+    def test_pace(self) -> None:
+        """New ones wait where one that speaks is closed for them, but not where an address has one too many."""
+        silent, speaks = Stranger('10.0.0.2'), Stranger('10.0.0.2', Stage.SPEAKS)
+        same, other = Stranger('10.0.0.2'), Stranger('10.0.0.3')
+        hard = [self.strangers.is_hard(*pair) for pair in ((silent, other), (speaks, same), (speaks, other))]
+        self.assertEqual(hard, [False, False, True])
+        self.strangers.peer = '10.0.0.2'
+        self.assertTrue(self.strangers.is_hard(speaks, same))
+
+    def test_addresses(self) -> None:
+        """Of IPv6 a network of 64 bits is one address, and IPv4 within IPv6 is IPv4."""
+        self.assertEqual(address_of('2001:db8::1'), address_of('2001:db8::ffff:2'))
+        self.assertNotEqual(address_of('2001:db8::1'), address_of('2001:db8:0:1::1'))
+        self.assertEqual(address_of('::ffff:192.0.2.1'), address_of('192.0.2.1'))
+        self.assertEqual(address_of('fe80::1%eth0'), address_of('fe80::2'))
+
+
+class Reasons(unittest.TestCase):
+    def test_told(self) -> None:
+        """Why nobody was let in is told once a minute for each reason, and for ten of them at most."""
+        told: list[str] = []
+        tie = Tie(Options('/none', None, HOLD, False), 'run', Kept(None),
+                  lambda event, **fields: told.append(fields['why']))
+        with mock.patch('time.monotonic') as clock:
+            for clock.return_value in (0.0, 30.0, 59.0):
+                for n in range(12):
+                    tie.turned_away(f'reason {n}')
+            self.assertEqual(told, [f'reason {n}' for n in range(10)])
+            clock.return_value = 61.0
+            tie.turned_away('reason 3')
+            self.assertEqual(told[10:], ['reason 3'])
 
 
 class KeptFile(unittest.TestCase):
@@ -464,8 +579,62 @@ class Certificates(Sites):
     async def test_another_name_of_the_listener(self) -> None:
         await self.refused(peer='north')
 
+    def test_any_certificate_is_told(self) -> None:
+        """Who listens without a name for the other site is told what that means, and who names one is not."""
+        files = [os.path.join(self.folder.name, each) for each in ('west.pem', 'west.key', 'ours.pem')]
+        for more, told in (([], [ANYBODY]), (['--peer', 'east'], [])):
+            words = ('--listen', f'127.0.0.1:{free_port()}', '--tls', *files, *more)
+            events = Doors().said(*words)[2]
+            self.assertEqual([each['about'] for each in events if each['event'] == 'warning'], told)
+
     async def test_without_tls(self) -> None:
         await self.refused(context=None)
+
+    async def crowd(self, address: str, given: bytes = b'') -> None:
+        """A hundred strangers of an address who hold connections, and come again as soon as they are closed."""
+        words = (os.path.join(HERE, 'tests', 'crowd.py'), '127.0.0.1', str(self.port), address, '100', given.hex())
+        process = subprocess.Popen([sys.executable, '-B', *words], stdin=subprocess.PIPE, stdout=subprocess.PIPE)
+        self.addCleanup(process.wait)
+        assert process.stdin and process.stdout
+        self.addCleanup(process.stdout.close)
+        self.addCleanup(process.stdin.close)
+        await asyncio.get_running_loop().run_in_executor(None, process.stdout.readline)
+
+    async def crowded(self, address: str, given: bytes = b'') -> None:
+        """The right site gets in although strangers hold connections, and again when it has gone. They take no more
+        connections than they may."""
+        made, site = self.tie('west')
+        self.run_tie(made, site)
+        await self.until(lambda: self.answers(self.port))
+        await self.crowd(address, given)
+        most = 0
+
+        def good() -> bool:
+            nonlocal most
+            most = max(most, len(site._tasks))
+            self.assertLessEqual(len(site._strangers), 8)
+            return [each['state'] for each in self.told('west', 'link')][-1:] == ['good']
+        for _ in range(2):
+            east = self.tie('east')
+            tasks = self.run_tie(*east)
+            await self.until(good)
+            await self.kill(tasks, east[1])
+            await self.until(lambda: not good())
+        self.assertLessEqual(most, 8 + 1 + site_module.BURST)       # with those that are being closed
+        self.assertLessEqual(len(self.told('west', 'no connection')), 5)
+
+    def answers(self, port: int) -> bool:
+        with suppress(OSError), socket.create_connection(('127.0.0.1', port), 1):
+            return True
+        return False
+
+    async def test_silent_strangers(self) -> None:
+        """They come from the address of the right site."""
+        await self.crowded('127.0.0.1')
+
+    async def test_strangers_who_begin_tls(self) -> None:
+        """From another address; they send what begins a record of a handshake, and no more of it."""
+        await self.crowded('127.0.0.9', b'\x16\x03\x01\x02\x00\x01')
 
     def test_names(self) -> None:
         names: Any = {'subjectAltName': (('DNS', 'West.example'), ('IP Address', '0:0:0:0:0:0:0:1'))}

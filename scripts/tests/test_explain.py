@@ -1,5 +1,6 @@
 """scripts/explain: the faults of docs/CONFIGURATION.md, each at its key and line."""
 import os
+import resource
 import socket
 import subprocess
 import sys
@@ -59,6 +60,50 @@ class Faults(Explained):
     def test_no_file(self) -> None:
         ran = subprocess.run([sys.executable, '-B', EXPLAIN, '/'], capture_output=True, text=True)
         self.assertEqual((ran.returncode, ran.stdout.split('\n')[0]), (2, 'cannot read the configuration'))
+
+
+def dotted(parts: int) -> str:
+    return '.'.join(['a'] * parts)
+
+
+# Texts that take the reader of TOML long or beyond its limits, with the line that e1gw says: keys of more than 80 parts
+# and values more than 80 deep are no TOML to it, nor is a number that 64 bits do not hold.
+HOSTILE = [
+    (dotted(80) + ' = 1', 'config 2 UnknownKey at 0', 'no key here'),
+    (dotted(81) + ' = 1', 'config 1 Syntax at 0', '80 parts'),
+    (dotted(30_000) + ' = 1', 'config 1 Syntax at 0', '80 parts'),
+    (f'[{dotted(30_000)}]', 'config 1 Syntax at 0', '80 parts'),
+    (f'a = {{{dotted(30_000)} = 1}}', 'config 1 Syntax at 0', '80 parts'),
+    (' . '.join(['"a"'] * 10_000) + ' = 1', 'config 1 Syntax at 0', '80 parts'),
+    ('a = ' + '[' * 80 + ']' * 80, 'config 2 UnknownKey at 0', 'no key here'),
+    ('a = ' + '[' * 81 + ']' * 81, 'config 1 Syntax at 0', '80 deep'),
+    ('a = ' + '{a = ' * 80 + '1' + '}' * 80, 'config 2 UnknownKey at 0', 'no key here'),
+    ('a = ' + '{a = ' * 5_000, 'config 1 Syntax at 0', '80 deep'),
+    ('a = ' + f'{{{dotted(80)} = ' * 80 + '1' + '}' * 80, 'config 2 UnknownKey at 0', 'no key here'),
+    (ONE + 'ssrc = ' + '9' * 5_000, 'config 1 Syntax at 0', 'digits'),
+    (ONE + 'ssrc = 0x' + 'f' * 5_000, 'config 1 Syntax at 0', '64 bits'),
+    (ONE + 'ssrc = 1e400', 'config 1 Syntax at 0', 'too large'),
+    ('#' + '.' * 300 + '\n' + ONE + 'role = "' + '.' * 300 + '"', 'config 5 OutOfRange at 1', '"outgoing"'),
+    ('a = "' + '\\"' * 30_000, 'config 1 Syntax at 0', 'no TOML'),
+    ('"' + 'a' * 60_000 + '" = 1', 'config 2 UnknownKey at 0', 'aaa.. is no key'),
+    ('"\\u001b[31m" = 1', 'config 2 UnknownKey at 0', r"'\x1b[31m' is no key"),
+    ('a = """' + '[.' * 30_000, 'config 1 Syntax at 0', 'no TOML'),
+    ('"' * 60_000, 'config 1 Syntax at 0', 'no TOML'),
+]
+
+
+class Hostile(Explained):
+    def test_in_words_and_soon(self) -> None:
+        """Each takes well below a second of processor where little else runs, and never the minute of a square."""
+        for text, told, words in HOSTILE:
+            with self.subTest(text[:40]):
+                before = resource.getrusage(resource.RUSAGE_CHILDREN)
+                status, lines = self.explained(text, '--no-sockets')
+                after = resource.getrusage(resource.RUSAGE_CHILDREN)
+                self.assertEqual((status, lines[0], len(lines)), (2, told, 2))
+                self.assertIn(words, lines[1])
+                self.assertLess(len(lines[1]), 400)
+                self.assertLess(after.ru_utime + after.ru_stime - before.ru_utime - before.ru_stime, 5)
 
 
 class Sockets(Explained):

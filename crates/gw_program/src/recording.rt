@@ -4,6 +4,10 @@ use crate::trouble::Trouble;
 use gw_session::{Recorder, ToWrite, TrunkRecord};
 use std::fs::{self, File, OpenOptions};
 use std::io;
+use std::os::unix::fs::OpenOptionsExt;
+
+// The permissions of a new file, less the umask: others may not read it, since it holds the speech of all calls.
+const MODE: u32 = 0o640;
 
 /// A recording that is asked for.
 #[derive(Clone, Copy, Debug)]
@@ -22,6 +26,25 @@ fn append(rt: &HostRuntime, path: &str) -> io::Result<File> {
     OpenOptions::new().append(true).open(rt, path)
 }
 
+// Creates the file of a recording, which must not exist yet.
+fn create_new(rt: &HostRuntime, path: &str) -> io::Result<File> {
+    OpenOptions::new()
+        .write(true)
+        .create_new(true)
+        .mode(MODE)
+        .open(rt, path)
+}
+
+// Empties the file of an old recording, which keeps its permissions, or creates it if it is gone.
+fn create(rt: &HostRuntime, path: &str) -> io::Result<File> {
+    OpenOptions::new()
+        .write(true)
+        .create(true)
+        .truncate(true)
+        .mode(MODE)
+        .open(rt, path)
+}
+
 // Opens a file that is there: a regular one only where it may be written over, and it is emptied then.
 fn open_old(rt: &HostRuntime, recording: Recording<'_>) -> Result<File, Trouble> {
     let found = fs::metadata(rt, recording.path);
@@ -30,7 +53,7 @@ fn open_old(rt: &HostRuntime, recording: Recording<'_>) -> Result<File, Trouble>
         return Err(Trouble::OldRecording);
     }
     let opened = if found.is_file() {
-        fs::create(rt, recording.path)
+        create(rt, recording.path)
     } else {
         append(rt, recording.path)
     };
@@ -42,7 +65,7 @@ fn open(rt: &HostRuntime, recording: Recording<'_>) -> Result<File, Trouble> {
     if recording.path.starts_with("/dev/fd/") {
         return append(rt, recording.path).map_err(|error| Trouble::of(&error, Trouble::Recording));
     }
-    match File::create_new(rt, recording.path) {
+    match create_new(rt, recording.path) {
         Ok(file) => Ok(file),
         Err(error) => match error.kind() {
             io::ErrorKind::AlreadyExists => open_old(rt, recording),

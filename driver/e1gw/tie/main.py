@@ -3,6 +3,7 @@ from __future__ import annotations
 
 import argparse
 import asyncio
+import ipaddress
 import json
 import math
 import os
@@ -24,6 +25,7 @@ ABOUT = '''Joins the circuits of two gateways at two sites: what an exchange sei
 and answers, clear-backs, clearing, blocking, faults and alarms are passed on.'''
 MORE = '''One of these runs at each site beside its e1gw-trunk. Each thing that it does is a line of JSON on standard
 output. Without --tls the connection is neither secret nor authenticated. See e1gw-tie(1).'''
+ANYBODY = 'any certificate of the authority is let in, since no --peer names that of the other site'
 MOST_MAP = 100_000          # characters of the map's file that are looked at
 
 
@@ -49,8 +51,11 @@ def parser() -> argparse.ArgumentParser:
     ways.add_argument('--connect', type=place, metavar='HOST:PORT', help='where the other site listens')
     made.add_argument('--map', metavar='FILE', help='which circuit here is which one there, `HERE THERE` a line '
                       '[default: the one of its number]')
-    made.add_argument('--tls', nargs=3, metavar=('CERT', 'KEY', 'CA'), help='TLS: the certificate of this site, its '
-                      'key, and the authority of both sites')
+    doors = made.add_mutually_exclusive_group()
+    doors.add_argument('--tls', nargs=3, metavar=('CERT', 'KEY', 'CA'), help='TLS: the certificate of this site, its '
+                       'key, and the authority of both sites')
+    doors.add_argument('--insecure', action='store_true', help='listens without --tls at an address that others than '
+                       'this machine reach, as in a tunnel')
     made.add_argument('--peer', metavar='NAME', help='with --tls, the host or address in the certificate of the other '
                       'site [default: the host of --connect; with --listen any that CA has signed]')
     made.add_argument('--hold', type=seconds, default=2.0, metavar='SECONDS', help='how long calls are kept without '
@@ -59,6 +64,19 @@ def parser() -> argparse.ArgumentParser:
                       'be had is answered and cleared back, or the caller waits [default: clear-back]')
     made.add_argument('--state', metavar='FILE', help='keeps which circuits the operator has blocked')
     return made
+
+
+def is_loopback(host: str) -> bool:
+    """Whether a host is this machine by its text alone: a loopback address, or localhost."""
+    try:
+        return host == 'localhost' or ipaddress.ip_address(host).is_loopback
+    except ValueError:
+        return False
+
+
+def is_open(options: argparse.Namespace) -> bool:
+    """Whether others than this machine could connect and would not be authenticated, unasked."""
+    return options.listen and not options.tls and not options.insecure and not is_loopback(options.listen[0])
 
 
 def read_map(path: str) -> Pairs:
@@ -115,6 +133,9 @@ def main() -> None:
     options = parser().parse_args()
     if options.peer and not options.tls:
         parser().error('--peer wants --tls')
+    if is_open(options):
+        return refuse(f'{options.listen[0]} is no loopback address, and without --tls whoever connects can seize and '
+                      'clear circuits: give --tls, or --insecure within a tunnel')
     outlet = to_descriptor('standard output', 1)
     tell = told_on(outlet)
     kept = Kept(options.state)
@@ -128,6 +149,8 @@ def main() -> None:
     host, port = site.place
     tell('start', control=options.control, hold=options.hold, place=f'{host}:{port}',
          connection='TLS' if options.tls else 'neither secret nor authenticated: for 127.0.0.1 or a tunnel')
+    if options.listen and options.tls and not options.peer:
+        tell('warning', about=ANYBODY)
     status = asyncio.run(work(tie, site))
     kept.close()
     outlet.close()

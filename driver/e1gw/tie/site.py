@@ -2,18 +2,25 @@
 from __future__ import annotations
 
 import asyncio
+import functools
 import ipaddress
+import socket
 import ssl
+from contextlib import ExitStack, suppress
 from typing import Any, Protocol
 
 from .messages import MOST, Alive, BadMessage, Greeting, Message, message_of, spell
+from .strangers import Stage, Stranger, Strangers, address_of
 
 ALIVE = 0.5                 # seconds between two signs of life
 GONE = 2.0                  # seconds without one after which the connection is given up
 AGAIN = 0.25                # seconds until a connection is tried again
-HANDSHAKE = 5.0             # seconds for TLS
+HANDSHAKE = 5.0             # seconds for the first octet, and for TLS
+PACE = 0.01                 # seconds between two connections that others who speak are closed for
+BURST = 4                   # connections that are accepted in that time if no such one is closed
+BACKLOG = 128               # connections that the system keeps until they are let in
 MOST_WAITING = 1 << 20      # octets that the other site does not take
-MOST_STRANGERS = 8          # connections that have not greeted yet
+Streams = tuple[asyncio.StreamReader, asyncio.StreamWriter]
 
 
 class Hooks(Protocol):
@@ -60,6 +67,56 @@ def has_name(certificate: dict[str, Any] | None, name: str) -> bool:
     return wanted in found
 
 
+async def listeners_of(host: str, port: int) -> list[socket.socket]:
+    """A socket that listens at each address of a host. OSError if one of them cannot be had."""
+    found = await asyncio.get_running_loop().getaddrinfo(host, port, type=socket.SOCK_STREAM, flags=socket.AI_PASSIVE)
+    made: list[socket.socket] = []
+    try:
+        for family, kind, protocol, _, place in dict.fromkeys(found):
+            made.append(socket.socket(family, kind, protocol))
+            made[-1].setsockopt(socket.SOL_SOCKET, socket.SO_REUSEADDR, 1)
+            if family == socket.AF_INET6:
+                made[-1].setsockopt(socket.IPPROTO_IPV6, socket.IPV6_V6ONLY, 1)
+            made[-1].setblocking(False)
+            made[-1].bind(place)
+            made[-1].listen(BACKLOG)
+    except OSError:
+        for line in made:
+            line.close()
+        raise
+    return made
+
+
+def stage_of(line: socket.socket) -> Stage:
+    """Whether a connection has sent something already."""
+    try:
+        line.recv(1, socket.MSG_PEEK)
+    except OSError:
+        return Stage.SILENT
+    return Stage.SPEAKS
+
+
+async def first_octet(line: socket.socket) -> None:
+    """Waits until a connection has sent something. TimeoutError if it has not in time."""
+    loop, came = asyncio.get_running_loop(), asyncio.Event()
+    loop.add_reader(line, came.set)
+    try:
+        async with asyncio.timeout(HANDSHAKE):
+            await came.wait()
+    finally:
+        loop.remove_reader(line)
+
+
+async def streams_of(line: socket.socket, context: ssl.SSLContext | None) -> Streams:
+    """The streams of a connection that was accepted, behind the handshake of TLS if there is a context."""
+    loop = asyncio.get_running_loop()
+    reader = asyncio.StreamReader(limit=MOST, loop=loop)
+    protocol = asyncio.StreamReaderProtocol(reader, loop=loop)
+    more: dict[str, Any] = {'ssl': context, 'ssl_handshake_timeout': HANDSHAKE} if context else {}
+    transport, _ = await loop.connect_accepted_socket(lambda: protocol, line, **more)
+    return reader, asyncio.StreamWriter(transport, protocol, reader, loop)
+
+
 class Site:
     """The other site."""
 
@@ -68,7 +125,8 @@ class Site:
         self.place, self.listens, self.context, self.name, self.hooks = place, listens, context, name, hooks
         self._writer: asyncio.StreamWriter | None = None    # of the connection that is taken up
         self._run = ''                                      # of the program at its other end
-        self._strangers = 0
+        self._strangers = Strangers(address_of(name) if name else None)
+        self._tasks: set[asyncio.Task[None]] = set()        # one for each connection that was accepted
 
     def send(self, message: Message) -> None:
         """Tells the other site, where it is there. One who does not take what it is told is given up."""
@@ -88,12 +146,10 @@ class Site:
         """Keeps the connection up for ever. OSError where it cannot be listened at this place."""
         host, port = self.place
         if self.listens:
-            more: dict[str, Any] = {'ssl': self.context, 'ssl_handshake_timeout': HANDSHAKE} if self.context else {}
-            async with await asyncio.start_server(self._accepted, host, port, limit=MOST, **more) as server:
-                await server.serve_forever()
+            await self._listen(host, port)
+        more: dict[str, Any] = {'ssl': self.context, 'server_hostname': self.name or host} if self.context else {}
         while True:
             try:
-                more = {'ssl': self.context, 'server_hostname': self.name or host} if self.context else {}
                 async with asyncio.timeout(HANDSHAKE):
                     reader, writer = await asyncio.open_connection(host, port, limit=MOST, **more)
                 await self._hold(reader, writer)
@@ -101,21 +157,76 @@ class Site:
                 self.hooks.turned_away(str(fault) or 'no answer')
             await asyncio.sleep(AGAIN)
 
-    async def _accepted(self, reader: asyncio.StreamReader, writer: asyncio.StreamWriter) -> None:
-        if self._strangers >= MOST_STRANGERS:
-            writer.transport.abort()
-            return
-        try:
-            await self._hold(reader, writer)
-        except asyncio.CancelledError:
-            pass        # the program ends, and asyncio would print this
+    async def _listen(self, host: str, port: int) -> None:
+        with ExitStack() as ends:
+            listeners = [ends.enter_context(line) for line in await listeners_of(host, port)]
+            try:
+                async with asyncio.TaskGroup() as group:
+                    for line in listeners:
+                        group.create_task(self._accept(line))
+            finally:
+                for task in self._tasks:
+                    task.cancel()
 
-    async def _hold(self, reader: asyncio.StreamReader, writer: asyncio.StreamWriter) -> None:
+    async def _accept(self, listener: socket.socket) -> None:
+        """Accepts connections for ever, at a pace that leaves those who speak the time for a handshake."""
+        spent = 0
+        while True:
+            try:
+                line, place = await asyncio.get_running_loop().sock_accept(listener)
+                spent += self._let_in(line, Stranger(address_of(place[0]), stage_of(line)))
+            except OSError as fault:
+                self.hooks.turned_away(str(fault))
+                await asyncio.sleep(AGAIN)
+            if spent >= BURST:
+                spent = 0
+                await asyncio.sleep(PACE)
+
+    def _let_in(self, line: socket.socket, stranger: Stranger) -> int:
+        """Begins with a connection; returns how much of a burst that is."""
+        task = stranger.task = asyncio.create_task(self._accepted(line, stranger))
+        self._tasks.add(task)
+        task.add_done_callback(functools.partial(self._ended, line, stranger))
+        last = self._strangers.add(stranger)
+        if last:
+            self.hooks.turned_away('too many connections that have not greeted')
+        return BURST if last and self._strangers.is_hard(last, stranger) else 1
+
+    async def _accepted(self, line: socket.socket, stranger: Stranger) -> None:
+        """A connection from its first octet on: one that says nothing costs no more than its socket."""
+        try:
+            if stranger.stage is Stage.SILENT:
+                await first_octet(line)
+                stranger.stage = Stage.SPEAKS
+            stranger.has_transport = True
+            reader, writer = await streams_of(line, self.context)
+            if self.context:
+                stranger.stage = Stage.CERTIFIED
+            await self._hold(reader, writer, stranger)
+        except (OSError, TimeoutError) as fault:
+            self.hooks.turned_away(str(fault) or 'it says nothing')
+
+    def _ended(self, line: socket.socket, stranger: Stranger, task: asyncio.Task[None]) -> None:
+        self._tasks.discard(task)
+        self._strangers.remove(stranger)
+        if stranger.has_transport:
+            # (That closes it; and if it has not begun yet, it sees the end by this.)
+            with suppress(OSError):
+                line.shutdown(socket.SHUT_RDWR)
+        else:
+            line.close()
+
+    async def _hold(self, reader: asyncio.StreamReader, writer: asyncio.StreamWriter,
+                    stranger: Stranger | None = None) -> None:
         """A connection from its beginning to its end."""
         why = 'closed'
         try:
             greeting = await self._greeted(reader, writer)
+            if stranger:
+                self._strangers.remove(stranger)
             await self._take_up(greeting, writer)
+            if stranger:
+                self._strangers.peer = stranger.address
             why = await self._follow(reader, writer)
         except (Refused, BadMessage, OSError, TimeoutError) as fault:
             why = str(fault) or 'no sign of life'
@@ -131,12 +242,8 @@ class Site:
         """Greets, and is greeted."""
         if self.listens and self.context and self.name and not has_name(writer.get_extra_info('peercert'), self.name):
             raise Refused(f'its certificate is not that of {self.name}')
-        self._strangers += 1
-        try:
-            writer.write(spell(self.hooks.greeting()))
-            greeting = await read_one(reader)
-        finally:
-            self._strangers -= 1
+        writer.write(spell(self.hooks.greeting()))
+        greeting = await read_one(reader)
         if not isinstance(greeting, Greeting):
             raise Refused('it does not greet' if greeting else 'it has closed the connection')
         return greeting

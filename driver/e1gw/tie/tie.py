@@ -20,6 +20,7 @@ LOOK = 0.5                  # seconds between two looks at how the trunk stands
 AGAIN = 0.5                 # seconds until the driver is tried again, and a command that was refused
 STUCK = 2.0                 # seconds of a release that the exchange does not follow
 ANSWER_LASTS = 0.1          # seconds of an answer at least, so that the exchange recognises it
+MOST_REASONS = 10           # that are told in a minute why nobody is connected
 Tell = Callable[..., None]
 
 
@@ -53,7 +54,7 @@ class Tie:
         self._tasks: set[asyncio.Task[None]] = set()
         self._moves: dict[int, int] = {}                # of each circuit, how often its state has changed
         self._lost_at = time.monotonic()
-        self._turned = ('', 0.0)                        # why nobody is connected, and when that was told
+        self._turned: dict[str, float] = {}             # why nobody is connected, and when that was told
 
     def start(self) -> None:
         """From now on time counts."""
@@ -277,7 +278,7 @@ class Tie:
         return self.own_greeting
 
     def came(self, greeting: Greeting) -> None:
-        self._turned = ('', 0.0)
+        self._turned = {}
         self.there = agreed(self.options.pairs, greeting.pairs)
         left = sorted(set(agreed(self.options.pairs, None)) - set(self.there)) if greeting.pairs else []
         self.tell('site', circuits=len(self.there), left=left)
@@ -304,10 +305,11 @@ class Tie:
         self._look_at_link()
 
     def turned_away(self, why: str) -> None:
-        """Told once a minute, where it is the same again."""
+        """Each reason is told once a minute, and ten of them at most."""
         now = time.monotonic()
-        if why != self._turned[0] or now >= self._turned[1] + 60:
-            self._turned = (why, now)
+        self._turned = {each: at for each, at in self._turned.items() if now < at + 60}
+        if why not in self._turned and len(self._turned) < MOST_REASONS:
+            self._turned[why] = now
             self.tell('no connection', why=why)
 
     def _join(self) -> None:
