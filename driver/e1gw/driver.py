@@ -16,12 +16,12 @@ from .counts import Counts
 from .events import NOTICED, WARNED, words_of
 from .gateway import Gateway, Shadow
 from .guards import Guards
-from .keep import OneFile, Ring, put_file
+from .keep import Ring, put_file
 from .lines import OPEN, Event, Lines, Role, State
 from .loop import READ, WRITE, Loop
 from .metrics import exposition, table
 from .options import Options
-from .outlets import Journal, Outlet, to_descriptor
+from .outlets import Journal, Outlet, to_descriptor, to_file
 from .pictures import Pictures
 from .session import SAMPLES_A_SECOND, Codec, Command, Kind, Record, codec_record, command_record, trunk_record
 from .sockets import sockets_of
@@ -85,18 +85,16 @@ class Driver:
         path = self.options.json
         if not path:
             return None
-        file = 1 if path == '-' else os.open(path, os.O_WRONLY | os.O_CREAT | os.O_APPEND | os.O_CLOEXEC, 0o644)
-        return to_descriptor('json', file, self._note)
+        return to_descriptor('json', 1, self._note) if path == '-' else to_file('json', path, self._note)
 
     def _open_session(self) -> tuple[Outlet | None, Ring | None]:
         options = self.options
         if not options.session:
             return None, None
         if options.keep is None:
-            one = OneFile(options.session)
-            return Outlet('session', one.write, self._note, one.close), None
+            return to_file('session', options.session, self._note), None
         ring = Ring(options.session, options.name, options.config, options.keep)
-        return Outlet('session', ring.write, self._note, ring.close), ring
+        return Outlet('session', ring.write, self._note, ring.close, ring.open), ring
 
     def open_doors(self) -> None:
         """Opens what others connect to, and the terminal."""

@@ -2,22 +2,25 @@
 reader that stands still is ever waited for."""
 from __future__ import annotations
 
+import errno
 import os
 import queue
 import sys
 import threading
+import time
 from typing import Callable
 
 MOST_WAITING = 16 << 20     # octets for one place; more are not kept
 
 
 class Outlet:
-    """Writes pieces in their order by `write`, which may wait and may fail. After a failure, or where too much waits,
-    the outlet has ended, and `ended(why)` is called once, in another thread or in that of `put`."""
+    """Writes pieces in their order by `write`, which may wait and may fail; before the first one `begin` opens what is
+    to be opened. After a failure, or where too much waits, the outlet has ended, and `ended(why)` is called once, in
+    another thread or in that of `put`."""
 
     def __init__(self, name: str, write: Callable[[bytes], object], ended: Callable[[str, str], None] | None = None,
-                 finish: Callable[[], object] | None = None) -> None:
-        self.name, self._write, self._ended, self._finish = name, write, ended, finish
+                 finish: Callable[[], object] | None = None, begin: Callable[[], object] | None = None) -> None:
+        self.name, self._write, self._ended, self._finish, self._begin = name, write, ended, finish, begin
         self.has_ended = False
         self._queue: queue.SimpleQueue[bytes | None] = queue.SimpleQueue()
         self._put = self._done = 0
@@ -34,6 +37,10 @@ class Outlet:
         self._put += len(piece)
         self._queue.put(piece)
 
+    def waiting(self) -> int:
+        """Octets that are not written yet."""
+        return self._put - self._done
+
     def close(self, seconds: float = 2.0) -> None:
         """Waits that long at most until all is written."""
         self._queue.put(None)
@@ -47,6 +54,8 @@ class Outlet:
 
     def _run(self) -> None:
         try:
+            if self._begin:
+                self._begin()
             while (piece := self._queue.get()) is not None:
                 if not self.has_ended:
                     self._write(piece)
@@ -70,6 +79,46 @@ def write_all(file: int, octets: bytes) -> None:
 
 def to_descriptor(name: str, file: int, ended: Callable[[str, str], None] | None = None) -> Outlet:
     return Outlet(name, lambda octets: write_all(file, octets), ended)
+
+
+def open_to_append(path: str, seconds: float = 2.0) -> int:
+    """Opens a file behind what it has; a FIFO that nobody reads is waited for that long."""
+    until = time.monotonic() + seconds
+    while True:
+        try:
+            flags = os.O_WRONLY | os.O_CREAT | os.O_APPEND | os.O_CLOEXEC | os.O_NOCTTY | os.O_NONBLOCK
+            file = os.open(path, flags, 0o640)
+        except OSError as fault:
+            if fault.errno != errno.ENXIO:
+                raise
+            if time.monotonic() >= until:
+                raise OSError(errno.ENXIO, 'nobody reads it') from None
+            time.sleep(0.05)
+        else:
+            os.set_blocking(file, True)
+            return file
+
+
+class OneFile:
+    """A file that is written behind what it has. It is opened by `open`, in the thread of its outlet."""
+
+    def __init__(self, path: str) -> None:
+        self._path, self._file = path, -1
+
+    def open(self) -> None:
+        self._file = open_to_append(self._path)
+
+    def write(self, octets: bytes) -> None:
+        write_all(self._file, octets)
+
+    def close(self) -> None:
+        os.close(self._file)
+
+
+def to_file(name: str, path: str, ended: Callable[[str, str], None]) -> Outlet:
+    """An outlet to a file of this path, which may not be there, and may never open."""
+    file = OneFile(path)
+    return Outlet(name, file.write, ended, file.close, file.open)
 
 
 class Journal:
