@@ -391,6 +391,7 @@ class Driver:
     def second(self) -> None:
         """Each second."""
         self._slowest.append(0.0)
+        self.journal.look()
         now = time.monotonic()
         for peer in [peer for peer in self.peers if isinstance(peer, Visitor) and peer.late(now)]:
             peer.close()
@@ -414,9 +415,9 @@ class Driver:
         name = event['event']
         if name in WARNED or name in NOTICED:
             level = Journal.WARNING if name in WARNED or event.get('on') else Journal.NOTICE
-            self.journal.line(level, words_of(event))
+            self.journal.line(level, words_of(event), name)
         elif name == 'state' and event['state'] == State.FAULT:
-            self.journal.line(Journal.WARNING, words_of(event))
+            self.journal.line(Journal.WARNING, words_of(event), name)
         followers = [peer for peer in self.peers if isinstance(peer, Client) and peer.follows]
         if followers or self._json:
             text = (json.dumps({'time': round(time.time(), 6), **event}) + '\n').encode()

@@ -8,6 +8,7 @@ import queue
 import sys
 import threading
 import time
+from dataclasses import dataclass
 from typing import Callable
 
 MOST_WAITING = 16 << 20     # octets for one place; more are not kept
@@ -121,20 +122,55 @@ def to_file(name: str, path: str, ended: Callable[[str, str], None]) -> Outlet:
     return Outlet(name, file.write, ended, file.close, file.open)
 
 
+@dataclass
+class _Kind:
+    """What the journal was told of one kind in this minute."""
+
+    began: float
+    level: int
+    told: int = 0
+    left: int = 0
+
+
 class Journal:
-    """Lines for the operator on standard error, with the levels of syslog where systemd's journal reads them."""
+    """Lines for the operator on standard error, with the levels of syslog where systemd's journal reads them. Of one
+    kind there are MOST lines a minute, and then how many more there were."""
 
     ERROR, WARNING, NOTICE, INFO = 3, 4, 5, 6
+    MOST, MINUTE = 20, 60.0
 
-    def __init__(self, file: int = 2) -> None:
-        self._outlet = to_descriptor('standard error', file)
+    def __init__(self, file: int = 2, clock: Callable[[], float] = time.monotonic) -> None:
+        self._outlet, self._clock = to_descriptor('standard error', file), clock
         self._levels = _is_journal(file)
+        self._kinds: dict[str, _Kind] = {}
 
-    def line(self, level: int, text: str) -> None:
+    def line(self, level: int, text: str, kind: str | None = None) -> None:
+        """A line; those of a kind are bounded, those without one are not."""
+        if kind is None:
+            return self._put(level, text)
+        self.look()
+        found = self._kinds.setdefault(kind, _Kind(self._clock(), level))
+        if found.told < self.MOST:
+            found.told += 1
+            self._put(level, text)
+        else:
+            found.left += 1
+
+    def look(self, end: bool = False) -> None:
+        """To be called now and then: says of a minute that is over, or at the end, how many lines were left out."""
+        now = self._clock()
+        for kind, found in list(self._kinds.items()):
+            if end or now - found.began >= self.MINUTE:
+                del self._kinds[kind]
+                if found.left:
+                    self._put(found.level, f'{kind}: .. and {found.left} more in the last minute')
+
+    def _put(self, level: int, text: str) -> None:
         front = f'<{level}>' if self._levels else 'e1gw-trunk: '
         self._outlet.put(f'{front}{text}\n'.encode(errors='replace'))
 
     def close(self) -> None:
+        self.look(True)
         self._outlet.close()
 
 

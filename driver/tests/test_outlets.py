@@ -1,6 +1,7 @@
-"""Places that cannot be written to."""
+"""Places that cannot be written to, and a journal that a storm does not fill."""
 from __future__ import annotations
 
+import json
 import os
 import stat
 import tempfile
@@ -11,7 +12,7 @@ import unittest
 from . import support
 from .test_driver import FOUR, aligned, call
 from .world import SECONDS, World, config_of
-from e1gw.outlets import Outlet, open_to_append, to_file
+from e1gw.outlets import Journal, Outlet, open_to_append, to_file
 
 
 class Openings(unittest.TestCase):
@@ -80,6 +81,40 @@ class Openings(unittest.TestCase):
             world.quit()
             self.assertEqual([stat.S_IMODE(os.stat(world.path(name)).st_mode) for name in ('kept', 'told')],
                              [0o640, 0o640])
+
+
+class Storms(unittest.TestCase):
+    def test_lines_of_a_kind(self) -> None:
+        now = [100.0]
+        reads, writes = os.pipe()
+        journal = Journal(writes, lambda: now[0])
+        for second in range(120):
+            now[0] = 100.0 + second
+            for _ in range(10):
+                journal.line(Journal.WARNING, 'gap', 'gap')
+            journal.look()
+        journal.line(Journal.NOTICE, 'rate', 'rate')
+        journal.line(Journal.ERROR, 'end')
+        journal.close()
+        os.close(writes)
+        with open(reads, encoding='utf-8') as file:
+            said = [line.removeprefix('e1gw-trunk: ') for line in file.read().splitlines()]
+        self.assertEqual(said, [*['gap'] * 20, 'gap: .. and 580 more in the last minute', *['gap'] * 20, 'rate', 'end',
+                                'gap: .. and 580 more in the last minute'])
+
+    def test_a_storm_on_a_trunk(self) -> None:
+        support.program()
+        with World(config_of(FOUR), '--json', '@/told') as world:
+            for _ in range(15):
+                aligned(world)
+                world.give(b'\xFF' * 2048)
+            status, said = world.quit()
+            with open(world.path('told'), encoding='utf-8') as file:
+                events = [json.loads(line) for line in file]
+        lost = [event for event in events if event['event'] == 'lost' and event['what'] == 'frame']
+        self.assertEqual((status, len(lost)), (0, 15))
+        self.assertLessEqual(said.count(' alignment lost'), 20)
+        self.assertIn('lost: .. and ', said)
 
 
 if __name__ == '__main__':
