@@ -16,12 +16,12 @@ from .counts import Counts
 from .events import NOTICED, WARNED, words_of
 from .gateway import Gateway, Shadow
 from .guards import Guards
-from .keep import OneFile, Ring, put_file
+from .keep import Ring, put_file
 from .lines import OPEN, Event, Lines, Role, State
 from .loop import READ, WRITE, Loop
 from .metrics import exposition, table
 from .options import Options
-from .outlets import Journal, Outlet, to_descriptor
+from .outlets import Journal, Outlet, to_descriptor, to_file
 from .pace import Pace
 from .pictures import Pictures
 from .restarts import Restarts
@@ -85,18 +85,16 @@ class Driver:
         path = self.options.json
         if not path:
             return None
-        file = 1 if path == '-' else os.open(path, os.O_WRONLY | os.O_CREAT | os.O_APPEND | os.O_CLOEXEC, 0o644)
-        return to_descriptor('json', file, self._note)
+        return to_descriptor('json', 1, self._note) if path == '-' else to_file('json', path, self._note)
 
     def _open_session(self) -> tuple[Outlet | None, Ring | None]:
         options = self.options
         if not options.session:
             return None, None
         if options.keep is None:
-            one = OneFile(options.session)
-            return Outlet('session', one.write, self._note, one.close), None
+            return to_file('session', options.session, self._note), None
         ring = Ring(options.session, options.name, options.config, options.keep)
-        return Outlet('session', ring.write, self._note, ring.close), ring
+        return Outlet('session', ring.write, self._note, ring.close, ring.open), ring
 
     def open_doors(self) -> None:
         """Opens what others connect to, and the terminal."""
@@ -396,6 +394,7 @@ class Driver:
     def second(self) -> None:
         """Each second."""
         self._slowest.append(0.0)
+        self.journal.look()
         now = time.monotonic()
         for peer in [peer for peer in self.peers if isinstance(peer, Visitor) and peer.late(now)]:
             peer.close()
@@ -419,9 +418,9 @@ class Driver:
         name = event['event']
         if name in WARNED or name in NOTICED:
             level = Journal.WARNING if name in WARNED or event.get('on') else Journal.NOTICE
-            self.journal.line(level, words_of(event))
+            self.journal.line(level, words_of(event), name)
         elif name == 'state' and event['state'] == State.FAULT:
-            self.journal.line(Journal.WARNING, words_of(event))
+            self.journal.line(Journal.WARNING, words_of(event), name)
         followers = [peer for peer in self.peers if isinstance(peer, Client) and peer.follows]
         if followers or self._json:
             text = (json.dumps({'time': round(time.time(), 6), **event}) + '\n').encode()

@@ -1,10 +1,11 @@
-"""Sessions that are kept: the recording in a file, or in a ring of files by time, each of which says what it is."""
+"""Sessions that are kept in a ring of files by time, each of which says what it is."""
 from __future__ import annotations
 
-import glob
 import hashlib
+import itertools
 import json
 import os
+import re
 import shutil
 import subprocess
 import threading
@@ -16,6 +17,9 @@ from .outlets import write_all
 
 UNITS = {'s': 1, 'm': 60, 'h': 3600, 'd': 86400}
 FILES = 12                  # into so many files the time that is kept is cut
+MOST_EARLIER = 3 * FILES    # files of earlier runs
+RECORDS = '.e1gw'
+NEW = os.O_WRONLY | os.O_CREAT | os.O_EXCL | os.O_CLOEXEC
 
 
 def seconds_of(text: str) -> int:
@@ -32,41 +36,33 @@ def sum_of(path: str) -> str:
         return hashlib.sha256(file.read()).hexdigest()
 
 
-class OneFile:
-    """All of a session in one file, behind what the file has."""
-
-    def __init__(self, path: str) -> None:
-        self._file = os.open(path, os.O_WRONLY | os.O_CREAT | os.O_APPEND | os.O_CLOEXEC, 0o640)
-
-    def write(self, octets: bytes) -> None:
-        write_all(self._file, octets)
-
-    def close(self) -> None:
-        os.close(self._file)
-
-
 @dataclass
 class Ring:
-    """A session in files of so many seconds each, in a folder; older ones than are to be kept are taken away.
+    """A session in files of a twelfth of the time that is kept, in a folder; the oldest are taken away.
 
     A file is NAME-TIME.e1gw, and beside it NAME-TIME.json says the sum of the configuration, the time, the place on the
-    trunk, and whether the file begins where the session began or in the middle of it."""
+    trunk, and whether the file begins where the session began or in the middle of it. Nothing here trusts the clock of
+    the day: it may be set at any time, and tells no more than a name."""
 
     folder: str
     name: str
     config: str
     keep: int
     _file: int = -1
-    _path: str = ''
+    _front: str = ''        # the path of the file that is written, without its ending
     _due: float = 0.0
-    _began: bool = False
+    _began: float | None = None
+    _own: deque[str] = field(default_factory=deque)         # files of this ring, the one that is written behind them
+    _earlier: deque[str] = field(default_factory=deque)     # those of rings before it
     places: deque[int] = field(default_factory=deque)   # of each piece that is to be written, where it begins
 
-    def __post_init__(self) -> None:
+    def open(self) -> None:
+        """Makes the folder, and looks at what is in it."""
         os.makedirs(self.folder, mode=0o750, exist_ok=True)
         self._sum = sum_of(self.config)
         self._each = max(5, self.keep // FILES)
         self._zstd = shutil.which('zstd')
+        self._earlier.extend(_fronts_in(self.folder, self.name))
 
     def write(self, octets: bytes) -> None:
         """Writes whole records."""
@@ -77,28 +73,26 @@ class Ring:
 
     def _next(self, place: int) -> None:
         self._finish()
-        if self._path and self._zstd:
-            threading.Thread(target=_compress, args=(self._zstd, self._path), daemon=True).start()
-        stamp = time.strftime('%Y%m%dT%H%M%SZ', time.gmtime())
-        front = os.path.join(self.folder, f'{self.name}-{stamp}')
+        if self._front and self._zstd:
+            threading.Thread(target=_compress, args=(self._zstd, f'{self._front}{RECORDS}'), daemon=True).start()
         about = {'config': os.path.abspath(self.config), 'config_sha256': self._sum, 'time': round(time.time(), 3),
-                 'place': place, 'begins': 'middle' if self._began else 'start'}
-        with open(f'{front}.json', 'w', encoding='utf-8') as file:
+                 'place': place, 'begins': 'start' if self._began is None else 'middle'}
+        stamp = time.strftime('%Y%m%dT%H%M%SZ', time.gmtime())
+        self._file, self._front = _open_fresh(os.path.join(self.folder, f'{self.name}-{stamp}'))
+        self._own.append(self._front)
+        with open(os.open(f'{self._front}.json', NEW, 0o640), 'w', encoding='utf-8') as file:
             file.write(json.dumps(about) + '\n')
-        self._path = f'{front}.e1gw'
-        self._file = os.open(self._path, os.O_WRONLY | os.O_CREAT | os.O_APPEND | os.O_CLOEXEC, 0o640)
-        self._due = time.monotonic() + self._each
-        self._began = True
-        self._drop_old()
+        now = time.monotonic()
+        self._began = now if self._began is None else self._began
+        self._due = now + self._each
+        self._drop_old(now - self._began)
 
-    def _drop_old(self) -> None:
-        oldest = time.time() - self.keep - self._each
-        for path in glob.glob(os.path.join(glob.escape(self.folder), f'{glob.escape(self.name)}-*Z.*')):
-            try:
-                if path != self._path and os.stat(path).st_mtime < oldest:
-                    os.unlink(path)
-            except OSError:
-                pass
+    def _drop_old(self, seconds: float) -> None:
+        """Takes away what is older than is to be kept; this ring has been writing for so many seconds."""
+        while len(self._own) > FILES + 1:
+            _drop(self._own.popleft())
+        while self._earlier and (len(self._earlier) > MOST_EARLIER or seconds >= self.keep):
+            _drop(self._earlier.popleft())
 
     def _finish(self) -> None:
         if self._file >= 0:
@@ -110,12 +104,44 @@ class Ring:
         self._finish()
 
 
+def _fronts_in(folder: str, name: str) -> list[str]:
+    """The files of a ring of this name that are there, without their endings, in the order of their names."""
+    is_one = re.compile(rf'({re.escape(name)}-\d{{8}}T\d{{6}}Z(?:_\d+)?)\.(?:e1gw|json)').match
+    fronts = {found[1] for each in os.listdir(folder) if (found := is_one(each))}
+    return [os.path.join(folder, front) for front in sorted(fronts)]
+
+
+def _open_fresh(front: str) -> tuple[int, str]:
+    """Opens a file that was not there before; its name gets a number if it has to. Returns its path, too, without the
+    ending."""
+    for number in itertools.count(1):
+        path = front if number == 1 else f'{front}_{number}'
+        if os.path.lexists(f'{path}.json') or os.path.lexists(f'{path}{RECORDS}.zst'):
+            continue
+        try:
+            return os.open(f'{path}{RECORDS}', NEW, 0o640), path
+        except FileExistsError:
+            pass
+    raise AssertionError
+
+
+def _drop(front: str) -> None:
+    """Takes a file away, and what says what it is behind it. (What is compressed has to find its part gone first.)"""
+    for ending in (f'{RECORDS}.part', f'{RECORDS}.zst', RECORDS, '.json'):
+        try:
+            os.unlink(f'{front}{ending}')
+        except FileNotFoundError:
+            pass
+        except OSError:
+            return
+
+
 def _compress(zstd: str, path: str) -> None:
-    """Compresses a file, as the least of the machine's work."""
+    """Compresses a file that is whole, as the least of the machine's work."""
     part = f'{path}.part'
     try:
         done = subprocess.run(['nice', '-n', '19', zstd, '-q', '-f', path, '-o', part], stdin=subprocess.DEVNULL,
-                              stderr=subprocess.DEVNULL, start_new_session=True, check=False)
+                              stderr=subprocess.DEVNULL, start_new_session=True, check=False, umask=0o027)
         if done.returncode == 0:
             os.rename(part, f'{path}.zst')
             os.unlink(path)

@@ -2,22 +2,26 @@
 reader that stands still is ever waited for."""
 from __future__ import annotations
 
+import errno
 import os
 import queue
 import sys
 import threading
+import time
+from dataclasses import dataclass
 from typing import Callable
 
 MOST_WAITING = 16 << 20     # octets for one place; more are not kept
 
 
 class Outlet:
-    """Writes pieces in their order by `write`, which may wait and may fail. After a failure, or where too much waits,
-    the outlet has ended, and `ended(why)` is called once, in another thread or in that of `put`."""
+    """Writes pieces in their order by `write`, which may wait and may fail; before the first one `begin` opens what is
+    to be opened. After a failure, or where too much waits, the outlet has ended, and `ended(why)` is called once, in
+    another thread or in that of `put`."""
 
     def __init__(self, name: str, write: Callable[[bytes], object], ended: Callable[[str, str], None] | None = None,
-                 finish: Callable[[], object] | None = None) -> None:
-        self.name, self._write, self._ended, self._finish = name, write, ended, finish
+                 finish: Callable[[], object] | None = None, begin: Callable[[], object] | None = None) -> None:
+        self.name, self._write, self._ended, self._finish, self._begin = name, write, ended, finish, begin
         self.has_ended = False
         self._queue: queue.SimpleQueue[bytes | None] = queue.SimpleQueue()
         self._put = self._done = 0
@@ -34,6 +38,10 @@ class Outlet:
         self._put += len(piece)
         self._queue.put(piece)
 
+    def waiting(self) -> int:
+        """Octets that are not written yet."""
+        return self._put - self._done
+
     def close(self, seconds: float = 2.0) -> None:
         """Waits that long at most until all is written."""
         self._queue.put(None)
@@ -47,6 +55,8 @@ class Outlet:
 
     def _run(self) -> None:
         try:
+            if self._begin:
+                self._begin()
             while (piece := self._queue.get()) is not None:
                 if not self.has_ended:
                     self._write(piece)
@@ -72,20 +82,95 @@ def to_descriptor(name: str, file: int, ended: Callable[[str, str], None] | None
     return Outlet(name, lambda octets: write_all(file, octets), ended)
 
 
+def open_to_append(path: str, seconds: float = 2.0) -> int:
+    """Opens a file behind what it has; a FIFO that nobody reads is waited for that long."""
+    until = time.monotonic() + seconds
+    while True:
+        try:
+            flags = os.O_WRONLY | os.O_CREAT | os.O_APPEND | os.O_CLOEXEC | os.O_NOCTTY | os.O_NONBLOCK
+            file = os.open(path, flags, 0o640)
+        except OSError as fault:
+            if fault.errno != errno.ENXIO:
+                raise
+            if time.monotonic() >= until:
+                raise OSError(errno.ENXIO, 'nobody reads it') from None
+            time.sleep(0.05)
+        else:
+            os.set_blocking(file, True)
+            return file
+
+
+class OneFile:
+    """A file that is written behind what it has. It is opened by `open`, in the thread of its outlet."""
+
+    def __init__(self, path: str) -> None:
+        self._path, self._file = path, -1
+
+    def open(self) -> None:
+        self._file = open_to_append(self._path)
+
+    def write(self, octets: bytes) -> None:
+        write_all(self._file, octets)
+
+    def close(self) -> None:
+        os.close(self._file)
+
+
+def to_file(name: str, path: str, ended: Callable[[str, str], None]) -> Outlet:
+    """An outlet to a file of this path, which may not be there, and may never open."""
+    file = OneFile(path)
+    return Outlet(name, file.write, ended, file.close, file.open)
+
+
+@dataclass
+class _Kind:
+    """What the journal was told of one kind in this minute."""
+
+    began: float
+    level: int
+    told: int = 0
+    left: int = 0
+
+
 class Journal:
-    """Lines for the operator on standard error, with the levels of syslog where systemd's journal reads them."""
+    """Lines for the operator on standard error, with the levels of syslog where systemd's journal reads them. Of one
+    kind there are MOST lines a minute, and then how many more there were."""
 
     ERROR, WARNING, NOTICE, INFO = 3, 4, 5, 6
+    MOST, MINUTE = 20, 60.0
 
-    def __init__(self, file: int = 2) -> None:
-        self._outlet = to_descriptor('standard error', file)
+    def __init__(self, file: int = 2, clock: Callable[[], float] = time.monotonic) -> None:
+        self._outlet, self._clock = to_descriptor('standard error', file), clock
         self._levels = _is_journal(file)
+        self._kinds: dict[str, _Kind] = {}
 
-    def line(self, level: int, text: str) -> None:
+    def line(self, level: int, text: str, kind: str | None = None) -> None:
+        """A line; those of a kind are bounded, those without one are not."""
+        if kind is None:
+            return self._put(level, text)
+        self.look()
+        found = self._kinds.setdefault(kind, _Kind(self._clock(), level))
+        if found.told < self.MOST:
+            found.told += 1
+            self._put(level, text)
+        else:
+            found.left += 1
+
+    def look(self, end: bool = False) -> None:
+        """To be called now and then: says of a minute that is over, or at the end, how many lines were left out."""
+        now = self._clock()
+        for kind, found in list(self._kinds.items()):
+            if end or now - found.began >= self.MINUTE:
+                del self._kinds[kind]
+                if found.left:
+                    self._put(found.level, f'{kind}: .. and {found.left} more in the last minute')
+
+    def _put(self, level: int, text: str) -> None:
         front = f'<{level}>' if self._levels else 'e1gw-trunk: '
         self._outlet.put(f'{front}{text}\n'.encode(errors='replace'))
 
     def close(self) -> None:
+        self.look(True)
         self._outlet.close()
 
 

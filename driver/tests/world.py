@@ -175,12 +175,20 @@ class World:
                 answer += piece
         return answer.decode().rstrip('\n')
 
-    def status(self) -> dict[str, Any]:
+    def told(self) -> dict[str, Any]:
+        """The status, which may be a moment old; every change that was told is in it."""
         found: dict[str, Any] = json.loads(self.ask('status json'))
         return found
 
+    def status(self) -> dict[str, Any]:
+        """The status of now."""
+        began = round(time.time(), 3)
+        while (found := self.told())['time'] < began:
+            time.sleep(0.01)
+        return found
+
     def state(self, circuit: int) -> str:
-        return str(self.status()['circuits'][circuit - 1]['state'])
+        return str(self.told()['circuits'][circuit - 1]['state'])
 
     def settled(self) -> dict[str, Any]:
         """The status once the shadow has answered all."""

@@ -76,11 +76,12 @@ AppendsBut-behind late a b c waiting before more few p q =
       few = omega (arith, few, len, length-append p.written q.written);
     }
 
--- .. of equal octets, and of more octets
+-- a prefix of octets is one of equal octets
 pub AppendsBut-same : {late : ℕ} {a b : Option (List ℕ)} {first ones xs ys : List ℕ} → first ≡ ones → xs ≡ ys
     → AppendsBut late a b first xs → AppendsBut late a b ones ys
 AppendsBut-same e f p = rw (← e, ← f) p
 
+-- .. and one of more octets
 pub AppendsBut-more : {late : ℕ} {a b : Option (List ℕ)} {first octets : List ℕ} (more : List ℕ)
     → AppendsBut late a b first octets → AppendsBut late a b first (octets ++ more)
 AppendsBut-more more p = record {

@@ -1,0 +1,121 @@
+"""Places that cannot be written to, and a journal that a storm does not fill."""
+from __future__ import annotations
+
+import json
+import os
+import stat
+import tempfile
+import threading
+import time
+import unittest
+
+from . import support
+from .test_driver import FOUR, aligned, call
+from .world import SECONDS, World, config_of
+from e1gw.outlets import Journal, Outlet, open_to_append, to_file
+
+
+class Openings(unittest.TestCase):
+    def setUp(self) -> None:
+        folder = tempfile.TemporaryDirectory()
+        self.addCleanup(folder.cleanup)
+        self.fifo = os.path.join(folder.name, 'fifo')
+        os.mkfifo(self.fifo)
+        self.ended: list[str] = []
+
+    def until_ended(self) -> str:
+        until = time.monotonic() + SECONDS
+        while not self.ended and time.monotonic() < until:
+            time.sleep(0.01)
+        return self.ended[0]
+
+    def test_a_fifo_that_nobody_reads(self) -> None:
+        with self.assertRaises(OSError):
+            open_to_append(self.fifo, 0.1)
+        outlet = to_file('session', self.fifo, lambda what, why: self.ended.append(f'{what}: {why}'))
+        outlet.put(b'abc')
+        self.assertEqual(self.until_ended(), 'session: nobody reads it')
+
+    def test_a_fifo_that_somebody_reads_in_time(self) -> None:
+        outlet = to_file('session', self.fifo, lambda what, why: self.ended.append(why))
+        outlet.put(b'abc')
+        time.sleep(0.1)
+        with open(self.fifo, 'rb') as file:
+            outlet.put(b'def')
+            self.assertEqual(file.read(6), b'abcdef')
+            outlet.close()
+        self.assertEqual(self.ended, [])
+
+    def test_an_opening_that_never_ends(self) -> None:
+        opened, written = threading.Event(), list[bytes]()
+        outlet = Outlet('session', written.append, None, None, opened.wait)
+        for _ in range(1000):
+            outlet.put(b'abc')
+        self.assertEqual((written, outlet.waiting()), ([], 3000))
+        opened.set()
+        outlet.close()
+        self.assertEqual(len(written), 1000)
+
+    def test_a_trunk_whose_files_do_not_open(self) -> None:
+        support.program()
+        none = os.path.join(self.fifo, 'none')
+        for options, what in ((('--session', self.fifo), 'session'), (('--json', self.fifo), 'json'),
+                              (('--session', none), 'session'), (('--json', none), 'json'),
+                              (('--session', none, '--keep', '1m'), 'session')):
+            with self.subTest(options), World(config_of(FOUR), *options) as world:
+                aligned(world)
+                call(world, 1)
+                until = time.monotonic() + SECONDS
+                while world.told()['ended'][what] is None and time.monotonic() < until:
+                    world.step()
+                self.assertEqual([name for name, why in world.status()['ended'].items() if why is not None], [what])
+                self.assertEqual(world.state(1), 'answered')
+                status, said = world.quit()
+                self.assertEqual((status, said.count(f'{what} ended, the calls go on: ')), (0, 1))
+
+    def test_modes(self) -> None:
+        support.program()
+        front = ('sh', '-c', 'umask 0; exec "$@"', 'sh')
+        with World(config_of(FOUR), '--session', '@/kept', '--json', '@/told', front=front) as world:
+            aligned(world)
+            world.quit()
+            self.assertEqual([stat.S_IMODE(os.stat(world.path(name)).st_mode) for name in ('kept', 'told')],
+                             [0o640, 0o640])
+
+
+class Storms(unittest.TestCase):
+    def test_lines_of_a_kind(self) -> None:
+        now = [100.0]
+        reads, writes = os.pipe()
+        journal = Journal(writes, lambda: now[0])
+        for second in range(120):
+            now[0] = 100.0 + second
+            for _ in range(10):
+                journal.line(Journal.WARNING, 'gap', 'gap')
+            journal.look()
+        journal.line(Journal.NOTICE, 'rate', 'rate')
+        journal.line(Journal.ERROR, 'end')
+        journal.close()
+        os.close(writes)
+        with open(reads, encoding='utf-8') as file:
+            said = [line.removeprefix('e1gw-trunk: ') for line in file.read().splitlines()]
+        self.assertEqual(said, [*['gap'] * 20, 'gap: .. and 580 more in the last minute', *['gap'] * 20, 'rate', 'end',
+                                'gap: .. and 580 more in the last minute'])
+
+    def test_a_storm_on_a_trunk(self) -> None:
+        support.program()
+        with World(config_of(FOUR), '--json', '@/told') as world:
+            for _ in range(15):
+                aligned(world)
+                world.give(b'\xFF' * 2048)
+            status, said = world.quit()
+            with open(world.path('told'), encoding='utf-8') as file:
+                events = [json.loads(line) for line in file]
+        lost = [event for event in events if event['event'] == 'lost' and event['what'] == 'frame']
+        self.assertEqual((status, len(lost)), (0, 15))
+        self.assertLessEqual(said.count(' alignment lost'), 20)
+        self.assertIn('lost: .. and ', said)
+
+
+if __name__ == '__main__':
+    unittest.main()
