@@ -1,0 +1,52 @@
+"""The scripts of the package that dpkg runs: what they ask systemd for."""
+import os
+import subprocess
+import tempfile
+import unittest
+
+TOP = os.path.dirname(os.path.dirname(os.path.dirname(os.path.abspath(__file__))))
+RUNS = '/run/systemd/system'        # is there where systemd runs
+
+
+def asked(script: str, *words: str) -> list[str]:
+    """What a script of the package asks of systemd, with commands in its place that only say what they were given."""
+    with tempfile.TemporaryDirectory() as folder:
+        said = os.path.join(folder, 'said')
+        for name in ('deb-systemd-invoke', 'systemctl', 'systemd-sysusers', 'rmdir'):
+            with open(os.path.join(folder, name), 'w', encoding='ascii') as file:
+                file.write(f'#!/bin/sh\necho {name} "$@" >> {said}\n')
+            os.chmod(file.name, 0o755)
+        with open(os.path.join(TOP, 'package', script), encoding='ascii') as file:
+            text = file.read()
+        if RUNS not in text:
+            raise AssertionError(f'{script} does not look whether systemd runs')
+        subprocess.run(['sh', '-c', text.replace(RUNS, folder), script, *words], check=True, timeout=20,
+                       env={**os.environ, 'PATH': f'{folder}:{os.environ["PATH"]}'})
+        if not os.path.exists(said):
+            return []
+        with open(said, encoding='ascii') as file:
+            return file.read().split()
+
+
+class Units(unittest.TestCase):
+    def units(self) -> list[str]:
+        return [name.replace('@.', '@*.') for name in sorted(os.listdir(os.path.join(TOP, 'system')))
+                if name.endswith('.service')]
+
+    def test_removal_stops_all(self) -> None:
+        """Each kind of unit is stopped, ties before the trunks that they command."""
+        self.assertEqual(self.units(), ['e1gw-tie@*.service', 'e1gw-trunk@*.service'])
+        self.assertEqual(asked('prerm', 'remove'), ['deb-systemd-invoke', 'stop', *self.units()])
+
+    def test_upgrade_stops_none(self) -> None:
+        self.assertEqual(asked('prerm', 'upgrade', '0.2.0'), [])
+        self.assertEqual(asked('postrm', 'upgrade', '0.2.0'), [])
+        self.assertNotIn('stop', asked('postinst', 'configure', '0.1.0'))
+
+    def test_units_are_read_anew(self) -> None:
+        for script, word in (('postinst', 'configure'), ('postrm', 'remove')):
+            self.assertIn('daemon-reload', asked(script, word))
+
+
+if __name__ == '__main__':
+    unittest.main()
