@@ -52,12 +52,16 @@ class Clear(Trunk):
 
     def read(self, most: int) -> bytes:
         if not self._ready:
-            # So many that they are no more than `most` with their slots 0: of 256 octets 248, eight frames.
-            self._take(self._device.read(max(1, most - -(-most // FRAME))))
+            self._take(self._device.read(self._most_of(most)))
         out = bytes(self._ready[:most])
         del self._ready[:most]
         self._place.given = (self._place.given + len(out)) % (2 * FRAME)
         return out
+
+    def _most_of(self, most: int) -> int:
+        """Whole frames, so many that they are no more than `most` with their slots 0 and with what is filled in."""
+        frames = most // FRAME - 2 * (self._missing > 0 or not self._slots.follows)
+        return frames * SLOTS if frames > 0 else max(1, most - -(-most // FRAME))
 
     def _take(self, octets: bytes) -> None:
         """Slot 0 goes with slot 1, so nothing is given before the device gives."""

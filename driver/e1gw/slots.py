@@ -60,6 +60,11 @@ class Slots:
         self._frame = b''                   # octets of this frame, while slot 16 is searched
         self._search = Search()
 
+    @property
+    def follows(self) -> bool:
+        """Whether slot 16 is in its place, and frames need not be moved."""
+        return self._next is not None
+
     def begin(self) -> int | None:
         """A frame of the device begins. Returns by how many octets it has to be moved, if slot 16 is found now."""
         if self._after is not None:

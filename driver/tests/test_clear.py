@@ -58,7 +58,7 @@ class Slots(unittest.TestCase):
         device = Device(slots)
         trunk = Clear(device)
         self.assertEqual(trunk.read(256), b'\x9b' + slots[:31] + b'\xdf' + slots[31:])
-        self.assertEqual(device.asked, 248)
+        self.assertEqual(device.asked, 186)     # eight frames, but for two while slot 16 is looked for
         trunk.write(b'\x9b' + bytes(31) + b'\xdf' + b'\xff' * 31)
         self.assertEqual(device.taken, bytes(31) + b'\xff' * 31)
 

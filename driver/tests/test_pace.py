@@ -109,14 +109,14 @@ class Service(unittest.TestCase):
 
     def in_time(self, world: World, seconds: float) -> None:
         """Octets by a clock, whatever comes back; then all of it is taken."""
-        began, given, back = time.monotonic(), 0, b''
+        began, given, back, octets = time.monotonic(), 0, b'', b''
         world.line.setblocking(False)
-        while given < seconds * 256_000 or len(back) < given:
-            if given < seconds * 256_000 and given <= (time.monotonic() - began) * 256_000:
+        while octets or given < seconds * 256_000 or len(back) < given:
+            if not octets and given < min(seconds, time.monotonic() - began) * 256_000:
                 octets = world.exchange.multiframe()
-                world.line.send(octets)
-                given += len(octets)
             try:
+                sent = world.line.send(octets) if octets else 0
+                octets, given = octets[sent:], given + sent
                 back += world.line.recv(1 << 16)
             except BlockingIOError:
                 time.sleep(0.0005)
