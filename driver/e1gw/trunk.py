@@ -125,7 +125,7 @@ def _add_trunk(words: argparse._ArgumentGroup) -> None:
     words.add_argument('--align', action='store_true',
                        help='octets of the trunk may begin at any bit; e1gw align runs between it and the gateway')
     words.add_argument('--pace', type=_number(0, 20), default=4, metavar='MS',
-                       help='a trunk that flows is read each so many milliseconds, 0 to 20; 0 reads it when octets come; '
+                       help='a trunk that flows is read each so many milliseconds, 0 to 20; 0: when octets come; '
                        'not with --satop [default: 4]')
     words.add_argument('--most', type=_number(1, 65535), metavar='OCTETS',
                        help='octets in a record at most, 1 to 65535; a frame has 32 [default: 2048, 8 ms; 256 with '
