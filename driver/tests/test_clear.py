@@ -130,7 +130,8 @@ class Moves(unittest.TestCase):
         """By slot: the frames, of these whole ones, with another slot's octet."""
         found: dict[int, list[int]] = {}
         for slot in (*range(1, 16), *range(17, 32)):
-            wrong = [n for n, octet in enumerate(given[slot::32]) if octet not in (IDLE, self.first) and (octet - 32) // 7 != slot]
+            wrong = [n for n, octet in enumerate(given[slot::32])
+                     if octet not in (IDLE, self.first) and (octet - 32) // 7 != slot]
             if wrong:
                 found[slot] = wrong
         return found
