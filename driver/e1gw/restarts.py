@@ -92,7 +92,7 @@ class Restarts:
         return self._calls.setdefault(circuit, Call())
 
     def look(self, now: float, place: int, opened: list[int], counts: bool) -> None:
-        """To be called each tick, with the trunk's place, the open circuits and whether the counts are those of now."""
+        """To be called each tick, with the trunk's place, the open circuits, and whether the counts are of now."""
         due: dict[str, list[int]] = {}
         for n in [n for n in self._calls if n not in opened]:
             del self._calls[n]

@@ -12,6 +12,7 @@ from __future__ import annotations
 
 import argparse
 import functools
+import ipaddress
 import os
 import shutil
 import subprocess
@@ -33,6 +34,11 @@ from .outlets import Journal, hold_descriptors
 from .trunks import Trunk, host_and_port, open_files, open_tcp, open_unix
 
 TOP = os.path.dirname(os.path.dirname(os.path.dirname(os.path.abspath(__file__))))
+
+
+SENDERS = {'any': 'datagrams of any sender are received (--senders any)',
+           'host': 'datagrams are received from the address of peer_host alone (--senders host)',
+           'peer': 'datagrams are received from peer_host and peer_port alone (--senders peer)'}
 
 
 class Usage(Exception):
@@ -106,7 +112,8 @@ def parser() -> argparse.ArgumentParser:
     words.add_argument('--config', metavar='FILE', required=True, help='the configuration, e1gw.toml(5)')
     words.add_argument('--name', help='the name of the trunk in metrics and files [default: that of FILE]')
     words.add_argument('--program', metavar='E1GW', help='the program [default: that of this repository, or e1gw]')
-    words.add_argument('--senders', choices=('any', 'host', 'peer'), help='whose datagrams are received, e1gw(1)')
+    words.add_argument('--senders', choices=('any', 'host', 'peer'), help='whose datagrams are received, e1gw(1) '
+                       '[default: host if each peer_host is an address, else any]')
     words.add_argument('--totals', action='store_true', help='tells at the end what the gateway has counted')
     _add_trunk(words.add_argument_group('the trunk'))
     satop.add_arguments(words)
@@ -125,8 +132,8 @@ def _add_trunk(words: argparse._ArgumentGroup) -> None:
     words.add_argument('--align', action='store_true',
                        help='octets of the trunk may begin at any bit; e1gw align runs between it and the gateway')
     words.add_argument('--pace', type=_number(0, 20), default=4, metavar='MS',
-                       help='a trunk that flows is read each so many milliseconds, 0 to 20; 0: when octets come; '
-                       'not with --satop [default: 4]')
+                       help='a trunk that flows is read each so many milliseconds, 0 to 20; 0 reads it when octets '
+                       'come; not with --satop [default: 4]')
     words.add_argument('--most', type=_number(1, 65535), metavar='OCTETS',
                        help='octets in a record at most, 1 to 65535; a frame has 32 [default: 2048, 8 ms; 256 with '
                        '--satop or --pace 0]')
@@ -192,8 +199,18 @@ def options_of(words: list[str]) -> Options:
 
 
 def _serve_words(asked: argparse.Namespace) -> list[str]:
-    """The options that the gateway gets as they are."""
-    return ['--totals'] * asked.totals + (['--senders', asked.senders] if asked.senders else [])
+    """The options that the gateway gets."""
+    return ['--totals'] * asked.totals + ['--senders', asked.senders or senders_of(asked.config)]
+
+
+def senders_of(config: str) -> str:
+    """Whose datagrams are received if nothing is asked for: `host` if each peer_host is an address, else `any`."""
+    try:
+        for circuit in read_config(config).get('circuit', []):
+            ipaddress.ip_address(circuit.get('peer_host', '127.0.0.1'))
+    except (OSError, ValueError, TypeError, AttributeError):    # a name; what is no configuration is told later
+        return 'any'
+    return 'host'
 
 
 def _serve(options: Options, journal: Journal) -> int:
@@ -209,6 +226,7 @@ def _serve(options: Options, journal: Journal) -> int:
             os._exit(0)
     loop.catch_signals(caught)
     check_config(options.program, options.config)
+    journal.line(Journal.INFO, SENDERS[options.serve[-1]])
     driver.append(Driver(loop, options, journal))
     try:
         driver[0].open_doors()

@@ -1,4 +1,5 @@
-"""A call in simulated time: the driver's clock, counts and restarts, and `e1gw replay` as the gateway's playout.
+"""A call in simulated time: the driver's clock, counts and restarts about `e1gw replay`, whose playout is the
+gateway's.
 
 Nothing here waits for a moment to come, so a machine that stands still changes nothing."""
 from __future__ import annotations

@@ -13,7 +13,7 @@ import unittest
 from typing import Any
 
 from . import support
-from .world import IDLE, LAUNCHER, SECONDS, SEIZED, World, config_of
+from .world import IDLE, LAUNCHER, SECONDS, SEIZED, World, config_of, free_ports
 from e1gw import session
 from e1gw.session import Kind
 
@@ -170,6 +170,18 @@ class Sessions(unittest.TestCase):
             world.step(4)
             counts = world.settled()['circuits'][0]['datagrams']
             self.assertEqual({cause: counts.get(cause) for cause in rows}, dict.fromkeys(rows, 1))
+
+    def test_datagrams_of_strangers(self) -> None:
+        """From another address than peer_host nothing is received; with --senders any all is."""
+        for options, short in (((), 0), (('--senders', 'any'), 1)):
+            config = config_of(FOUR)
+            with World(config, *options) as world, socket.socket(socket.AF_INET, socket.SOCK_DGRAM) as stranger:
+                aligned(world)
+                call(world, 1)
+                stranger.bind(('127.0.0.9', 0))
+                stranger.sendto(b'', ('127.0.0.1', int(config.split('local_port = ')[1].split()[0])))
+                world.step(4)
+                self.assertEqual(world.settled()['circuits'][0]['datagrams'].get('Short', 0), short)
 
     def test_a_ring_of_files(self) -> None:
         with World(config_of(FOUR), '--session', '@/ring', '--keep', '1m', '--name', 'west') as world:
@@ -417,6 +429,19 @@ class Refused(unittest.TestCase):
     def test_a_trunk_that_is_not_there(self) -> None:
         status, said = self.run_driver('--config', self.good, '--unix', os.path.join(self.folder, 'none'))
         self.assertEqual((status, 'the trunk cannot be opened' in said), (1, True))
+
+    def test_whose_datagrams_are_received(self) -> None:
+        words = ('--in', '/dev/null', '--out', '/dev/null')
+        circuit = '[[circuit]]\nnumber = %d\nlocal_port = %d\npeer_port = 9\npeer_host = "%s"\n'
+        ports = free_ports(2)
+        for host, option, said in (('127.0.0.1', (), '--senders host'), ('localhost', (), '--senders any'),
+                                   ('127.0.0.1', ('--senders', 'any'), '--senders any'),
+                                   ('127.0.0.1', ('--senders', 'peer'), '--senders peer')):
+            text = circuit % (1, ports[0], '127.0.0.1') + circuit % (2, ports[1], host)
+            config = self.write('peers.toml', f'law = "A"\n{text}')
+            with self.subTest(host=host, option=option):
+                status, told = self.run_driver('--config', config, *words, *option)
+                self.assertEqual((status, told.count(f'({said})')), (0, 1))
 
     def test_a_file_goes_through(self) -> None:
         trunk = os.path.join(self.folder, 'trunk')
