@@ -8,7 +8,7 @@ returns-then-is_ipv4-clause-err g c = (
   inr (inl (record {
     here = c.in_ok-here.here;
     peer = c.in_ok-peer.peer;
-    here_is = c.in_ok-here.ensures.ok;
+    here_is = search rules;
     peer_is = search rules;
     differ = search rules;
   })),
@@ -18,6 +18,6 @@ pub returns-in-Err-clause-err : goal.returns-in-Err-clause-err
 returns-in-Err-clause-err g c = fault_of_call c.args.circuit _ _ _ c.fault_of.ensures (inr (inr (record {
   here = c.in_ok-here.here;
   error = c.in-Err.error;
-  here_is = c.in_ok-here.ensures.ok;
+  here_is = search rules;
   refused = search rules;
 })))
