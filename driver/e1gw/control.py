@@ -15,22 +15,25 @@ A line is answered by one or more lines and an empty one:
 from __future__ import annotations
 
 import grp
-import json
 import os
+import select
 import socket
 import stat
+import time
 from collections import deque
 from typing import TYPE_CHECKING, Callable
 
-from .loop import READ, WRITE, Loop
+from .loop import READ, Loop
+from .peers import Peer
 from .session import CIRCUITS, Codec, Command, codec_record, command_record
 
 if TYPE_CHECKING:
     from .driver import Driver
 
-MOST_HELD = 256 << 10       # octets that wait for one who does not read, before he is let go
-MOST_LINE = 4096
-MOST_PEERS = 64
+MOST_LINE = 4096            # octets of a line
+MOST_CLIENTS = 64
+IDLE = 10.0                 # seconds without a line, after which a client may have to go for another one
+SILENT = 1.0                # the same for one that has never said a line
 
 COMMANDS = {command.word: command for command in Command}
 CODECS = {'pcma': Codec.G711, 'pcmu': Codec.G711} | {codec.word('A'): codec for codec in Codec}
@@ -41,70 +44,36 @@ class DoorTaken(Exception):
     """A path is not free for a socket; the words say why."""
 
 
-class Peer:
-    """One end of a connection. What it does not take at once waits, up to a bound."""
+class Share:
+    """What one client may take: lines, and octets of answers, each so many a second, with some saved up."""
 
-    def __init__(self, loop: Loop, line: socket.socket, closed: Callable[[Peer], None]) -> None:
-        self.loop, self.line, self._closed = loop, line, closed
-        self.open, self._out, self._last = True, bytearray(), False
-        line.setblocking(False)
-        loop.watch(line.fileno(), READ, self._ready)
+    LINES, SAVED_LINES = 100.0, 200.0
+    OCTETS, SAVED_OCTETS = 128_000.0, 128_000.0
 
-    def took(self, octets: bytes) -> None:
-        """Octets came."""
-        raise NotImplementedError
+    def __init__(self, now: float) -> None:
+        self._lines, self._octets, self._looked = self.SAVED_LINES, self.SAVED_OCTETS, now
 
-    def _ready(self, events: int) -> None:
-        if events & WRITE:
-            self._flush()
-        if self.open and events & ~WRITE:
-            try:
-                octets = self.line.recv(65536)
-            except BlockingIOError:
-                return
-            except OSError:
-                octets = b''
-            if octets:
-                self.took(octets)
-            else:
-                self.close()
+    def wait(self, now: float) -> float:
+        """Seconds until the next line may be answered."""
+        passed, self._looked = now - self._looked, now
+        self._lines = min(self.SAVED_LINES, self._lines + passed * self.LINES)
+        self._octets = min(self.SAVED_OCTETS, self._octets + passed * self.OCTETS)
+        return max(0.0, (1 - self._lines) / self.LINES, -self._octets / self.OCTETS)
 
-    def send(self, octets: bytes, last: bool = False) -> None:
-        """Sends octets, and closes behind them where they are the last."""
-        if not self.open:
-            return
-        self._out += octets
-        self._last = last
-        self._flush()
-        if self.open and len(self._out) > MOST_HELD and not last:
-            self.close()
+    def take_line(self) -> None:
+        self._lines -= 1
 
-    def _flush(self) -> None:
-        try:
-            while self._out:
-                del self._out[:self.line.send(self._out)]
-        except BlockingIOError:
-            self.loop.change(self.line.fileno(), READ | WRITE)
-            return
-        except OSError:
-            return self.close()
-        if self._last:
-            return self.close()
-        self.loop.change(self.line.fileno(), READ)
-
-    def close(self) -> None:
-        if self.open:
-            self.open = False
-            self.loop.forget(self.line.fileno())
-            self.line.close()
-            self._closed(self)
+    def take_answer(self, octets: int) -> None:
+        self._octets -= octets
 
 
 class Typed:
-    """Splits octets into lines, and gives one at a time to be answered, each in a turn of the loop of its own."""
+    """Splits octets into lines, and gives one at a time to be answered, each when octets of the trunk do not wait and
+    the share of the one who asks is not used up. `emptied` is called when none waits any more."""
 
-    def __init__(self, loop: Loop, obey: Callable[[str, Say], None], say: Say) -> None:
-        self._loop, self._obey, self._say = loop, obey, say
+    def __init__(self, loop: Loop, obey: Callable[[str, Say], None], say: Say, share: Share | None = None,
+                 emptied: Callable[[], None] = lambda: None) -> None:
+        self._loop, self._obey, self._say, self._share, self._emptied = loop, obey, say, share, emptied
         self._rest, self._lines, self._busy = b'', deque[str](), False
 
     def took(self, octets: bytes) -> bool:
@@ -113,6 +82,10 @@ class Typed:
         self._lines.extend(text for line in lines if (text := line.decode(errors='replace').strip()))
         self._next()
         return len(self._rest) <= MOST_LINE and len(self._lines) <= MOST_LINE
+
+    def waits(self) -> bool:
+        """Whether lines are still to be answered."""
+        return self._busy or bool(self._lines)
 
     def end(self) -> None:
         """There are no more; a last line needs no end."""
@@ -126,27 +99,42 @@ class Typed:
     def _next(self) -> None:
         if self._lines and not self._busy:
             self._busy = True
-            self._loop.soon(self._give)
+            wait = self._share.wait(time.monotonic()) if self._share else 0.0
+            if wait:
+                self._loop.later(wait, self._give)
+            else:
+                self._loop.soon(self._give)
 
     def _give(self) -> None:
-        if self._lines:
-            self._obey(self._lines.popleft(), self._answered)
-        else:
+        if not self._lines:
             self._busy = False
+            return
+        if self._share:
+            self._share.take_line()
+        self._obey(self._lines.popleft(), self._answered)
 
     def _answered(self, text: str) -> None:
         self._busy = False
+        if self._share:
+            self._share.take_answer(len(text))
         self._say(text)
         self._next()
+        if not self.waits():
+            self._emptied()
 
 
 class Client(Peer):
-    """One who is connected to the control socket."""
+    """One who is connected to the control socket. While lines of a client wait to be answered, no more are received."""
+
+    TAKES = MOST_LINE
 
     def __init__(self, driver: Driver, line: socket.socket) -> None:
         self.driver = driver
         self.follows = False
-        self._typed = Typed(driver.loop, self._obey, lambda text: self.send(f'{text}\n\n'.encode()))
+        self.last = time.monotonic()    # when it came, or said the last line
+        self.silent = True
+        self._typed = Typed(driver.loop, self._obey, lambda text: self.send(f'{text}\n\n'.encode()),
+                            Share(self.last), lambda: self.reads(True))
         Peer.__init__(self, driver.loop, line, lambda _: self._left())
 
     def _left(self) -> None:
@@ -155,9 +143,17 @@ class Client(Peer):
 
     def took(self, octets: bytes) -> None:
         if not self._typed.took(octets):
-            self.close()
+            return self.close()
+        self.reads(not self._typed.waits())
+
+    def idle(self, now: float) -> bool:
+        """Whether it wants nothing, and has not for a while."""
+        if self.follows or self._typed.waits() or self.driver.guards.has_asked(self):
+            return False
+        return now - self.last > (SILENT if self.silent else IDLE)
 
     def _obey(self, line: str, say: Say) -> None:
+        self.last, self.silent = time.monotonic(), False
         if line == 'events':
             say('following')
             self.follows = True
@@ -167,13 +163,57 @@ class Client(Peer):
             obey(self.driver, line, say)
 
 
+def who_goes(clients: list[Client], now: float) -> Client | None:
+    """The client that goes for one more: of the idle ones that which has been for the longest. If none is, and the last
+    seat is taken too, of those that have said nothing."""
+    found = [client for client in clients if client.idle(now)]
+    if not found and len(clients) > MOST_CLIENTS:
+        found = [client for client in clients if client.silent]
+    return min(found, key=lambda client: client.last) if found else None
+
+
+def _close_gone(clients: list[Client]) -> None:
+    """Closes those at whose other end nobody is any more."""
+    poll = select.poll()
+    for client in clients:
+        poll.register(client.line, 0)
+    gone = {file for file, _ in poll.poll(0)}
+    for client in clients:
+        if client.line.fileno() in gone:
+            client.close()
+
+
+def seat(driver: Driver, line: socket.socket) -> None:
+    """Takes one who has connected: there are MOST_CLIENTS seats, and one more that is kept for who comes when they are
+    all in use."""
+    clients = [peer for peer in driver.peers if isinstance(peer, Client)]
+    if len(clients) >= MOST_CLIENTS:
+        _close_gone(clients)
+        clients = [client for client in clients if client.open]
+    goes = who_goes(clients, time.monotonic()) if len(clients) >= MOST_CLIENTS else None
+    if goes:
+        goes.close()
+    elif len(clients) > MOST_CLIENTS:
+        return _refuse(line)
+    driver.peers.add(Client(driver, line))
+
+
+def _refuse(line: socket.socket) -> None:
+    line.setblocking(False)
+    try:
+        line.send(f'no seat: {MOST_CLIENTS} clients are connected\n\n'.encode())
+    except OSError:
+        pass
+    line.close()
+
+
 class Console:
     """The terminal: lines of standard input, answered on standard output."""
 
     def __init__(self, driver: Driver, say: Say) -> None:
         self.driver = driver
         self._typed = Typed(driver.loop, self._obey, say)
-        driver.loop.watch(0, READ, lambda _: self._ready())
+        driver.loop.watch(0, READ, lambda _: self._ready(), beside=True)
 
     def _obey(self, line: str, say: Say) -> None:
         if line == 'events':
@@ -217,7 +257,7 @@ def obey(driver: Driver, line: str, say: Say) -> None:
     """Does what a line says; `say` is called once, now or later."""
     name, *words = line.split()
     if name == 'status' and words in ([], ['json']):
-        say(json.dumps(driver.status()) if words else driver.table().rstrip('\n'))
+        driver.snapshots.ask(lambda now: say(now.json if words else now.table.rstrip('\n')))
     elif name == 'help' and not words:
         say((__doc__ or '').partition('\n\n')[2].rstrip('\n'))
     elif name == 'quit' and not words:
@@ -267,37 +307,6 @@ def free_path(path: str) -> None:
     raise DoorTaken(f'at {path} another one listens')
 
 
-class Door:
-    """A socket that listens, and makes a peer of each who connects."""
-
-    def __init__(self, loop: Loop, door: socket.socket, made: Callable[[socket.socket], object],
-                 count: Callable[[], int], path: str | None = None) -> None:
-        self.loop, self.door, self.path, self._made, self._count = loop, door, path, made, count
-        self._inode = os.lstat(path).st_ino if path else 0
-        door.setblocking(False)
-        loop.watch(door.fileno(), READ, lambda _: self._accept())
-
-    def _accept(self) -> None:
-        try:
-            line = self.door.accept()[0]
-        except OSError:
-            return
-        if self._count() >= MOST_PEERS:
-            line.close()
-        else:
-            self._made(line)
-
-    def close(self) -> None:
-        self.loop.forget(self.door.fileno())
-        self.door.close()
-        if self.path:
-            try:
-                if os.lstat(self.path).st_ino == self._inode:
-                    os.unlink(self.path)
-            except OSError:
-                pass
-
-
 def listen_unix(path: str, mode: int, group: str | None) -> socket.socket:
     """A Unix stream socket that listens, with its mode and group from the first moment on."""
     free_path(path)
@@ -309,5 +318,5 @@ def listen_unix(path: str, mode: int, group: str | None) -> socket.socket:
         os.umask(before)
     if group:
         os.chown(path, -1, int(group) if group.isdecimal() else grp.getgrnam(group).gr_gid)
-    door.listen(16)
+    door.listen(MOST_CLIENTS)
     return door

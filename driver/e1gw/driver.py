@@ -11,26 +11,27 @@ from collections import deque
 from typing import Any
 
 from .clock import TICK, Clock, Finding
-from .control import Client, Console, Door, Peer, Say, listen_unix
+from .control import Client, Console, Say, listen_unix, seat
 from .counts import Counts
 from .events import NOTICED, WARNED, words_of
 from .gateway import Gateway, Shadow
 from .guards import Guards
-from .keep import Ring, put_file
+from .keep import Ring
 from .lines import OPEN, Event, Lines, Role, State
 from .loop import READ, WRITE, Loop
-from .metrics import exposition, table
 from .options import Options
 from .outlets import Journal, Outlet, to_descriptor, to_file
 from .pace import Pace
+from .pages import Pages
+from .peers import Door, Peer
 from .pictures import Pictures
 from .restarts import Restarts
 from .session import Codec, Command, Kind, Record, codec_record, command_record, trunk_record
-from .sockets import sockets_of
+from .snapshots import Snapshot, Snapshots
+from .sockets import Tables
 from .trunks import Trunk
-from .web import Visitor
 
-BESIDE = ('shadow', 'recording', 'session', 'json', 'metrics', 'picture')     # what may end without the calls
+BESIDE = ('shadow', 'recording', 'session', 'json', 'metrics', 'picture', 'pages')  # what may end without the calls
 REOPEN_MOST = 30.0              # seconds between two tries to open the trunk
 
 
@@ -40,6 +41,8 @@ class Driver:
     def __init__(self, loop: Loop, options: Options, journal: Journal) -> None:
         self.loop, self.options, self.journal = loop, options, journal
         self.lines = Lines(options.config, self.tell)
+        self._sockets = Tables(self.lines.lines.values())
+        self.snapshots = Snapshots(loop, lambda: Snapshot(self.status(), self._sockets))
         self.began = time.monotonic()
         self.clock = Clock(self.began, options.gap)
         self.restarts = Restarts(self._restart, self.tell)
@@ -64,15 +67,14 @@ class Driver:
         self._out = to_descriptor('standard output', 1)
         self._json = self._open_json()
         self._session, self._ring = self._open_session()
-        self._prom = Outlet('metrics', self._put_metrics, self._note) if options.metrics else None
         self.gateway = Gateway(loop, options.program, options.config, self._taped, self._said, self._resume,
                                self._gateway_ended, options.serve)
         self.shadow = Shadow(loop, options.program, options.config, self._replayed,
                              functools.partial(self._end_beside, 'shadow')) if options.counts else None
         if not options.counts:
             self.counts.ended = 'not asked for'
-        self.pictures = Pictures(loop, options.config, options.picture, options.name, options.program,
-                                 functools.partial(self._end_beside, 'picture')) if options.picture else None
+        self.pages: Pages | None = None
+        self.pictures, self._drawn = self._open_pictures()
 
     # ---- what is opened ----
 
@@ -96,22 +98,40 @@ class Driver:
         ring = Ring(options.session, options.name, options.config, options.keep)
         return Outlet('session', ring.write, self._note, ring.close, ring.open), ring
 
+    def _open_pictures(self) -> tuple[Pictures | None, socket.socket | None]:
+        """The process that draws, and the socket at which another one asks it."""
+        options = self.options
+        if not options.picture:
+            return None, None
+        ours, theirs = socket.socketpair()
+        return Pictures(self.loop, options.config, options.picture, options.name, options.program, theirs,
+                        functools.partial(self._end_beside, 'picture')), ours
+
     def open_doors(self) -> None:
         """Opens what others connect to, and the terminal."""
         options = self.options
         if options.control:
             door = listen_unix(options.control, options.control_mode, options.control_group)
-            self._doors.append(Door(self.loop, door, lambda line: self.peers.add(Client(self, line)),
-                                    lambda: self._count_of(Client), options.control))
+            self._doors.append(Door(self.loop, door, lambda line, _: seat(self, line), options.control))
+        web = None
         if options.http:
             family = socket.AF_INET6 if ':' in options.http[0] else socket.AF_INET
             web = socket.create_server(options.http, family=family)
-            self._doors.append(Door(self.loop, web, lambda line: self.peers.add(Visitor(self, line)),
-                                    lambda: self._count_of(Visitor)))
+        if web or options.top or options.metrics:
+            self._open_pages(web)
         Console(self, lambda text: self._out.put(f'{text}\n'.encode()))
 
-    def _count_of(self, kind: type[Peer]) -> int:
-        return sum(isinstance(peer, kind) for peer in self.peers)
+    def _open_pages(self, door: socket.socket | None) -> None:
+        options = self.options
+        words = {'config': options.config, 'name': options.name, 'top': options.top, 'metrics': options.metrics}
+        try:
+            self.pages = Pages(self.loop, words, door, self._drawn, self._snapshot_wanted, self._end_beside)
+        except OSError as fault:
+            self._end_beside('pages', fault.strerror or str(fault))
+
+    def _snapshot_wanted(self) -> None:
+        if self.pages:
+            self.snapshots.ask(self.pages.give)
 
     def left(self, peer: Peer) -> None:
         """A client or a visitor is gone."""
@@ -283,6 +303,8 @@ class Driver:
             self.ended[what] = why
             if what in ('shadow', 'recording'):
                 self.counts.ended = why
+            if what == 'pages':
+                self._take_metrics_away()
             self.tell({'event': 'ended', 'what': what, 'why': why})
 
     # ---- calls ----
@@ -369,6 +391,7 @@ class Driver:
         self._look_at_opening()
         while self._notes:
             self._end_beside(*self._notes.popleft())
+        self.snapshots.look()
         self.guards.look(now)
         self._look_at_dark(now)
 
@@ -395,21 +418,6 @@ class Driver:
         """Each second."""
         self._slowest.append(0.0)
         self.journal.look()
-        now = time.monotonic()
-        for peer in [peer for peer in self.peers if isinstance(peer, Visitor) and peer.late(now)]:
-            peer.close()
-
-    def write_metrics(self) -> None:
-        if self._prom:
-            self._prom.put(exposition(self.status(), self.options.name).encode())
-
-    def _put_metrics(self, text: bytes) -> None:
-        assert self.options.metrics
-        put_file(self.options.metrics, text)
-
-    def show(self) -> None:
-        """The table in the terminal."""
-        self._out.put(f'\x1b[H\x1b[2J{self.table()}'.encode())
 
     # ---- what is told ----
 
@@ -421,20 +429,20 @@ class Driver:
             self.journal.line(level, words_of(event), name)
         elif name == 'state' and event['state'] == State.FAULT:
             self.journal.line(Journal.WARNING, words_of(event), name)
+        self.snapshots.changed()
         followers = [peer for peer in self.peers if isinstance(peer, Client) and peer.follows]
         if followers or self._json:
             text = (json.dumps({'time': round(time.time(), 6), **event}) + '\n').encode()
             for peer in followers:
-                peer.send(text)
+                peer.queue(text)
             if self._json:
                 self._json.put(text)
         if self.options.watch:
             self._out.put(f'{words_of(event)}\n'.encode())
 
     def status(self) -> dict[str, Any]:
-        """All that is known, as plain values."""
+        """All that is known without asking the kernel, as plain values."""
         status = self.lines.status()
-        sockets = sockets_of(self.lines.lines.values())
         status |= {
             'time': round(time.time(), 3), 'uptime': round(time.monotonic() - self.began, 3),
             'trunk_up': self.trunk is not None, 'transport': self.trunk.status() if self.trunk else {},
@@ -444,11 +452,8 @@ class Driver:
             'commands': [{'command': name, 'answer': answer, 'count': n}
                          for (name, answer), n in sorted(self.done.items())]}
         for row in status['circuits']:
-            row.update(self.counts.status(row['circuit']), socket=sockets.get(row['circuit']))
+            row.update(self.counts.status(row['circuit']))
         return status
-
-    def table(self) -> str:
-        return table(self.status())
 
     # ---- the whole ----
 
@@ -467,11 +472,6 @@ class Driver:
         """Carries the trunk until its end; returns the status."""
         self.loop.every(TICK, self.tick)
         self.loop.every(1.0, self.second)
-        if self.options.metrics:
-            self.write_metrics()
-            self.loop.every(5.0, self.write_metrics)
-        if self.options.top:
-            self.loop.every(0.5, self.show)
         self._open_trunk()
         while self.status_code is None:
             deadline = self._deadline()
@@ -492,18 +492,29 @@ class Driver:
             self.status_code = 1
         if self.shadow:
             self.shadow.finish()
-        if self.pictures:
-            self.pictures.finish()
+        for process in (self.pages, self.pictures):
+            if process:
+                process.finish()
         for peer in list(self.peers):
+            peer.flush()
             peer.close()
-        for outlet in (self._session, self._json, self._prom, self._out):
+        for outlet in (self._session, self._json, self._out):
             if outlet:
                 outlet.close()
-        if self.options.metrics:
-            try:
-                os.unlink(self.options.metrics)
-            except OSError:
-                pass
+        self._take_metrics_away()
         if self.trunk:
             self.trunk.close()
         return self.status_code or 0
+
+    def _take_metrics_away(self) -> None:
+        """The file of metrics, which nobody keeps up any more. (Its disk may stand still: the wait is short.)"""
+        def run(path: str) -> None:
+            for each in (path, f'{path}.new'):
+                try:
+                    os.unlink(each)
+                except OSError:
+                    pass
+        if self.options.metrics:
+            thread = threading.Thread(target=run, args=(self.options.metrics,), name='metrics', daemon=True)
+            thread.start()
+            thread.join(1.0 if self.status_code is not None else 0.0)

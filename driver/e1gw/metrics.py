@@ -1,6 +1,7 @@
 """What is seen from outside: the table for people, the text of Prometheus for machines, both made of a status."""
 from __future__ import annotations
 
+import time
 from typing import Any, Iterable, Mapping
 
 from .lines import State
@@ -122,8 +123,9 @@ def _head(status: Status) -> list[str]:
     rate = '' if clock['ppm'] is None else f', rate {clock["ppm"]:+.0f} ppm'
     state = 'no trunk' if not status['trunk_up'] else 'stalled' if clock['stalled'] else _alignments(
         status['alarm'], 'aligned')
+    at = time.strftime('%H:%M:%S', time.gmtime(status['time']))
     lines = [
-        f'{status["octets"] / 256_000:.1f} s of the trunk, {state}; the other end: '
+        f'{status["octets"] / 256_000:.1f} s of the trunk at {at} UTC, {state}; the other end: '
         + _alignments(status['remote_alarm'], 'no alarm'),
         'alignment lost: ' + ', '.join(f'{what} {n}' for what, n in status['losses'].items())
         + f'; stalls {clock["stalls"]}, gaps {clock["gaps"]} ({clock["gap_seconds"]:.1f} s){rate}; slowest turn '

@@ -1,10 +1,20 @@
-"""Pipes to processes that may take their time."""
+"""Processes that may take their time, and pipes to them."""
 from __future__ import annotations
 
 import os
 from typing import Callable
 
 from .loop import WRITE, Loop
+
+
+def put_behind(process: int, nice: int) -> None:
+    """Gives a process what the calls leave of a processor, also when this one goes at real-time priority."""
+    try:
+        if os.sched_getscheduler(process) != os.SCHED_OTHER:
+            os.sched_setscheduler(process, os.SCHED_OTHER, os.sched_param(0))
+        os.setpriority(os.PRIO_PROCESS, process, nice)
+    except OSError:
+        pass
 
 
 class Writer:

@@ -1,72 +1,91 @@
-"""Pages over HTTP/1.0: one request a connection, no waiting for those who are slow."""
+"""Pages over HTTP/1.0: one request a connection, no waiting for those who are slow, and a place for each who comes: the
+oldest who is idle goes for it."""
 from __future__ import annotations
 
-import json
 import socket
 import time
-from typing import TYPE_CHECKING, Callable
+from dataclasses import dataclass
+from typing import Any, Callable
 
-from .control import Peer
-from .metrics import exposition
-
-if TYPE_CHECKING:
-    from .driver import Driver
+from .loop import Loop
+from .peers import Door, Peer
 
 MOST_REQUEST = 8192
 SECONDS = 10                # that a request and its answer may take
+MOST_VISITORS = 64
+MOST_OF_ADDRESS = 32
 
 HEAD = ('HTTP/1.0 {status}\r\nContent-Type: {kind}; charset=utf-8\r\nContent-Length: {length}\r\n'
         'Cache-Control: no-store\r\nConnection: close\r\n\r\n')
 
 
+@dataclass(frozen=True)
+class Page:
+    """What answers a request."""
+
+    kind: str
+    body: bytes
+    status: str = '200 OK'
+
+
+NOT_FOUND = Page('text/plain', b'there are /, /table, /metrics and /status\n', '404 Not Found')
+NOT_ALLOWED = Page('text/plain', b'there are GET and HEAD\n', '405 Method Not Allowed')
+NOT_YET = Page('text/plain', b'nothing is known of the trunk yet\n', '503 Service Unavailable')
+
+Got = Callable[[Page], None]
+Find = Callable[[bytes, Got], None]
+
+
 class Visitor(Peer):
     """One who asks for a page."""
 
-    def __init__(self, driver: Driver, line: socket.socket) -> None:
-        self.driver, self.since, self._request = driver, time.monotonic(), b''
-        self._answered = False
-        Peer.__init__(self, driver.loop, line, lambda _: driver.left(self))
+    def __init__(self, web: Web, line: socket.socket, address: str) -> None:
+        self.web, self.address, self.since = web, address, time.monotonic()
+        self.has_asked = False
+        self._request = b''
+        Peer.__init__(self, web.loop, line, lambda _: web.visitors.remove(self))
 
     def took(self, octets: bytes) -> None:
-        if self._answered:
+        if self.has_asked:
             return
         self._request += octets
         if b'\r\n\r\n' in self._request or b'\n\n' in self._request or len(self._request) > MOST_REQUEST:
-            self._answered = True
+            self.has_asked = True
             self._answer()
-
-    def late(self, now: float) -> bool:
-        return now - self.since > SECONDS
 
     def _answer(self) -> None:
         method, path, *_ = self._request.split(b' ') + [b'', b'']
         if method not in (b'GET', b'HEAD'):
-            return self._page('405 Method Not Allowed', 'text/plain', 'there are GET and HEAD\n', True)
-        path = path.partition(b'?')[0]
-        whole, pictures = method == b'GET', self.driver.pictures
-        if path == b'/' and pictures and not pictures.has_ended:
-            return pictures.ask(lambda page: self._picture(page, whole))
-        made = self._made(path)
-        if made is None:
-            self._page('404 Not Found', 'text/plain', 'there are /, /table, /metrics and /status\n', whole)
-        else:
-            kind, text = made
-            self._page('200 OK', kind, text(), whole)
+            return self._send(NOT_ALLOWED, True)
+        self.web.find(path.partition(b'?')[0], lambda page: self._send(page, method == b'GET'))
 
-    def _picture(self, page: str | None, whole: bool) -> None:
-        if page is None:
-            self._page('200 OK', 'text/plain', self.driver.table(), whole)
-        else:
-            self._page('200 OK', 'text/html', page, whole)
+    def _send(self, page: Page, whole: bool) -> None:
+        head = HEAD.format(status=page.status, kind=page.kind, length=len(page.body)).encode()
+        self.send(head + page.body * whole, last=True)
 
-    def _made(self, path: bytes) -> tuple[str, Callable[[], str]] | None:
-        driver = self.driver
-        return {
-            b'/metrics': ('text/plain; version=0.0.4', lambda: exposition(driver.status(), driver.options.name)),
-            b'/status': ('application/json', lambda: json.dumps(driver.status()) + '\n'),
-            b'/': ('text/plain', driver.table), b'/table': ('text/plain', driver.table)}.get(path)
 
-    def _page(self, status: str, kind: str, text: str, whole: bool) -> None:
-        body = text.encode()
-        head = HEAD.format(status=status, kind=kind, length=len(body)).encode()
-        self.send(head + body * whole, last=True)
+class Web:
+    """Those who ask for pages; `find(path, got)` makes one."""
+
+    def __init__(self, loop: Loop, door: socket.socket, find: Find) -> None:
+        self.loop, self.find = loop, find
+        self.visitors: list[Visitor] = []       # in the order in which they came
+        Door(loop, door, self._come)
+        loop.every(1.0, self._look)
+
+    def _come(self, line: socket.socket, address: Any) -> None:
+        host = str(address[0])
+        near = [visitor for visitor in self.visitors if visitor.address == host]
+        for visitors, most in (near, MOST_OF_ADDRESS), (self.visitors, MOST_VISITORS):
+            if len(visitors) >= most:
+                self._let_go(visitors)
+        self.visitors.append(Visitor(self, line, host))
+
+    def _let_go(self, visitors: list[Visitor]) -> None:
+        """The oldest goes who has asked for nothing, and if each has, the oldest."""
+        next((visitor for visitor in visitors if not visitor.has_asked), visitors[0]).close()
+
+    def _look(self) -> None:
+        now = time.monotonic()
+        for visitor in [visitor for visitor in self.visitors if now - visitor.since > SECONDS]:
+            visitor.close()

@@ -289,10 +289,11 @@ class Beside(unittest.TestCase):
     def test_the_table_in_the_terminal(self) -> None:
         with World(config_of(FOUR), '--top', stdout=subprocess.PIPE) as world:
             aligned(world)
-            time.sleep(1.2)
-            world.quit()
             assert world.process.stdout
-            shown = world.process.stdout.read().decode()
+            until, shown = time.monotonic() + SECONDS, ''
+            while shown.count('\x1b[H\x1b[2J') < 3 and time.monotonic() < until:
+                shown += os.read(world.process.stdout.fileno(), 65536).decode()
+            world.quit()
             world.process.stdout.close()
             self.assertGreaterEqual(shown.count('\x1b[H\x1b[2J'), 2)
             self.assertIn(' 4 outgoing idle ', shown)
@@ -311,7 +312,8 @@ class Beside(unittest.TestCase):
 
     def test_signals(self) -> None:
         with World(config_of(FOUR)) as world:
-            for number in (signal.SIGHUP, signal.SIGPIPE, signal.SIGXFSZ, signal.SIGWINCH, signal.SIGCHLD):
+            for number in (signal.SIGHUP, signal.SIGPIPE, signal.SIGXFSZ, signal.SIGWINCH, signal.SIGCHLD,
+                           signal.SIGUSR1, signal.SIGUSR2):
                 world.process.send_signal(number)
             self.goes_on(world)
 
@@ -507,7 +509,7 @@ class Darkness(unittest.TestCase):
         support.program()
 
     def test_calls_of_a_dark_trunk_are_cleared(self) -> None:
-        with World(config_of(FOUR), '--dark', '0.3') as world:
+        with World(config_of(FOUR), '--dark', '1') as world:
             aligned(world)
             call(world, 1)
             until = time.monotonic() + 10
