@@ -7,6 +7,7 @@ from __future__ import annotations
 from .session import OCTETS_A_SECOND
 
 FLOWS = 0.75 * OCTETS_A_SECOND      # octets a second of a trunk that flows
+LOOK = 0.1                          # seconds over which they are counted, while it is read by time
 FIRST, LONGEST = 0.1, 60.0          # seconds that it has to flow before it is read by time
 GOOD = 1.0                          # seconds by time after which the next time is after FIRST again
 
@@ -19,8 +20,8 @@ class Pace:
         self.seconds = seconds
         self.due: float | None = None
         self._after = FIRST
-        self._began = self._last = 0.0      # by time or not, and the last read
-        self._octets: int | None = None     # octets since it began; None before the first read
+        self._began = self._looked = 0.0    # by time or not, and the count of octets
+        self._octets: int | None = None     # since then; None before the first read
 
     def stop(self) -> None:
         """It is not read by time until it flows again."""
@@ -30,23 +31,22 @@ class Pace:
         """A read gave so many octets where it could give `most`."""
         if not self.seconds:
             return
+        if self._octets is None:
+            self._began, self._looked, self._octets = now, now, 0
+            return
+        self._octets += count
+        over = now - self._looked
+        if over >= (LOOK if self.due else self._after) and count < most:
+            self._look(now, self._octets >= FLOWS * over)
         if self.due is not None:
-            self._took_by_time(count, most, now)
-        elif self._octets is None:
-            self._began, self._octets = now, 0
-        else:
-            self._octets += count
-            if now - self._began >= self._after:
-                self.due = now + self.seconds if self._octets >= FLOWS * (now - self._began) else None
-                self._began, self._octets = now, 0
-        self._last = now
+            # A read that gave all it could may not have been all there is.
+            self.due = now if count == most else max(self.due + self.seconds, now)
 
-    def _took_by_time(self, count: int, most: int, now: float) -> None:
-        assert self.due is not None
-        if count == most:
-            self.due = now          # there may be more
-        elif count >= FLOWS * (now - self._last):
-            self.due = max(self.due + self.seconds, now)
-        else:
+    def _look(self, now: float, flows: bool) -> None:
+        """Whether it is read by time from now on."""
+        self._looked, self._octets = now, 0
+        if flows and self.due is None:
+            self._began, self.due = now, now
+        elif not flows and self.due is not None:
             self._after = FIRST if now - self._began >= GOOD else min(LONGEST, 2 * self._after)
             self.stop()

@@ -7,7 +7,7 @@ import unittest
 from . import support
 from .test_driver import FOUR, aligned, call
 from .world import World, config_of
-from e1gw.pace import FIRST, Pace
+from e1gw.pace import FIRST, LOOK, Pace
 
 MOST = 2048
 
@@ -42,6 +42,17 @@ class Rule(unittest.TestCase):
         self.assertEqual(set(self.reads), {1024})
         self.assertEqual(len(self.reads), 250)
 
+    def test_a_card_that_is_not_on_time(self) -> None:
+        """It gives nothing for 20 ms and then all of it, each 100 ms: it is read by time all the same."""
+        self.go(1)
+        del self.reads[:]
+        for _ in range(100):
+            self.go(0.02, 0)
+            self.go(0.001, 256 * 21)
+            self.go(0.079)
+        self.assertIsNotNone(self.pace.due)
+        self.assertLess(len(self.reads), 10 / 0.004 * 1.2)
+
     def test_none_by_time(self) -> None:
         self.pace = Pace(0)
         self.go(1)
@@ -49,7 +60,7 @@ class Rule(unittest.TestCase):
 
     def test_a_stall_and_what_comes_after_it(self) -> None:
         self.go(2)
-        self.go(0.01, 0)
+        self.go(2 * LOOK, 0)
         self.assertIsNone(self.pace.due)
         del self.reads[:]
         self.go(FIRST / 2)
@@ -79,7 +90,7 @@ class Rule(unittest.TestCase):
                 self.now += 0.001 if self.waiting else 0.0
             held += self.now - before
             self.now += 0.002
-        self.assertLess(held, 0.1)
+        self.assertLess(held, 0.01 * 90)
 
 
 class Service(unittest.TestCase):
