@@ -2,3 +2,4 @@ pub mod Search
 pub mod Loss
 pub mod Placing
 pub mod Aligner
+pub mod Saved

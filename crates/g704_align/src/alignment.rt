@@ -9,6 +9,8 @@ ghost use Rattle.g704_align.specs.Placing.{frames, place, alarm_after, number_of
 ghost use Rattle.g704_align.specs.Aligner.{IsCandidate, is_refuted, IsAlignment, count_after, Describes};
 ghost use Rattle.g704_align.specs.Aligner.{Follows, Stands};
 
+mod saving;
+
 const FRAME: u8 = 32;
 
 const TWO_FRAMES: u8 = 64;

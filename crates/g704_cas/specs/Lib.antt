@@ -3,3 +3,4 @@ pub mod Search
 pub mod Loss
 pub mod Placing
 pub mod Aligner
+pub mod Saved

@@ -6,6 +6,8 @@ ghost use Rattle.g704_framing.specs.Places.{place_since};
 ghost use Rattle.g704_cas.specs.Placing.{multiframes, place, alarm_after, frame_of};
 ghost use Rattle.g704_cas.specs.Aligner.{IsAlignment, Describes, Follows, Stands};
 
+mod saving;
+
 const FRAMES: u8 = 16;
 
 // Bits 1 to 4 of an octet, which are all 0 in the multiframe alignment signal.

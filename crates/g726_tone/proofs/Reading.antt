@@ -1,8 +1,8 @@
 -- Numbers that are read from 32 bits.
-use Rattle.std.proofs.Common.{◌≡◌, ◌∙◌, ap, ◌<◌, ◌≤◌, ℕ, ℤ, pos, negsuc, ◌≤ℤ◌, to_z, of_z, w16, w32, arith}
+use Rattle.std.proofs.Common.{Bool, Option, Some, refl, ◌≡◌, ◌∙◌, ap, ◌<◌, ◌≤◌, ℕ, ℤ, pos, negsuc, ◌≤ℤ◌, to_z, of_z, w16, w32, arith}
 use Rattle.std.proofs.lemmas.Int.{ints, to_z-of_z}
 use lib.Signed.{mag}
-use Rattle.g726_tone.specs.Adaptation.{Adaptation, IsKept}
+use Rattle.g726_tone.specs.Adaptation.{Adaptation, IsKept, InRange}
 
 -- a number of 32 bits is read as it was written
 pub once : (z : ℤ) → mag z < 2147483648 → to_z w32 (of_z w32 z) ≡ z
@@ -48,3 +48,38 @@ few s y h =
       ap = few_bits s.ap 0 r.ap_low (omega (arith, ints, r.ap_high));
       scale = few_bits y 544 h.scale_low (omega (arith, ints, h.scale_high));
     }
+
+-- a state in its ranges, read from numbers of 32 bits that are its own
+pub same : (s : Adaptation) (yu yl dms dml ap : ℤ) (td : Bool) → InRange s → yu ≡ s.yu → yl ≡ s.yl
+    → dms ≡ s.dms → dml ≡ s.dml → ap ≡ s.ap → td ≡ s.td → ◌≡◌ {A = Adaptation} (record {
+      yu = to_z w32 (of_z w32 yu);
+      yl = to_z w32 (of_z w32 yl);
+      dms = to_z w32 (of_z w32 dms);
+      dml = to_z w32 (of_z w32 dml);
+      ap = to_z w32 (of_z w32 ap);
+      td = td;
+    }) s
+same s yu yl dms dml ap td r a b c d e f =
+    let y = once s.yu (few_bits s.yu 544 r.yu_low (omega (arith, ints, r.yu_high))) in
+    let l = once s.yl (few_bits s.yl 34816 r.yl_low r.yl_high) in
+    let m = once s.dms (few_bits s.dms 0 r.dms_low (omega (arith, ints, r.dms_high))) in
+    let n = once s.dml (few_bits s.dml 0 r.dml_low (omega (arith, ints, r.dml_high))) in
+    let p = once s.ap (few_bits s.ap 0 r.ap_low (omega (arith, ints, r.ap_high))) in
+    rw (a, b, c, d, e, f, y, l, m, n, p) refl
+
+-- two numbers that are read are those that were saved_adaptation
+pub two_read : (a b c d : ℤ) → ◌≡◌ {A = Option (ℤ × ℤ)} (Some (a, b)) (Some (c, d)) → (a ≡ c) × (b ≡ d)
+two_read a b c d e =
+    let both : ◌≡◌ {A = ℤ × ℤ} (a, b) (c, d) = cc in
+    (ap (λ (p : ℤ × ℤ). p.0) both, ap (λ (p : ℤ × ℤ). p.1) both)
+
+-- and so are three
+pub three_read : (a b c d f g : ℤ) → ◌≡◌ {A = Option (ℤ × ℤ × ℤ)} (Some (a, b, c)) (Some (d, f, g))
+    → (a ≡ d) × (b ≡ f) × (c ≡ g)
+three_read a b c d f g e =
+    let all : ◌≡◌ {A = ℤ × ℤ × ℤ} (a, b, c) (d, f, g) = cc in
+    (ap (λ (p : ℤ × ℤ × ℤ). p.0) all, ap (λ (p : ℤ × ℤ × ℤ). p.1) all, ap (λ (p : ℤ × ℤ × ℤ). p.2) all)
+
+-- and a flag
+pub flag_read : (a b : Bool) → ◌≡◌ {A = Option Bool} (Some a) (Some b) → a ≡ b
+flag_read a b e = cc

@@ -1,5 +1,7 @@
 use g704_align::{Aligner, Place};
+use saved_octets::Octets;
 use std::process::Abort;
+use std::test::Fail;
 
 // The first octets of a stream must all be hunted over.
 fn hunts_over(rt: &impl Abort, aligner: &mut Aligner, octets: &[u8]) {
@@ -128,4 +130,33 @@ fn misled_by_a_slot(rt: HostRuntime) {
             fas: false
         }
     );
+}
+
+// What a saved aligner must be.
+fn is_saved(
+    rt: &impl Abort,
+    aligner: &Aligner,
+    octets: &[u8],
+    room: &mut Vec<u8>,
+) -> Result<(), Fail> {
+    room.clear();
+    aligner.save(room)?;
+    assert_eq!(rt; room.as_slice(), octets);
+    assert_eq!(rt; Aligner::load(&mut Octets::new(octets)), Some(*aligner));
+    Ok(())
+}
+
+#[test]
+fn aligner_as_octets(rt: HostRuntime) -> Result<(), Fail> {
+    let mut room = Vec::new(rt.alloc());
+    let mut aligner = Aligner::new();
+    is_saved(&rt, &aligner, &[0], &mut room)?;
+    assert_eq!(rt; aligner.octet(0x9B), Place::Hunting);
+    is_saved(&rt, &aligner, &[1, 1], &mut room)?;
+    let mut aligned = Aligner::new();
+    hunts_over(&rt, &mut aligned, &three_frames());
+    is_saved(&rt, &aligned, &[2, 1, 0, 0], &mut room)?;
+    assert_eq!(rt; Aligner::load(&mut Octets::new(&[2, 1, 0])), None);
+    assert_eq!(rt; Aligner::load(&mut Octets::new(&[3])), None);
+    Ok(())
 }

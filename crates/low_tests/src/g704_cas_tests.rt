@@ -1,4 +1,7 @@
 use g704_cas::{CircuitNo, MfAligner, MfPlace};
+use saved_octets::Octets;
+use std::process::Abort;
+use std::test::Fail;
 
 #[test]
 fn multiframe_found_and_lost(rt: HostRuntime) {
@@ -66,4 +69,34 @@ fn circuits_of_frames(rt: HostRuntime) {
         let told = CircuitNo::of_frame(frame).map(|(high, low)| (high.get(), low.get()));
         assert_eq!(rt; told, circuits, "in frame {frame}");
     }
+}
+
+// What a saved aligner must be.
+fn is_saved(
+    rt: &impl Abort,
+    aligner: &MfAligner,
+    octets: &[u8],
+    room: &mut Vec<u8>,
+) -> Result<(), Fail> {
+    room.clear();
+    aligner.save(room)?;
+    assert_eq!(rt; room.as_slice(), octets);
+    assert_eq!(rt; MfAligner::load(&mut Octets::new(octets)), Some(*aligner));
+    Ok(())
+}
+
+#[test]
+fn multiframe_aligner_as_octets(rt: HostRuntime) -> Result<(), Fail> {
+    let mut room = Vec::new(rt.alloc());
+    let mut aligner = MfAligner::new();
+    is_saved(&rt, &aligner, &[0, 0], &mut room)?;
+    let _place = aligner.slot16(0x99);
+    is_saved(&rt, &aligner, &[0, 1], &mut room)?;
+    let _place = aligner.slot16(0x0B);
+    is_saved(&rt, &aligner, &[1, 1, 0], &mut room)?;
+    let _place = next_multiframe(&mut aligner, 0x99);
+    is_saved(&rt, &aligner, &[1, 1, 1], &mut room)?;
+    assert_eq!(rt; MfAligner::load(&mut Octets::new(&[1, 1, 2])), None);
+    assert_eq!(rt; MfAligner::load(&mut Octets::new(&[2, 0])), None);
+    Ok(())
 }

@@ -1,6 +1,6 @@
-//! The worked figures of the laws, of G.726, of frame and multiframe alignment, of line signalling, of RTP
-//! and of SAToP: the tests of the crates below `gw_circuit`, in one crate, since a crate with tests is proved
-//! twice.
+//! The worked figures of the laws, of G.726, of frame and multiframe alignment, of line signalling, of RTP,
+//! of SAToP and of saved states: the tests of the crates below `gw_circuit`, in one crate, since a crate with
+//! tests is proved twice.
 #![tactic(auto)]
 
 #[cfg(test)]
@@ -11,6 +11,8 @@ mod g704_align_tests;
 mod g704_bits_tests;
 #[cfg(test)]
 mod g704_cas_tests;
+#[cfg(test)]
+mod g704_crc4_tests;
 #[cfg(test)]
 mod g726_codec_tests;
 #[cfg(test)]
@@ -29,3 +31,5 @@ mod rtp_packet_tests;
 mod rtp_playout_tests;
 #[cfg(test)]
 mod satop_packet_tests;
+#[cfg(test)]
+mod saved_octets_tests;

@@ -3,7 +3,9 @@ use Role::*;
 use State::*;
 use g704_cas::Nibble;
 use q421_line::{Cmd, Line, LineFault, Role, State};
+use saved_octets::Octets;
 use std::process::Abort;
+use std::test::Fail;
 
 // What a line is given in a test.
 #[derive(Clone, Copy)]
@@ -265,4 +267,34 @@ fn numbers_of_faults(rt: HostRuntime) {
     for (fault, number) in faults {
         assert_eq!(rt; fault.number(), number);
     }
+}
+
+#[test]
+fn line_as_octets(rt: HostRuntime) -> Result<(), Fail> {
+    let mut room = Vec::new(rt.alloc());
+    let mut line = Line::new(Outgoing);
+    let rows = [
+        (Heard(0b1001, 9), [7, 0, 2, 9, 4]),
+        (Heard(0b1001, 1), [0, 0, 2, 10, 2]),
+        (Asked(Seize), [1, 0, 2, 10, 2]),
+        (Heard(0b1101, 3), [1, 3, 3, 3, 2]),
+        (Heard(0b1101, 7), [2, 0, 3, 10, 3]),
+    ];
+    for (step, octets) in rows {
+        let _sent = give(&rt, &mut line, step);
+        room.clear();
+        line.save(&mut room)?;
+        assert_eq!(rt; room.as_slice(), octets.as_slice());
+        assert_eq!(rt; Line::load(Outgoing, &mut Octets::new(&octets)), Some(line));
+    }
+    assert_eq!(rt;
+        Line::load(Incoming, &mut Octets::new(&[8, 0, 4, 0, 4])),
+        None
+    );
+    assert_eq!(rt;
+        Line::load(Incoming, &mut Octets::new(&[7, 0, 5, 0, 4])),
+        None
+    );
+    assert_eq!(rt; Line::load(Incoming, &mut Octets::new(&[7, 0, 4, 0])), None);
+    Ok(())
 }

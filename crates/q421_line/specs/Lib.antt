@@ -4,3 +4,4 @@ pub mod Commands
 pub mod Signalling
 pub mod Line
 pub mod Laws
+pub mod Saved

@@ -5,6 +5,8 @@ ghost use Rattle.q421_line.specs.Recognition.{run_of};
 ghost use Rattle.q421_line.specs.Signalling.{with_heard};
 ghost use Rattle.q421_line.specs.Line.{HasHeard};
 
+mod saving;
+
 use crate::pairs::Pair;
 use g704_cas::Nibble;
 

@@ -7,6 +7,8 @@ ghost use Rattle.q421_line.specs.Commands.{command_outcome, told_of};
 ghost use Rattle.q421_line.specs.Signalling.{Item, signal, command, signalling, next_by, after_count};
 ghost use Rattle.q421_line.specs.Line.{Stands};
 
+mod saving;
+
 use crate::pairs::Pair;
 use crate::recognition::Recognition;
 use crate::{Cmd, LineFault, Role, State, tables};

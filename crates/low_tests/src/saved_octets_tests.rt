@@ -1,0 +1,20 @@
+use saved_octets::{Octets, append_bool, append_u8, append_u16, append_u32};
+use std::test::Fail;
+
+#[test]
+fn numbers_as_octets(rt: HostRuntime) -> Result<(), Fail> {
+    let mut out = Vec::new(rt.alloc());
+    append_u8(&mut out, 1)?;
+    append_u16(&mut out, 0x0203)?;
+    append_u32(&mut out, 0x0405_0607)?;
+    append_bool(&mut out, true)?;
+    assert_eq!(rt; out.as_slice(), [1, 2, 3, 4, 5, 6, 7, 1].as_slice());
+    let mut octets = Octets::new(&out);
+    assert_eq!(rt; octets.read_u8(), Some(1));
+    assert_eq!(rt; octets.read_u16(), Some(0x0203));
+    assert_eq!(rt; octets.read_u32(), Some(0x0405_0607));
+    assert_eq!(rt; octets.read_bool(), Some(true));
+    assert!(rt; octets.is_empty());
+    assert_eq!(rt; octets.read_u8(), None);
+    Ok(())
+}

@@ -1,0 +1,74 @@
+//! The line saved as octets, and loaded from them.
+
+ghost use Rattle.std.specs.Prelude.{◌≡◌, ◌++◌, ◌∷◌, ℕ, List, OnOk, IfSome, Some};
+ghost use Rattle.q421_line.specs.declared.State.{State};
+ghost use Rattle.q421_line.specs.declared.signalling.Line.{Line};
+ghost use Rattle.q421_line.specs.Saved.{saved_line, state_number, PairsFit};
+
+use crate::recognition::Recognition;
+use crate::{Line, Role, State};
+use saved_octets::Octets;
+use std::alloc::AllocError;
+
+impl Line {
+    /// Appends the octets of the line.
+    pub fn save(&self, out: &mut Vec<u8>) -> Result<(), AllocError>
+        ensures octets { OnOk result (out.new.items ≡ out.old.items ++ saved_line self.now) }
+        ensures fits { PairsFit self.now.recognition }
+    {
+        self.recognition.fits();
+        out.extend_from_slice(&[state_number(self.state), self.seized_for])?;
+        self.recognition.save(out)
+    }
+
+    /// Reads a saved line, and gives it this role; None if the octets are not those of a line.
+    pub fn load(role: Role, octets: &mut Octets<'_>) -> Option<Line>
+        ensures loaded { (line : Line) (rest : List ℕ) → line.role ≡ role → PairsFit line.recognition
+            → octets.old ≡ saved_line line ++ rest → (result ≡ Some line) × (octets.new ≡ rest) }
+        ensures read { IfSome result (λ line. octets.old ≡ saved_line line ++ octets.new) }
+        ensures role { IfSome result (λ line. line.role ≡ role) }
+    {
+        let state = load_state(octets)?;
+        let seized_for = octets.read_u8()?;
+        let recognition = Recognition::load(octets)?;
+        Some(Line {
+            role,
+            state,
+            seized_for,
+            recognition,
+        })
+    }
+}
+
+fn state_number(state: State) -> u8
+    ensures { result ≡ state_number state }
+{
+    match state {
+        State::Idle => 0,
+        State::Seized => 1,
+        State::Acked => 2,
+        State::Answered => 3,
+        State::ClearedBack => 4,
+        State::Releasing => 5,
+        State::Blocked => 6,
+        State::Fault => 7,
+    }
+}
+
+fn load_state(octets: &mut Octets<'_>) -> Option<State>
+    ensures loaded { (state : State) (rest : List ℕ) → octets.old ≡ state_number state ∷ rest
+        → (result ≡ Some state) × (octets.new ≡ rest) }
+    ensures read { IfSome result (λ state. octets.old ≡ state_number state ∷ octets.new) }
+{
+    match octets.read_u8()? {
+        0 => Some(State::Idle),
+        1 => Some(State::Seized),
+        2 => Some(State::Acked),
+        3 => Some(State::Answered),
+        4 => Some(State::ClearedBack),
+        5 => Some(State::Releasing),
+        6 => Some(State::Blocked),
+        7 => Some(State::Fault),
+        _ => None,
+    }
+}

@@ -1,0 +1,49 @@
+use Rattle.std.proofs.Common.{◌≡◌, ℕ, Option, Bool, true, Some, None, is_some, not, false, IfNone, refl, sym, ap, ◌∙◌}
+use Rattle.circular_buffer.specs.Buffer.{buffer}
+use Rattle.rtp_playout.specs.Saved.{saved_playout}
+use Rattle.rtp_playout.proofs.Keeping.{keeps-of, stands-nothing}
+use Rattle.rtp_playout.proofs.Loading.{each-below, same-playout}
+use Rattle.rtp_playout.proofs.playout.Playout.load.Goals as goal
+
+-- a result that is there is not none
+not-none : (result : Option (Unit {0})) (b : Bool) → result ≡ Some tt → is_some result ≡ not b → b ≡ true → ⊥
+not-none None b is e f = absurd (cc is)
+not-none (Some done) true is e f = absurd (cc e)
+not-none (Some done) false is e f = absurd (cc f)
+
+pub returns-then-is_none-clause-loaded : goal.returns-then-is_none-clause-loaded
+unfolding saved_playout
+returns-then-is_none-clause-loaded c = λ other prefill calls before rest stood below fits stands e.
+    let one = keeps-of other prefill calls stood in
+    let mine = keeps-of c.args.self.now prefill before stands in
+    let told = c.load_parts-loaded.ensures.loaded other.stream other.window.items rest fits
+    (one.places ∙ sym mine.room) (each-below c.args.bound other.window.items below.each) e in
+    absurd (not-none c.load_parts-loaded.result c.is_none.result told.0 c.is_none.ensures c.if-is_none.true)
+
+-- a result that is none says so of what was emptied
+if-emptied : (result : Option (Unit {0})) (P : Type 0) → P → IfNone result P
+if-emptied None P p = p
+if-emptied (Some done) P p = tt
+
+pub returns-then-is_none-clause-none : goal.returns-then-is_none-clause-none
+returns-then-is_none-clause-none c = λ prefill before stands.
+    let mine = keeps-of c.args.self.now prefill before stands in
+    if-emptied c.load_parts-loaded.result _
+    (stands-nothing _ prefill c.load_parts-loaded.new.self.window.capacity
+    (c.load_parts-loaded.ensures.prefill ∙ mine.prefill_is) (c.load_parts-loaded.ensures.room ∙ mine.room)
+    c.empty.ensures refl)
+
+pub returns-else-is_none-clause-loaded : goal.returns-else-is_none-clause-loaded
+unfolding saved_playout
+returns-else-is_none-clause-loaded c = λ other prefill calls before rest stood below fits stands e.
+    let one = keeps-of other prefill calls stood in
+    let mine = keeps-of c.args.self.now prefill before stands in
+    let told = c.load_parts-loaded.ensures.loaded other.stream other.window.items rest fits
+    (one.places ∙ sym mine.room) (each-below c.args.bound other.window.items below.each) e in
+    let room : c.args.self.now.window.capacity ≡ other.window.capacity = mine.room ∙ sym one.room in (
+      told.0,
+      same-playout c.load_parts-loaded.new.self other other.window told.1
+          (told.2 ∙ ap (λ (n : ℕ). buffer other.window.items n) room)
+          (c.load_parts-loaded.ensures.prefill ∙ mine.prefill_is ∙ sym one.prefill_is),
+      told.3,
+    )

@@ -1,0 +1,8 @@
+//! Octets of a saved state: a reader over them, and numbers appended to them.
+#![tactic(auto)]
+
+mod reading;
+mod writing;
+
+pub use reading::Octets;
+pub use writing::{append_bool, append_u8, append_u16, append_u32};

@@ -1,0 +1,90 @@
+//! A reader over octets, from the first on.
+
+ghost use Rattle.std.specs.Prelude.{◌≡◌, ◌++◌, ◌∷◌, ◌^◌, ◌<◌, ℕ, Bool, ◌==◌, List, length, IfSome, IfNone, Some};
+ghost use Rattle.saved_octets.specs.Numbers.{flag_octet, two_octets, four_octets};
+
+use byteorder::{BigEndian, ByteOrder};
+use std::marker::Model;
+
+/// The octets that are not yet read. Contracts see the list of them.
+#[derive(Debug, Drop)]
+pub struct Octets<'a> {
+    left: &'a [u8],
+}
+
+impl<'a> Model for Octets<'a> {
+    ghost use Rattle.std.specs.Prelude.{List, ℕ};
+
+    ghost Value = { List ℕ };
+
+    ghost view = { λ o. o.left.now };
+}
+
+impl<'a> Octets<'a> {
+    /// A reader before the first of these octets.
+    pub fn new(octets: &'a [u8]) -> Self
+        ensures { result ≡ octets.now }
+    {
+        Octets { left: octets }
+    }
+
+    /// Whether all octets are read.
+    pub fn is_empty(&self) -> bool
+        ensures { result ≡ (length self.now == 0) }
+    {
+        self.left.is_empty()
+    }
+
+    /// Reads one octet; None if no octet is left.
+    pub fn read_u8(&mut self) -> Option<u8>
+        ensures next { (n : ℕ) (rest : List ℕ) → self.old ≡ n ∷ rest
+            → (result ≡ Some n) × (self.new ≡ rest) }
+        ensures read { IfSome result (λ n. self.old ≡ n ∷ self.new) }
+        ensures none { IfNone result (self.new ≡ self.old) }
+    {
+        let (first, others) = self.left.split_first()?;
+        self.left = others;
+        Some(*first)
+    }
+
+    /// Reads a number of 16 bits; None if fewer octets are left.
+    pub fn read_u16(&mut self) -> Option<u16>
+        ensures next { (n : ℕ) (rest : List ℕ) → n < 2 ^ 16 → self.old ≡ two_octets n ++ rest
+            → (result ≡ Some n) × (self.new ≡ rest) }
+        ensures read { IfSome result (λ n. self.old ≡ two_octets n ++ self.new) }
+        ensures none { IfNone result (self.new ≡ self.old) }
+    {
+        let [a, b, others @ ..] = self.left else {
+            return None;
+        };
+        self.left = others;
+        Some(BigEndian::read_u16(&[*a, *b]))
+    }
+
+    /// Reads a number of 32 bits; None if fewer octets are left.
+    pub fn read_u32(&mut self) -> Option<u32>
+        ensures next { (n : ℕ) (rest : List ℕ) → n < 2 ^ 32 → self.old ≡ four_octets n ++ rest
+            → (result ≡ Some n) × (self.new ≡ rest) }
+        ensures read { IfSome result (λ n. self.old ≡ four_octets n ++ self.new) }
+        ensures none { IfNone result (self.new ≡ self.old) }
+    {
+        let [a, b, c, d, others @ ..] = self.left else {
+            return None;
+        };
+        self.left = others;
+        Some(BigEndian::read_u32(&[*a, *b, *c, *d]))
+    }
+
+    /// Reads a flag; None if the next octet is neither 0 nor 1, or if no octet is left.
+    pub fn read_bool(&mut self) -> Option<bool>
+        ensures next { (flag : Bool) (rest : List ℕ) → self.old ≡ flag_octet flag ∷ rest
+            → (result ≡ Some flag) × (self.new ≡ rest) }
+        ensures read { IfSome result (λ flag. self.old ≡ flag_octet flag ∷ self.new) }
+    {
+        match self.read_u8()? {
+            0 => Some(false),
+            1 => Some(true),
+            _ => None,
+        }
+    }
+}

@@ -1,0 +1,43 @@
+//! Numbers appended to octets, the most significant octet first.
+
+ghost use Rattle.std.specs.Prelude.{◌≡◌, ◌++◌, OnOk, OnErr, [], ◌∷◌};
+ghost use Rattle.saved_octets.specs.Numbers.{flag_octet, two_octets, four_octets};
+
+use byteorder::{BigEndian, ByteOrder};
+use std::alloc::AllocError;
+
+/// Appends one octet.
+pub fn append_u8(out: &mut Vec<u8>, octet: u8) -> Result<(), AllocError>
+    ensures octets { OnOk result (out.new.items ≡ out.old.items ++ octet ∷ []) }
+    ensures err { OnErr result (out.new.items ≡ out.old.items) }
+{
+    out.extend_from_slice(&[octet])
+}
+
+/// Appends a number of 16 bits.
+pub fn append_u16(out: &mut Vec<u8>, number: u16) -> Result<(), AllocError>
+    ensures octets { OnOk result (out.new.items ≡ out.old.items ++ two_octets number) }
+    ensures err { OnErr result (out.new.items ≡ out.old.items) }
+{
+    let mut octets = [0; 2];
+    BigEndian::write_u16(&mut octets, number);
+    out.extend_from_slice(&octets)
+}
+
+/// Appends a number of 32 bits.
+pub fn append_u32(out: &mut Vec<u8>, number: u32) -> Result<(), AllocError>
+    ensures octets { OnOk result (out.new.items ≡ out.old.items ++ four_octets number) }
+    ensures err { OnErr result (out.new.items ≡ out.old.items) }
+{
+    let mut octets = [0; 4];
+    BigEndian::write_u32(&mut octets, number);
+    out.extend_from_slice(&octets)
+}
+
+/// Appends a flag: 1 if it is set, else 0.
+pub fn append_bool(out: &mut Vec<u8>, flag: bool) -> Result<(), AllocError>
+    ensures octets { OnOk result (out.new.items ≡ out.old.items ++ flag_octet flag ∷ []) }
+    ensures err { OnErr result (out.new.items ≡ out.old.items) }
+{
+    append_u8(out, u8::from(flag))
+}
