@@ -9,3 +9,4 @@ pub mod Keeps
 pub mod Placings
 pub mod Standings
 pub mod Searches
+pub mod Replies

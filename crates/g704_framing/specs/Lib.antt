@@ -4,3 +4,4 @@ pub mod Age
 pub mod Restart
 pub mod Laws
 pub mod Places
+pub mod Replies

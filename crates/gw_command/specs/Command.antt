@@ -10,6 +10,10 @@ use Rattle.g726_codec.specs.Names.{text_of}
 use Rattle.g726_codec.specs.declared.names.CodecName.TheVariants as names
 use Rattle.gw_circuit.specs.Coding.{static_type}
 use Rattle.gw_speech.specs.declared.spec.StreamSpec.{StreamSpec}
+use Rattle.gw_command.specs.declared.command.Filter.{Filter}
+use Rattle.gw_command.specs.declared.command.Filter.TheVariants.{Align, Crc4}
+use Rattle.gw_command.specs.declared.command.Request.{Request}
+use Rattle.gw_command.specs.declared.command.Request.TheVariants as requests
 use Rattle.gw_command.specs.declared.command.Job.{Job}
 use Rattle.gw_command.specs.declared.command.Job.TheVariants.{Encode, Decode}
 use Rattle.gw_command.specs.declared.command.Session.{Session}
@@ -83,9 +87,21 @@ pub record IsSession (command : Option (List ℕ × List Row)) (session : Sessio
   pub options : List Row
   pub named : command ≡ Some (session_name session, options)
 
--- a subcommand names the alignment of a trunk
-abbrev pub IsAlign : Option (List ℕ × List Row) → Type 0
-IsAlign command = (options : List Row) × (command ≡ Some (codes "align", options))
+-- the name of a filter
+abbrev pub filter_name : Filter → List ℕ
+filter_name Align = codes "align"
+filter_name Crc4 = codes "crc4"
+
+-- the filter that a subcommand names
+pub record IsFilter (command : Option (List ℕ × List Row)) (filter : Filter) : Type 0 where
+  pub options : List Row
+  pub named : command ≡ Some (filter_name filter, options)
+
+-- what a subcommand and its options ask for
+abbrev pub IsRequest : Option (List ℕ × List Row) → Request → Type 0
+IsRequest command (requests.Job job) = IsJob command job
+IsRequest command (requests.Session session) = IsSession command session
+IsRequest command (requests.Filter filter) = IsFilter command filter
 
 -- the first text of an option of a subcommand
 abbrev pub text_in : List ℕ → Option (List ℕ × List Row) → Option (List ℕ)

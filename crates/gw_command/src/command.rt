@@ -1,13 +1,15 @@
 //! The command line: what the program is asked to do.
-ghost use Rattle.std.specs.Prelude.{◌≡◌, ◌≢◌, ◌↔◌, Some, IfSome, IfNone, IsTrue, option_map, codes};
+ghost use Rattle.std.specs.Prelude.{◌≡◌, ◌≢◌, Some, IfSome, IfNone, option_map, codes};
 ghost use Rattle.e1_g711.specs.declared.Law.{Law};
 ghost use Rattle.g726_codec.specs.declared.CodecKind.{CodecKind};
 ghost use Rattle.clap.specs.Words.{found_of, rows_of, subcommand_rows_of};
 ghost use Rattle.gw_speech.specs.declared.spec.StreamSpec.{StreamSpec};
 ghost use Rattle.gw_command.specs.Command.{law_name, codec_name, job_name, job_spec, usual_payload};
 ghost use Rattle.gw_command.specs.Command.{IsStream, IsJob, IsSession, session_name};
-ghost use Rattle.gw_command.specs.Command.{text_in, IsAlign};
+ghost use Rattle.gw_command.specs.Command.{IsFilter, filter_name, IsRequest, text_in};
+ghost use Rattle.gw_command.specs.declared.command.Filter.{Filter};
 ghost use Rattle.gw_command.specs.declared.command.Job.{Job};
+ghost use Rattle.gw_command.specs.declared.command.Request.{Request};
 ghost use Rattle.gw_command.specs.declared.command.Session.{Session};
 
 use clap::ArgMatches;
@@ -20,7 +22,18 @@ use gw_speech::StreamSpec;
 use std::rt::Env;
 use std::{env, io};
 
-/// What the program is asked to do.
+/// What the command line asks for: the subcommand, and the stream that a job's options name.
+#[derive(Clone, Copy, Debug, PartialEq, Eq)]
+pub enum Request {
+    /// A job on a stream of speech.
+    Job(Job),
+    /// A session of a gateway.
+    Session(Session),
+    /// A filter of a trunk.
+    Filter(Filter),
+}
+
+/// A job on a stream of speech.
 #[derive(Clone, Copy, Debug, PartialEq, Eq)]
 pub enum Job {
     /// Octets of speech to records of datagrams.
@@ -40,20 +53,19 @@ pub enum Session {
     Serve,
 }
 
+/// A filter of a trunk, one octet out for each octet in.
+#[derive(Clone, Copy, Debug, PartialEq, Eq)]
+pub enum Filter {
+    /// Octets at any bit offset to the octets of the time slots.
+    Align,
+    /// Octets that a gateway sends to the same octets with CRC-4 multiframes.
+    Crc4,
+}
+
 /// The arguments of the command line, the name of the program first.
 pub fn arguments<R: Env + AllocGlobal>(rt: &R) -> io::Result<Vec<String>> {
     let arguments = env::args(rt)?.collect(rt.alloc())?;
     Ok(arguments)
-}
-
-/// Whether the matches ask for `align`.
-pub fn is_align(matches: &ArgMatches<'_>) -> bool
-    ensures { IsTrue result ↔ IsAlign (subcommand_rows_of matches.now) }
-{
-    match matches.subcommand() {
-        Some((name, _)) => name == "align",
-        None => false,
-    }
 }
 
 /// Whether the totals are asked for.
@@ -132,7 +144,8 @@ fn stream_spec(matches: &ArgMatches<'_>) -> Option<StreamSpec>
     )
 }
 
-/// What the matches ask for. The parsers of the options let no other value through than a stream can have.
+/// The job that the matches ask for. The parsers of the options let no other value through than a stream can
+/// have.
 pub fn job_of(matches: &ArgMatches<'_>) -> Option<Job>
     ensures found { IfSome result (IsJob (subcommand_rows_of matches.now)) }
     ensures none { IfNone result ((job : Job) → ¬ IsJob (subcommand_rows_of matches.now) job) }
@@ -162,6 +175,44 @@ pub fn session_of(matches: &ArgMatches<'_>) -> Option<Session>
 {
     let (name, _) = matches.subcommand()?;
     session_named(name)
+}
+
+// The filter of this name.
+fn filter_named(name: &str) -> Option<Filter>
+    ensures found { IfSome result (λ filter. name.now ≡ filter_name filter) }
+    ensures none { IfNone result ((filter : Filter) → name.now ≢ filter_name filter) }
+{
+    match name {
+        "align" => Some(Filter::Align),
+        "crc4" => Some(Filter::Crc4),
+        _ => None,
+    }
+}
+
+// The filter that the matches ask for.
+fn filter_of(matches: &ArgMatches<'_>) -> Option<Filter>
+    ensures found { IfSome result (IsFilter (subcommand_rows_of matches.now)) }
+    ensures none { IfNone result ((filter : Filter)
+        → ¬ IsFilter (subcommand_rows_of matches.now) filter) }
+{
+    let (name, _) = matches.subcommand()?;
+    filter_named(name)
+}
+
+/// What the matches ask for.
+pub fn request_of(matches: &ArgMatches<'_>) -> Option<Request>
+    ensures found { IfSome result (IsRequest (subcommand_rows_of matches.now)) }
+    ensures none { IfNone result ((request : Request)
+        → ¬ IsRequest (subcommand_rows_of matches.now) request) }
+{
+    if let Some(session) = session_of(matches) {
+        return Some(Request::Session(session));
+    }
+    if let Some(filter) = filter_of(matches) {
+        return Some(Request::Filter(filter));
+    }
+    let job = job_of(matches)?;
+    Some(Request::Job(job))
 }
 
 // The text of an option of the subcommand, the first where there are more.

@@ -56,6 +56,13 @@ last offset while it is lost.
 
 Example: e1gw align < bits.raw > trunk.raw";
 
+const CRC4_HELP: &str = "\
+From standard input come the octets that a gateway sends, the first octet of a
+frame first. To standard output go the same octets with CRC-4 multiframes (ITU-T
+G.704) in bit 1 of time slot 0.
+
+Example: e1gw crc4 < trunk.raw > crc4.raw";
+
 const CODEC_TEXT: &str =
     "Coding of the datagrams [possible values: g711, g726-16,\ng726-24, g726-32, g726-40]";
 
@@ -116,7 +123,7 @@ const OF_SERVE: &[Opt] = &[
     Opt::Senders,
 ];
 
-const SUBCOMMANDS: [Subcommand; 6] = [
+const SUBCOMMANDS: [Subcommand; 7] = [
     Subcommand {
         name: "encode",
         about: "Octets of speech to records of RTP datagrams",
@@ -151,6 +158,12 @@ const SUBCOMMANDS: [Subcommand; 6] = [
         name: "align",
         about: "A trunk at any bit offset to the octets of its time slots",
         after_help: ALIGN_HELP,
+        options: &[Opt::Totals],
+    },
+    Subcommand {
+        name: "crc4",
+        about: "A trunk as it is sent to the same with CRC-4 multiframes",
+        after_help: CRC4_HELP,
         options: &[Opt::Totals],
     },
 ];

@@ -1,7 +1,10 @@
 use clap::error::ErrorKind;
 use e1_g711::Law;
 use g726_codec::CodecKind;
-use gw_command::{Job, Session, is_align, job_of, path_of, senders_of, session_of, wants_totals};
+use gw_command::{
+    Filter, Job, Request, Session, job_of, path_of, request_of, senders_of, session_of,
+    wants_totals,
+};
 use gw_options::matches;
 use gw_session::StreamSpec;
 use gw_udp::Senders;
@@ -111,17 +114,20 @@ fn totals_are_asked_for(rt: HostRuntime) -> Result<(), Fail> {
 }
 
 #[test]
-fn align_is_named(rt: HostRuntime) -> Result<(), Fail> {
-    for (line, named) in [
-        ("e1gw align", true),
-        ("e1gw encode", false),
-        ("e1gw check --config align", false),
+fn subcommands_are_named(rt: HostRuntime) -> Result<(), Fail> {
+    for (line, request) in [
+        ("e1gw align", Request::Filter(Filter::Align)),
+        ("e1gw crc4 --totals", Request::Filter(Filter::Crc4)),
+        (
+            "e1gw check --config align",
+            Request::Session(Session::Check),
+        ),
     ] {
         let words = words(rt.alloc(), line)?;
         let matches = matches(rt.alloc(), words.as_slice())
             .ok()
             .ok_or("a command line")?;
-        assert!(rt; is_align(&matches) == named, "at {line}");
+        assert!(rt; request_of(&matches) == Some(request), "at {line}");
     }
     assert!(rt; job(rt.alloc(), "e1gw align --law a")? == Err(ErrorKind::UnknownArgument));
     Ok(())

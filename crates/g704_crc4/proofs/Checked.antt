@@ -1,0 +1,156 @@
+-- A checker and its history, one octet more.
+use Rattle.std.proofs.Common.{◌≡◌, ℕ, ◌+◌, ◌*◌, ◌-◌, ◌/◌, ◌%◌, Bool, true, false, List, [], ◌∷◌}
+use Rattle.std.proofs.Common.{◌++◌, length, refl, sym, ap, ◌∙◌, arith, inl, inr}
+use Rattle.std.specs.Prelude.{◌≢◌, nat_le}
+use Rattle.std.proofs.lemmas.Bool.{cases_eq, cases_lt, eq-eqb, ne_eqb, le-leb, lt-leb, lt-ltb, le-ltb}
+use Rattle.std.proofs.lemmas.List.{length_push}
+use Rattle.g704_crc4.specs.declared.remainder.Remainder.{Remainder}
+use Rattle.g704_crc4.specs.declared.checking.Checker.{Checker}
+use Rattle.g704_crc4.specs.Remainder.{no_remainder, after_octet, sent_bits, remainder_of}
+use Rattle.g704_crc4.specs.Submultiframes.{each_at, submultiframe}
+use Rattle.g704_crc4.specs.Receiving.{si_of, check_bits_in, cleared_at, cleared, remainder_in}
+use Rattle.g704_crc4.specs.Checking.{same, check_bits_with, far_end_event, block_event, is_right, event_of}
+use Rattle.g704_crc4.specs.States.{ChecksAfter}
+use Rattle.g704_crc4.proofs.Submultiframes.{remainder-grows, remainder-none}
+use Rattle.g704_crc4.proofs.CheckBits.{by-bits}
+use Rattle.g704_crc4.proofs.Received.{remainder-stays, si-here, first, second, third, fourth}
+
+-- A checker that has received nothing.
+pub checks-none : ChecksAfter
+    (record { place = 0; before = no_remainder; running = no_remainder; check_bits = no_remainder; begun = false }) []
+unfolding each_at submultiframe remainder_of sent_bits
+checks-none = record {
+  place = refl;
+  begun = refl;
+  before = λ le. absurd (omega arith);
+  running = refl;
+  c1 = λ lt. absurd (omega arith);
+  c2 = λ lt. absurd (omega arith);
+  c3 = λ lt. absurd (omega arith);
+  c4 = λ lt. absurd (omega arith);
+}
+
+-- A checker and its history, and the next octet.
+module _ (m : Checker) (h : List ℕ) (x : ℕ) (s : ChecksAfter m h) where
+  -- Within a submultiframe there is one before it if there was.
+  begun-within : (length h + 1) % 256 ≢ 0 → m.begun ≡ nat_le 256 (length (h ++ x ∷ []))
+  begun-within ne = let l = length_push h x in s.begun ∙ elim (cases_lt (length h) 256) [
+    | inl lt ↦ lt-leb 256 (length h) lt ∙ sym (lt-leb 256 (length (h ++ x ∷ [])) (omega (arith, ne)))
+    | inr ge ↦ le-leb 256 (length h) ge ∙ sym (le-leb 256 (length (h ++ x ∷ [])) (omega arith))
+  ]
+
+  -- What a checker counts with the next octet is the remainder with that octet.
+  counted-more : (taken : ℕ) (left : Remainder) → taken ≡ cleared_at (length h) x → left ≡ after_octet m.running taken
+      → left ≡ remainder_of (submultiframe (length h / 256) (cleared (h ++ x ∷ [])))
+  counted-more taken left is more =
+      more ∙ ap (λ o. after_octet m.running o) is
+      ∙ ap (λ r. after_octet r (cleared_at (length h) x)) s.running ∙ sym (remainder-grows cleared_at h x)
+
+  -- An octet within a submultiframe.
+  pub checks-within : (taken place : ℕ) (left bits : Remainder) → taken ≡ cleared_at (length h) x
+      → place ≡ (m.place + 1) % 512 → left ≡ after_octet m.running taken
+      → bits ≡ check_bits_with m.check_bits m.place (nat_le 128 x) → place % 256 ≢ 0
+      → ChecksAfter (record { place = place; before = m.before; running = left; check_bits = bits; begun = m.begun })
+      (h ++ x ∷ [])
+  checks-within taken place left bits is at more now ne =
+      let p = s.place in
+      let l = length_push h x in
+      let same : length h / 256 ≡ length (h ++ x ∷ []) / 256 = omega (arith, ne) in
+      record {
+        place = omega arith;
+        begun = begun-within (λ z. ne (omega (arith, z)));
+        before = λ le.
+            s.before (omega (arith, ne, le)) ∙ sym (remainder-stays h x (length h / 256 - 1) (omega (arith, ne, le)))
+            ∙ ap (λ n. remainder_in (h ++ x ∷ []) (n - 1)) same;
+        running = counted-more taken left is more
+            ∙ ap (λ n. remainder_of (submultiframe n (cleared (h ++ x ∷ [])))) same;
+        c1 = λ lt. ap (λ (r : Remainder). r.c1) now ∙ first m h x s
+            ∙ ap (λ n. si_of (h ++ x ∷ []) (8 * n)) same;
+        c2 = λ lt. ap (λ (r : Remainder). r.c2) now ∙ second m h x s (omega (arith, lt, ne))
+            ∙ ap (λ n. si_of (h ++ x ∷ []) (8 * n + 2)) same;
+        c3 = λ lt. ap (λ (r : Remainder). r.c3) now ∙ third m h x s (omega (arith, lt, ne))
+            ∙ ap (λ n. si_of (h ++ x ∷ []) (8 * n + 4)) same;
+        c4 = λ lt. ap (λ (r : Remainder). r.c4) now ∙ fourth m h x s (omega (arith, lt, ne))
+            ∙ ap (λ n. si_of (h ++ x ∷ []) (8 * n + 6)) same;
+      }
+
+  -- The last octet of a submultiframe.
+  pub checks-last : (taken place : ℕ) (left bits : Remainder) → taken ≡ cleared_at (length h) x
+      → place ≡ (m.place + 1) % 512 → left ≡ after_octet m.running taken → place % 256 ≡ 0
+      → ChecksAfter (record { place = place; before = left; running = no_remainder; check_bits = bits; begun = true })
+      (h ++ x ∷ [])
+  unfolding remainder_in
+  checks-last taken place left bits is at more e =
+      let p = s.place in
+      let l = length_push h x in
+      let n : length h / 256 ≡ length (h ++ x ∷ []) / 256 - 1 = omega arith in
+      record {
+        place = omega arith;
+        begun = sym (le-leb 256 (length (h ++ x ∷ [])) (omega arith));
+        before = λ le. counted-more taken left is more ∙ ap (remainder_in (h ++ x ∷ [])) n;
+        running = remainder-none cleared_at (length (h ++ x ∷ []) / 256) (h ++ x ∷ []) (omega arith);
+        c1 = λ lt. absurd (omega arith);
+        c2 = λ lt. absurd (omega arith);
+        c3 = λ lt. absurd (omega arith);
+        c4 = λ lt. absurd (omega arith);
+      }
+
+  -- The check bits of a submultiframe that ends with the octet.
+  bits-are : (length h + 1) % 256 ≡ 0
+      → check_bits_with m.check_bits m.place (nat_le 128 x) ≡ check_bits_in (h ++ x ∷ []) (length h / 256)
+  unfolding check_bits_in
+  bits-are e = by-bits _ _ _ _ (check_bits_in (h ++ x ∷ []) (length h / 256)) (first m h x s)
+      (second m h x s (omega arith)) (third m h x s (omega arith)) (fourth m h x s (omega arith))
+
+  -- What is learned with the last octet of a submultiframe.
+  pub block-event-is : (place : ℕ) → place ≡ (m.place + 1) % 512 → place % 256 ≡ 0
+      → block_event m.begun (same (check_bits_with m.check_bits m.place (nat_le 128 x)) m.before) ≡ event_of (h ++ x ∷ [])
+  unfolding event_of is_right
+  block-event-is place at e =
+      let p = s.place in
+      let l = length_push h x in
+      let all = h ++ x ∷ [] in
+      let end : length all % 256 ≡ 0 = omega arith in
+      elim (cases_lt (length h) 256) [
+        | inl lt ↦ rw (
+          s.begun,
+          lt-leb 256 (length h) lt,
+          eq-eqb (length all % 256) 0 end,
+          le-ltb 256 (length all) (omega arith),
+        ) refl
+        | inr ge ↦
+            let n : length all / 256 - 2 ≡ length h / 256 - 1 = omega arith in
+            let k : length h / 256 - 1 + 1 ≡ length h / 256 = omega arith in
+            let before : m.before ≡ remainder_in all (length h / 256 - 1)
+            = s.before ge ∙ sym (remainder-stays h x (length h / 256 - 1) (omega arith)) in
+            rw (eq-eqb (length all % 256) 0 end, lt-ltb 256 (length all) (omega arith))
+            (ap (λ b. block_event b (same (check_bits_with m.check_bits m.place (nat_le 128 x)) m.before))
+            (s.begun ∙ le-leb 256 (length h) ge)
+            ∙ ap (λ w. block_event true (same w m.before)) (bits-are (omega arith))
+            ∙ ap (λ r. block_event true (same (check_bits_in all (length h / 256)) r)) before
+            ∙ ap (λ i. block_event true (same (check_bits_in all i) (remainder_in all (length h / 256 - 1)))) (sym k)
+            ∙ ap (λ i. block_event true (is_right all i)) (sym n))
+      ]
+
+  -- What an E bit reports is one for Si bits that are the same where E bits are.
+  far-end-event-same : (place : ℕ) (a b : Bool) → (place ≡ 416 → a ≡ b) → (place ≡ 480 → a ≡ b)
+      → far_end_event place a ≡ far_end_event place b
+  far-end-event-same place a b one two = elim (cases_eq place 416) [
+    | inl e ↦ ap (far_end_event place) (one e)
+    | inr ne ↦ elim (cases_eq place 480) [
+      | inl e ↦ ap (far_end_event place) (two e)
+      | inr other ↦ rw (ne_eqb place 416 ne, ne_eqb place 480 other) refl
+    ]
+  ]
+
+  -- What is learned with any other octet.
+  pub far-end-event-is : (place : ℕ) → place ≡ (m.place + 1) % 512 → place % 256 ≢ 0
+      → far_end_event m.place (nat_le 128 x) ≡ event_of (h ++ x ∷ [])
+  unfolding event_of
+  far-end-event-is place at ne =
+      let p = s.place in
+      let l = length_push h x in
+      let n : length (h ++ x ∷ []) - 1 ≡ length h = omega arith in
+      rw (ne_eqb (length (h ++ x ∷ []) % 256) 0 (λ z. ne (omega (arith, z))), n, ← p)
+      (far-end-event-same m.place (nat_le 128 x) (si_of (h ++ x ∷ []) (length h / 32))
+      (λ e. sym (si-here h x (length h / 32) (omega arith))) (λ e. sym (si-here h x (length h / 32) (omega arith))))

@@ -1,0 +1,11 @@
+pub mod Numbers
+pub mod Submultiframes
+pub mod Steps
+pub mod Sent
+pub mod CheckBits
+pub mod Division
+pub mod Errors
+pub mod Received
+pub mod Checked
+pub mod Counted
+pub mod NotFound

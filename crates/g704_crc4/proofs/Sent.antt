@@ -1,0 +1,89 @@
+-- The octets that are sent, one for each that comes.
+use Rattle.std.proofs.Common.{◌≡◌, ℕ, zero, suc, ◌+◌, ◌*◌, ◌<◌, ◌/◌, ◌%◌, Bool, true, false, List, [], ◌∷◌}
+use Rattle.std.proofs.Common.{◌++◌, length, take, refl, sym, ap, ◌∙◌, arith, append_assoc, inl, inr}
+use Rattle.std.specs.Prelude.{◌≢◌, slice_index, nat_le}
+use Rattle.std.proofs.lemmas.Bool.{cases_eq, eq-eqb, ne_eqb, le-leb, lt-leb, cases_lt}
+use Rattle.std.proofs.lemmas.List.{append-nil, get_or_past, length-take-le}
+use Rattle.g704_framing.specs.Replies.{replies_after}
+use Rattle.g704_framing.proofs.Replies.{length-replies}
+use Rattle.g704_crc4.specs.declared.remainder.Remainder.{Remainder}
+use Rattle.g704_crc4.specs.Multiframe.{with_si, si_at, octet_at}
+use Rattle.g704_crc4.specs.Multiframe.{check_bits_after, sent_octet, sent_octets}
+use Rattle.g704_crc4.specs.Receiving.{si_of, LengthIsKept, OthersAreKept}
+
+-- One octet is sent for each that comes.
+pub kept-length : LengthIsKept
+kept-length octets = length-replies sent_octet [] octets
+
+-- Setting bit 1 changes no other bit.
+pub with-low : (si : Bool) (x : ℕ) → with_si si x % 128 ≡ x % 128
+with-low true x = omega arith
+with-low false x = omega arith
+
+-- Bit 1 is what it was set to.
+with-high : (si : Bool) (x : ℕ) → nat_le 128 (with_si si x) ≡ si
+with-high true x = le-leb 128 (128 + x % 128) (omega arith)
+with-high false x = lt-leb 128 (x % 128) (omega arith)
+
+-- The first octet of a frame is sent with its Si bit.
+pub at-frame : (bits : Remainder) (place : ℕ) (x : ℕ) → place % 32 ≡ 0
+    → octet_at bits place x ≡ with_si (si_at bits (place / 32 % 16)) x
+unfolding octet_at
+at-frame bits place x e = rw (eq-eqb (place % 32) 0 e) refl
+
+-- Any other octet is sent as it came.
+pub at-other : (bits : Remainder) (place : ℕ) (x : ℕ) → place % 32 ≢ 0 → octet_at bits place x ≡ x
+unfolding octet_at
+at-other bits place x ne = rw (ne_eqb (place % 32) 0 ne) refl
+
+-- Each octet that is sent, by those before it.
+sent-at : (before octets : List ℕ) (i : ℕ) → i < length octets
+    → slice_index (replies_after sent_octet before octets) i ≡ sent_octet (before ++ take i octets) (slice_index octets i)
+unfolding replies_after
+sent-at before [] i lt = absurd (omega arith)
+sent-at before (x ∷ octets) zero lt = ap (λ b. sent_octet b x) (sym (append-nil before))
+sent-at before (x ∷ octets) (suc i) lt =
+    sent-at (before ++ x ∷ []) octets i (omega arith)
+    ∙ ap (λ b. sent_octet b (slice_index octets i)) (append_assoc before (x ∷ []) (take i octets))
+
+-- Each octet that is sent, by its place.
+sent-place : (octets : List ℕ) (i : ℕ) → i < length octets
+    → slice_index (sent_octets octets) i ≡ octet_at (check_bits_after (take i octets)) i (slice_index octets i)
+unfolding sent_octet
+sent-place octets i lt =
+    sent-at [] octets i lt
+    ∙ ap (λ n. octet_at (check_bits_after (take i octets)) n (slice_index octets i)) (length-take-le i octets (omega arith))
+
+-- The Si bit of a frame as it is sent.
+pub si-sent : (octets : List ℕ) (frame : ℕ) → 32 * frame < length octets
+    → si_of (sent_octets octets) frame ≡ si_at (check_bits_after (take (32 * frame) octets)) (frame % 16)
+unfolding si_of
+si-sent octets frame lt =
+    let bits = check_bits_after (take (32 * frame) octets) in
+    let x = slice_index octets (32 * frame) in
+    let n : 32 * frame / 32 % 16 ≡ frame % 16 = omega arith in
+    ap (nat_le 128) (sent-place octets (32 * frame) lt ∙ at-frame bits (32 * frame) x (omega arith))
+    ∙ with-high (si_at bits (32 * frame / 32 % 16)) x
+    ∙ ap (si_at bits) n
+
+-- The other bits of an octet stay as they are.
+low-kept : (bits : Remainder) (place : ℕ) (x : ℕ) → octet_at bits place x % 128 ≡ x % 128
+low-kept bits place x = elim (cases_eq (place % 32) 0) [
+  | inl e ↦ ap (λ o. o % 128) (at-frame bits place x e) ∙ with-low (si_at bits (place / 32 % 16)) x
+  | inr ne ↦ ap (λ o. o % 128) (at-other bits place x ne)
+]
+
+-- Each bit but bit 1 of time slot 0 is sent as it came.
+pub kept-others : OthersAreKept
+kept-others octets place = elim (cases_lt place (length octets)) [
+  | inl lt ↦
+      let at = sent-place octets place lt in
+      let bits = check_bits_after (take place octets) in
+      let x = slice_index octets place in
+      (ap (λ o. o % 128) at ∙ low-kept bits place x, λ ne. at ∙ at-other bits place x ne)
+  | inr ge ↦
+      let none : slice_index (sent_octets octets) place ≡ slice_index octets place
+      = get_or_past (sent_octets octets) place 0 (omega (arith, length-replies sent_octet [] octets))
+      ∙ sym (get_or_past octets place 0 ge) in
+      (ap (λ o. o % 128) none, λ ne. none)
+]

@@ -1,0 +1,89 @@
+-- A multiframer and its history, one octet more.
+use Rattle.std.proofs.Common.{◌≡◌, ℕ, ◌+◌, ◌-◌, ◌/◌, ◌%◌, List, [], ◌∷◌, ◌++◌, length}
+use Rattle.std.proofs.Common.{refl, sym, ap, ◌∙◌, arith, inl, inr}
+use Rattle.std.specs.Prelude.{◌≢◌}
+use Rattle.std.proofs.lemmas.List.{length_push}
+use Rattle.std.proofs.lemmas.Bool.{cases_eq, ne_eqb}
+use Rattle.g704_crc4.specs.declared.remainder.Remainder.{Remainder}
+use Rattle.g704_crc4.specs.declared.sending.Multiframer.{Multiframer}
+use Rattle.g704_crc4.specs.Remainder.{no_remainder, after_octet, sent_bits, remainder_of, crc_number}
+use Rattle.g704_crc4.specs.Submultiframes.{each_at, submultiframe}
+use Rattle.g704_crc4.specs.Multiframe.{octet_at, zeroed, check_bits_after}
+use Rattle.g704_crc4.specs.States.{SendsAfter}
+use Rattle.g704_crc4.proofs.Submultiframes.{part-stays, remainder-grows, remainder-none}
+
+-- A multiframer that has sent nothing.
+pub sends-none : SendsAfter (record { place = 0; before = 0; running = 0 }) []
+unfolding check_bits_after each_at submultiframe remainder_of sent_bits
+sends-none = record { place = refl; before = refl; running = refl }
+
+-- The check bits are the remainder of the submultiframe before, if there is one.
+pub check-bits-are : (before : List ℕ) (number : ℕ) → length before / 256 ≡ number + 1
+    → check_bits_after before ≡ remainder_of (submultiframe number (zeroed before))
+unfolding check_bits_after
+check-bits-are before number e =
+    let n : number + 1 - 1 ≡ number = omega arith in
+    rw (e, ne_eqb (number + 1) 0 (λ z. omega (arith, z)), n) refl
+
+-- They are zeros in the first submultiframe.
+check-bits-first : (before : List ℕ) → length before / 256 ≡ 0 → check_bits_after before ≡ no_remainder
+unfolding check_bits_after
+check-bits-first before e = rw e refl
+
+-- They stay the same within a submultiframe.
+check-bits-stay : (h : List ℕ) (x : ℕ) → (length h + 1) % 256 ≢ 0 → check_bits_after (h ++ x ∷ []) ≡ check_bits_after h
+check-bits-stay h x ne =
+    let l = length_push h x in
+    elim (cases_eq (length h / 256) 0) [
+      | inl e ↦ check-bits-first (h ++ x ∷ []) (omega arith) ∙ sym (check-bits-first h e)
+      | inr some ↦
+          let n = length h / 256 - 1 in
+          let a : length h / 256 ≡ length h / 256 - 1 + 1 = omega (arith, some) in
+          let b : length (h ++ x ∷ []) / 256 ≡ length h / 256 - 1 + 1 = omega (arith, some) in
+          check-bits-are (h ++ x ∷ []) (length h / 256 - 1) b
+          ∙ ap remainder_of (part-stays (octet_at no_remainder) (length h / 256 - 1) h (x ∷ []) (omega (arith, a)))
+          ∙ sym (check-bits-are h (length h / 256 - 1) a)
+    ]
+
+-- What a multiframer counts with the next octet is the remainder with that octet.
+counted-more : (m : Multiframer) (h : List ℕ) (x counted left : ℕ) → SendsAfter m h
+    → counted ≡ octet_at no_remainder (length h) x
+    → ((remainder : Remainder) → m.running ≡ crc_number remainder → left ≡ crc_number (after_octet remainder counted))
+    → left ≡ crc_number (remainder_of (submultiframe (length h / 256) (zeroed (h ++ x ∷ []))))
+counted-more m h x counted left s is more =
+    let running = remainder_of (submultiframe (length h / 256) (zeroed h)) in
+    more running s.running
+    ∙ ap crc_number (ap (after_octet running) is ∙ sym (remainder-grows (octet_at no_remainder) h x))
+
+-- An octet within a submultiframe.
+pub sends-within : (m : Multiframer) (h : List ℕ) (x counted place left : ℕ) → SendsAfter m h
+    → counted ≡ octet_at no_remainder (length h) x → place ≡ (m.place + 1) % 512
+    → ((remainder : Remainder) → m.running ≡ crc_number remainder → left ≡ crc_number (after_octet remainder counted))
+    → place % 256 ≢ 0 → SendsAfter (record { place = place; before = m.before; running = left }) (h ++ x ∷ [])
+sends-within m h x counted place left s is at more ne =
+    let p = s.place in
+    let l = length_push h x in
+    let same : length h / 256 ≡ length (h ++ x ∷ []) / 256 = omega (arith, ne) in
+    record {
+      place = omega arith;
+      before = s.before ∙ ap crc_number (sym (check-bits-stay h x (λ z. ne (omega (arith, z)))));
+      running = counted-more m h x counted left s is more
+          ∙ ap (λ n. crc_number (remainder_of (submultiframe n (zeroed (h ++ x ∷ []))))) same;
+    }
+
+-- The last octet of a submultiframe.
+pub sends-last : (m : Multiframer) (h : List ℕ) (x counted place left : ℕ) → SendsAfter m h
+    → counted ≡ octet_at no_remainder (length h) x → place ≡ (m.place + 1) % 512
+    → ((remainder : Remainder) → m.running ≡ crc_number remainder → left ≡ crc_number (after_octet remainder counted))
+    → place % 256 ≡ 0 → SendsAfter (record { place = place; before = left; running = 0 }) (h ++ x ∷ [])
+sends-last m h x counted place left s is at more e =
+    let p = s.place in
+    let l = length_push h x in
+    let next : length (h ++ x ∷ []) / 256 ≡ length h / 256 + 1 = omega arith in
+    record {
+      place = omega arith;
+      before = counted-more m h x counted left s is more
+          ∙ ap crc_number (sym (check-bits-are (h ++ x ∷ []) (length h / 256) next));
+      running = ap crc_number
+          (remainder-none (octet_at no_remainder) (length (h ++ x ∷ []) / 256) (h ++ x ∷ []) (omega arith));
+    }

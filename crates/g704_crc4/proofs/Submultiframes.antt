@@ -1,0 +1,104 @@
+-- Octets changed by their places, and the submultiframes of a stream as it grows.
+use Rattle.std.proofs.Common.{◌≡◌, ℕ, suc, ◌+◌, ◌*◌, ◌≤◌, ◌/◌, Bool, List, [], ◌∷◌, ◌++◌, length, drop}
+use Rattle.std.proofs.Common.{refl, sym, ap, ◌∙◌, arith, append_assoc, length-drop}
+use Rattle.std.proofs.lemmas.List.{take-append-le, drop-append-le, take_all, drop_all, length_push}
+use Rattle.g704_crc4.specs.declared.remainder.Remainder.{Remainder}
+use Rattle.g704_crc4.specs.Remainder.{no_remainder, after_bits, after_octet, bits_in, sent_bits, remainder_of}
+use Rattle.g704_crc4.specs.Submultiframes.{each_at, submultiframe}
+
+-- The remainder of bits, and of others after them.
+pub after-append : (left : Remainder) (bits others : List Bool)
+    → after_bits left (bits ++ others) ≡ after_bits (after_bits left bits) others
+after-append left [] others = refl
+after-append left (b ∷ bits) others = after-append _ bits others
+
+-- The bits of octets, and of one after them.
+bits-push : (octets : List ℕ) (x : ℕ) → sent_bits (octets ++ x ∷ []) ≡ sent_bits octets ++ bits_in x
+unfolding sent_bits
+bits-push [] x = refl
+bits-push (y ∷ octets) x =
+    ap (λ s. bits_in y ++ s) (bits-push octets x) ∙ sym (append_assoc (bits_in y) (sent_bits octets) (bits_in x))
+
+-- The remainder with an octet more.
+remainder-push : (octets : List ℕ) (x : ℕ) → remainder_of (octets ++ x ∷ []) ≡ after_octet (remainder_of octets) x
+unfolding remainder_of
+remainder-push octets x =
+    ap (after_bits no_remainder) (bits-push octets x) ∙ after-append no_remainder (sent_bits octets) (bits_in x)
+
+-- An octet after a whole submultiframe changes nothing in it.
+part-whole : (number : ℕ) (octets others : List ℕ) → 256 * (number + 1) ≤ length octets
+    → submultiframe number (octets ++ others) ≡ submultiframe number octets
+unfolding submultiframe
+part-whole number octets others le =
+    rw (
+      drop-append-le (256 * number) octets others (omega arith),
+      take-append-le 256 (drop (256 * number) octets) others (omega (arith, length-drop (256 * number) octets)),
+    ) refl
+
+-- An octet more joins the last submultiframe.
+part-push : (number : ℕ) (octets : List ℕ) (x : ℕ) → number ≡ length octets / 256
+    → submultiframe number (octets ++ x ∷ []) ≡ submultiframe number octets ++ x ∷ []
+unfolding submultiframe
+part-push number octets x e =
+    let d = length-drop (256 * number) octets in
+    let l = length_push (drop (256 * number) octets) x in
+    rw (
+      drop-append-le (256 * number) octets (x ∷ []) (omega arith),
+      take_all 256 (drop (256 * number) octets ++ x ∷ []) (omega arith),
+      take_all 256 (drop (256 * number) octets) (omega arith),
+    ) refl
+
+-- One changed octet for each.
+length-each : (change : ℕ → ℕ → ℕ) (place : ℕ) (octets : List ℕ) → length (each_at change place octets) ≡ length octets
+unfolding each_at
+length-each change place [] = refl
+length-each change place (x ∷ octets) = ap suc (length-each change (place + 1) octets)
+
+-- The octets changed, and others after them.
+each-append : (change : ℕ → ℕ → ℕ) (place : ℕ) (octets others : List ℕ)
+    → each_at change place (octets ++ others)
+    ≡ each_at change place octets ++ each_at change (place + length octets) others
+unfolding each_at
+each-append change place [] others =
+    let e : place ≡ place + 0 = omega arith in ap (λ p. each_at change p others) e
+each-append change place (x ∷ octets) others =
+    let e : place + 1 + length octets ≡ place + suc (length octets) = omega arith in
+    ap (λ s. change place x ∷ s) (each-append change (place + 1) octets others
+    ∙ ap (λ p. each_at change (place + 1) octets ++ each_at change p others) e)
+
+-- One octet more, changed by its place.
+each-push : (change : ℕ → ℕ → ℕ) (octets : List ℕ) (x : ℕ)
+    → each_at change 0 (octets ++ x ∷ []) ≡ each_at change 0 octets ++ change (length octets) x ∷ []
+unfolding each_at
+each-push change octets x =
+    let e : 0 + length octets ≡ length octets = omega arith in
+    each-append change 0 octets (x ∷ []) ∙ ap (λ p. each_at change 0 octets ++ change p x ∷ []) e
+
+-- A stream that grows, its octets changed by their places.
+module _ (change : ℕ → ℕ → ℕ) where
+  -- A whole submultiframe stays as it is.
+  pub part-stays : (number : ℕ) (octets others : List ℕ) → 256 * (number + 1) ≤ length octets
+      → submultiframe number (each_at change 0 (octets ++ others)) ≡ submultiframe number (each_at change 0 octets)
+  part-stays number octets others le =
+      ap (submultiframe number) (each-append change 0 octets others)
+      ∙ part-whole number (each_at change 0 octets) (each_at change (0 + length octets) others)
+      (omega (arith, length-each change 0 octets))
+
+  -- The remainder of the last submultiframe takes the next octet.
+  pub remainder-grows : (octets : List ℕ) (x : ℕ)
+      → remainder_of (submultiframe (length octets / 256) (each_at change 0 (octets ++ x ∷ [])))
+      ≡ after_octet (remainder_of (submultiframe (length octets / 256) (each_at change 0 octets))) (change (length octets) x)
+  remainder-grows octets x =
+      let l = length-each change 0 octets in
+      let number = length octets / 256 in
+      let before = each_at change 0 octets in
+      ap remainder_of (ap (submultiframe number) (each-push change octets x)
+      ∙ part-push number before (change (length octets) x) (omega arith))
+      ∙ remainder-push (submultiframe number before) (change (length octets) x)
+
+  -- A submultiframe that has not begun has no remainder.
+  pub remainder-none : (number : ℕ) (octets : List ℕ) → length octets ≤ 256 * number
+      → no_remainder ≡ remainder_of (submultiframe number (each_at change 0 octets))
+  unfolding submultiframe remainder_of sent_bits
+  remainder-none number octets le =
+      rw (drop_all (256 * number) (each_at change 0 octets) (omega (arith, length-each change 0 octets))) refl

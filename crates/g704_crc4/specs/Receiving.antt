@@ -1,0 +1,66 @@
+-- What a receiver finds in a stream of octets, from these alone (ITU-T G.706, 4.2 and 4.3). The multiframes
+-- of the stream begin at its first octet.
+use Rattle.std.specs.Prelude.{◌≡◌, ℕ, ◌+◌, ◌*◌, ◌%◌, ◌≤◌, Bool, true, false, ◌==◌, if◌then◌else◌}
+use Rattle.std.specs.Prelude.{List, length, slice_index, nat_le, ◌≢◌}
+use Rattle.g704_crc4.specs.declared.remainder.Remainder.{Remainder}
+use Rattle.g704_crc4.specs.Remainder.{remainder_of}
+use Rattle.g704_crc4.specs.Submultiframes.{each_at, submultiframe}
+use Rattle.g704_crc4.specs.Multiframe.{sent_octets}
+
+-- Bit 1 of time slot 0 of a frame, the Si bit.
+unfoldable pub si_of : List ℕ → ℕ → Bool
+si_of octets frame = nat_le 128 (slice_index octets (32 * frame))
+
+-- The check bits that a submultiframe carries: C1 to C4 in its frames of even number.
+unfoldable pub check_bits_in : List ℕ → ℕ → Remainder
+check_bits_in octets number =
+    record {
+      c1 = si_of octets (8 * number);
+      c2 = si_of octets (8 * number + 2);
+      c3 = si_of octets (8 * number + 4);
+      c4 = si_of octets (8 * number + 6);
+    }
+
+-- An octet with its check bit replaced by zero, if it has one.
+abbrev pub cleared_at : ℕ → ℕ → ℕ
+cleared_at place octet = if place % 64 == 0 then octet % 128 else octet
+
+-- The octets of a stream with their check bits replaced by zeros.
+abbrev pub cleared : List ℕ → List ℕ
+cleared octets = each_at cleared_at 0 octets
+
+-- The remainder of a submultiframe that was received.
+unfoldable pub remainder_in : List ℕ → ℕ → Remainder
+remainder_in octets number = remainder_of (submultiframe number (cleared octets))
+
+-- A multiframe has the CRC multiframe alignment signal 001011 in the frames without the frame alignment
+-- signal, and both E bits report no error.
+pub record HasSignal (octets : List ℕ) (number : ℕ) : Type 0 where
+  pub bit_1 : si_of octets (16 * number + 1) ≡ false
+  pub bit_2 : si_of octets (16 * number + 3) ≡ false
+  pub bit_3 : si_of octets (16 * number + 5) ≡ true
+  pub bit_4 : si_of octets (16 * number + 7) ≡ false
+  pub bit_5 : si_of octets (16 * number + 9) ≡ true
+  pub bit_6 : si_of octets (16 * number + 11) ≡ true
+  pub e_1 : si_of octets (16 * number + 13) ≡ true
+  pub e_2 : si_of octets (16 * number + 15) ≡ true
+
+-- One octet is sent for each that comes.
+abbrev pub LengthIsKept : Type 0
+LengthIsKept = (octets : List ℕ) → length (sent_octets octets) ≡ length octets
+
+-- Each bit but bit 1 of time slot 0 is sent as it came.
+abbrev pub OthersAreKept : Type 0
+OthersAreKept = (octets : List ℕ) (place : ℕ) →
+    (slice_index (sent_octets octets) place % 128 ≡ slice_index octets place % 128)
+    × (place % 32 ≢ 0 → slice_index (sent_octets octets) place ≡ slice_index octets place)
+
+-- In what is sent, whatever came, each whole submultiframe carries the remainder of the one before it.
+abbrev pub CheckBitsAreRight : Type 0
+CheckBitsAreRight = (octets : List ℕ) (number : ℕ) → 256 * (number + 2) ≤ length octets
+    → check_bits_in (sent_octets octets) (number + 1) ≡ remainder_in (sent_octets octets) number
+
+-- In what is sent, whatever came, each whole multiframe has the signal.
+abbrev pub SignalIsSent : Type 0
+SignalIsSent = (octets : List ℕ) (number : ℕ) → 512 * (number + 1) ≤ length octets
+    → HasSignal (sent_octets octets) number

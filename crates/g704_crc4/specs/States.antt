@@ -1,0 +1,28 @@
+-- What the two machines hold after some octets.
+use Rattle.std.specs.Prelude.{◌≡◌, ℕ, ◌+◌, ◌-◌, ◌*◌, ◌/◌, ◌%◌, ◌<◌, ◌≤◌, nat_le, List, length}
+use Rattle.g704_crc4.specs.declared.sending.Multiframer.{Multiframer}
+use Rattle.g704_crc4.specs.declared.checking.Checker.{Checker}
+use Rattle.g704_crc4.specs.Remainder.{remainder_of, crc_number}
+use Rattle.g704_crc4.specs.Submultiframes.{submultiframe}
+use Rattle.g704_crc4.specs.Multiframe.{zeroed, check_bits_after}
+use Rattle.g704_crc4.specs.Receiving.{si_of, cleared, remainder_in}
+
+-- A multiframer after these octets: the place of the next octet, and the remainders of the submultiframe
+-- before and of this one so far, as numbers.
+pub record SendsAfter (multiframer : Multiframer) (history : List ℕ) : Type 0 where
+  pub place : multiframer.place ≡ length history % 512
+  pub before : multiframer.before ≡ crc_number (check_bits_after history)
+  pub running :
+      multiframer.running ≡ crc_number (remainder_of (submultiframe (length history / 256) (zeroed history)))
+
+-- A checker after these octets: the place of the next octet; the remainders of the submultiframe before, if
+-- there is one, and of this one so far; and those check bits of this one that have come.
+pub record ChecksAfter (checker : Checker) (history : List ℕ) : Type 0 where
+  pub place : checker.place ≡ length history % 512
+  pub begun : checker.begun ≡ nat_le 256 (length history)
+  pub before : 256 ≤ length history → checker.before ≡ remainder_in history (length history / 256 - 1)
+  pub running : checker.running ≡ remainder_of (submultiframe (length history / 256) (cleared history))
+  pub c1 : 0 < length history % 256 → checker.check_bits.c1 ≡ si_of history (8 * (length history / 256))
+  pub c2 : 64 < length history % 256 → checker.check_bits.c2 ≡ si_of history (8 * (length history / 256) + 2)
+  pub c3 : 128 < length history % 256 → checker.check_bits.c3 ≡ si_of history (8 * (length history / 256) + 4)
+  pub c4 : 192 < length history % 256 → checker.check_bits.c4 ≡ si_of history (8 * (length history / 256) + 6)

@@ -1,0 +1,199 @@
+//! Check bits as they are received.
+
+ghost use Rattle.std.specs.Prelude.{◌≡◌, ◌+◌, ◌%◌, ◌/◌, ◌<◌, ◌≤◌, ℕ, Bool, if◌then◌else◌, List, Option, [], ◌∷◌, ◌++◌, length};
+ghost use Rattle.g704_crc4.specs.Checking.{same, check_bits_with, far_end_event, block_event, event_of};
+ghost use Rattle.g704_crc4.specs.Checking.{counts_of, counts_with, errors_with};
+ghost use Rattle.g704_crc4.specs.Receiving.{cleared_at};
+ghost use Rattle.g704_crc4.specs.States.{ChecksAfter};
+
+use crate::remainder::{NO_REMAINDER, Remainder, add};
+use crate::{BIT_1, MULTIFRAME, SUBMULTIFRAME, TWO_FRAMES};
+
+/// What a receiver learns with an octet.
+#[derive(Clone, Copy, Debug, PartialEq, Eq)]
+pub enum Event {
+    /// A submultiframe has come: whether its check bits are the remainder of the one before it.
+    Block {
+        /// They are.
+        right: bool,
+    },
+    /// An E bit has come: whether the far end found a submultiframe right.
+    FarEnd {
+        /// It did.
+        right: bool,
+    },
+}
+
+/// What a receiver has counted. Each count stops at the greatest number.
+#[derive(Clone, Copy, Debug, PartialEq, Eq)]
+pub struct Counts {
+    /// Submultiframes that were checked.
+    pub blocks: u64,
+    /// Errored ones among them.
+    pub errored: u64,
+    /// E bits by which the far end far_end_event of one that was not right there.
+    pub far_end_errored: u64,
+}
+
+// No submultiframe was checked.
+const NO_COUNTS: Counts = Counts {
+    blocks: 0,
+    errored: 0,
+    far_end_errored: 0,
+};
+
+/// Checks the submultiframes of a stream whose multiframes begin at its first octet.
+#[derive(Clone, Copy, Debug, PartialEq, Eq)]
+pub struct Checker {
+    // The place of the next octet in its multiframe.
+    place: u16,
+    // The remainder of the submultiframe before.
+    before: Remainder,
+    // That of this one so far.
+    running: Remainder,
+    // The check bits that this one carries, so far.
+    check_bits: Remainder,
+    // Whether there is a submultiframe before.
+    begun: bool,
+}
+
+impl Checker {
+    /// A checker that has received nothing.
+    pub fn new() -> Self
+        ensures { ChecksAfter result [] }
+    {
+        Checker {
+            place: 0,
+            before: NO_REMAINDER,
+            running: NO_REMAINDER,
+            check_bits: NO_REMAINDER,
+            begun: false,
+        }
+    }
+
+    /// Takes the next octet of the stream, and returns what is learned with it.
+    pub fn octet(&mut self, octet: u8) -> Option<Event>
+        ensures reply { (history : List ℕ) → ChecksAfter self.old history
+            → result ≡ event_of (history ++ octet ∷ []) }
+        ensures stands { (history : List ℕ) → ChecksAfter self.old history
+            → ChecksAfter self.new (history ++ octet ∷ []) }
+    {
+        let place = self.place;
+        let si = octet >= BIT_1;
+        let check_bits = check_bits_with(self.check_bits, place, si);
+        let running = self.running.after_octet(cleared(place, octet));
+        self.check_bits = check_bits;
+        self.place = place.wrapping_add(1) % MULTIFRAME;
+        if self.place % SUBMULTIFRAME == 0 {
+            let event = block_event(self.begun, same(check_bits, self.before));
+            self.before = running;
+            self.running = NO_REMAINDER;
+            self.begun = true;
+            return event;
+        }
+        self.running = running;
+        far_end_event(place, si)
+    }
+}
+
+/// Checks octets whose multiframes begin at the first one, and returns the counts.
+pub fn check(octets: &[u8]) -> Counts
+    ensures { result ≡ counts_of octets.now }
+{
+    let mut checker = Checker::new();
+    let mut counts = NO_COUNTS;
+    for octet in octets {
+        counts = counts_with(counts, checker.octet(*octet));
+    }
+    counts
+}
+
+// The counts with what is learned with an octet.
+fn counts_with(counts: Counts, event: Option<Event>) -> Counts
+    ensures { result ≡ counts_with counts event }
+{
+    match event {
+        None => counts,
+        Some(Event::Block { right }) => Counts {
+            blocks: counts.blocks.saturating_add(1),
+            errored: errors_with(counts.errored, right),
+            far_end_errored: counts.far_end_errored,
+        },
+        Some(Event::FarEnd { right }) => Counts {
+            blocks: counts.blocks,
+            errored: counts.errored,
+            far_end_errored: errors_with(counts.far_end_errored, right),
+        },
+    }
+}
+
+// A count of errors after one more block.
+fn errors_with(count: u64, right: bool) -> u64
+    ensures { result ≡ errors_with count right }
+{
+    if right {
+        count
+    } else {
+        count.saturating_add(1)
+    }
+}
+
+// What is learned with the last octet of a submultiframe, if there is one before it.
+fn block_event(begun: bool, right: bool) -> Option<Event>
+    ensures { result ≡ block_event begun right }
+{
+    if begun {
+        Some(Event::Block { right })
+    } else {
+        None
+    }
+}
+
+// What an E bit reports, in frames 13 and 15 of a multiframe.
+fn far_end_event(place: u16, si: bool) -> Option<Event>
+    ensures { result ≡ far_end_event place si }
+{
+    if place == 416 || place == 480 {
+        Some(Event::FarEnd { right: si })
+    } else {
+        None
+    }
+}
+
+// The check bits with this Si bit in place of that of the octet's place, if a check bit is sent there.
+fn check_bits_with(check_bits: Remainder, place: u16, si: bool) -> Remainder
+    ensures { result ≡ check_bits_with check_bits place si }
+{
+    let place = place % SUBMULTIFRAME;
+    Remainder {
+        c1: either(place == 0, si, check_bits.c1),
+        c2: either(place == 64, si, check_bits.c2),
+        c3: either(place == 128, si, check_bits.c3),
+        c4: either(place == 192, si, check_bits.c4),
+    }
+}
+
+// One of two.
+fn either(first: bool, a: bool, b: bool) -> bool
+    ensures { result ≡ (if first then a else b) }
+{
+    if first { a } else { b }
+}
+
+// An octet with its check bit replaced by zero, if it has one.
+fn cleared(place: u16, octet: u8) -> u8
+    ensures { (position : ℕ) → place ≡ position % 512 → result ≡ cleared_at position octet }
+{
+    if place % TWO_FRAMES == 0 {
+        octet % BIT_1
+    } else {
+        octet
+    }
+}
+
+// Two remainders are the same.
+fn same(a: Remainder, b: Remainder) -> bool
+    ensures { result ≡ same a b }
+{
+    !(add(a.c1, b.c1) || add(a.c2, b.c2) || add(a.c3, b.c3) || add(a.c4, b.c4))
+}

@@ -1,0 +1,27 @@
+//! CRC-4 multiframes of a 2048 kbit/s stream (ITU-T G.704, 2.3.3; ITU-T G.706, 4): bit 1 of time slot 0
+//! carries the check bits of the submultiframe before, and the signal by which a receiver finds multiframes.
+#![tactic(auto)]
+
+mod checking;
+pub mod laws;
+mod remainder;
+mod searching;
+mod sending;
+mod table;
+
+pub use checking::{Checker, Counts, Event, check};
+pub use remainder::Remainder;
+pub use searching::find_multiframe;
+pub use sending::Multiframer;
+
+// Octets of a frame, of a double frame, of a submultiframe and of a multiframe.
+const FRAME: u16 = 32;
+
+const TWO_FRAMES: u16 = 64;
+
+const SUBMULTIFRAME: u16 = 256;
+
+const MULTIFRAME: u16 = 512;
+
+// Bit 1 of an octet, the first that is sent: the Si bit in time slot 0.
+const BIT_1: u8 = 128;

@@ -1,0 +1,116 @@
+//! Bit 1 of time slot 0 as it is sent.
+
+ghost use Rattle.std.specs.Prelude.{◌≡◌, ◌+◌, ◌%◌, ◌/◌, ◌<◌, ℕ, List, [], ◌∷◌, ◌++◌, length};
+ghost use Rattle.g704_crc4.specs.declared.remainder.Remainder.{Remainder};
+ghost use Rattle.g704_crc4.specs.Remainder.{no_remainder, crc_number};
+ghost use Rattle.g704_crc4.specs.Multiframe.{check_bit, signal_bit, si_at, with_si, sent_octet, octet_at};
+ghost use Rattle.g704_crc4.specs.States.{SendsAfter};
+
+use crate::remainder::number_after;
+use crate::{BIT_1, FRAME, MULTIFRAME, SUBMULTIFRAME};
+
+/// Puts CRC-4 multiframes into bit 1 of time slot 0 of a stream of octets. The frames begin at the first
+/// octet, and the first one carries the frame alignment signal. No other bit changes.
+#[derive(Clone, Copy, Debug, PartialEq, Eq)]
+pub struct Multiframer {
+    // The place of the next octet in its multiframe.
+    place: u16,
+    // The remainder of the submultiframe before, as a number.
+    before: u8,
+    // That of this one so far.
+    running: u8,
+}
+
+impl Multiframer {
+    /// A multiframer that has sent nothing.
+    pub fn new() -> Self
+        ensures { SendsAfter result [] }
+    {
+        Multiframer {
+            place: 0,
+            before: 0,
+            running: 0,
+        }
+    }
+
+    /// Takes the next octet of the stream, and returns it as it is sent.
+    pub fn octet(&mut self, octet: u8) -> u8
+        ensures reply { (history : List ℕ) → SendsAfter self.old history
+            → result ≡ sent_octet history octet }
+        ensures stands { (history : List ℕ) → SendsAfter self.old history
+            → SendsAfter self.new (history ++ octet ∷ []) }
+    {
+        let place = self.place;
+        let sent = octet_at(self.before, place, octet);
+        self.count(octet_at(0, place, octet));
+        sent
+    }
+
+    // Takes an octet into the remainder of the submultiframe, its check bit replaced by zero.
+    fn count(&mut self, zeroed: u8)
+        ensures { (history : List ℕ) (octet : ℕ) → SendsAfter self.old history
+            → zeroed ≡ octet_at no_remainder (length history) octet
+            → SendsAfter self.new (history ++ octet ∷ []) }
+    {
+        self.place = self.place.wrapping_add(1) % MULTIFRAME;
+        self.running = number_after(self.running, zeroed);
+        if self.place % SUBMULTIFRAME == 0 {
+            self.before = self.running;
+            self.running = 0;
+        }
+    }
+}
+
+// The octet as it is sent at this place of a multiframe, with the check bits of this number.
+fn octet_at(number: u8, place: u16, octet: u8) -> u8
+    ensures { (bits : Remainder) (position : ℕ) → number ≡ crc_number bits → place ≡ position % 512
+        → result ≡ octet_at bits position octet }
+{
+    if place % FRAME == 0 {
+        with_si(octet, si_at(number, place / FRAME))
+    } else {
+        octet
+    }
+}
+
+// The Si bit of this frame of a multiframe.
+fn si_at(number: u8, frame: u16) -> bool
+    ensures { (bits : Remainder) → number ≡ crc_number bits → result ≡ si_at bits frame }
+{
+    if frame % 2 == 0 {
+        check_bit(number, frame / 2 % 4)
+    } else {
+        signal_bit(frame / 2)
+    }
+}
+
+// Of the check bits of this number the one at a place, 0 for C1.
+fn check_bit(number: u8, place: u16) -> bool
+    ensures { (bits : Remainder) → number ≡ crc_number bits → result ≡ check_bit bits place }
+{
+    match place {
+        0 => number / 8 % 2 == 1,
+        1 => number / 4 % 2 == 1,
+        2 => number / 2 % 2 == 1,
+        3 => number % 2 == 1,
+        _ => false,
+    }
+}
+
+// The multiframe alignment signal and both E bits, numbered from 0.
+fn signal_bit(number: u16) -> bool
+    ensures { result ≡ signal_bit number }
+{
+    matches!(number, 2 | 4 | 5 | 6 | 7)
+}
+
+// An octet with this bit 1.
+fn with_si(octet: u8, si: bool) -> u8
+    ensures { result ≡ with_si si octet }
+{
+    if si {
+        BIT_1 + octet % BIT_1
+    } else {
+        octet % BIT_1
+    }
+}

@@ -1,0 +1,3 @@
+pub mod Filter
+pub mod Align
+pub mod Crc4

@@ -1,0 +1,77 @@
+//! The filters of the program.
+
+ghost use Rattle.std.specs.Prelude.{IfOk, IfErr};
+ghost use Rattle.g704_bits.specs.Standing.{StandsAfter};
+ghost use Rattle.g704_crc4.specs.States.{SendsAfter};
+ghost use Rattle.g704_crc4.specs.Multiframe.{sent_octet};
+ghost use Rattle.gw_records.specs.Streams.{CanBegin};
+ghost use Rattle.gw_filter.specs.Align.{align_reply, Aligns, AlignsUntil};
+ghost use Rattle.gw_filter.specs.Crc4.{SendsMultiframes, SendsMultiframesUntil};
+
+use crate::through::{OctetFilter, octets_through};
+use g704_bits::BitAligner;
+use g704_crc4::Multiframer;
+use gw_records::{RunFault, Sink, Source, Totals};
+
+impl OctetFilter for BitAligner {
+    ghost has_taken = { StandsAfter };
+
+    ghost reply_after = { align_reply };
+
+    fn next_octet(&mut self, octet: u8) -> u8 {
+        self.octet(octet)
+    }
+}
+
+impl OctetFilter for Multiframer {
+    ghost has_taken = { SendsAfter };
+
+    ghost reply_after = { sent_octet };
+
+    fn next_octet(&mut self, octet: u8) -> u8 {
+        self.octet(octet)
+    }
+}
+
+/// Writes the octets of the time slots of a trunk whose octets come at any offset: one for each octet of the
+/// source, as `g704_bits::BitAligner` returns them. All of them are written before the source is read again.
+/// The octets are counted. No memory is taken.
+///
+/// ```rust
+/// // 600 octets, three bits late; a program has FromRead::new(rt.stdin()) and ToWrite::new(rt.stdout())
+/// let ended = align_stream(&mut LateTrunk::new(1000), &mut sink);
+/// let totals = Totals { octets: 600, ..NO_TOTALS };
+/// assert!(rt; ended == Ok(totals));
+/// ```
+///
+/// # Errors
+///
+/// [`RunFault::Read`] where the source failed, or after 2^62 reads: the octets for all that it gave are
+/// written. [`RunFault::Write`] where the sink failed: it has a prefix of what would be written.
+pub fn align_stream<S: Source, K: Sink>(source: &mut S, sink: &mut K) -> Result<Totals, RunFault>
+    requires { CanBegin (S.tells source.old) (K.tells sink.old) }
+    ensures ok { IfOk result (Aligns
+        (S.tells source.old) (S.tells source.new) (K.tells sink.old) (K.tells sink.new)) }
+    ensures fault { IfErr result (AlignsUntil
+        (S.tells source.old) (S.tells source.new) (K.tells sink.old) (K.tells sink.new)) }
+{
+    octets_through(&mut BitAligner::new(), source, sink)
+}
+
+/// Writes the octets of a trunk with CRC-4 multiframes in bit 1 of their time slot 0: one for each octet of
+/// the source, as `g704_crc4::Multiframer` returns them. The frames begin at the first octet, as those that a
+/// gateway sends. All of them are written before the source is read again. The octets are counted. No memory
+/// is taken.
+///
+/// # Errors
+///
+/// Those of [`octets_through`].
+pub fn crc4_stream<S: Source, K: Sink>(source: &mut S, sink: &mut K) -> Result<Totals, RunFault>
+    requires { CanBegin (S.tells source.old) (K.tells sink.old) }
+    ensures ok { IfOk result (SendsMultiframes
+        (S.tells source.old) (S.tells source.new) (K.tells sink.old) (K.tells sink.new)) }
+    ensures fault { IfErr result (SendsMultiframesUntil
+        (S.tells source.old) (S.tells source.new) (K.tells sink.old) (K.tells sink.new)) }
+{
+    octets_through(&mut Multiframer::new(), source, sink)
+}

@@ -1,0 +1,8 @@
+//! Filters of a trunk: from a source to a sink, one octet for each.
+#![tactic(auto)]
+
+mod filters;
+mod through;
+
+pub use filters::{align_stream, crc4_stream};
+pub use through::{OctetFilter, octets_through};

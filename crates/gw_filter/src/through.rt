@@ -1,0 +1,79 @@
+//! The form of a filter, and its octets from a source to a sink.
+
+ghost use Rattle.std.specs.Prelude.{◌≡◌, ◌-◌, ◌^◌, ◌<◌, ◌∷◌, ◌++◌, ℕ, List, [], length, IfOk, IfErr};
+ghost use Rattle.g704_framing.specs.Replies.{replies_after};
+ghost use Rattle.gw_records.specs.Streams.{CanBegin};
+ghost use Rattle.gw_filter.specs.Filter.{Filters, FiltersUntil};
+
+use gw_records::{MAX_READS, NO_TOTALS, RunFault, Sink, Source, Totals, read_behind, write_all};
+
+// Room for each read: 32 KiB, an eighth of a second of the trunk.
+const BUFFER_LEN: usize = 32_768;
+
+/// A machine that takes octets and returns one for each.
+pub trait OctetFilter {
+    /// The machine has taken these octets.
+    ghost has_taken: { Self → List ℕ → Type 0 };
+
+    /// The octet that it returns for one that comes after these.
+    ghost reply_after: { List ℕ → ℕ → ℕ };
+
+    /// Takes the next octet, and returns one for it.
+    fn next_octet(&mut self, octet: u8) -> u8
+        ensures reply { (history : List ℕ) → has_taken self.old history
+            → result ≡ reply_after history octet }
+        ensures stands { (history : List ℕ) → has_taken self.old history
+            → has_taken self.new (history ++ octet ∷ []) };
+}
+
+// Puts what the filter returns in the place of the next octets of the stream.
+fn filter_all<F: OctetFilter>(filter: &mut F, octets: &mut [u8])
+    ensures len { length octets.new ≡ length octets.old }
+    ensures replies { (history : List ℕ) → F.has_taken filter.old history
+        → octets.new ≡ replies_after F.reply_after history octets.old }
+    ensures stands { (history : List ℕ) → F.has_taken filter.old history
+        → F.has_taken filter.new (history ++ octets.old) }
+{
+    for octet in octets.iter_mut() {
+        *octet = filter.next_octet(*octet);
+    }
+}
+
+/// Writes one octet for each octet of the source, as the filter returns them. All of them are written before
+/// the source is read again. The octets are counted. No memory is taken.
+///
+/// # Errors
+///
+/// [`RunFault::Read`] if the source failed, or after 2^62 reads: the octets for all that it gave are
+/// written. [`RunFault::Write`] if the sink failed: it has a prefix of what would be written.
+pub fn octets_through<F: OctetFilter, S: Source, K: Sink>(
+    filter: &mut F,
+    source: &mut S,
+    sink: &mut K,
+) -> Result<Totals, RunFault>
+    requires begins { F.has_taken filter.old [] }
+    requires streams { CanBegin (S.tells source.old) (K.tells sink.old) }
+    ensures ok { IfOk result (Filters F.reply_after
+        (S.tells source.old) (S.tells source.new) (K.tells sink.old) (K.tells sink.new)) }
+    ensures fault { IfErr result (FiltersUntil F.reply_after
+        (S.tells source.old) (S.tells source.new) (K.tells sink.old) (K.tells sink.new)) }
+{
+    let mut buffer = [0u8; BUFFER_LEN];
+    let mut octets = 0u64;
+    'reading: for turn in 0..MAX_READS {
+        prove!(turn < MAX_READS);
+        let Ok(n) = read_behind(source, &mut buffer, 0) else {
+            return Err(RunFault::Read);
+        };
+        if n == 0 {
+            return Ok(Totals {
+                octets,
+                ..NO_TOTALS
+            });
+        }
+        filter_all(filter, &mut buffer[..n]);
+        write_all(sink, &buffer[..n])?;
+        octets = octets.saturating_add(n as u64);
+    }
+    Err(RunFault::Read)
+}
