@@ -1,5 +1,5 @@
 -- How a session ended.
-use Rattle.std.proofs.Common.{Result, Ok, Err}
+use Rattle.std.proofs.Common.{◌⊎◌, inl, inr, Result, Ok, Err}
 use Rattle.std.specs.Prelude.{IfOk, IfErr, MatchResult}
 
 -- what holds of both ends holds of the end
@@ -7,3 +7,8 @@ pub either : {T E : Type 0} (r : Result T E) (P : T → Type 0) (Q : E → Type 
     → MatchResult r P Q
 either (Ok x) P Q p q = p
 either (Err e) P Q p q = q
+
+-- what was not begun in a part was not begun in the whole, and what was done in it was
+pub begun_by : {N P Q : Type 0} → (P → Q) → N ⊎ P → N ⊎ Q
+begun_by f (inl n) = inl n
+begun_by f (inr p) = inr (f p)

@@ -9,10 +9,8 @@ use Rattle.gw_records.specs.declared.outcome.Totals.{Totals}
 use Rattle.gw_records.specs.declared.outcome.RunFault.{RunFault}
 use Rattle.gw_records.specs.declared.outcome.RunFault.TheVariants as faults
 use Rattle.gw_records.specs.Streams.{SourceState, SinkState, Breaks}
-use Rattle.gw_records.specs.Ports.{PortsState}
 use Rattle.gw_session.specs.Running.{RunsAll, RunsUntil}
-use Rattle.gw_session.specs.Tape.{TapeState}
-use Rattle.gw_session.specs.Recording.{RecordsAll, RecordsUntil}
+use Rattle.gw_session.specs.Serve.{Around, ServesAll, ServesUntil}
 use Rattle.gw_program.specs.Listing.{listing}
 
 -- records of a source were acted on by a gateway, and this was the end
@@ -44,18 +42,14 @@ Ends session config source source' sink sink' end =
     HasGateway config (session source source' sink sink' end) ⊎ NoGateway source source' sink sink' end
 
 -- the same with datagrams that come and go through ports, and what the gateway took was recorded
-abbrev pub Serves : PortsState → PortsState → TapeState → TapeState → SourceState → SourceState → SinkState
-    → SinkState → Result Totals RunFault → Gateway → Gateway → Type 0
-Serves ports ports' tape tape' source source' sink sink' end gateway gateway' = MatchResult end
-    (RecordsAll source source' sink sink' ports ports' gateway gateway' tape tape')
-    (RecordsUntil source source' sink sink' ports ports' gateway gateway' tape tape')
+abbrev pub Serves : Around → Around → Result Totals RunFault → Gateway → Gateway → Type 0
+Serves a a' end gateway gateway' =
+    MatchResult end (ServesAll a a' gateway gateway') (ServesUntil a a' gateway gateway')
 
 -- .. by a new gateway of this configuration, or there was no memory for it, and nothing was recorded
-abbrev pub EndsRecorded : PortsState → PortsState → TapeState → TapeState → GatewayConfig → SourceState
-    → SourceState → SinkState → SinkState → Result Totals RunFault → Type 0
-EndsRecorded ports ports' tape tape' config source source' sink sink' end =
-    HasGateway config (Serves ports ports' tape tape' source source' sink sink' end)
-    ⊎ (NoGateway source source' sink sink' end × (tape' ≡ tape))
+abbrev pub EndsRecorded : GatewayConfig → Around → Around → Result Totals RunFault → Type 0
+EndsRecorded config a a' end = HasGateway config (Serves a a' end)
+    ⊎ (NoGateway a.source a'.source a.sink a'.sink end × (a'.tape ≡ a.tape))
 
 -- the end of a session and of the listing after it: a fault of the session comes first
 abbrev pub checked : Result Totals RunFault → Result (Unit {0}) RunFault → Result Totals RunFault

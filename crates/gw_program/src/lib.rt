@@ -1,8 +1,10 @@
-//! What the program does: jobs on streams, sessions of a gateway by a configuration, and what it says of them.
+//! What the program does: jobs on streams, filters of a trunk, sessions of a gateway by a configuration, and what it says of them.
 #![tactic(auto)]
 
+mod filters;
 mod jobs;
 mod listing;
+mod performing;
 mod recording;
 mod report;
 mod sessions;
@@ -10,7 +12,9 @@ mod setup;
 mod standard;
 mod trouble;
 
+pub use filters::do_filter;
 pub use jobs::do_job;
+pub use performing::{System, perform_job, perform_session};
 pub use recording::{Recording, Tape, begin, tell_end};
 pub use report::{PassedOver, passed_over, print_totals};
 pub use sessions::{check, replay, serve_through};

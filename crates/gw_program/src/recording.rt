@@ -1,5 +1,8 @@
 //! Recordings of `serve`: where they are written, and how they end.
 
+ghost use Rattle.std.specs.Prelude.{IfOk};
+ghost use Rattle.gw_program.specs.Performing.{IsBegun};
+
 use crate::trouble::Trouble;
 use gw_session::{Recorder, ToWrite, TrunkRecord};
 use std::fs::{self, File, OpenOptions};
@@ -75,7 +78,10 @@ fn open(rt: &HostRuntime, recording: Recording<'_>) -> Result<File, Trouble> {
 }
 
 /// Begins a recording, where one is asked for.
-pub fn begin(rt: &HostRuntime, recording: Option<Recording<'_>>) -> Result<Tape, Trouble> {
+pub fn begin(rt: &HostRuntime, recording: Option<Recording<'_>>) -> Result<Tape, Trouble>
+    ensures { IfOk result (λ tape. IsBegun recording.entry
+        (⟦<Option<Recorder<ToWrite<File>>> as gw_session::Tape>⟧.tells tape)) }
+{
     let Some(recording) = recording else {
         return Ok(None);
     };

@@ -4,6 +4,7 @@
 ghost use Rattle.std.specs.Prelude.{◌≡◌, ◌≤◌, ◌-◌, ◌^◌, ◌<◌, None};
 ghost use Rattle.gw_switch.specs.declared.GatewayConfig.{GatewayConfig};
 ghost use Rattle.gw_records.specs.Streams.{CanBegin};
+ghost use Rattle.gw_session.specs.Serve.{around};
 ghost use Rattle.gw_program.specs.Sessions.{Ends, EndsRecorded, Runs, Checks, Lists, checked};
 
 use crate::listing::listing;
@@ -103,8 +104,9 @@ pub fn serve_through<S: Source, P: Ports, K: Sink, T: Tape>(
     tape: &mut T,
 ) -> Result<Totals, RunFault>
     requires { CanBegin (S.tells source.old) (K.tells sink.old) }
-    ensures { EndsRecorded (P.tells ports.old) (P.tells ports.new) (T.tells tape.old) (T.tells tape.new)
-        config.now (S.tells source.old) (S.tells source.new) (K.tells sink.old) (K.tells sink.new) result }
+    ensures { EndsRecorded config.now
+        (around (S.tells source.old) (K.tells sink.old) (P.tells ports.old) (T.tells tape.old))
+        (around (S.tells source.new) (K.tells sink.new) (P.tells ports.new) (T.tells tape.new)) result }
 {
     let Ok(mut gateway) = Gateway::open(alloc, config) else {
         return Err(RunFault::OutOfMemory);

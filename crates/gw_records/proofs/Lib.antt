@@ -5,3 +5,4 @@ pub mod Firsts
 pub mod Readings
 pub mod Totality
 pub mod Sessions
+pub mod Walks

@@ -185,10 +185,10 @@ gives_up totals w r same ends kept done = (
 
 -- a session ends where its records end so
 pub ends_so : {kinds : Kinds} {a b : SourceState} {c d : SinkState} {Done : Totals → List Record → Type 0}
-    (Begun : List Record → Type 0) (kept : Type 0) (ending : Ending) (totals : Totals) (result : Result Totals RunFault)
+    (Begun : List Record → Type 0) (ending : Ending) (totals : Totals) (result : Result Totals RunFault)
     → (e : Ends kinds a b c d Done ending) → (is_open ending ≡ true → IsAtEnd b.to_come) → totals ≡ e.0.totals
     → result ≡ answer_of ending totals
-    → (IfOk result (EndsAll kinds a b c d Done)) × (IfErr result (EndsUntil kinds a b c d Done Begun kept))
-ends_so Begun kept endings.End totals result e o t r = rw r (record { ends = e; ended = o refl; totals_are = t }, tt)
-ends_so Begun kept endings.Truncated totals result e o t r = rw r (tt, (e, o refl))
-ends_so Begun kept _ totals result e o t r = rw r (tt, e)
+    → (IfOk result (EndsAll kinds a b c d Done)) × (IfErr result (EndsUntil kinds a b c d Done Begun))
+ends_so Begun endings.End totals result e o t r = rw r (record { ends = e; ended = o refl; totals_are = t }, tt)
+ends_so Begun endings.Truncated totals result e o t r = rw r (tt, (e, o refl))
+ends_so Begun _ totals result e o t r = rw r (tt, e)

@@ -70,20 +70,25 @@ pub record FailsToWrite (kinds : Kinds) (source source' : SourceState) (sink sin
 
 -- How a session ends before the end of its source: with the fault of the record that is not good, cut only
 -- where the source is at its end; by a read, which failed, or there were 2 ^ 62 of them, each of which gave
--- an octet: so no bad record stands first there; by a write; or for want of memory, with all as it was.
+-- an octet: so no bad record stands first there; or by a write.
 abbrev pub EndsUntil : Kinds → SourceState → SourceState → SinkState → SinkState
-    → (Totals → List Record → Type 0) → (List Record → Type 0) → Type 0 → RunFault → Type 0
-EndsUntil kinds source source' sink sink' Done Begun kept faults.BadKind =
+    → (Totals → List Record → Type 0) → (List Record → Type 0) → RunFault → Type 0
+EndsUntil kinds source source' sink sink' Done Begun faults.BadKind =
     Ends kinds source source' sink sink' Done endings.BadKind
-EndsUntil kinds source source' sink sink' Done Begun kept faults.BadCircuit =
+EndsUntil kinds source source' sink sink' Done Begun faults.BadCircuit =
     Ends kinds source source' sink sink' Done endings.BadCircuit
-EndsUntil kinds source source' sink sink' Done Begun kept faults.BadCommand =
+EndsUntil kinds source source' sink sink' Done Begun faults.BadCommand =
     Ends kinds source source' sink sink' Done endings.BadCommand
-EndsUntil kinds source source' sink sink' Done Begun kept faults.Truncated =
+EndsUntil kinds source source' sink sink' Done Begun faults.Truncated =
     Ends kinds source source' sink sink' Done endings.Truncated × IsAtEnd source'.to_come
-EndsUntil kinds source source' sink sink' Done Begun kept faults.Read = (ending : Ending)
+EndsUntil kinds source source' sink sink' Done Begun faults.Read = (ending : Ending)
     × (s : SessionTo kinds source source' sink sink' Done ending) × GivesUp source source' s.octets
     × (is_open ending ≡ true)
-EndsUntil kinds source source' sink sink' Done Begun kept faults.Write =
+EndsUntil kinds source source' sink sink' Done Begun faults.Write =
     FailsToWrite kinds source source' sink sink' Begun
-EndsUntil kinds source source' sink sink' Done Begun kept faults.OutOfMemory = kept
+EndsUntil kinds source source' sink sink' Done Begun faults.OutOfMemory = ⊥
+
+-- .. or for want of memory, with all as it was
+abbrev pub OrNoMemory : Type 0 → (RunFault → Type 0) → RunFault → Type 0
+OrNoMemory kept Until faults.OutOfMemory = kept
+OrNoMemory kept Until fault = Until fault

@@ -1,6 +1,6 @@
 -- What sources and sinks tell of themselves, and what reads and writes change of it.
 use Rattle.std.specs.Prelude.{◌≡◌, ◌==◌, ◌⊎◌, ◌+◌, ◌-◌, ◌<◌, ◌≤◌, ◌^◌, ◌&&◌, if◌then◌else◌, ◌++◌}
-use Rattle.std.specs.Prelude.{ℕ, min, nat_lt, List, length, MatchResult, Option, Result}
+use Rattle.std.specs.Prelude.{ℕ, min, nat_lt, List, [], length, MatchResult, Option, Some, None, Result}
 use Rattle.std.specs.Io.KnownBytes.{Appends, Consumes, IsAtEnd}
 use Rattle.gw_records.specs.declared.outcome.RunFault.{RunFault}
 use Rattle.gw_records.specs.declared.outcome.RunFault.TheVariants.{Write}
@@ -17,6 +17,11 @@ pub record SourceState : Type 0 where
 pub record SinkState : Type 0 where
   pub failures : ℕ
   pub taken : Option (List ℕ)
+
+-- octets that are known, or none
+abbrev pub or_none : Option (List ℕ) → List ℕ
+or_none None = []
+or_none (Some xs) = xs
 
 -- a count, which stays at the greatest u64
 abbrev pub at_most : ℕ → ℕ

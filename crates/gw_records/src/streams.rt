@@ -1,8 +1,10 @@
 //! Where octets come from, and where they go.
-ghost use Rattle.std.specs.Prelude.{◌≡◌, ◌<◌, ◌≤◌, length, IfOk, None};
+ghost use Rattle.std.specs.Prelude.{◌≡◌, ◌<◌, ◌≤◌, ◌++◌, ℕ, List, [], length, IfOk, Some};
 ghost use Rattle.std.specs.Io.KnownBytes.{ReadConsumes, WriteAppends};
 ghost use Rattle.gw_records.specs.Streams.{SourceState, SinkState, CountsRead, CountsTurn, CountsWrite};
+ghost use Rattle.gw_records.specs.Streams.{or_none};
 
+use crate::log::{AtStart, OctetLog};
 use std::io::{Read, Write};
 use thiserror::Error;
 
@@ -45,23 +47,26 @@ pub trait Sink {
         ensures counts { CountsWrite (tells self.old).failures (tells self.new).failures result octets.now };
 }
 
-/// A reader of std as a source. Each error of the reader is a failure, an interruption too.
+/// A reader of std as a source. Each error of the reader is a failure, an interruption too. The octets that
+/// it gave are known of every reader, of standard input too: those that the calls of the reader gave.
 #[derive(Drop)]
 pub struct FromRead<R> {
     reader: R,
     failed: u64,
     reads: u64,
+    log: OctetLog,
 }
 
 impl<R: Read> FromRead<R> {
     /// The source of what the reader gives, with no read yet.
     pub fn new(reader: R) -> Self
-        ensures { result ≡ record { reader = reader; failed = 0; reads = 0 } }
+        ensures { result ≡ record { reader = reader; failed = 0; reads = 0; log = record { octets = [] } } }
     {
         FromRead {
             reader,
             failed: 0,
             reads: 0,
+            log: OctetLog::new(),
         }
     }
 }
@@ -70,13 +75,14 @@ impl<R: Read> Source for FromRead<R> {
     ghost tells = { λ s. record {
       failures = s.failed;
       reads = s.reads;
-      given = None;
+      given = Some s.log.octets;
       to_come = R.remaining s.reader;
     } };
 
     fn read(&mut self, buf: &mut [u8]) -> Result<usize, SourceFault> {
         match self.reader.read(buf) {
             Ok(n) => {
+                self.log.append(buf, n);
                 self.reads = self.reads.saturating_add(1);
                 Ok(n)
             }
@@ -88,28 +94,48 @@ impl<R: Read> Source for FromRead<R> {
     }
 }
 
-/// A writer of std as a sink. Each error of the writer is a failure, and so is a write that took nothing.
+/// A writer of std as a sink. Each error of the writer is a failure, and so is a write that took nothing. The
+/// octets that it took are known of every writer, of standard output and of files too: what the writer was
+/// known to hold at the start, and then those that its calls took. Where the writer tells what it holds, it
+/// holds these.
 #[derive(Drop)]
-pub struct ToWrite<W> {
+pub struct ToWrite<W: Write> {
     writer: W,
     failed: u64,
+    start: AtStart<W>,
+    log: OctetLog,
+    ghost holds: { (before : List ℕ) → W.contents start.value ≡ Some before
+        → W.contents writer ≡ Some (before ++ log.octets) },
 }
 
 impl<W: Write> ToWrite<W> {
     /// The sink that hands its octets to the writer, with no failure yet.
     pub fn new(writer: W) -> Self
-        ensures { result ≡ record { writer = writer; failed = 0 } }
+        ensures writer { result.writer ≡ writer }
+        ensures failed { result.failed ≡ 0 }
+        ensures start { result.start.value ≡ writer }
+        ensures log { result.log.octets ≡ [] }
     {
-        ToWrite { writer, failed: 0 }
+        let start = AtStart::of(&writer);
+        ToWrite {
+            writer,
+            failed: 0,
+            start,
+            log: OctetLog::new(),
+        }
     }
 }
 
 impl<W: Write> Sink for ToWrite<W> {
-    ghost tells = { λ s. record { failures = s.failed; taken = W.contents s.writer } };
+    ghost tells = { λ s. record {
+      failures = s.failed;
+      taken = Some (or_none (W.contents s.start.value) ++ s.log.octets);
+    } };
 
     fn write(&mut self, octets: &[u8]) -> Result<usize, SinkFault> {
         match self.writer.write(octets) {
             Ok(n) => {
+                self.log.append(octets, n);
                 if n == 0 && !octets.is_empty() {
                     self.failed = self.failed.saturating_add(1);
                 }

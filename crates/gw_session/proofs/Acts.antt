@@ -11,34 +11,35 @@ use Rattle.gw_switch.specs.Whole.{reply_to}
 use Rattle.gw_records.specs.declared.outcome.Totals.{Totals}
 use Rattle.gw_records.specs.declared.outcome.RunFault.{RunFault}
 use Rattle.gw_records.specs.Records.{Record}
-use Rattle.gw_records.specs.Streams.{SinkState, Passes, Puts, at_most}
+use Rattle.gw_records.specs.Streams.{Passes, Puts, at_most}
 use Rattle.gw_records.proofs.Writes.{Appends-none, Passes-same, Passes-join, AppendsPrefix-same, AppendsPrefix-behind}
 use Rattle.gw_session.specs.Outlet.{Spells}
-use Rattle.gw_records.specs.Ports.{PortsState, counted}
+use Rattle.gw_records.specs.Ports.{counted}
 use Rattle.gw_session.specs.Answers.{Written, written_out, code_of}
 use Rattle.gw_session.specs.Serve.{Act, told, turns_of, events_in, events_of_turns, octet_of, answer_to}
 use Rattle.gw_session.specs.Serve.{packets_for, sent_with_octets, dropped_for}
 use Rattle.gw_session.specs.Exchange.{Takes, spelled_for, written_for, Exchanges, ActsOn, Acts}
 use Rattle.gw_session.specs.Tape.{TapeState, Recorded}
+use Rattle.gw_session.specs.World.{Output, World, state_of}
 use Rattle.gw_session.specs.declared.tape.OnTape.{OnTape}
 use Rattle.gw_session.proofs.Turns.{Trades-none, counted_is}
 
 -- an act was done, and behind what passes the rest of all that is put for it was put, or a write failed
-acts_put : (spells : Spells) {a b : PortsState} {g g' : Gateway} {t t' : Totals} {tape tape' : TapeState}
-    (s s' s'' : SinkState) (w w' w'' out : List ℕ) {r : Record} (result : Result (Unit {0}) RunFault)
-    (on : ActsOn a b g g' t t' tape tape' r)
-    → ((config : GatewayConfig) (before : List Event) → Stands config g before → (first : List ℕ)
-    × Passes s.taken s'.taken w' first × (first ++ out ≡ w ++ written_for spells config before on.act))
-    → s'.failures ≡ s.failures → Puts s' s'' w'' (w' ++ out) result
-    → Acts spells a b g g' t t' tape tape' s s'' w w'' r result
-acts_put spells s s' s'' w w' w'' out (Ok u) on first kept puts = record {
+acts_put : (spells : Spells) (w w' : World) (o : Output) (out : List ℕ) {r : Record}
+    (result : Result (Unit {0}) RunFault) (on : ActsOn w.state w'.state w.tape w'.tape r)
+    → ((config : GatewayConfig) (before : List Event) → Stands config w.state.gateway before → (first : List ℕ)
+    × Passes w.output.sink.taken o.sink.taken o.waiting first
+    × (first ++ out ≡ w.output.waiting ++ written_for spells config before on.act))
+    → o.sink.failures ≡ w.output.sink.failures
+    → Puts o.sink w'.output.sink w'.output.waiting (o.waiting ++ out) result → Acts spells w w' r result
+acts_put spells w w' o out (Ok u) on first kept puts = record {
   acts = on;
   passes = λ config before h.
       let f = first config before h in
       Passes-same _ _ _ _ _ f.2 (Passes-join _ _ _ _ _ _ _ f.1 puts.0);
   no_failure = puts.1 ∙ kept;
 }
-acts_put spells s s' s'' w w' w'' out (Err e) on first kept puts = (
+acts_put spells w w' o out (Err e) on first kept puts = (
   puts.0,
   inl (record {
     acts = on;
@@ -50,30 +51,38 @@ acts_put spells s s' s'' w w' w'' out (Err e) on first kept puts = (
 )
 
 -- octets were exchanged, and the record of them was put
-pub trunk_acts : {spells : Spells} {a b : PortsState} {g g' : Gateway} (t : Totals) {t' : Totals}
-    {tape tape' : TapeState} (r o : ℕ) {s s' : SinkState} (s'' : SinkState) {w w' : List ℕ} (w'' : List ℕ)
-    {body front answer out : List ℕ} (result : Result (Unit {0}) RunFault)
-    → (sent : List ℕ) × (x : Exchanges spells a b g g' (record t { records = r; octets = o }) t' s s' w w' body sent)
-    × (answer ≡ front ++ sent) × Recorded tape tape' (events_of_turns x.turns)
+pub trunk_acts : {spells : Spells} (w w' : World) (r n : ℕ) (o : Output) {body front answer out : List ℕ}
+    (result : Result (Unit {0}) RunFault)
+    → (sent : List ℕ) × (x : Exchanges spells
+    (record w.state { totals = record w.state.totals { records = r; octets = n } }) w'.state w.output o body sent) × (answer ≡ front ++ sent) × Recorded w.tape w'.tape (events_of_turns x.turns)
     → front ≡ 84 ∷ 0 ∷ big_bytes 2 (length body) → out ≡ answer
-    → r ≡ min (t.records + 1) (2 ^ 64 - 1) → o ≡ min (t.octets + length body) (2 ^ 64 - 1) → t.octets < 2 ^ 64
-    → Puts s' s'' w'' (w' ++ out) result
-    → Acts spells a b g g' t t' tape tape' s s'' w w'' (Record.Trunk body) result
+    → r ≡ min (w.state.totals.records + 1) (2 ^ 64 - 1)
+    → n ≡ min (w.state.totals.octets + length body) (2 ^ 64 - 1) → w.state.totals.octets < 2 ^ 64
+    → Puts o.sink w'.output.sink w'.output.waiting (o.waiting ++ out) result
+    → Acts spells w w' (Record.Trunk body) result
 unfolding written_for answer_to
-trunk_acts t r o s'' w'' result x fronts same counts trunk fits puts =
+trunk_acts w w' r n o result x fronts same counts trunk fits puts =
     let p = x.1 in
     let len = sym (length-map p.turns octet_of) ∙ ap length p.heard in
-    acts_put _ _ _ _ _ _ _ _ result (record {
+    acts_put _ w w' o _ result (record {
       act = Act.Trunk p.turns;
       told_is = ap (λ (xs : List ℕ). Record.Trunk xs) p.heard;
       goes = record {
         trades = p.goes.trades;
         datagrams = p.goes.datagrams;
         faults = p.goes.faults;
-        hears = λ config before h. assumption (p.goes.hears config before h);
+        hears = λ config before h.
+            let heard = p.goes.hears config before h in
+            record {
+              stands = heard.stands;
+              in_turn = heard.in_turn;
+              packets = heard.packets;
+              sends = heard.sends;
+              dropped = heard.dropped;
+            };
       };
       records = p.kept.0 ∙ counts;
-      octets = p.kept.1 ∙ trunk ∙ rw len (counted_is t.octets _ fits);
+      octets = p.kept.1 ∙ trunk ∙ rw len (counted_is w.state.totals.octets _ fits);
       recorded = x.3;
     }) (λ config before h. (
       _,
@@ -82,24 +91,25 @@ trunk_acts t r o s'' w'' result x fronts same counts trunk fits puts =
     )) p.no_failure puts
 
 -- an act of one event was done, and the one answer of its circuit, whose record is on the tape, was put
-pub one_acts : (act : Act) (event : Event) (u : Totals) (spells : Spells) (p : PortsState) (g g' : Gateway)
-    (t : Totals) {t' : Totals} {tape tape' : TapeState} (s s' : SinkState) (w w' : List ℕ) {circuit kind code : ℕ}
-    (result : Result (Unit {0}) RunFault) → turns_of act ≡ [] → events_in act ≡ event ∷ []
+pub one_acts : (act : Act) (event : Event) (u : Totals) (spells : Spells) (w : World) (g : Gateway) (t : Totals)
+    (tape : TapeState) (o : Output) {circuit kind code : ℕ} (result : Result (Unit {0}) RunFault)
+    → turns_of act ≡ [] → events_in act ≡ event ∷ []
     → ((config : GatewayConfig) (before : List Event) → packets_for config before (event ∷ []) ≡ [])
     → ((config : GatewayConfig) (before : List Event) → sent_with_octets config before (event ∷ []) ≡ [])
     → ((config : GatewayConfig) (before : List Event) → answer_to config before act
     ≡ written_out (Written.Answered circuit kind (code_of (reply_to config before event))))
-    → Takes g g' event code → {on_tape : OnTape} → on_tape ≡ record { kind = kind; circuit = circuit }
-    → u ≡ record t { dropped = u.dropped } → t' ≡ record u { records = at_most (u.records + 1) }
-    → ((config : GatewayConfig) (before : List Event) → Stands config g before
-    → u.dropped ≡ counted t.dropped (dropped_for config before (event ∷ [])))
-    → Puts s s' w' (w ++ written_out (Written.Answered on_tape.circuit on_tape.kind code)) result
-    → Recorded tape tape' (events_in act)
-    → Acts spells p p g g' t t' tape tape' s s' w w' (told act) result
+    → Takes w.state.gateway g event code → {on_tape : OnTape} → on_tape ≡ record { kind = kind; circuit = circuit }
+    → u ≡ record w.state.totals { dropped = u.dropped } → t ≡ record u { records = at_most (u.records + 1) }
+    → ((config : GatewayConfig) (before : List Event) → Stands config w.state.gateway before
+    → u.dropped ≡ counted w.state.totals.dropped (dropped_for config before (event ∷ [])))
+    → Puts w.output.sink o.sink o.waiting
+    (w.output.waiting ++ written_out (Written.Answered on_tape.circuit on_tape.kind code)) result
+    → Recorded w.tape tape (events_in act)
+    → Acts spells w (record { state = state_of w.state.ports g t; tape = tape; output = o }) (told act) result
 unfolding Trades-none written_for spelled_for
-one_acts act event u spells p g g' t s s' w w' result none one packets places answer takes taped others counts dropped puts
+one_acts act event u spells w g t tape o result none one packets places answer takes taped others counts dropped puts
     recorded =
-    acts_put _ _ _ _ _ w _ _ result (record {
+    acts_put _ w (record { state = state_of w.state.ports g t; tape = tape; output = o }) w.output _ result (record {
       act = act;
       told_is = refl;
       goes = rw (none, one) (record {
@@ -118,7 +128,7 @@ one_acts act event u spells p g g' t s s' w w' result none one packets places an
       octets = rw (none, counts, others);
       recorded = recorded;
     }) (λ config before h. (
-      w,
+      w.output.waiting,
       record { written = []; whole = refl; appended = Appends-none _ },
       rw (one, packets config before, answer config before, (takes config before h).1),
     )) refl (rw taped at puts)

@@ -4,23 +4,20 @@ use Rattle.std.proofs.Common.{take, drop, refl, ap, ◌∙◌, append_assoc, app
 use Rattle.std.specs.Io.KnownBytes.{Appends}
 use Rattle.std.proofs.lemmas.List.{map_push, drop-take, flat_map_more}
 use Rattle.gw_switch.specs.declared.GatewayConfig.{GatewayConfig}
-use Rattle.gw_switch.specs.declared.gateway.Gateway.{Gateway}
 use Rattle.gw_switch.specs.Events.{Event, octets}
 use Rattle.gw_switch.specs.Standing.{Stands}
-use Rattle.gw_records.specs.declared.outcome.Totals.{Totals}
 use Rattle.gw_records.specs.declared.records.First.{First}
 use Rattle.gw_records.specs.declared.records.Kinds.{Kinds}
 use Rattle.gw_records.specs.Records.{Record, IsGood, named, record_at}
 use Rattle.gw_records.specs.Streams.{SinkState, Passes, Breaks, AppendsBut}
-use Rattle.gw_records.specs.Outcome.{nothing_counted}
-use Rattle.gw_records.specs.Ports.{PortsState}
 use Rattle.gw_records.proofs.Writes.{Passes-start, Passes-appended, Passes-empty, Passes-join, Appends-join}
 use Rattle.gw_records.proofs.Writes.{AppendsBut-behind}
 use Rattle.gw_session.specs.Running.{all_kinds}
 use Rattle.gw_session.specs.Outlet.{Spells}
-use Rattle.gw_session.specs.Serve.{Act, told, turns_of, turns, events_in, events_through, Does, but_last}
-use Rattle.gw_session.specs.Exchange.{written_for, written_by, ActsOn, Finishes, Unwritten, Cut, Through, Begun}
+use Rattle.gw_session.specs.Serve.{Act, told, turns_of, turns, events_in, events_through, Follows, but_last}
+use Rattle.gw_session.specs.Exchange.{written_for, written_by, ActsOn, Finishes, Unwritten, Cut, Through, CutThrough}
 use Rattle.gw_session.specs.Tape.{TapeState}
+use Rattle.gw_session.specs.World.{State, Output}
 use Rattle.gw_session.proofs.Turns.{Goes-none, Goes-join, counted-more, octets-append, turns_have_octets}
 use Rattle.gw_session.proofs.Taping.{recorded_none, recorded_join}
 
@@ -52,14 +49,16 @@ acts_octets (act ∷ acts) =
     ∙ omega (arith, act_octets act, acts_octets acts, length-append (turns_of act) (turns acts))
 
 -- acts that were done, and then the act of one record more
-does_more : {a b c : PortsState} {g g' g'' : Gateway} {t t' : Totals} {x y : TapeState} {acts : List Act} {r : Record}
-    → Does a b g g' t acts → (q : ActsOn b c g' g'' t t' x y r) → Does a c g g'' t' (acts ++ q.act ∷ [])
-does_more {acts = acts} p q = record {
+follows_more : {s s' s'' : State} {x y z : TapeState} {acts : List Act} {r : Record} → Follows s s' x y acts
+    → (q : ActsOn s' s'' y z r) → Follows s s'' x z (acts ++ q.act ∷ [])
+follows_more {s = s} {acts = acts} p q = record {
   goes = rw (← flat_map_more turns_of [] acts q.act, ← flat_map_more events_in [] acts q.act)
-      (Goes-join _ _ _ _ _ _ _ _ _ _ _ _ _ (acts_octets acts) p.goes q.goes);
-  records = rw (length-append acts (q.act ∷ [])) (counted-more 0 _ _ (length acts) 1 p.records q.records);
+      (Goes-join _ _ _ _ _ _ _ (acts_octets acts) p.goes q.goes);
+  records = rw (length-append acts (q.act ∷ []))
+      (counted-more s.totals.records _ _ (length acts) 1 p.records q.records);
   trunk_octets = rw (← flat_map_more turns_of [] acts q.act, length-append (turns acts) (turns_of q.act))
-      (counted-more 0 _ _ (length (turns acts)) (length (turns_of q.act)) p.trunk_octets q.octets);
+      (counted-more s.totals.octets _ _ (length (turns acts)) (length (turns_of q.act)) p.trunk_octets q.octets);
+  recorded = rw (← flat_map_more events_in [] acts q.act) (recorded_join _ _ _ _ _ p.recorded q.recorded);
 }
 
 -- what is put for one act more
@@ -95,9 +94,9 @@ less_written spells config before (a ∷ b ∷ acts) = omega (
 )
 
 -- octets of which few wait, and a write of these failed
-waiting_cut : (late : ℕ) (s s' s'' : SinkState) (w first xs : List ℕ) → length w ≤ late → length first ≤ length xs
-    → Passes s.taken s'.taken w xs → Breaks s' s'' w → AppendsBut late s.taken s''.taken first xs
-waiting_cut late s s' s'' w first xs few less took breaks = record {
+waiting_cut : (late : ℕ) (o : Option (List ℕ)) (s s' : SinkState) (w first xs : List ℕ) → length w ≤ late
+    → length first ≤ length xs → Passes o s.taken w xs → Breaks s s' w → AppendsBut late o s'.taken first xs
+waiting_cut late o s s' w first xs few less took breaks = record {
   written = took.written ++ breaks.took.written;
   rest = breaks.took.rest;
   whole = rw (took.whole, breaks.took.whole, append_assoc) refl;
@@ -112,29 +111,26 @@ waiting_cut late s s' s'' w first xs few less took breaks = record {
 }
 
 -- before the first record
-pub through_none : {spells : Spells} {a : PortsState} {g : Gateway} {tape : TapeState} {o : Option (List ℕ)}
-    {w : List ℕ} {t : Totals} → w ≡ [] → t ≡ nothing_counted
-    → Through spells a a g g tape tape (λ first xs. Passes o o w xs) t []
-through_none none nothing = rw nothing (record {
+pub through_none : {spells : Spells} {s : State} {tape : TapeState} {o : Option (List ℕ)} {w : List ℕ}
+    → w ≡ [] → Through spells s s tape tape (λ first xs. Passes o o w xs) []
+through_none none = record {
   acts = [];
-  recorded = recorded_none _;
   told_are = refl;
-  does = record { goes = Goes-none _ _ _; records = refl; trunk_octets = refl };
+  follows = record { goes = Goes-none _; records = refl; trunk_octets = refl; recorded = recorded_none _ };
   took = λ config before at. Passes-start _ _ none;
-})
+}
 
 -- records that were gone through
-module _ {spells : Spells} {a b : PortsState} {g g' : Gateway} {x y : TapeState} {t : Totals} {records : List Record}
+module _ {spells : Spells} {s s' : State} {x y : TapeState} {records : List Record}
   where
     -- what is known of what was put
     through_as : {Took More : List ℕ → List ℕ → Type 0}
         → ((first xs : List ℕ) → length first ≤ length xs → Took first xs → More first xs)
-        → Through spells a b g g' x y Took t records → Through spells a b g g' x y More t records
+        → Through spells s s' x y Took records → Through spells s s' x y More records
     through_as f p = record {
       acts = p.acts;
-      recorded = p.recorded;
       told_are = p.told_are;
-      does = p.does;
+      follows = p.follows;
       took = λ config before at. f (written_by spells config before (but_last p.acts))
           (written_by spells config before p.acts) (less_written spells config before p.acts)
           (p.took config before at);
@@ -142,63 +138,64 @@ module _ {spells : Spells} {a b : PortsState} {g g' : Gateway} {x y : TapeState}
 
     -- all of it was taken
     pub through_all : {o p : Option (List ℕ)} {w : List ℕ} (q : Option (List ℕ))
-        → Through spells a b g g' x y (λ first xs. Passes o p w xs) t records → Appends p q w
-        → Through spells a b g g' x y (λ first. Appends o q) t records
+        → Through spells s s' x y (λ first xs. Passes o p w xs) records → Appends p q w
+        → Through spells s s' x y (λ first. Appends o q) records
     through_all q h wrote = through_as (λ first xs less took. Passes-appended _ _ _ _ _ took wrote) h
 
     -- when what waits is written nothing waits, and the rest is as it was
     pub through_on : {o p q : Option (List ℕ)} {w w' : List ℕ}
-        → Through spells a b g g' x y (λ first xs. Passes o p w xs) t records → Appends p q w → w' ≡ []
-        → Through spells a b g g' x y (λ first xs. Passes o q w' xs) t records
+        → Through spells s s' x y (λ first xs. Passes o p w xs) records → Appends p q w → w' ≡ []
+        → Through spells s s' x y (λ first xs. Passes o q w' xs) records
     through_on h wrote none =
         through_as (λ first xs less took. Passes-empty _ _ _ none (Passes-appended _ _ _ _ _ took wrote)) h
 
     -- .. or a write of what waits failed
-    pub waiting_failed : (late : ℕ) {s s' s'' : SinkState} {w : List ℕ} → length w ≤ late
-        → Through spells a b g g' x y (λ first xs. Passes s.taken s'.taken w xs) t records
-        → 0 < length records → Breaks s' s'' w → Begun late spells a b g g' x y s s'' records
-    waiting_failed late {s} {s'} {s''} {w} few p some breaks = inl (
-      t,
-      some,
-      through_as (λ first xs less took. waiting_cut late s s' s'' w first xs few less took breaks) p,
-    )
+    pub waiting_failed : (late : ℕ) {o : Option (List ℕ)} {b c : SinkState} {w : List ℕ} → length w ≤ late
+        → Through spells s s' x y (λ first xs. Passes o b.taken w xs) records → 0 < length records → Breaks b c w
+        → (0 < length records) × Through spells s s' x y (AppendsBut late o c.taken) records
+    waiting_failed late {o} {b} {c} {w} few p some breaks =
+        (some, through_as (λ first xs less took. waiting_cut late o b c w first xs few less took breaks) p)
 
     -- .. and then one more
-    module _ {c : PortsState} {g'' : Gateway} {z : TapeState} {t' : Totals} {r : Record} where
+    module _ {s'' : State} {z : TapeState} {r : Record} where
       -- one record more, for which this is put
-      through_more : {Took More : List ℕ → List ℕ → Type 0} → Through spells a b g g' x y Took t records
-          → (q : ActsOn b c g' g'' t t' y z r)
-          → ((config : GatewayConfig) (now : List Event) → Stands config g' now → (first xs : List ℕ)
+      through_more : {Took More : List ℕ → List ℕ → Type 0} → Through spells s s' x y Took records
+          → (q : ActsOn s' s'' y z r)
+          → ((config : GatewayConfig) (now : List Event) → Stands config s'.gateway now → (first xs : List ℕ)
           → Took first xs → More xs (xs ++ written_for spells config now q.act))
-          → Through spells a c g g'' x z More t' (records ++ r ∷ [])
+          → Through spells s s'' x z More (records ++ r ∷ [])
       through_more p q more = record {
         acts = p.acts ++ q.act ∷ [];
-        recorded = rw (← flat_map_more events_in [] p.acts q.act) (recorded_join _ _ _ _ _ p.recorded q.recorded);
         told_are = rw (map_push told p.acts q.act, p.told_are, q.told_is);
-        does = does_more p.does q;
+        follows = follows_more p.follows q;
         took = λ config before at. rw (but_last_more p.acts q.act, written_more spells config before p.acts q.act)
-            (more config (before ++ events_through p.acts) ((p.does.goes.hears config before at).stands)
+            (more config (before ++ events_through p.acts) ((p.follows.goes.hears config before at).stands)
             (written_by spells config before (but_last p.acts)) (written_by spells config before p.acts)
             (p.took config before at));
       }
 
       -- records that were gone through, and then one more whose answer passes
-      pub through_done : {o : Option (List ℕ)} {s' s'' : SinkState} {w w' : List ℕ}
-          → Through spells a b g g' x y (λ first xs. Passes o s'.taken w xs) t records
-          → Finishes spells b c g' g'' t t' y z s' s'' w w' r
-          → Through spells a c g g'' x z (λ first xs. Passes o s''.taken w' xs) t' (records ++ r ∷ [])
+      pub through_done : {o : Option (List ℕ)} {a b : Output}
+          → Through spells s s' x y (λ first xs. Passes o a.sink.taken a.waiting xs) records
+          → Finishes spells (record { state = s'; tape = y; output = a })
+          (record { state = s''; tape = z; output = b }) r
+          → Through spells s s'' x z (λ first xs. Passes o b.sink.taken b.waiting xs) (records ++ r ∷ [])
       through_done p q = through_more p q.acts
           (λ config now at first xs took. Passes-join _ _ _ _ _ _ _ took (q.passes config now at))
 
       -- a write failed in it, when it was done or when its first octets were heard
-      pub act_failed : (late : ℕ) {s s' s'' : SinkState} {w : List ℕ} → length w ≤ late
-          → Through spells a b g g' x y (λ first xs. Passes s.taken s'.taken w xs) t records
-          → Unwritten spells b c g' g'' t t' y z s' s'' w r ⊎ Cut spells b c g' g'' s' s'' w r
-          → (s'.failures < s''.failures) × Begun late spells a c g g'' x z s s'' (records ++ r ∷ [])
+      pub act_failed : (late : ℕ) {o : SinkState} {a b : Output} → length a.waiting ≤ late
+          → Through spells s s' x y (λ first xs. Passes o.taken a.sink.taken a.waiting xs) records
+          → Unwritten spells (record { state = s'; tape = y; output = a })
+          (record { state = s''; tape = z; output = b }) r
+          ⊎ Cut spells (record { state = s'; tape = y; output = a })
+          (record { state = s''; tape = z; output = b }) r
+          → (a.sink.failures < b.sink.failures) × (((0 < length (records ++ r ∷ []))
+          × Through spells s s'' x z (AppendsBut late o.taken b.sink.taken) (records ++ r ∷ []))
+          ⊎ CutThrough late spells s s'' o b.sink (records ++ r ∷ []))
       act_failed late few p (inl q) = (
         q.failed,
         inl (
-          t',
           omega (arith, length-append records (r ∷ [])),
           through_more p q.acts
               (λ config now at first xs took. AppendsBut-behind late _ _ _ _ _ _ few took (q.took config now at)),
@@ -213,18 +210,16 @@ module _ {spells : Spells} {a b : PortsState} {g g' : Gateway} {x y : TapeState}
               all = rw q.is_trunk;
               acts = p.acts;
               told_are = p.told_are;
-              between = b;
-              standing = g';
-              totals = t;
-              does = p.does;
+              between = s';
+              goes = p.follows.goes;
               turns = k.turns;
               rest = k.rest;
               split = k.split;
               trades = k.trades;
-              stands = λ config before at. rw append_assoc at
-                  (k.stands config (before ++ events_through p.acts) ((p.does.goes.hears config before at).stands));
+              stands = λ config before at. rw append_assoc at (k.stands config (before ++ events_through p.acts)
+                  ((p.follows.goes.hears config before at).stands));
               took = λ config before at. AppendsBut-behind late _ _ _ _ _ _ few (p.took config before at)
-                  (k.took config (before ++ events_through p.acts) ((p.does.goes.hears config before at).stands));
+                  (k.took config (before ++ events_through p.acts) ((p.follows.goes.hears config before at).stands));
               packet = k.packet;
               some = k.some;
             }),

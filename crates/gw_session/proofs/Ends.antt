@@ -8,7 +8,7 @@ use Rattle.gw_records.specs.declared.records.Kinds.{Kinds}
 use Rattle.gw_records.specs.declared.records.Ending.{Ending}
 use Rattle.gw_records.specs.Records.{Record}
 use Rattle.gw_records.specs.Streams.{SourceState, SinkState}
-use Rattle.gw_records.specs.Outcome.{SessionTo, EndsAll, EndsUntil}
+use Rattle.gw_records.specs.Outcome.{SessionTo, EndsAll, EndsUntil, OrNoMemory}
 
 module _ (kinds : Kinds) (a b : SourceState) (c d : SinkState) {P Q : Totals → List Record → Type 0}
     (f : (t : Totals) (rs : List Record) → P t rs → Q t rs)
@@ -33,12 +33,12 @@ module _ (kinds : Kinds) (a b : SourceState) (c d : SinkState) {P Q : Totals →
         record { ends = (session_as e.ends.0, e.ends.1); ended = e.ended; totals_are = e.totals_are })
 
     -- a session that ended before the end of its source, and what follows from what is known of it
-    fault_as : {B C : List Record → Type 0} {K L : Type 0} (e : RunFault) → (K → L)
-        → ((rs : List Record) → B rs → C rs) → EndsUntil kinds a b c d P B K e → EndsUntil kinds a b c d Q C L e
+    fault_as : {B C : List Record → Type 0} (kept : Type 0) (e : RunFault) → ((rs : List Record) → B rs → C rs)
+        → EndsUntil kinds a b c d P B e → OrNoMemory kept (EndsUntil kinds a b c d Q C) e
     unfolding session_as
-    fault_as faults.Truncated k begun e = ((session_as e.0.0, e.0.1), e.1)
-    fault_as faults.Read k begun e = (e.0, session_as e.1, e.2, e.3)
-    fault_as faults.Write k begun e = record {
+    fault_as kept faults.Truncated begun e = ((session_as e.0.0, e.0.1), e.1)
+    fault_as kept faults.Read begun e = (e.0, session_as e.1, e.2, e.3)
+    fault_as kept faults.Write begun e = record {
       octets = e.octets;
       gives = e.gives;
       records = e.records;
@@ -47,11 +47,11 @@ module _ (kinds : Kinds) (a b : SourceState) (c d : SinkState) {P Q : Totals →
       counted = e.counted;
       no_read = e.no_read;
     }
-    fault_as faults.OutOfMemory k begun e = k e
-    fault_as _ k begun e = (session_as e.0, e.1)
+    fault_as kept faults.OutOfMemory begun e = absurd e
+    fault_as kept _ begun e = (session_as e.0, e.1)
 
     -- .. or before its end
-    pub until_as : {B C : List Record → Type 0} {K L : Type 0} (result : Result Totals RunFault) → (K → L)
-        → ((rs : List Record) → B rs → C rs) → IfErr result (EndsUntil kinds a b c d P B K)
-        → IfErr result (EndsUntil kinds a b c d Q C L)
-    until_as result k begun = IfErr-weaker result _ _ (λ e. fault_as e k begun)
+    pub until_as : {B C : List Record → Type 0} (kept : Type 0) (result : Result Totals RunFault)
+        → ((rs : List Record) → B rs → C rs) → IfErr result (EndsUntil kinds a b c d P B)
+        → IfErr result (OrNoMemory kept (EndsUntil kinds a b c d Q C))
+    until_as kept result begun = IfErr-weaker result _ _ (λ e. fault_as kept e begun)

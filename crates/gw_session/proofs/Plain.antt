@@ -14,6 +14,7 @@ use Rattle.gw_switch.specs.Whole.{Reply, whole_from}
 use Rattle.gw_records.specs.declared.outcome.Totals.{Totals}
 use Rattle.gw_records.specs.Records.{Record, record_of}
 use Rattle.gw_records.specs.Streams.{SinkState, AppendsBut, at_most}
+use Rattle.gw_records.specs.Outcome.{nothing_counted}
 use Rattle.gw_records.specs.Ports.{Waiting, counted}
 use Rattle.gw_records.proofs.Writes.{AppendsBut-same, AppendsBut-more}
 use Rattle.gw_records.proofs.Sessions.{five}
@@ -23,8 +24,9 @@ use Rattle.gw_session.specs.Running.{RunsUntilWrite}
 use Rattle.gw_session.specs.Outlet.{in_record, no_ports}
 use Rattle.gw_session.specs.Serve.{Act, Turn, told, octet_of, turns_of, turns, events_in, events_through}
 use Rattle.gw_session.specs.Serve.{events_of_turns, of_circuit, arrivals, first_four, behind_four, FirstFour, Trades}
-use Rattle.gw_session.specs.Serve.{Does, given_by, octets_for, dropped_for, answer_to, but_last}
+use Rattle.gw_session.specs.Serve.{Follows, given_by, octets_for, dropped_for, answer_to, but_last}
 use Rattle.gw_session.specs.Tape.{TapeState}
+use Rattle.gw_session.specs.World.{State, state_of, world_of}
 use Rattle.gw_session.specs.Exchange.{spelled_for, written_for, written_by, Through, CutThrough, Begun}
 use Rattle.gw_session.proofs.Turns.{Trades-join, LeavesOut-all, counted_is}
 use Rattle.gw_session.proofs.Attending.{but_last_more}
@@ -153,9 +155,14 @@ as_many_octets (Act.Trunk ts ∷ acts) = omega (
 )
 as_many_octets (_ ∷ acts) = as_many_octets acts
 
+-- where a session over records alone stands
+abbrev at_records : Gateway → Totals → State
+at_records g t = state_of no_ports g t
+
 -- the totals of acts are those of a session that had the replies to their records
-plain_totals : {g g' : Gateway} {t : Totals} {acts : List Act} → Does no_ports no_ports g g' t acts
-    → Plain (turns acts) → (config : GatewayConfig) (before : List Event) → Stands config g before
+plain_totals : {g g' : Gateway} {t : Totals} {x y : TapeState} {acts : List Act}
+    → Follows (at_records g nothing_counted) (at_records g' t) x y acts → Plain (turns acts)
+    → (config : GatewayConfig) (before : List Event) → Stands config g before
     → t ≡ run_totals (map told acts) (replies_to config before (map told acts))
 unfolding given_by dropped_for
 plain_totals {acts = acts} d plain config before at =
@@ -171,14 +178,14 @@ plain_totals {acts = acts} d plain config before at =
 
 -- a session went through records
 pub runs : {g g' : Gateway} {x y : TapeState} {s s' : SinkState} (t : Totals) (records : List Record)
-    → Through in_record no_ports no_ports g g' x y (λ first. Appends s.taken s'.taken) t records
+    → Through in_record (at_records g nothing_counted) (at_records g' t) x y (λ first. Appends s.taken s'.taken) records
     → RunsThrough g g' s s' t records
 runs t records p =
-    let plain = plain_trades (turns p.acts) p.does.goes.trades in
+    let plain = plain_trades (turns p.acts) p.follows.goes.trades in
     rw (← p.told_are) (λ config before at. record {
-      stands = rw (acts_events p.acts plain) at ((p.does.goes.hears config before at).stands);
+      stands = rw (acts_events p.acts plain) at ((p.follows.goes.hears config before at).stands);
       took = rw (all_written config before p.acts plain) at (p.took config before at);
-      totals_are = plain_totals p.does plain config before at;
+      totals_are = plain_totals p.follows plain config before at;
     })
 
 -- all the events of a record are its first
@@ -196,12 +203,12 @@ last_of (x ∷ y ∷ xs) h = let l = last_of (y ∷ xs) (omega arith) in (x ∷ 
 -- .. and a write failed when it had acted on the last one
 whole_until : {g g' : Gateway} {x y : TapeState} {s s' : SinkState} {t : Totals} (records : List Record)
     → 0 < length records
-    → Through in_record no_ports no_ports g g' x y (AppendsBut 65536 s.taken s'.taken) t records
+    → Through in_record (at_records g nothing_counted) (at_records g' t) x y (AppendsBut 65536 s.taken s'.taken) records
     → RunsUntilWrite g g' s s' records
 whole_until records some p =
     let l = last_of p.acts (omega (arith, some, ap length p.told_are, length-map p.acts told)) in
     let all : records ≡ map told l.0 ++ told l.1 ∷ [] = sym p.told_are ∙ ap (map told) l.2 ∙ map_push told l.0 l.1 in
-    let plain = plain_trades (turns p.acts) p.does.goes.trades in
+    let plain = plain_trades (turns p.acts) p.follows.goes.trades in
     let early = (plain_parts (turns l.0) (turns_of l.1) (rw (l.2, ← flat_map_more turns_of [] l.0 l.1) at plain)).0 in
     record {
       records = map told l.0;
@@ -211,7 +218,7 @@ whole_until records some p =
       first = are_all (told l.1);
       stands = λ config before at.
           rw (acts_events p.acts plain, p.told_are, all, ← flat_map_more events_of [] (map told l.0) (told l.1)) at
-          ((p.does.goes.hears config before at).stands);
+          ((p.follows.goes.hears config before at).stands);
       took = λ config before at. AppendsBut-same (ap (λ (xs : List Act). written_by in_record config before (but_last xs)) l.2
           ∙ ap (written_by in_record config before) (but_last_more l.0 l.1) ∙ all_written config before l.0 early)
           (all_written config before p.acts plain ∙ ap (render_all config before) p.told_are) (p.took config before at);
@@ -240,10 +247,11 @@ cut_written config before acts heard rest p q =
     )
 
 -- .. or the first octets of it
-cut_until : {g g' : Gateway} {s s' : SinkState} (begun : List Record)
-    → CutThrough 65536 in_record no_ports no_ports g g' s s' begun → RunsUntilWrite g g' s s' begun
+cut_until : {g g' : Gateway} {t : Totals} {s s' : SinkState} (begun : List Record)
+    → CutThrough 65536 in_record (at_records g nothing_counted) (at_records g' t) s s' begun
+    → RunsUntilWrite g g' s s' begun
 cut_until begun p =
-    let joined = Trades-join no_ports p.between no_ports (turns p.acts) p.turns p.does.goes.trades p.trades in
+    let joined = Trades-join no_ports p.between.ports no_ports (turns p.acts) p.turns p.goes.trades p.trades in
     let plain = plain_parts (turns p.acts) p.turns (plain_trades (turns p.acts ++ p.turns) joined) in
     let heard = map octet_of p.turns in
     record {
@@ -262,6 +270,6 @@ cut_until begun p =
 
 -- where a write failed, the records begun ran up to that write
 pub runs_until : {g g' : Gateway} {x y : TapeState} {s s' : SinkState} (records : List Record)
-    → Begun 65536 in_record no_ports no_ports g g' x y s s' records → RunsUntilWrite g g' s s' records
-runs_until records (inl w) = whole_until records w.1 w.2
-runs_until records (inr w) = cut_until records w
+    → Begun 65536 in_record (world_of no_ports g nothing_counted x s [])
+    (λ totals. world_of no_ports g' totals y s' []) records → RunsUntilWrite g g' s s' records
+runs_until records w = elim w.1 [ inl p ↦ whole_until records p.0 p.1 | inr p ↦ cut_until records p ]

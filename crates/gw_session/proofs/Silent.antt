@@ -1,17 +1,15 @@
 -- Sessions whose packets put nothing in front of the answers.
 use Rattle.std.proofs.Common.{◌≡◌, inl, inr, ℕ, List, [], ◌∷◌, ◌++◌, flat_map, refl, arith}
 use Rattle.gw_switch.specs.declared.GatewayConfig.{GatewayConfig}
-use Rattle.gw_switch.specs.declared.gateway.Gateway.{Gateway}
 use Rattle.gw_switch.specs.Events.{Event}
 use Rattle.gw_records.specs.declared.outcome.Totals.{Totals}
 use Rattle.gw_records.specs.Records.{Record}
 use Rattle.gw_records.specs.Streams.{SinkState, AppendsBut}
-use Rattle.gw_records.specs.Ports.{PortsState}
 use Rattle.gw_session.specs.Outlet.{silent}
-use Rattle.gw_session.specs.Serve.{Act, events_in, packets_for, written, but_last}
+use Rattle.gw_session.specs.Serve.{Act, events_in, packets_for, written, but_last, ServesThrough}
 use Rattle.gw_session.specs.Exchange.{spelled_for, written_for, written_by, Through, Begun}
 use Rattle.gw_session.specs.Tape.{TapeState}
-use Rattle.gw_session.specs.Recording.{ServesRecorded}
+use Rattle.gw_session.specs.World.{State, output_of}
 
 -- packets that put nothing give no octets
 nothing_put : (ps : List (ℕ × List ℕ)) → flat_map silent ps ≡ []
@@ -26,25 +24,27 @@ answers_alone config before [] = refl
 answers_alone config before (act ∷ acts) =
     rw (nothing_put (packets_for config before (events_in act)), answers_alone config (before ++ events_in act) acts)
 
--- records were served, and the events of their acts recorded
-pub serves : {a b : PortsState} {g g' : Gateway} {x y : TapeState} {Took : List ℕ → List ℕ → Type 0}
-    (t : Totals) (records : List Record)
-    → Through silent a b g g' x y Took t records
-    → ServesRecorded a b g g' x y Took t records
-serves t records p = (
-  record {
-    acts = p.acts;
-    told_are = p.told_are;
-    does = p.does;
-    took = λ config before at.
-        rw (answers_alone config before (but_last p.acts), answers_alone config before p.acts) at (p.took config before at);
-  },
-  p.recorded,
-)
+-- records were served
+pub serves : {s s' : State} {x y : TapeState} {Took : List ℕ → List ℕ → Type 0} (records : List Record)
+    → Through silent s s' x y Took records → ServesThrough s s' x y Took records
+serves records p = record {
+  acts = p.acts;
+  told_are = p.told_are;
+  follows = p.follows;
+  took = λ config before at.
+      rw (answers_alone config before (but_last p.acts), answers_alone config before p.acts) at
+      (p.took config before at);
+}
 
 -- .. up to the one in which a write failed
-pub serves_until : {a b : PortsState} {g g' : Gateway} {x y : TapeState} {s s' : SinkState} (records : List Record)
-    → Begun 0 silent a b g g' x y s s' records
-    → (totals : Totals) × ServesRecorded a b g g' x y (AppendsBut 0 s.taken s'.taken) totals records
-serves_until records (inl w) = (w.0, serves w.0 records w.2)
-serves_until records (inr w) = absurd (omega (arith, w.some))
+pub serves_until : {s : State} {end : Totals → State} {x y : TapeState} {a b : SinkState} (records : List Record)
+    → Begun 0 silent (record { state = s; tape = x; output = output_of a [] })
+    (λ totals. record { state = end totals; tape = y; output = output_of b [] }) records
+    → (totals : Totals) × ServesThrough s (end totals) x y (AppendsBut 0 a.taken b.taken) records
+serves_until records p = (
+  p.0,
+  elim p.1 [
+    | inl done ↦ serves records done.1
+    | inr cut ↦ absurd (omega (arith, cut.some))
+  ],
+)

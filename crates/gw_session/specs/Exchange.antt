@@ -17,10 +17,11 @@ use Rattle.gw_session.specs.Outlet.{Spells}
 use Rattle.gw_records.specs.Ports.{Waiting, PortsState, IfKnown, Grows, TakesOut, KeepsSends, KeepsReceives}
 use Rattle.gw_records.specs.Ports.{counted}
 use Rattle.gw_session.specs.Serve.{Act, Turn, told, octet_of, turns_of, events_in, events_of_turns, answer_to}
-use Rattle.gw_session.specs.Serve.{Goes, Trades, Stop, StopsSo, as_call, receives_of, send_of, of_circuit}
-use Rattle.gw_session.specs.Serve.{coming, first_four, behind_four, LeavesOut, packets_for, octets_for}
-use Rattle.gw_session.specs.Serve.{dropped_for, Does, events_through, but_last}
+use Rattle.gw_session.specs.Serve.{Goes, Follows, Trades, Stop, StopsSo, as_call, receives_of, send_of}
+use Rattle.gw_session.specs.Serve.{of_circuit, coming, first_four, behind_four, LeavesOut, packets_for}
+use Rattle.gw_session.specs.Serve.{octets_for, dropped_for, turns, events_through, but_last}
 use Rattle.gw_session.specs.Tape.{TapeState, Recorded, RecordedBut}
+use Rattle.gw_session.specs.World.{State, Output, World}
 
 -- the gateway took an event, and the number of its reply is this
 abbrev pub Takes : Gateway → Gateway → Event → ℕ → Type 0
@@ -74,25 +75,25 @@ pub record RecordsBehind (tape tape' : TapeState) (heard : List ℕ) (recorded r
 
 -- datagrams of the circuit whose slot the next octet sends came from the ports, were recorded behind octets
 -- that were heard and were given to the gateway
-pub record ComesInTurn (ports ports' : PortsState) (gateway gateway' : Gateway) (totals totals' : Totals)
-    (tape tape' : TapeState) (heard : List ℕ) (recorded recorded' : ℕ) : Type 0 where
+pub record ComesInTurn (s s' : State) (tape tape' : TapeState) (heard : List ℕ)
+    (recorded recorded' : ℕ) : Type 0 where
   pub circuit : Option ℕ
   pub came : List (List ℕ)
   pub few : length came ≤ 4
   pub stop : Stop
   pub stops : StopsSo circuit came stop
-  pub calls : Grows ports.calls ports'.calls (receives_of circuit came stop)
-  pub gave : Grows ports.given ports'.given (of_circuit circuit came)
+  pub calls : Grows s.ports.calls s'.ports.calls (receives_of circuit came stop)
+  pub gave : Grows s.ports.given s'.ports.given (of_circuit circuit came)
   pub failed : ℕ
-  pub receives : ports'.receive_failures ≡ counted ports.receive_failures failed
-  pub firsts : failed ≡ 0 → FourCome ports.waiting ports'.waiting circuit came
-  pub no_sends : KeepsSends ports ports'
-  pub faults : totals'.port_faults ≡ counted totals.port_faults failed
-  pub datagrams : totals'.datagrams ≡ totals.datagrams
-  pub kept : KeepsRecords totals totals'
-  pub given : IsGiven gateway gateway' totals totals' (of_circuit circuit came)
+  pub receives : s'.ports.receive_failures ≡ counted s.ports.receive_failures failed
+  pub firsts : failed ≡ 0 → FourCome s.ports.waiting s'.ports.waiting circuit came
+  pub no_sends : KeepsSends s.ports s'.ports
+  pub faults : s'.totals.port_faults ≡ counted s.totals.port_faults failed
+  pub datagrams : s'.totals.datagrams ≡ s.totals.datagrams
+  pub kept : KeepsRecords s.totals s'.totals
+  pub given : IsGiven s.gateway s'.gateway s.totals s'.totals (of_circuit circuit came)
   pub records : RecordsBehind tape tape' heard recorded recorded' (coming (of_circuit circuit came))
-  pub in_turn : (config : GatewayConfig) (before : List Event) → Stands config gateway before
+  pub in_turn : (config : GatewayConfig) (before : List Event) → Stands config s.gateway before
       → circuit ≡ next_circuit (length (octets before))
 
 -- the packet that is sent with an octet, if there is one, went to the ports
@@ -113,170 +114,145 @@ pub record SendsPacket (ports ports' : PortsState) (totals totals' : Totals) (pa
 
 -- the gateway heard an octet and sends this one, the packet that it sends with it went to the outlet, and
 -- what that puts passes
-pub record SendsBack (spells : Spells) (ports ports' : PortsState) (gateway gateway' : Gateway)
-    (totals totals' : Totals) (sink sink' : SinkState) (waiting waiting' : List ℕ) (octet sent : ℕ) : Type 0
-  where
-    pub packet : Option (ℕ × List ℕ)
-    pub sends : SendsPacket ports ports' totals totals' packet
-    pub hears : (config : GatewayConfig) (before : List Event) → Stands config gateway before
-        → Stands config gateway' (before ++ Event.Octet octet ∷ [])
-        × (octet_reply config before octet ≡ record { octet = sent; packet = packet })
-    pub passes : Passes sink.taken sink'.taken waiting' (waiting ++ flat_map spells (packet_in packet))
-    pub no_failure : sink'.failures ≡ sink.failures
+pub record SendsBack (spells : Spells) (s s' : State) (o o' : Output) (octet sent : ℕ) : Type 0 where
+  pub packet : Option (ℕ × List ℕ)
+  pub sends : SendsPacket s.ports s'.ports s.totals s'.totals packet
+  pub hears : (config : GatewayConfig) (before : List Event) → Stands config s.gateway before
+      → Stands config s'.gateway (before ++ Event.Octet octet ∷ [])
+      × (octet_reply config before octet ≡ record { octet = sent; packet = packet })
+  pub passes : Passes o.sink.taken o'.sink.taken o'.waiting
+      (o.waiting ++ flat_map spells (packet_in packet))
+  pub no_failure : o'.sink.failures ≡ o.sink.failures
 
 -- the gateway heard an octet, and a write of what its packet puts failed
-pub record Misses (spells : Spells) (ports ports' : PortsState) (gateway gateway' : Gateway)
-    (totals totals' : Totals) (sink sink' : SinkState) (waiting : List ℕ) (octet : ℕ) : Type 0 where
+pub record Misses (spells : Spells) (s s' : State) (o o' : Output) (octet : ℕ) : Type 0 where
   pub packet : ℕ × List ℕ
   pub some : 0 < length (spells packet)
-  pub kept : ports' ≡ ports
-  pub hears : (config : GatewayConfig) (before : List Event) → Stands config gateway before
-      → Stands config gateway' (before ++ Event.Octet octet ∷ [])
+  pub kept : s'.ports ≡ s.ports
+  pub hears : (config : GatewayConfig) (before : List Event) → Stands config s.gateway before
+      → Stands config s'.gateway (before ++ Event.Octet octet ∷ [])
       × ((octet_reply config before octet).packet ≡ Some packet)
-  pub breaks : Breaks sink sink' (waiting ++ spells packet)
+  pub breaks : Breaks o.sink o'.sink (o.waiting ++ spells packet)
 
-abbrev pub Hearing : Spells → PortsState → PortsState → Gateway → Gateway → Totals → Totals → SinkState
-    → SinkState → List ℕ → List ℕ → ℕ → Result ℕ RunFault → Type 0
-Hearing spells ports ports' gateway gateway' totals totals' sink sink' waiting waiting' octet result =
-    MatchResult result
-    (λ sent. SendsBack spells ports ports' gateway gateway' totals totals' sink sink' waiting waiting' octet
-    sent)
-    (λ e. (e ≡ Write) × Misses spells ports ports' gateway gateway' totals totals' sink sink' waiting octet)
+abbrev pub Hearing : Spells → State → State → Output → Output → ℕ → Result ℕ RunFault → Type 0
+Hearing spells s s' o o' octet result = MatchResult result
+    (λ sent. SendsBack spells s s' o o' octet sent)
+    (λ e. (e ≡ Write) × Misses spells s s' o o' octet)
 
 -- The gateway heard octets, each after the datagrams that came before it, these were sent, and what the
 -- packets put passes.
-pub record Exchanges (spells : Spells) (ports ports' : PortsState) (gateway gateway' : Gateway)
-    (totals totals' : Totals) (sink sink' : SinkState) (waiting waiting' octets sent : List ℕ) : Type 0 where
+pub record Exchanges (spells : Spells) (s s' : State) (o o' : Output) (octets sent : List ℕ) : Type 0 where
   pub turns : List Turn
   pub heard : map octet_of turns ≡ octets
   pub lengths : length sent ≡ length octets
-  pub goes : Goes ports ports' gateway gateway' totals totals' turns (events_of_turns turns)
-  pub kept : KeepsRecords totals totals'
-  pub sent_are : (config : GatewayConfig) (before : List Event) → Stands config gateway before
+  pub goes : Goes s s' turns (events_of_turns turns)
+  pub kept : KeepsRecords s.totals s'.totals
+  pub sent_are : (config : GatewayConfig) (before : List Event) → Stands config s.gateway before
       → octets_for config before (events_of_turns turns) ≡ sent
-  pub passes : (config : GatewayConfig) (before : List Event) → Stands config gateway before
-      → Passes sink.taken sink'.taken waiting'
-      (waiting ++ spelled_for spells config before (events_of_turns turns))
-  pub no_failure : sink'.failures ≡ sink.failures
+  pub passes : (config : GatewayConfig) (before : List Event) → Stands config s.gateway before
+      → Passes o.sink.taken o'.sink.taken o'.waiting
+      (o.waiting ++ spelled_for spells config before (events_of_turns turns))
+  pub no_failure : o'.sink.failures ≡ o.sink.failures
 
 -- A write of what a packet puts failed when the gateway had heard the first octets, and a prefix of what
 -- waited and of what their packets put was taken.
-pub record StopsAt (spells : Spells) (ports ports' : PortsState) (gateway gateway' : Gateway)
-    (sink sink' : SinkState) (waiting octets : List ℕ) : Type 0 where
+pub record StopsAt (spells : Spells) (s s' : State) (o o' : Output) (octets : List ℕ) : Type 0 where
   pub turns : List Turn
   pub rest : List ℕ
   pub split : octets ≡ map octet_of turns ++ rest
-  pub trades : Trades ports ports' turns
-  pub stands : (config : GatewayConfig) (before : List Event) → Stands config gateway before
-      → Stands config gateway' (before ++ events_of_turns turns)
-  pub took : (config : GatewayConfig) (before : List Event) → Stands config gateway before
-      → AppendsPrefix sink.taken sink'.taken
-      (waiting ++ spelled_for spells config before (events_of_turns turns))
-  pub failed : sink.failures < sink'.failures
+  pub trades : Trades s.ports s'.ports turns
+  pub stands : (config : GatewayConfig) (before : List Event) → Stands config s.gateway before
+      → Stands config s'.gateway (before ++ events_of_turns turns)
+  pub took : (config : GatewayConfig) (before : List Event) → Stands config s.gateway before
+      → AppendsPrefix o.sink.taken o'.sink.taken
+      (o.waiting ++ spelled_for spells config before (events_of_turns turns))
+  pub failed : o.sink.failures < o'.sink.failures
   pub packet : ℕ × List ℕ
   pub some : 0 < length (spells packet)
 
 -- octets, those to send behind those of the answer; they and the datagrams that came were recorded
-abbrev pub ExchangingAll : {T : Type 0} → Spells → PortsState → PortsState → Gateway → Gateway → Totals → Totals → SinkState
-    → SinkState → List ℕ → List ℕ → List ℕ → List ℕ → List ℕ → TapeState → TapeState → Result T RunFault
-    → Type 0
-ExchangingAll spells ports ports' gateway gateway' totals totals' sink sink' waiting waiting' octets answer
-    answer' tape tape' result = MatchResult result
-    (λ _. (sent : List ℕ)
-    × (x : Exchanges spells ports ports' gateway gateway' totals totals' sink sink' waiting waiting' octets
-    sent) × (answer' ≡ answer ++ sent) × Recorded tape tape' (events_of_turns x.turns))
-    (λ e. (e ≡ Write) × StopsAt spells ports ports' gateway gateway' sink sink' waiting octets)
+abbrev pub ExchangingAll : {T : Type 0} → Spells → World → World → List ℕ → List ℕ → List ℕ
+    → Result T RunFault → Type 0
+ExchangingAll spells w w' octets answer answer' result = MatchResult result
+    (λ _. (sent : List ℕ) × (x : Exchanges spells w.state w'.state w.output w'.output octets sent)
+    × (answer' ≡ answer ++ sent) × Recorded w.tape w'.tape (events_of_turns x.turns))
+    (λ e. (e ≡ Write) × StopsAt spells w.state w'.state w.output w'.output octets)
 
--- datagrams came so far, with no failed receive, and were recorded behind octets that were heard
-pub record Receiving (ports ports' : PortsState) (gateway gateway' : Gateway) (totals totals' : Totals)
-    (circuit : ℕ) (came : List (List ℕ)) (tape tape' : TapeState) (heard : List ℕ) (recorded recorded' : ℕ)
-    : Type 0 where
-  pub gave : Grows ports.given ports'.given (of_circuit (Some circuit) came)
-  pub calls : Grows ports.calls ports'.calls (map as_call (of_circuit (Some circuit) came))
-  pub waits : TakesOut ports.waiting ports'.waiting circuit came
-  pub receives : ports'.receive_failures ≡ ports.receive_failures
-  pub no_sends : KeepsSends ports ports'
-  pub others : totals' ≡ record totals { dropped = totals'.dropped }
-  pub given : IsGiven gateway gateway' totals totals' (of_circuit (Some circuit) came)
-  pub records : RecordsBehind tape tape' heard recorded recorded' (coming (of_circuit (Some circuit) came))
+-- datagrams came so far, with no failed receive
+pub record Receiving (s s' : State) (circuit : ℕ) (came : List (List ℕ)) : Type 0 where
+  pub gave : Grows s.ports.given s'.ports.given (of_circuit (Some circuit) came)
+  pub calls : Grows s.ports.calls s'.ports.calls (map as_call (of_circuit (Some circuit) came))
+  pub waits : TakesOut s.ports.waiting s'.ports.waiting circuit came
+  pub receives : s'.ports.receive_failures ≡ s.ports.receive_failures
+  pub no_sends : KeepsSends s.ports s'.ports
+  pub others : s'.totals ≡ record s.totals { dropped = s'.totals.dropped }
+  pub given : IsGiven s.gateway s'.gateway s.totals s'.totals (of_circuit (Some circuit) came)
 
 -- a record was acted on: the gateway and the ports went through its act, which was recorded, and the totals
 -- count it
-pub record ActsOn (ports ports' : PortsState) (gateway gateway' : Gateway) (totals totals' : Totals)
-    (tape tape' : TapeState) (r : Record) : Type 0 where
+pub record ActsOn (s s' : State) (tape tape' : TapeState) (r : Record) : Type 0 where
   pub act : Act
   pub told_is : told act ≡ r
-  pub goes : Goes ports ports' gateway gateway' totals totals' (turns_of act) (events_in act)
-  pub records : totals'.records ≡ counted totals.records 1
-  pub octets : totals'.octets ≡ counted totals.octets (length (turns_of act))
+  pub goes : Goes s s' (turns_of act) (events_in act)
+  pub records : s'.totals.records ≡ counted s.totals.records 1
+  pub octets : s'.totals.octets ≡ counted s.totals.octets (length (turns_of act))
   pub recorded : Recorded tape tape' (events_in act)
 
 -- .. and all that is put for it passes
-pub record Finishes (spells : Spells) (ports ports' : PortsState) (gateway gateway' : Gateway)
-    (totals totals' : Totals) (tape tape' : TapeState) (sink sink' : SinkState) (waiting waiting' : List ℕ)
-    (r : Record) : Type 0 where
-  pub acts : ActsOn ports ports' gateway gateway' totals totals' tape tape' r
-  pub passes : (config : GatewayConfig) (before : List Event) → Stands config gateway before
-      → Passes sink.taken sink'.taken waiting' (waiting ++ written_for spells config before acts.act)
-  pub no_failure : sink'.failures ≡ sink.failures
+pub record Finishes (spells : Spells) (w w' : World) (r : Record) : Type 0 where
+  pub acts : ActsOn w.state w'.state w.tape w'.tape r
+  pub passes : (config : GatewayConfig) (before : List Event) → Stands config w.state.gateway before
+      → Passes w.output.sink.taken w'.output.sink.taken w'.output.waiting
+      (w.output.waiting ++ written_for spells config before acts.act)
+  pub no_failure : w'.output.sink.failures ≡ w.output.sink.failures
 
 -- .. or a write failed when it was done, and a prefix of that was taken
-pub record Unwritten (spells : Spells) (ports ports' : PortsState) (gateway gateway' : Gateway)
-    (totals totals' : Totals) (tape tape' : TapeState) (sink sink' : SinkState) (waiting : List ℕ)
-    (r : Record) : Type 0 where
-  pub acts : ActsOn ports ports' gateway gateway' totals totals' tape tape' r
-  pub took : (config : GatewayConfig) (before : List Event) → Stands config gateway before
-      → AppendsPrefix sink.taken sink'.taken (waiting ++ written_for spells config before acts.act)
-  pub failed : sink.failures < sink'.failures
+pub record Unwritten (spells : Spells) (w w' : World) (r : Record) : Type 0 where
+  pub acts : ActsOn w.state w'.state w.tape w'.tape r
+  pub took : (config : GatewayConfig) (before : List Event) → Stands config w.state.gateway before
+      → AppendsPrefix w.output.sink.taken w'.output.sink.taken
+      (w.output.waiting ++ written_for spells config before acts.act)
+  pub failed : w.output.sink.failures < w'.output.sink.failures
 
 -- .. or when the first octets of a trunk record were heard
-pub record Cut (spells : Spells) (ports ports' : PortsState) (gateway gateway' : Gateway)
-    (sink sink' : SinkState) (waiting : List ℕ) (r : Record) : Type 0 where
+pub record Cut (spells : Spells) (w w' : World) (r : Record) : Type 0 where
   pub octets : List ℕ
   pub is_trunk : r ≡ Record.Trunk octets
-  pub stops : StopsAt spells ports ports' gateway gateway' sink sink' waiting octets
+  pub stops : StopsAt spells w.state w'.state w.output w'.output octets
 
 -- a record was acted on, or a write failed in it
-abbrev pub Acts : Spells → PortsState → PortsState → Gateway → Gateway → Totals → Totals → TapeState
-    → TapeState → SinkState → SinkState → List ℕ → List ℕ → Record → Result (Unit {0}) RunFault → Type 0
-Acts spells ports ports' gateway gateway' totals totals' tape tape' sink sink' waiting waiting' r result =
-    MatchResult result
-    (λ _. Finishes spells ports ports' gateway gateway' totals totals' tape tape' sink sink' waiting waiting'
-    r) (λ e. (e ≡ Write)
-    × (Unwritten spells ports ports' gateway gateway' totals totals' tape tape' sink sink' waiting r
-    ⊎ Cut spells ports ports' gateway gateway' sink sink' waiting r))
+abbrev pub Acts : Spells → World → World → Record → Result (Unit {0}) RunFault → Type 0
+Acts spells w w' r result = MatchResult result
+    (λ _. Finishes spells w w' r)
+    (λ e. (e ≡ Write) × (Unwritten spells w w' r ⊎ Cut spells w w' r))
 
--- the ports and the gateway went through the acts of records, which were recorded, and this is known of what is
--- put for all but the last, and of all that is put
-pub record Through (spells : Spells) (ports ports' : PortsState) (gateway gateway' : Gateway)
-    (tape tape' : TapeState) (Took : List ℕ → List ℕ → Type 0) (totals : Totals) (records : List Record) : Type 0
-  where
-    pub acts : List Act
-    pub recorded : Recorded tape tape' (events_through acts)
-    pub told_are : map told acts ≡ records
-    pub does : Does ports ports' gateway gateway' totals acts
-    pub took : (config : GatewayConfig) (before : List Event) → Stands config gateway before
-        → Took (written_by spells config before (but_last acts)) (written_by spells config before acts)
+-- the ports and the gateway went through the acts of records, which were recorded, and this is known of what
+-- is put for all but the last, and of all that is put
+pub record Through (spells : Spells) (s s' : State) (tape tape' : TapeState) (Took : List ℕ → List ℕ → Type 0)
+    (records : List Record) : Type 0 where
+  pub acts : List Act
+  pub told_are : map told acts ≡ records
+  pub follows : Follows s s' tape tape' acts
+  pub took : (config : GatewayConfig) (before : List Event) → Stands config s.gateway before
+      → Took (written_by spells config before (but_last acts)) (written_by spells config before acts)
 
 -- .. but for the last record, which was cut: of that, the first turns
-pub record CutThrough (late : ℕ) (spells : Spells) (ports ports' : PortsState) (gateway gateway' : Gateway)
-    (sink sink' : SinkState) (begun : List Record) : Type 0 where
+pub record CutThrough (late : ℕ) (spells : Spells) (s s' : State) (sink sink' : SinkState)
+    (begun : List Record) : Type 0 where
   pub records : List Record
   pub octets : List ℕ
   pub all : begun ≡ records ++ Record.Trunk octets ∷ []
   pub acts : List Act
   pub told_are : map told acts ≡ records
-  pub between : PortsState
-  pub standing : Gateway
-  pub totals : Totals
-  pub does : Does ports between gateway standing totals acts
+  pub between : State
+  pub goes : Goes s between (turns acts) (events_through acts)
   pub turns : List Turn
   pub rest : List ℕ
   pub split : octets ≡ map octet_of turns ++ rest
-  pub trades : Trades between ports' turns
-  pub stands : (config : GatewayConfig) (before : List Event) → Stands config gateway before
-      → Stands config gateway' (before ++ (events_through acts ++ events_of_turns turns))
-  pub took : (config : GatewayConfig) (before : List Event) → Stands config gateway before
+  pub trades : Trades between.ports s'.ports turns
+  pub stands : (config : GatewayConfig) (before : List Event) → Stands config s.gateway before
+      → Stands config s'.gateway (before ++ (events_through acts ++ events_of_turns turns))
+  pub took : (config : GatewayConfig) (before : List Event) → Stands config s.gateway before
       → AppendsBut late sink.taken sink'.taken (written_by spells config before acts)
       (written_by spells config before acts
       ++ spelled_for spells config (before ++ events_through acts) (events_of_turns turns))
@@ -284,9 +260,8 @@ pub record CutThrough (late : ℕ) (spells : Spells) (ports ports' : PortsState)
   pub some : 0 < length (spells packet)
 
 -- so much was done of records in which a write failed, when so many octets waited at most
-abbrev pub Begun : ℕ → Spells → PortsState → PortsState → Gateway → Gateway → TapeState → TapeState → SinkState
-    → SinkState → List Record → Type 0
-Begun late spells ports ports' gateway gateway' tape tape' sink sink' records =
-    ((totals : Totals) × (0 < length records)
-    × Through spells ports ports' gateway gateway' tape tape' (AppendsBut late sink.taken sink'.taken) totals
-    records) ⊎ CutThrough late spells ports ports' gateway gateway' sink sink' records
+abbrev pub Begun : ℕ → Spells → World → (Totals → World) → List Record → Type 0
+Begun late spells w end records = (totals : Totals) × (((0 < length records)
+    × Through spells w.state (end totals).state w.tape (end totals).tape
+    (AppendsBut late w.output.sink.taken (end totals).output.sink.taken) records)
+    ⊎ CutThrough late spells w.state (end totals).state w.output.sink (end totals).output.sink records)

@@ -8,9 +8,9 @@ pub mod Laws
 pub mod Answers
 pub mod Running
 pub mod Outlet
-pub mod Serve
 pub mod Tape
+pub mod World
+pub mod Serve
 pub mod Exchange
-pub mod Recording
 pub mod ServeLaws
 pub mod RecordingLaws

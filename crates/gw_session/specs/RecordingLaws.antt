@@ -1,7 +1,15 @@
 -- Laws of recordings.
 use Rattle.std.specs.Prelude.{◌≡◌, ◌==◌, ◌++◌, if◌then◌else◌, ℕ, false, List, [], ◌∷◌, Some}
+use Rattle.std.specs.Prelude.{Result, MatchResult}
 use Rattle.std.specs.List.{flat_map}
+use Rattle.std.specs.Io.KnownBytes.{Appends}
 use Rattle.gw_switch.specs.declared.GatewayConfig.{GatewayConfig}
+use Rattle.gw_switch.specs.declared.gateway.Gateway.{Gateway}
+use Rattle.gw_switch.specs.Standing.{Stands}
+use Rattle.gw_records.specs.declared.outcome.Totals.{Totals}
+use Rattle.gw_records.specs.declared.outcome.RunFault.{RunFault}
+use Rattle.gw_records.specs.Streams.{SourceState, SinkState, AppendsPrefix}
+use Rattle.gw_records.specs.Ports.{Grows, counted}
 use Rattle.gw_switch.specs.Events.{Event}
 use Rattle.gw_switch.specs.Whole.{whole_from}
 use Rattle.gw_records.specs.declared.records.Ending.{Ending}
@@ -9,9 +17,9 @@ use Rattle.gw_records.specs.declared.records.Ending.TheVariants as endings
 use Rattle.gw_records.specs.Records.{Record, Reads}
 use Rattle.gw_session.specs.Answers.{Written, written_out, answers, answered, trunk_in, datagrams_in}
 use Rattle.gw_session.specs.Answers as records_of
-use Rattle.gw_session.specs.Running.{all_kinds, replies_to}
+use Rattle.gw_session.specs.Running.{all_kinds, replies_to, RunsAll}
 use Rattle.gw_session.specs.Serve.{Act, told, events_through, events_in, events_of_turns, octets_for}
-use Rattle.gw_session.specs.Serve.{packets_for, written}
+use Rattle.gw_session.specs.Serve.{packets_for, written, LeavesOut, Around, ServesAll, ServesUntil}
 use Rattle.gw_session.specs.Tape.{TapeState, Recorded}
 
 -- What was recorded is read as records whose events are the first of those that happened; where the tape has
@@ -60,3 +68,39 @@ abbrev pub RecordingsAnswerAlike : Type 0
 RecordingsAnswerAlike = (config : GatewayConfig) (before : List Event) (acts : List Act)
     (records : List Record) → records_of.events records ≡ events_through acts
     → AnswersAs config before acts records
+
+-- A session that was recorded and a replay of what was recorded. Both gateways stand after the same events.
+-- The octets of the trunk and the answers to commands are alike in what both wrote: of the live one a prefix of
+-- its answers was taken, and all of them where no write failed. The ports took the datagrams that the replay
+-- wrote, but for as many as failed sends.
+pub record RunAlike (config : GatewayConfig) (live replayed : Gateway) (a a' : Around)
+    (again again' : SinkState) : Type 0 where
+  pub happened : List Event
+  pub stands : Stands config live happened
+  pub stands_again : Stands config replayed happened
+  pub answers : List Written
+  pub took : AppendsPrefix a.sink.taken a'.sink.taken (flat_map written_out answers)
+  pub whole : a'.sink.failures ≡ a.sink.failures
+      → Appends a.sink.taken a'.sink.taken (flat_map written_out answers)
+  pub answers_again : List Written
+  pub took_again : Appends again.taken again'.taken (flat_map written_out answers_again)
+  pub trunk : flat_map trunk_in answers_again ≡ flat_map trunk_in answers
+  pub commands : flat_map command_in answers_again ≡ flat_map command_in answers
+  pub sent : List (ℕ × List ℕ)
+  pub takes : Grows a.ports.taken a'.ports.taken sent
+  pub failed : ℕ
+  pub sends : a'.ports.send_failures ≡ counted a.ports.send_failures failed
+  pub datagrams : LeavesOut failed sent (flat_map datagrams_in answers_again)
+
+-- A session was served and recorded on a tape that was begun empty and has not ended; the octets that the
+-- tape took were all that a session without ports was given, whose gateway stood as the other one did before.
+abbrev pub RecordedSessionsRunAlike : Type 0
+RecordedSessionsRunAlike = (a a' : Around) (gateway live : Gateway) (end : Result Totals RunFault)
+    (from from' : SourceState) (again again' : SinkState) (other replayed : Gateway) (totals : Totals)
+    (octets : List ℕ) (config : GatewayConfig) (before : List Event)
+    → MatchResult end (ServesAll a a' gateway live) (ServesUntil a a' gateway live)
+    → a.tape.taken ≡ Some [] → a'.tape.taken ≡ Some octets → a'.tape.ended ≡ false
+    → RunsAll other replayed from from' again again' totals
+    → from.given ≡ Some [] → from'.given ≡ Some octets
+    → Stands config gateway before → Stands config other before
+    → RunAlike config live replayed a a' again again'

@@ -18,9 +18,13 @@ pub record TapeState : Type 0 where
   pub failures : ℕ
   pub taken : Option (List ℕ)
 
+-- a tape that takes nothing
+abbrev pub no_tape : TapeState
+no_tape = record { ended = true; failures = 0; taken = None }
+
 -- what a tape tells, or one that takes nothing
 abbrev pub tells_of : {T : Type 0} → (T → TapeState) → Option T → TapeState
-tells_of tells None = record { ended = true; failures = 0; taken = None }
+tells_of tells None = no_tape
 tells_of tells (Some tape) = tells tape
 
 -- a datagram among events is longer than a record can say

@@ -96,6 +96,7 @@ impl Session {
     ghost use Rattle.gw_session.specs.Answers.Written.{Answered};
     ghost use Rattle.gw_session.specs.Running.{all_kinds};
     ghost use Rattle.gw_session.specs.Exchange.{Acts, most_waiting};
+    ghost use Rattle.gw_session.specs.World.{world_of};
 
     // Hears the octets of a trunk record, and puts the record that answers it.
     fn act_on_trunk<O: Outlet, K: Sink, T: Tape>(
@@ -109,10 +110,12 @@ impl Session {
         requires short { length body.now < 2 ^ 16 }
         requires room { O.place ≤ vec_len self.old.room }
         requires writes { CanCount (K.tells sink.old).failures }
-        ensures acts { Acts O.spells (O.tells outlet.old) (O.tells outlet.new) gateway.old gateway.new
-            self.old.totals self.new.totals (T.tells tape.old) (T.tells tape.new)
-            (K.tells sink.old) (K.tells sink.new)
-            self.old.waiting.items self.new.waiting.items (Record.Trunk body.now) result }
+        ensures acts { Acts O.spells
+            (world_of (O.tells outlet.old) gateway.old self.old.totals (T.tells tape.old)
+            (K.tells sink.old) self.old.waiting.items)
+            (world_of (O.tells outlet.new) gateway.new self.new.totals (T.tells tape.new)
+            (K.tells sink.new) self.new.waiting.items)
+            (Record.Trunk body.now) result }
         ensures few { OnOk result (length self.new.waiting.items ≤ most_waiting self.old.at_once) }
         ensures at_once { self.new.at_once ≡ self.old.at_once }
         ensures room { vec_len self.new.room ≡ vec_len self.old.room }
@@ -165,10 +168,12 @@ impl Session {
         requires good { IsGood all_kinds (named head body.now) }
         requires room { O.place ≤ vec_len self.old.room }
         requires writes { CanCount (K.tells sink.old).failures }
-        ensures acts { Acts O.spells (O.tells outlet.old) (O.tells outlet.new) gateway.old gateway.new
-            self.old.totals self.new.totals (T.tells tape.old) (T.tells tape.new)
-            (K.tells sink.old) (K.tells sink.new)
-            self.old.waiting.items self.new.waiting.items (named head body.now) result }
+        ensures acts { Acts O.spells
+            (world_of (O.tells outlet.old) gateway.old self.old.totals (T.tells tape.old)
+            (K.tells sink.old) self.old.waiting.items)
+            (world_of (O.tells outlet.new) gateway.new self.new.totals (T.tells tape.new)
+            (K.tells sink.new) self.new.waiting.items)
+            (named head body.now) result }
         ensures few { OnOk result (length self.new.waiting.items ≤ most_waiting self.old.at_once) }
         ensures at_once { self.new.at_once ≡ self.old.at_once }
         ensures room { vec_len self.new.room ≡ vec_len self.old.room }

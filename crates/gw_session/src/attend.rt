@@ -5,6 +5,7 @@ ghost use Rattle.gw_records.specs.Streams.{CanBegin};
 ghost use Rattle.gw_records.specs.Reader.{held};
 ghost use Rattle.gw_records.specs.Outcome.{nothing_counted, EndsAll, EndsUntil};
 ghost use Rattle.gw_session.specs.Exchange.{Through, Begun, most_waiting};
+ghost use Rattle.gw_session.specs.World.{state_of, world_of};
 
 use crate::exchange::Session;
 use crate::outlet::Outlet;
@@ -35,16 +36,17 @@ pub fn attend<O: Outlet, S: Source, K: Sink, T: Tape>(
     requires room { O.place ≤ vec_len session.old.room }
     ensures ok { IfOk result (EndsAll kinds.now
         (S.tells source.old) (S.tells source.new) (K.tells sink.old) (K.tells sink.new)
-        (Through O.spells (O.tells outlet.old) (O.tells outlet.new) gateway.old gateway.new
-        (T.tells tape.old) (T.tells tape.new)
+        (λ totals. Through O.spells (state_of (O.tells outlet.old) gateway.old nothing_counted)
+        (state_of (O.tells outlet.new) gateway.new totals) (T.tells tape.old) (T.tells tape.new)
         (λ first. Appends (K.tells sink.old).taken (K.tells sink.new).taken))) }
     ensures fault { IfErr result (EndsUntil kinds.now
         (S.tells source.old) (S.tells source.new) (K.tells sink.old) (K.tells sink.new)
-        (Through O.spells (O.tells outlet.old) (O.tells outlet.new) gateway.old gateway.new
-        (T.tells tape.old) (T.tells tape.new)
+        (λ totals. Through O.spells (state_of (O.tells outlet.old) gateway.old nothing_counted)
+        (state_of (O.tells outlet.new) gateway.new totals) (T.tells tape.old) (T.tells tape.new)
         (λ first. Appends (K.tells sink.old).taken (K.tells sink.new).taken))
-        (Begun (most_waiting session.old.at_once) O.spells (O.tells outlet.old) (O.tells outlet.new) gateway.old gateway.new
-        (T.tells tape.old) (T.tells tape.new) (K.tells sink.old) (K.tells sink.new)) ⊥) }
+        (Begun (most_waiting session.old.at_once) O.spells
+        (world_of (O.tells outlet.old) gateway.old nothing_counted (T.tells tape.old) (K.tells sink.old) [])
+        (λ totals. world_of (O.tells outlet.new) gateway.new totals (T.tells tape.new) (K.tells sink.new) []))) }
 {
     'attending: loop {
         match first_record(kinds, reader.held()) {

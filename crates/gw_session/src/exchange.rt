@@ -52,6 +52,7 @@ impl Session {
     ghost use Rattle.gw_records.specs.Outcome.{nothing_counted};
     ghost use Rattle.gw_records.specs.Streams.{CanCount, Puts};
     ghost use Rattle.gw_session.specs.Exchange.{ComesInTurn, SendsPacket, Hearing, ExchangingAll};
+    ghost use Rattle.gw_session.specs.World.{state_of, output_of, world_of};
 
     /// Before the first record; a session that answers `at_once` lets nothing wait behind a record.
     pub fn new(room: Vec<u8>, at_once: bool) -> Session
@@ -107,9 +108,11 @@ impl Session {
         sink: &mut K,
     ) -> Result<u8, RunFault>
         requires writes { CanCount (K.tells sink.old).failures }
-        ensures hears { Hearing O.spells (O.tells outlet.old) (O.tells outlet.new) gateway.old gateway.new
-            self.old.totals self.new.totals (K.tells sink.old) (K.tells sink.new)
-            self.old.waiting.items self.new.waiting.items octet result }
+        ensures hears { Hearing O.spells
+            (state_of (O.tells outlet.old) gateway.old self.old.totals)
+            (state_of (O.tells outlet.new) gateway.new self.new.totals)
+            (output_of (K.tells sink.old) self.old.waiting.items)
+            (output_of (K.tells sink.new) self.new.waiting.items) octet result }
         ensures others { self.new ≡ record self.old {
           totals = self.new.totals;
           waiting = self.new.waiting;
@@ -136,9 +139,10 @@ impl Session {
         requires room { O.place ≤ vec_len self.old.room }
         requires short { length heard.now < 2 ^ 16 }
         requires within { self.old.recorded ≤ length heard.now }
-        ensures comes { ComesInTurn (O.tells outlet.old) (O.tells outlet.new) gateway.old gateway.new
-            self.old.totals self.new.totals (T.tells tape.old) (T.tells tape.new)
-            heard.now self.old.recorded self.new.recorded }
+        ensures comes { ComesInTurn
+            (state_of (O.tells outlet.old) gateway.old self.old.totals)
+            (state_of (O.tells outlet.new) gateway.new self.new.totals)
+            (T.tells tape.old) (T.tells tape.new) heard.now self.old.recorded self.new.recorded }
         ensures room { vec_len self.new.room ≡ vec_len self.old.room }
         ensures others { self.new ≡ record self.old {
           totals = self.new.totals;
@@ -180,10 +184,12 @@ impl Session {
         requires short { length octets.now < 2 ^ 16 }
         requires room { O.place ≤ vec_len self.old.room }
         requires writes { CanCount (K.tells sink.old).failures }
-        ensures exchanges { ExchangingAll O.spells (O.tells outlet.old) (O.tells outlet.new)
-            gateway.old gateway.new self.old.totals self.new.totals (K.tells sink.old) (K.tells sink.new)
-            self.old.waiting.items self.new.waiting.items octets.now
-            self.old.answer.items self.new.answer.items (T.tells tape.old) (T.tells tape.new) result }
+        ensures exchanges { ExchangingAll O.spells
+            (world_of (O.tells outlet.old) gateway.old self.old.totals (T.tells tape.old)
+            (K.tells sink.old) self.old.waiting.items)
+            (world_of (O.tells outlet.new) gateway.new self.new.totals (T.tells tape.new)
+            (K.tells sink.new) self.new.waiting.items)
+            octets.now self.old.answer.items self.new.answer.items result }
         ensures at_once { self.new.at_once ≡ self.old.at_once }
         ensures room { vec_len self.new.room ≡ vec_len self.old.room }
     {

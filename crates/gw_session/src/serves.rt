@@ -1,8 +1,8 @@
 //! Sessions of a gateway whose datagrams come and go through ports.
 ghost use Rattle.std.specs.Prelude.{IfOk, IfErr};
 ghost use Rattle.gw_records.specs.Streams.{CanBegin};
-ghost use Rattle.gw_session.specs.Serve.{ServesAll, ServesUntil};
-ghost use Rattle.gw_session.specs.Recording.{RecordsAll, RecordsUntil};
+ghost use Rattle.gw_session.specs.Tape.{no_tape};
+ghost use Rattle.gw_session.specs.Serve.{ServesAll, ServesUntil, around};
 
 use crate::attend::attend;
 use crate::exchange::Session;
@@ -54,10 +54,14 @@ pub fn serve<S: Source, P: Ports, K: Sink>(
     sink: &mut K,
 ) -> Result<Totals, RunFault>
     requires { CanBegin (S.tells source.old) (K.tells sink.old) }
-    ensures ok { IfOk result (ServesAll (S.tells source.old) (S.tells source.new) (K.tells sink.old)
-        (K.tells sink.new) (P.tells ports.old) (P.tells ports.new) gateway.old gateway.new) }
-    ensures fault { IfErr result (ServesUntil (S.tells source.old) (S.tells source.new) (K.tells sink.old)
-        (K.tells sink.new) (P.tells ports.old) (P.tells ports.new) gateway.old gateway.new) }
+    ensures ok { IfOk result (ServesAll
+        (around (S.tells source.old) (K.tells sink.old) (P.tells ports.old) no_tape)
+        (around (S.tells source.new) (K.tells sink.new) (P.tells ports.new) no_tape)
+        gateway.old gateway.new) }
+    ensures fault { IfErr result (ServesUntil
+        (around (S.tells source.old) (K.tells sink.old) (P.tells ports.old) no_tape)
+        (around (S.tells source.new) (K.tells sink.new) (P.tells ports.new) no_tape)
+        gateway.old gateway.new) }
 {
     serve_recorded(alloc, gateway, ports, source, sink, &mut NoTape)
 }
@@ -78,12 +82,14 @@ pub fn serve_recorded<S: Source, P: Ports, K: Sink, T: Tape>(
     tape: &mut T,
 ) -> Result<Totals, RunFault>
     requires { CanBegin (S.tells source.old) (K.tells sink.old) }
-    ensures ok { IfOk result (RecordsAll (S.tells source.old) (S.tells source.new) (K.tells sink.old)
-        (K.tells sink.new) (P.tells ports.old) (P.tells ports.new) gateway.old gateway.new
-        (T.tells tape.old) (T.tells tape.new)) }
-    ensures fault { IfErr result (RecordsUntil (S.tells source.old) (S.tells source.new) (K.tells sink.old)
-        (K.tells sink.new) (P.tells ports.old) (P.tells ports.new) gateway.old gateway.new
-        (T.tells tape.old) (T.tells tape.new)) }
+    ensures ok { IfOk result (ServesAll
+        (around (S.tells source.old) (K.tells sink.old) (P.tells ports.old) (T.tells tape.old))
+        (around (S.tells source.new) (K.tells sink.new) (P.tells ports.new) (T.tells tape.new))
+        gateway.old gateway.new) }
+    ensures fault { IfErr result (ServesUntil
+        (around (S.tells source.old) (K.tells sink.old) (P.tells ports.old) (T.tells tape.old))
+        (around (S.tells source.new) (K.tells sink.new) (P.tells ports.new) (T.tells tape.new))
+        gateway.old gateway.new) }
 {
     let Ok(mut reader) = Reader::new(alloc) else {
         return Err(RunFault::OutOfMemory);

@@ -4,7 +4,7 @@ ghost use Rattle.gw_switch.specs.Events.{Event};
 ghost use Rattle.gw_records.specs.Records.{IsGood, named};
 ghost use Rattle.gw_session.specs.Answers.{events_of};
 ghost use Rattle.gw_session.specs.Running.{all_kinds};
-ghost use Rattle.gw_session.specs.Tape.{TapeState, tells_of, Recorded, HasEnded, kind_and_circuit};
+ghost use Rattle.gw_session.specs.Tape.{TapeState, no_tape, tells_of, Recorded, HasEnded, kind_and_circuit};
 
 use g704_cas::CircuitNo;
 use gw_records::{CODEC, COMMAND, DATAGRAM, Head, TRUNK};
@@ -34,7 +34,7 @@ pub trait Tape {
 pub struct NoTape;
 
 impl Tape for NoTape {
-    ghost tells = { λ _. record { ended = true; failures = 0; taken = None } };
+    ghost tells = { λ _. no_tape };
 
     fn put(&mut self, _head: Head, _body: &[u8]) {}
 

@@ -15,7 +15,7 @@ use Rattle.gw_records.specs.declared.outcome.RunFault.TheVariants as faults
 use Rattle.gw_records.specs.declared.records.Kinds.{Kinds}
 use Rattle.gw_records.specs.Records.{Record}
 use Rattle.gw_records.specs.Streams.{SourceState, SinkState, AppendsPrefix, at_most}
-use Rattle.gw_records.specs.Outcome.{nothing_counted, EndsAll, EndsUntil}
+use Rattle.gw_records.specs.Outcome.{nothing_counted, EndsAll, EndsUntil, OrNoMemory}
 use Rattle.gw_speech.specs.Encode.{word_bits}
 
 -- a codec of the stream that has decoded these words since its reset, and encoded nothing
@@ -86,6 +86,6 @@ DecodesAll s source source' sink sink' =
 abbrev pub DecodesUntil : StreamSpec → SourceState → SourceState → SinkState → SinkState → RunFault → Type 0
 DecodesUntil s source source' sink sink' faults.BadCommand = ⊥
 DecodesUntil s source source' sink sink' fault =
-    EndsUntil only_datagrams source source' sink sink' (DecodesThrough s sink sink')
-    (λ records. AppendsPrefix sink.taken sink'.taken (speech_in s records))
-    ((source' ≡ source) × (sink' ≡ sink)) fault
+    OrNoMemory ((source' ≡ source) × (sink' ≡ sink))
+    (EndsUntil only_datagrams source source' sink sink' (DecodesThrough s sink sink')
+    (λ records. AppendsPrefix sink.taken sink'.taken (speech_in s records))) fault

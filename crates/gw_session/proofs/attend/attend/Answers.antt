@@ -1,4 +1,4 @@
-use Rattle.std.proofs.Common.{◌++◌, [], ◌∷◌, length, ap, ◌∙◌, refl, length-append, arith}
+use Rattle.std.proofs.Common.{inl, ◌++◌, [], ◌∷◌, length, ap, ◌∙◌, refl, length-append, arith}
 use Rattle.gw_records.specs.declared.outcome.RunFault.TheVariants as faults
 use Rattle.gw_records.specs.Records.{record_at}
 use Rattle.gw_records.specs.Reader.{held}
@@ -14,7 +14,7 @@ attending-init g c = (
   [],
   record {
     stage = starts _ _ _ c.requires.holds c.requires.turns;
-    through = through_none c.requires.waiting c.requires.totals;
+    through = rw c.requires.totals (through_none c.requires.waiting);
     none_waits = λ none. ap length c.requires.waiting;
     few = omega (arith, ap length c.requires.waiting);
     at_once = refl;
@@ -37,7 +37,8 @@ returns-in_err-act-in-Ok-clause-fault g c =
     let q = rw (record_is f (held c.attending.reader) _ found.more c.held-in-Ok.ensures) at
     c.in_err-act-in-Ok.ensures.acts in
     let stopped = act_failed _ w.2.few w.2.through q.1 in
-    goes_up _ _ faults.Write c.from_residual.ensures.1 q.0 (stops_in f w.2.stage found stopped.0 stopped.1)
+    goes_up _ _ faults.Write c.from_residual.ensures.1 q.0 (stops_in f w.2.stage found stopped.0
+    (_, stopped.1))
 
 pub attending-preserved-in-Ok : goal.attending-preserved-in-Ok
 attending-preserved-in-Ok g c =
@@ -64,8 +65,11 @@ returns-in_err-flush-in-Err-clause-fault g c =
     let w = c.attending.invariant in
     let fault = c.in_err-flush-in-Err.ensures.writes in
     goes_up _ _ faults.Write c.from_residual-in_err-flush-in-Err.ensures.1 fault.0 (stops_behind w.2.stage
-    fault.1.counted (waiting_failed _ w.2.few w.2.through
-    (some_records _ _ w.2.none_waits c.in_err-flush-in-Err.ensures.some) fault.1))
+    fault.1.counted (
+      _,
+      inl (waiting_failed _ w.2.few w.2.through
+          (some_records _ _ w.2.none_waits c.in_err-flush-in-Err.ensures.some) fault.1),
+    ))
 
 pub attending-preserved : goal.attending-preserved
 attending-preserved g c =
@@ -91,8 +95,8 @@ returns-then-not-branch g c =
     let e = ended c.attending.session.totals w.2.stage r c.held.ensures c.in-Err.ensures.end
     c.in_ok-flush-in-Err.ensures.writes.1 (through_all _ w.2.through c.in_ok-flush-in-Err.ensures.writes.0) in
     record {
-      ok = (ends_so (λ records. Unit {0}) ⊥ _ _ _ e.0 r.ended e.1 c.answer.ensures).0;
-      fault = (ends_so _ _ _ _ _ e.0 r.ended e.1 c.answer.ensures).1;
+      ok = (ends_so (λ records. Unit {0}) _ _ _ e.0 r.ended e.1 c.answer.ensures).0;
+      fault = (ends_so _ _ _ _ e.0 r.ended e.1 c.answer.ensures).1;
     }
 
 pub returns-in_err-read_on-in-Err-clause-fault : goal.returns-in_err-read_on-in-Err-clause-fault

@@ -5,16 +5,20 @@ use Rattle.gw_records.specs.Records.{Record}
 use Rattle.gw_records.specs.Streams.{Passes}
 use Rattle.gw_records.proofs.Sessions.{Stage}
 use Rattle.gw_session.specs.Exchange.{Through, most_waiting}
+use Rattle.gw_records.specs.Outcome.{nothing_counted}
+use Rattle.gw_session.specs.World.{state_of}
 use Rattle.gw_session.proofs.attend.attend.Given as goal
 
 abbrev pub invariant-attending : goal.invariant-attending
 invariant-attending g l = (octets : List ℕ) × (records : List Record) × record {
   stage : Stage l.kinds (g.S.Source.tells l.initial.source) (g.S.Source.tells l.source)
       (g.K.Sink.tells l.initial.sink) (g.K.Sink.tells l.sink) l.reader octets records;
-  through : Through g.O.Outlet.spells (g.O.Outlet.tells l.initial.outlet) (g.O.Outlet.tells l.outlet)
-      l.initial.gateway l.gateway (g.T.Tape.tells l.initial.tape) (g.T.Tape.tells l.tape)
-      (λ first xs. Passes (g.K.Sink.tells l.initial.sink).taken (g.K.Sink.tells l.sink).taken l.session.waiting.items xs)
-      l.session.totals records;
+  through : Through g.O.Outlet.spells
+      (state_of (g.O.Outlet.tells l.initial.outlet) l.initial.gateway nothing_counted)
+      (state_of (g.O.Outlet.tells l.outlet) l.gateway l.session.totals)
+      (g.T.Tape.tells l.initial.tape) (g.T.Tape.tells l.tape)
+      (λ first xs. Passes (g.K.Sink.tells l.initial.sink).taken (g.K.Sink.tells l.sink).taken
+      l.session.waiting.items xs) records;
   none_waits : length records ≡ 0 → length l.session.waiting.items ≡ 0;
   few : length l.session.waiting.items ≤ most_waiting l.initial.session.at_once;
   at_once : l.session.at_once ≡ l.initial.session.at_once;

@@ -17,7 +17,7 @@ returns-in-Datagram-clause-acts g c =
     let code = c.give-code.ensures.code in
     let takes : Takes c.args.gateway.now c.give-code.new.gateway (Event.Datagram circuit body) c.give-code.result =
     λ config before h. ((given config before h).0, code config before h) in
-    rw c.in-Datagram.is (one_acts (Act.Datagram circuit body) _ c.give-code.new.totals _ _ _ _ _ _ _ _ _
+    rw c.in-Datagram.is (one_acts (Act.Datagram circuit body) _ c.give-code.new.totals _ _ _ _ _ _
     c.put_answer.result refl refl (λ config before. refl) (λ config before. refl) (λ config before. refl) takes
     c.record-recorded.ensures.on_tape c.give-code.ensures.others c.put_answer.ensures.counts (λ config before h. (given config before h).1)
     c.put_answer.ensures.puts c.record-recorded.ensures.recorded)
@@ -27,7 +27,7 @@ unfolding answer_to given_by dropped_for kind_and_circuit
 returns-in-Command-clause-acts g c =
     let command = c.in-Command.command in
     rw c.in-Command.is (one_acts (Act.Command c.in-Command.circuit (octet_of_command command)) _
-    c.args.self.now.totals _ _ _ _ _ _ _ _ _ c.put_answer-in-Command.result refl refl (λ config before. refl)
+    c.args.self.now.totals _ _ _ _ _ _ c.put_answer-in-Command.result refl refl (λ config before. refl)
     (λ config before. refl) (λ config before. refl) (rw (← command_again command) at c.give_command-code.ensures)
     c.record-recorded-in-Command.ensures.on_tape refl
     c.put_answer-in-Command.ensures.counts (λ config before h. refl)
@@ -38,7 +38,7 @@ unfolding answer_to given_by dropped_for kind_and_circuit
 returns-in-Codec-clause-acts g c =
     let codec = c.in-Codec.codec in
     rw c.in-Codec.is (one_acts (Act.Codec c.in-Codec.circuit (octet_of_codec codec) c.in-Codec.payload_type) _
-    c.args.self.now.totals _ _ _ _ _ _ _ _ _ c.put_answer-in-Codec.result refl refl (λ config before. refl)
+    c.args.self.now.totals _ _ _ _ _ _ c.put_answer-in-Codec.result refl refl (λ config before. refl)
     (λ config before. refl) (λ config before. refl) (rw (← codec_again codec) at c.give_codec-code.ensures)
     c.record-recorded-in-Codec.ensures.on_tape refl
     c.put_answer-in-Codec.ensures.counts (λ config before h. refl)

@@ -15,7 +15,7 @@ split_at xs i h =
     sym (take-append-drop (i + 1) xs) ∙ ap (λ (ys : List ℕ). ys ++ drop (i + 1) xs) (take_more xs i 0 h)
 
 pub loop-i-init : goal.loop-i-init
-loop-i-init g c = record { heard = heard_none _ _ _ _ _ _ _ _ _; at_once = refl; room = refl }
+loop-i-init g c = record { heard = heard_none _ _ _ _; at_once = refl; room = refl }
 
 pub push-requires : goal.push-requires
 push-requires g c =

@@ -1,15 +1,17 @@
 use Rattle.std.proofs.Common.{◌≡◌}
 use Rattle.std.specs.Prelude.{vec_len}
+use Rattle.gw_session.specs.World.{world_of}
 use Rattle.gw_session.proofs.Exchanging.{HeardSo}
 use Rattle.gw_session.proofs.exchange.Session.exchange_all.Given as goal
 
 abbrev pub invariant-loop-i : goal.invariant-loop-i
 invariant-loop-i g l = record {
-  heard : HeardSo g.O.Outlet.spells (g.O.Outlet.tells l.initial.outlet) (g.O.Outlet.tells l.outlet)
-      l.initial.gateway l.gateway l.initial.self.totals l.self.totals
-      (g.K.Sink.tells l.initial.sink) (g.K.Sink.tells l.sink) l.initial.self.waiting.items l.self.waiting.items
-      l.octets l.i l.self.recorded l.initial.self.answer.items l.self.answer.items
-      (g.T.Tape.tells l.initial.tape) (g.T.Tape.tells l.tape);
+  heard : HeardSo g.O.Outlet.spells
+      (world_of (g.O.Outlet.tells l.initial.outlet) l.initial.gateway l.initial.self.totals
+      (g.T.Tape.tells l.initial.tape) (g.K.Sink.tells l.initial.sink) l.initial.self.waiting.items)
+      (world_of (g.O.Outlet.tells l.outlet) l.gateway l.self.totals
+      (g.T.Tape.tells l.tape) (g.K.Sink.tells l.sink) l.self.waiting.items)
+      l.octets l.i l.self.recorded l.initial.self.answer.items l.self.answer.items;
   at_once : l.self.at_once ≡ l.initial.self.at_once;
   room : vec_len l.self.room ≡ vec_len l.initial.self.room;
 }

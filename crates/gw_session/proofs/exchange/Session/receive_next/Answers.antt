@@ -10,11 +10,11 @@ use Rattle.gw_session.proofs.exchange.Session.receive_next.Goals as goal
 
 pub returns-in_default-clause-comes : goal.returns-in_default-clause-comes
 returns-in_default-clause-comes g c =
-    comes_nothing _ _ _ (behind_none _ _ _ c.requires.within) c.in_default.ensures
+    comes_nothing _ (behind_none _ _ _ c.requires.within) c.in_default.ensures
 
 pub receiving-init : goal.receiving-init
 receiving-init g c = record {
-  receiving = ([], refl, receiving_none _ _ _ _ (behind_none _ _ _ c.requires.within));
+  receiving = ([], refl, receiving_none _ _, behind_none _ _ _ c.requires.within);
   room = refl;
   others = refl;
 }
@@ -42,7 +42,8 @@ receiving-preserved g c =
         w.0 ++ take n items ∷ [],
         omega (arith, w.1, length-append w.0 (take n items ∷ [])),
         receiving_more _ (take n items) w.2 r.0 r.1 r.2 c.in-Ok-Some.ensures.counts c.arrives.ensures.sends_stay given
-            c.give.ensures.others (behind_more _ _ _ _ _ _ _ _ _ w.0 _ w.2.records fresh refl said),
+            c.give.ensures.others,
+        behind_more _ _ _ _ _ _ _ _ _ w.0 _ w.3 fresh refl said,
       );
       room = c.receiving.invariant.room;
       others = search rules;
@@ -53,7 +54,7 @@ returns-in-Ok-None-clause-comes g c =
     let w = c.receiving.invariant.receiving in
     let few : length w.0 < 4 = omega (arith, w.1, c.receiving-test.true) in
     let r = rw c.in-Ok-None.field-0-is at c.in-Ok-None.ensures.receives in
-    comes_so _ 0 w.2 c.in-Some.is c.next_slot.ensures (omega (arith, few)) Stop.NoneLeft few r.0 r.3
+    comes_so _ _ 0 w.2 w.3 c.in-Some.is c.next_slot.ensures (omega (arith, few)) Stop.NoneLeft few r.0 r.3
     c.in-Ok-None.ensures.counts c.arrives.ensures.sends_stay refl (λ none. (r.1, inr r.2))
 
 pub returns-in-Err-clause-comes : goal.returns-in-Err-clause-comes
@@ -61,7 +62,7 @@ returns-in-Err-clause-comes g c =
     let w = c.receiving.invariant.receiving in
     let few : length w.0 < 4 = omega (arith, w.1, c.receiving-test.true) in
     let r = c.in-Err.ensures.receives in
-    comes_so _ 1 w.2 c.in-Some.is c.next_slot.ensures (omega (arith, few)) Stop.Failure few r.0 r.1
+    comes_so _ _ 1 w.2 w.3 c.in-Some.is c.next_slot.ensures (omega (arith, few)) Stop.Failure few r.0 r.1
     c.in-Err.ensures.counts c.arrives.ensures.sends_stay c.saturating_add-self.ensures
     (λ none. absurd (omega (arith, none)))
 
@@ -69,5 +70,5 @@ pub returns-clause-comes : goal.returns-clause-comes
 returns-clause-comes g c =
     let w = c.receiving.invariant.receiving in
     let four : length w.0 ≡ 4 = omega (arith, w.1, c.receiving-test.false) in
-    comes_so _ 0 w.2 c.in-Some.is c.next_slot.ensures (omega (arith, w.1)) Stop.Enough four refl (Grows-none _) refl
-    (refl, refl) refl (λ none. (refl, inl four))
+    comes_so _ _ 0 w.2 w.3 c.in-Some.is c.next_slot.ensures (omega (arith, w.1)) Stop.Enough four refl
+    (Grows-none _) refl (refl, refl) refl (λ none. (refl, inl four))

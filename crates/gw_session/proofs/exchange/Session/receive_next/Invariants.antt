@@ -1,14 +1,17 @@
-use Rattle.std.proofs.Common.{◌≡◌, ℕ, List, length}
+use Rattle.std.proofs.Common.{◌≡◌, ℕ, List, length, Some}
 use Rattle.std.specs.Prelude.{vec_len}
-use Rattle.gw_session.specs.Exchange.{Receiving}
+use Rattle.gw_session.specs.Serve.{of_circuit, coming}
+use Rattle.gw_session.specs.Exchange.{Receiving, RecordsBehind}
+use Rattle.gw_session.specs.World.{state_of}
 use Rattle.gw_session.proofs.exchange.Session.receive_next.Given as goal
 
 abbrev pub invariant-receiving : goal.invariant-receiving
 invariant-receiving g l = record {
   receiving : (came : List (List ℕ)) × (length came ≡ l._turn)
-      × Receiving (g.O.Outlet.tells l.initial.outlet) (g.O.Outlet.tells l.outlet) l.initial.gateway l.gateway
-      l.initial.self.totals l.self.totals l.circuit came (g.T.Tape.tells l.initial.tape) (g.T.Tape.tells l.tape)
-      l.heard l.initial.self.recorded l.self.recorded;
+      × Receiving (state_of (g.O.Outlet.tells l.initial.outlet) l.initial.gateway l.initial.self.totals)
+      (state_of (g.O.Outlet.tells l.outlet) l.gateway l.self.totals) l.circuit came
+      × RecordsBehind (g.T.Tape.tells l.initial.tape) (g.T.Tape.tells l.tape) l.heard l.initial.self.recorded
+      l.self.recorded (coming (of_circuit (Some l.circuit) came));
   room : vec_len l.self.room ≡ vec_len l.initial.self.room;
   others : l.self ≡ record l.initial.self {
     totals = l.self.totals;

@@ -1,0 +1,58 @@
+-- What a command does on its streams, and what is told of its end (module `performing`).
+use Rattle.std.specs.Prelude.{◌≡◌, false, [], Option, Some, None, Result, Ok, Err}
+use Rattle.gw_config.specs.declared.config.Config.{Config}
+use Rattle.gw_records.specs.declared.outcome.Totals.{Totals}
+use Rattle.gw_records.specs.declared.outcome.RunFault.{RunFault}
+use Rattle.gw_records.specs.Streams.{SourceState, SinkState}
+use Rattle.gw_session.specs.Tape.{TapeState, no_tape}
+use Rattle.gw_command.specs.declared.command.Session.{Session}
+use Rattle.gw_command.specs.declared.command.Session.TheVariants.{Replay, Check, Serve}
+use Rattle.gw_program.specs.declared.trouble.Trouble.{Trouble}
+use Rattle.gw_program.specs.declared.trouble.Trouble.TheVariants as troubles
+
+-- what is told of how a job or a session ended
+abbrev pub told_as : Result Totals RunFault → Result Totals Trouble
+told_as (Ok totals) = Ok totals
+told_as (Err fault) = Err (troubles.Session fault)
+
+-- a job or a session ended so, and this is told
+pub record Ended (ends : Result Totals RunFault → Type 0) (told : Result Totals Trouble) : Type 0 where
+  pub end : Result Totals RunFault
+  pub done : ends end
+  pub told_is : told ≡ told_as end
+
+-- a trouble is told, and nothing was read or written
+pub record NotBegun (source source' : SourceState) (sink sink' : SinkState) (told : Result Totals Trouble)
+    : Type 0 where
+  pub trouble : Trouble
+  pub told_is : told ≡ Err trouble
+  pub unread : source' ≡ source
+  pub unwritten : sink' ≡ sink
+
+-- this was done with ports that were opened so and a tape that was begun so
+pub record HasServed {P T : Type 0} (Opens : P → Type 0) (Begins : T → Type 0)
+    (served : P → P → T → T → Type 0) : Type 0 where
+  pub ports : P
+  pub ports' : P
+  pub tape : T
+  pub tape' : T
+  pub opened : Opens ports
+  pub begun : Begins tape
+  pub done : served ports ports' tape tape'
+
+-- what a session does, by its name
+abbrev pub by_session : Session → Type 0 → Type 0 → Type 0 → Type 0
+by_session Replay replays checks serves = replays
+by_session Check replays checks serves = checks
+by_session Serve replays checks serves = serves
+
+-- this was done by a configuration that was read so
+pub record HasConfig (Reads : Config → Type 0) (does : Config → Type 0) : Type 0 where
+  pub config : Config
+  pub read : Reads config
+  pub done : does config
+
+-- a recording that is asked for is begun, and has taken nothing; where none is asked for nothing is recorded
+abbrev pub IsBegun : {X : Type 0} → Option X → TapeState → Type 0
+IsBegun None tape = tape ≡ no_tape
+IsBegun (Some asked) tape = tape ≡ record { ended = false; failures = 0; taken = Some [] }

@@ -1,0 +1,27 @@
+//! Filters of a trunk: `align` and `crc4`.
+
+ghost use Rattle.std.specs.Prelude.{IfOk, IfErr};
+ghost use Rattle.gw_records.specs.Streams.{CanBegin};
+ghost use Rattle.gw_program.specs.Filters.{DoesFilter, DoesFilterUntil};
+
+use gw_command::Filter;
+use gw_filter::{align_stream, crc4_stream};
+use gw_session::{RunFault, Sink, Source, Totals};
+
+/// Runs a filter from a source to a sink.
+pub fn do_filter<S: Source, K: Sink>(
+    filter: Filter,
+    source: &mut S,
+    sink: &mut K,
+) -> Result<Totals, RunFault>
+    requires { CanBegin (S.tells source.old) (K.tells sink.old) }
+    ensures ok { IfOk result (DoesFilter filter
+        (S.tells source.old) (S.tells source.new) (K.tells sink.old) (K.tells sink.new)) }
+    ensures fault { IfErr result (DoesFilterUntil filter
+        (S.tells source.old) (S.tells source.new) (K.tells sink.old) (K.tells sink.new)) }
+{
+    match filter {
+        Filter::Align => align_stream(source, sink),
+        Filter::Crc4 => crc4_stream(source, sink),
+    }
+}

@@ -1,0 +1,146 @@
+-- A session that was recorded and a run over what was recorded are alike.
+use Rattle.std.proofs.Common.{◌≡◌, ◌<◌, ℕ, List, [], ◌++◌, refl, sym, ◌∙◌, append-nil, arith}
+use Rattle.std.specs.Prelude.{Option, Result, Ok, Err, MatchResult}
+use Rattle.std.specs.Io.KnownBytes.{Appends}
+use Rattle.std.proofs.KnownBytes.{Appends-nil}
+use Rattle.gw_switch.specs.declared.GatewayConfig.{GatewayConfig}
+use Rattle.gw_switch.specs.declared.gateway.Gateway.{Gateway}
+use Rattle.gw_switch.specs.Events.{Event}
+use Rattle.gw_switch.specs.Standing.{Stands}
+use Rattle.gw_records.specs.declared.outcome.Totals.{Totals}
+use Rattle.gw_records.specs.declared.outcome.RunFault.{RunFault}
+use Rattle.gw_records.specs.declared.outcome.RunFault.TheVariants as faults
+use Rattle.gw_records.specs.declared.records.Ending.TheVariants as endings
+use Rattle.gw_records.specs.Records.{Record}
+use Rattle.gw_records.specs.Streams.{AppendsPrefix, AppendsBut}
+use Rattle.gw_records.specs.Ports.{Grows, counted}
+use Rattle.gw_session.specs.Answers.{events, answered}
+use Rattle.gw_session.specs.Running.{replies_to}
+use Rattle.gw_session.specs.Serve.{Act, events_through, packets_for, given_by, written, but_last, LeavesOut}
+use Rattle.gw_session.specs.Serve.{Around, Served, ServesAll, ServesUntil}
+use Rattle.gw_session.specs.Tape.{Recorded}
+use Rattle.gw_session.specs.RecordingLaws.{RecordedSessionsRunAlike, all_answers}
+use Rattle.gw_session.proofs.ReadBack.{read_back}
+use Rattle.gw_session.proofs.AnsweredAlike.{answer_alike}
+use Rattle.gw_session.proofs.Taping.{recorded_none}
+use Rattle.gw_session.proofs.Turns.{Grows-none}
+
+-- what a session that was recorded did, whatever ended it
+record Lived (config : GatewayConfig) (before : List Event) (live : Gateway) (a a' : Around) : Type 0 where
+  acts : List Act
+  stands : Stands config live (before ++ events_through acts)
+  recorded : Recorded a.tape a'.tape (events_through acts)
+  took : AppendsPrefix a.sink.taken a'.sink.taken (written config before acts)
+  whole : a'.sink.failures ≡ a.sink.failures → Appends a.sink.taken a'.sink.taken (written config before acts)
+  sent : List (ℕ × List ℕ)
+  takes : Grows a.ports.taken a'.ports.taken sent
+  failed : ℕ
+  sends : a'.ports.send_failures ≡ counted a.ports.send_failures failed
+  packets : LeavesOut failed sent (packets_for config before (events_through acts))
+
+-- what was all taken is a prefix of itself
+prefix_of_all : (a b : Option (List ℕ)) (xs : List ℕ) → Appends a b xs → AppendsPrefix a b xs
+prefix_of_all a b xs p = record { written = xs; rest = []; whole = sym (append-nil xs); appended = p }
+
+module _ {config : GatewayConfig} {before : List Event} {gateway live : Gateway} (a a' : Around)
+    (stood : Stands config gateway before)
+  where
+    -- a session that was served did so, where this is known of what its sink took
+    lived_through : {Took : List ℕ → List ℕ → Type 0} {totals : Totals} {records : List Record}
+        → (s : Served a a' gateway live Took totals records)
+        → (Took (written config before (but_last s.acts)) (written config before s.acts)
+        → AppendsPrefix a.sink.taken a'.sink.taken (written config before s.acts)
+        × (a'.sink.failures ≡ a.sink.failures
+        → Appends a.sink.taken a'.sink.taken (written config before s.acts))) → Lived config before live a a'
+    lived_through s taken =
+        let goes = s.follows.goes in
+        let hears = goes.hears config before stood in
+        let known = taken (s.took config before stood) in
+        record {
+          acts = s.acts;
+          stands = hears.stands;
+          recorded = s.follows.recorded;
+          took = known.0;
+          whole = known.1;
+          sent = goes.trades.took;
+          takes = goes.trades.takes;
+          failed = goes.trades.failed_sends;
+          sends = goes.trades.sends;
+          packets = hears.packets;
+        }
+
+    -- .. where no write failed
+    lived_well : {totals : Totals} {records : List Record}
+        → Served a a' gateway live (λ first. Appends a.sink.taken a'.sink.taken) totals records
+        → Lived config before live a a'
+    lived_well s = lived_through s (λ p. (prefix_of_all a.sink.taken a'.sink.taken _ p, λ e. p))
+
+    -- .. where one did
+    lived_to_write : {totals : Totals} {records : List Record} → a.sink.failures < a'.sink.failures
+        → Served a a' gateway live (AppendsBut 0 a.sink.taken a'.sink.taken) totals records
+        → Lived config before live a a'
+    lived_to_write counted s = lived_through s (λ p. (
+      record { written = p.written; rest = p.rest; whole = p.whole; appended = p.appended },
+      λ e. absurd (omega (arith, e, counted)),
+    ))
+
+-- .. where nothing was done
+lived_idly : (config : GatewayConfig) (before : List Event) (live : Gateway) (a : Around) → Stands config live before
+    → Lived config before live a a
+unfolding given_by
+lived_idly config before live a stood = record {
+  acts = [];
+  stands = rw append-nil stood;
+  recorded = recorded_none a.tape;
+  took = prefix_of_all a.sink.taken a.sink.taken [] (Appends-nil a.sink.taken);
+  whole = λ e. Appends-nil a.sink.taken;
+  sent = [];
+  takes = Grows-none a.ports.taken;
+  failed = 0;
+  sends = refl;
+  packets = (refl, refl);
+}
+
+-- whatever ended a session that was recorded, it did so
+lived : (a a' : Around) (gateway live : Gateway) (end : Result Totals RunFault) (config : GatewayConfig)
+    (before : List Event) → Stands config gateway before
+    → MatchResult end (ServesAll a a' gateway live) (ServesUntil a a' gateway live) → Lived config before live a a'
+lived a a' gateway live (Ok totals) config before stood h = lived_well a a' stood h.ends.0.done
+lived a a' gateway live (Err faults.Truncated) config before stood h = lived_well a a' stood h.0.0.done
+lived a a' gateway live (Err faults.Read) config before stood h = lived_well a a' stood h.1.done
+lived a a' gateway live (Err faults.Write) config before stood h =
+    lived_to_write a a' stood h.counted h.begun.1
+lived a a' gateway live (Err faults.OutOfMemory) config before stood h =
+    rw (h.0, h.1) (lived_idly config before gateway a stood)
+lived a a' gateway live (Err _) config before stood h = lived_well a a' stood h.0.done
+
+-- a session that was recorded and a run over what was recorded are alike
+pub run_alike : RecordedSessionsRunAlike
+run_alike a a' gateway live end from from' again again' other replayed totals octets config before served none known
+    going ran at_first given stood stood_again =
+    let l = lived a a' gateway live end config before stood served in
+    let s = ran.ends.0 in
+    let same : octets ≡ s.octets = rw (at_first, given) at s.gives.gave in
+    let back = read_back a.tape a'.tape (events_through l.acts) octets s.records endings.End l.recorded none known
+    (rw same s.reads) in
+    let nothing = (back.all going).1 in
+    let told : events_through l.acts ≡ events s.records = back.first ∙ rw nothing (append-nil (events s.records)) in
+    let answers = answer_alike config before l.acts s.records (sym told) in
+    let done = s.done config before stood_again in
+    record {
+      happened = before ++ events_through l.acts;
+      stands = l.stands;
+      stands_again = rw told done.stands;
+      answers = all_answers config before l.acts;
+      took = rw (← answers.live) l.took;
+      whole = λ e. rw (← answers.live) (l.whole e);
+      answers_again = answered s.records (replies_to config before s.records);
+      took_again = done.took;
+      trunk = answers.trunk;
+      commands = answers.commands;
+      sent = l.sent;
+      takes = l.takes;
+      failed = l.failed;
+      sends = l.sends;
+      datagrams = rw answers.datagrams l.packets;
+    }

@@ -1,0 +1,34 @@
+-- What a session changes.
+use Rattle.std.specs.Prelude.{List, ℕ}
+use Rattle.gw_switch.specs.declared.gateway.Gateway.{Gateway}
+use Rattle.gw_records.specs.declared.outcome.Totals.{Totals}
+use Rattle.gw_records.specs.Streams.{SinkState}
+use Rattle.gw_records.specs.Ports.{PortsState}
+use Rattle.gw_session.specs.Tape.{TapeState}
+
+-- Where a session stands: what its ports tell, its gateway, and what is counted.
+pub record State : Type 0 where
+  pub ports : PortsState
+  pub gateway : Gateway
+  pub totals : Totals
+
+-- What a session writes to: what its sink tells, and the octets that wait to be written to it.
+pub record Output : Type 0 where
+  pub sink : SinkState
+  pub waiting : List ℕ
+
+-- All that a session changes, with what its tape tells.
+pub record World : Type 0 where
+  pub state : State
+  pub tape : TapeState
+  pub output : Output
+
+abbrev pub state_of : PortsState → Gateway → Totals → State
+state_of ports gateway totals = record { ports = ports; gateway = gateway; totals = totals }
+
+abbrev pub output_of : SinkState → List ℕ → Output
+output_of sink waiting = record { sink = sink; waiting = waiting }
+
+abbrev pub world_of : PortsState → Gateway → Totals → TapeState → SinkState → List ℕ → World
+world_of ports gateway totals tape sink waiting =
+    record { state = state_of ports gateway totals; tape = tape; output = output_of sink waiting }
