@@ -8,13 +8,17 @@ _e1gw_ctl() {
     for socket in /run/e1gw/*/control; do
       [ ! -S "$socket" ] || names+=" $(basename "$(dirname "$socket")")"
     done
-    compopt -o filenames 2> /dev/null
-    mapfile -t COMPREPLY < <(compgen -W "$names" -- "$cur"; compgen -f -- "$cur")
+    # (a file only where no trunk of this machine fits)
+    mapfile -t COMPREPLY < <(compgen -W "--all$names" -- "$cur")
+    if [ "${#COMPREPLY[@]}" -eq 0 ]; then
+      compopt -o filenames 2> /dev/null
+      mapfile -t COMPREPLY < <(compgen -f -- "$cur")
+    fi
     return
   fi
   case $COMP_CWORD:${COMP_WORDS[2]} in
     2:*) mapfile -t COMPREPLY < <(compgen -W "$commands" -- "$cur") ;;
-    3:status) mapfile -t COMPREPLY < <(compgen -W 'json' -- "$cur") ;;
+    3:status) mapfile -t COMPREPLY < <(compgen -W "json $(seq -s ' ' 30)" -- "$cur") ;;
     3:on-loss) mapfile -t COMPREPLY < <(compgen -W 'keep clear block' -- "$cur") ;;
     3:seize | 3:clear | 3:answer | 3:clear-back | 3:block | 3:unblock | 3:codec)
       mapfile -t COMPREPLY < <(compgen -W "$(seq -s ' ' 30)" -- "$cur") ;;

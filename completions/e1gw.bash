@@ -13,7 +13,7 @@ _e1gw_values() {
 # The options of a subcommand, or those without one.
 _e1gw_options() {
   case $1 in
-    align) echo '--totals --help' ;;
+    align | crc4) echo '--totals --help' ;;
     encode | decode) echo '--law --codec --payload --ptime --ssrc --sequence --timestamp --totals --help' ;;
     replay | check) echo '--config --totals --help' ;;
     serve) echo '--config --record --record-over --senders --totals --help' ;;
@@ -22,7 +22,7 @@ _e1gw_options() {
 }
 
 _e1gw() {
-  local subcommands='encode decode align replay check serve help'
+  local subcommands='encode decode align crc4 replay check serve help'
   local cur=${COMP_WORDS[COMP_CWORD]} prev=${COMP_WORDS[COMP_CWORD - 1]} subcommand=''
   [ "$COMP_CWORD" -lt 2 ] || subcommand=${COMP_WORDS[1]}
   # readline makes a word of the sign in --law=mu

@@ -102,7 +102,7 @@ class Aligned(Trunk):
     """A device's trunk, its octets aligned to time slots. It fails where the process ends."""
 
     def __init__(self, device: Trunk, program: str) -> None:
-        self._device, self.paced = device, device.paced
+        self._device, self.paced, self.name = device, device.paced, device.name
         self._process = Process(program)
         self._end: EOFError | OSError | None = None     # of the device
         self._ready = select.epoll()

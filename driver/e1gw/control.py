@@ -5,6 +5,7 @@ A line is answered by one or more lines and an empty one:
   seize N, clear N, answer N, clear-back N, block N, unblock N     `seize 3: done`, or the words of the refusal
   codec N CODEC TYPE         pcma, pcmu, g726-16, g726-24, g726-32, g726-40 and an RTP payload type, from now on
   status, status json        the table, or all of it as one line of JSON
+  status N                   the row of circuit N
   events                     `following`; from then on a line of JSON for each change
   on-loss clear SECONDS      when the last client that asked for it is gone so long, calls are cleared
   on-loss block SECONDS      the same, and idle incoming circuits are blocked
@@ -14,6 +15,7 @@ A line is answered by one or more lines and an empty one:
 """
 from __future__ import annotations
 
+import functools
 import grp
 import os
 import select
@@ -24,11 +26,13 @@ from collections import deque
 from typing import TYPE_CHECKING, Callable
 
 from .loop import READ, Loop
+from .metrics import circuit_table
 from .peers import Peer
 from .session import CIRCUITS, Codec, Command, codec_record, command_record
 
 if TYPE_CHECKING:
     from .driver import Driver
+    from .snapshots import Snapshot
 
 MOST_LINE = 4096            # octets of a line
 MOST_CLIENTS = 64
@@ -258,6 +262,8 @@ def obey(driver: Driver, line: str, say: Say) -> None:
     name, *words = line.split()
     if name == 'status' and words in ([], ['json']):
         driver.snapshots.ask(lambda now: say(now.json if words else now.table.rstrip('\n')))
+    elif name == 'status' and len(words) == 1:
+        _say_circuit(driver, words[0], say)
     elif name == 'help' and not words:
         say((__doc__ or '').partition('\n\n')[2].rstrip('\n'))
     elif name == 'quit' and not words:
@@ -268,6 +274,18 @@ def obey(driver: Driver, line: str, say: Say) -> None:
     else:
         say(f'{name[:40]}: no such command; there are {", ".join(COMMANDS)}, codec, status, events, on-loss, quit and '
             'help')
+
+
+def _say_circuit(driver: Driver, word: str, say: Say) -> None:
+    """The row of one circuit."""
+    circuit = circuit_of(word)
+    if circuit is None:
+        return say(f'status {word[:40]}: circuits are 1 to 30')
+    driver.snapshots.ask(functools.partial(_say_row, circuit, say))
+
+
+def _say_row(circuit: int, say: Say, now: Snapshot) -> None:
+    say(circuit_table(now.status, circuit))
 
 
 def _obey_circuit(driver: Driver, name: str, words: list[str], say: Say) -> None:

@@ -1,10 +1,13 @@
-"""Gives a command to a trunk in service: e1gw-ctl PATH COMMAND..
+"""Gives commands to trunks in service: e1gw-ctl PATH COMMAND.., e1gw-ctl --all COMMAND.., e1gw-ctl
 
-PATH is the socket of e1gw-trunk's --control, or the name of a trunk, whose socket is /run/e1gw/NAME/control. COMMAND is
-one of e1gw-trunk(1): seize N, clear N, answer N, clear-back N, block N, unblock N, codec N CODEC TYPE, status, status
-json, events, on-loss, quit, help. Without a command, commands are read from standard input, a line each.
+PATH is the socket of e1gw-trunk's --control, or the name of a trunk, whose socket is /run/e1gw/NAME/control.
+COMMAND is one of e1gw-trunk(1): seize N, clear N, answer N, clear-back N, block N, unblock N, codec N CODEC TYPE,
+status, status N, status json, events, on-loss, quit, help. N may be several circuits: seize 1-4,7. With a PATH and no
+command, commands are read from standard input, a line each. --all gives the command to each trunk of this machine.
+Without any word there is a line for each trunk of this machine.
 
-Statuses: 0 all was done; 1 the trunk refused something; 2 the command line, or nobody listens at PATH.
+Statuses: 0 all was done; 1 a trunk refused something, or does not answer; 2 the command line, or nobody listens at
+PATH.
 """
 from __future__ import annotations
 
@@ -14,15 +17,37 @@ import socket
 import sys
 from typing import BinaryIO
 
+from .ctl_all import PATIENCE, SOCKETS, overview, trunks_here
+from .faults import words_of_fault
+
 ASKING = ('status', 'events', 'help')
-FOLDER = '/run/e1gw'
+SEVERAL = ('seize', 'clear', 'answer', 'clear-back', 'block', 'unblock', 'codec')
 
 
 def path_of(word: str) -> str:
     """The socket that a path or the name of a trunk means."""
     if '/' in word or os.path.exists(word):
         return word
-    return f'{FOLDER}/{word}/control'
+    return f'{SOCKETS}/{word}/control'
+
+
+def circuits_of(word: str) -> list[str]:
+    """The circuits of 1-4,7; what is no such list is one word, which the trunk refuses."""
+    found: list[str] = []
+    for part in word.split(','):
+        first, dash, last = part.partition('-')
+        if not (first.isdecimal() and (last.isdecimal() or not dash)) or len(part) > 7:
+            return [word]
+        found += map(str, range(int(first), int(last or first) + 1)) if len(part) < 6 else [part]
+    return found or [word]
+
+
+def each_circuit(command: str) -> list[str]:
+    """A command for each of its circuits."""
+    words = command.split()
+    if len(words) < 2 or words[0] not in SEVERAL:
+        return [command]
+    return [' '.join([words[0], circuit, *words[2:]]) for circuit in circuits_of(words[1])]
 
 
 def answer_of(stream: BinaryIO) -> list[str]:
@@ -35,12 +60,12 @@ def answer_of(stream: BinaryIO) -> list[str]:
     return lines
 
 
-def ask(stream: BinaryIO, line: socket.socket, command: str) -> bool:
+def ask(stream: BinaryIO, line: socket.socket, command: str, front: str = '') -> bool:
     """Gives a command and prints what answers it; returns whether it was done."""
     line.sendall(command.encode() + b'\n')
     lines = answer_of(stream)
-    print('\n'.join(lines), flush=True)
-    if command.split()[0] in ASKING and not lines[0].endswith('help'):
+    print('\n'.join(f'{front}{each}' for each in lines), flush=True)
+    if command.split()[0] in ASKING and not lines[0].endswith(('help', 'to 30')):
         return True
     return lines[-1].endswith(': done')
 
@@ -52,6 +77,7 @@ def follow(stream: BinaryIO) -> None:
 
 
 def run(path: str, words: list[str]) -> int:
+    """Gives a trunk one command, or those of standard input; returns the status."""
     with socket.socket(socket.AF_UNIX) as line:
         line.connect(path)
         stream: BinaryIO = line.makefile('rb')
@@ -61,18 +87,46 @@ def run(path: str, words: list[str]) -> int:
             follow(stream)
             return 0
         commands = [' '.join(words)] if words else (each.strip() for each in sys.stdin)
-        done = [ask(stream, line, command) for command in commands if command]
+        done = [ask(stream, line, each) for command in commands if command for each in each_circuit(command)]
     return 0 if all(done) else 1
 
 
+def run_all(words: list[str]) -> int:
+    """Gives each trunk of this machine a command; a line of an answer begins with the trunk's name."""
+    status = 0
+    for name, path in trunks_here():
+        try:
+            with socket.socket(socket.AF_UNIX) as line:
+                line.settimeout(PATIENCE)
+                line.connect(path)
+                stream: BinaryIO = line.makefile('rb')
+                done = [ask(stream, line, each, f'{name}: ') for each in each_circuit(' '.join(words))]
+                status |= not all(done)
+        except (OSError, EOFError) as fault:
+            print(f'{name}: it does not answer: {words_of_fault(fault, path)}', flush=True)
+            status = 1
+    return status
+
+
+def started(asked: argparse.Namespace, parser: argparse.ArgumentParser) -> int:
+    """What the words ask for."""
+    words = [asked.path] * bool(asked.path) + asked.command
+    if asked.all and (not words or words == ['events']):
+        parser.error('--all wants a command that is answered at once')
+    if asked.all:
+        return run_all(words)
+    return run(path_of(asked.path), asked.command) if asked.path else overview()
+
+
 def main() -> None:
-    parser = argparse.ArgumentParser(prog='e1gw-ctl', description=__doc__, usage='e1gw-ctl PATH [COMMAND..]',
+    parser = argparse.ArgumentParser(prog='e1gw-ctl', description=__doc__, usage='e1gw-ctl [PATH | --all] [COMMAND..]',
                                      formatter_class=argparse.RawDescriptionHelpFormatter)
-    parser.add_argument('path', metavar='PATH')
+    parser.add_argument('--all', action='store_true', help='each trunk of this machine')
+    parser.add_argument('path', metavar='PATH', nargs='?')
     parser.add_argument('command', metavar='COMMAND', nargs='*')
     asked = parser.parse_args()
     try:
-        status = run(path_of(asked.path), asked.command)
+        status = started(asked, parser)
     except BrokenPipeError:
         os.dup2(os.open(os.devnull, os.O_WRONLY), 1)
         status = 1
@@ -82,6 +136,6 @@ def main() -> None:
         print('e1gw-ctl: the trunk has ended', file=sys.stderr)
         status = 1
     except OSError as fault:
-        print(f'e1gw-ctl: {path_of(asked.path)}: {fault.strerror}', file=sys.stderr)
+        print(f'e1gw-ctl: {path_of(asked.path or "")}: {fault.strerror}', file=sys.stderr)
         status = 2
     sys.exit(status)

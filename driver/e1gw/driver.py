@@ -10,11 +10,14 @@ import time
 from collections import deque
 from typing import Any
 
+from .calls import Calls, to_calls
 from .clock import TICK, Clock, Finding
 from .control import Client, Console, Say, listen_unix, seat
 from .counts import Counts
 from .events import NOTICED, WARNED, words_of
-from .gateway import Gateway, Shadow
+from .explain import gateway_words
+from .faults import named, words_of_fault
+from .gateway import Gateway, Shadow, version_of
 from .guards import Guards
 from .keep import Ring
 from .lines import OPEN, Event, Lines, Role, State
@@ -31,8 +34,14 @@ from .snapshots import Snapshot, Snapshots
 from .sockets import Tables
 from .trunks import Trunk
 
-BESIDE = ('shadow', 'recording', 'session', 'json', 'metrics', 'picture', 'pages')  # what may end without the calls
+# what may end without the calls
+BESIDE = ('shadow', 'recording', 'session', 'json', 'calls', 'metrics', 'picture', 'pages')
 REOPEN_MOST = 30.0              # seconds between two tries to open the trunk
+
+
+def _with_place(fault: OSError, trunk: Trunk) -> str:
+    """What the system says, and behind it where the trunk is."""
+    return f'{words_of_fault(fault)}{f": {trunk.name}" if trunk.name else ""}'
 
 
 class Driver:
@@ -40,6 +49,7 @@ class Driver:
 
     def __init__(self, loop: Loop, options: Options, journal: Journal) -> None:
         self.loop, self.options, self.journal = loop, options, journal
+        self._version = version_of(options.program)
         self.lines = Lines(options.config, self.tell)
         self._sockets = Tables(self.lines.lines.values())
         self.snapshots = Snapshots(loop, lambda: Snapshot(self.status(), self._sockets))
@@ -66,6 +76,9 @@ class Driver:
         self._reopen_due: float | None = None
         self._out = to_descriptor('standard output', 1)
         self._json = self._open_json()
+        self._calls_out = to_calls(options.calls, self._note) if options.calls else None
+        self.calls = (Calls(options.name, self.lines.lines, self.counts, self._calls_out.put) if self._calls_out
+                      else None)
         self._session, self._ring = self._open_session()
         self.gateway = Gateway(loop, options.program, options.config, self._taped, self._said, self._resume,
                                self._gateway_ended, options.serve)
@@ -96,7 +109,7 @@ class Driver:
         if options.keep is None:
             return to_file('session', options.session, self._note), None
         ring = Ring(options.session, options.name, options.config, options.keep)
-        return Outlet('session', ring.write, self._note, ring.close, ring.open), ring
+        return Outlet('session', ring.write, self._note, ring.close, ring.open, options.session), ring
 
     def _open_pictures(self) -> tuple[Pictures | None, socket.socket | None]:
         """The process that draws, and the socket at which another one asks it."""
@@ -111,12 +124,18 @@ class Driver:
         """Opens what others connect to, and the terminal."""
         options = self.options
         if options.control:
-            door = listen_unix(options.control, options.control_mode, options.control_group)
+            try:
+                door = listen_unix(options.control, options.control_mode, options.control_group)
+            except OSError as fault:
+                raise named(fault, f'--control {options.control}') from None
             self._doors.append(Door(self.loop, door, lambda line, _: seat(self, line), options.control))
         web = None
         if options.http:
             family = socket.AF_INET6 if ':' in options.http[0] else socket.AF_INET
-            web = socket.create_server(options.http, family=family)
+            try:
+                web = socket.create_server(options.http, family=family)
+            except OSError as fault:
+                raise named(fault, f'--http {options.http[0]}:{options.http[1]}') from None
         if web or options.top or options.metrics:
             self._open_pages(web)
         Console(self, lambda text: self._out.put(f'{text}\n'.encode()))
@@ -161,7 +180,7 @@ class Driver:
                 self.tell({'event': 'trunk', **found.status()})
                 self._resume()
             else:
-                self._trunk_lost(f'the trunk cannot be opened: {found}', 1)
+                self._trunk_lost(f'the trunk cannot be opened: {words_of_fault(found)}', 1)
         if self._reopen_due is not None and time.monotonic() >= self._reopen_due:
             self._open_trunk()
 
@@ -222,7 +241,7 @@ class Driver:
         except EOFError:
             return self._trunk_lost('the trunk has ended', 0)
         except OSError as fault:
-            return self._trunk_lost(f'the trunk cannot be read: {fault}', 1)
+            return self._trunk_lost(f'the trunk cannot be read: {_with_place(fault, trunk)}', 1)
         self._keep_pace(trunk, len(octets))
         if octets:
             began = time.monotonic()
@@ -241,7 +260,7 @@ class Driver:
             try:
                 trunk.write(record.body)
             except OSError as fault:
-                self._trunk_lost(f'the trunk cannot be written: {fault}', 1)
+                self._trunk_lost(f'the trunk cannot be written: {_with_place(fault, trunk)}', 1)
             else:
                 if trunk.waiting():
                     self._pause()
@@ -259,7 +278,7 @@ class Driver:
         try:
             trunk.flush()
         except OSError as fault:
-            return self._trunk_lost(f'the trunk cannot be written: {fault}', 1)
+            return self._trunk_lost(f'the trunk cannot be written: {_with_place(fault, trunk)}', 1)
         if not trunk.waiting():
             self.loop.forget(trunk.writer())
             self._resume()
@@ -289,6 +308,8 @@ class Driver:
             self._end_beside('recording', line)
         elif line:
             self.journal.line(Journal.INFO, f'gateway: {line}')
+            if why := gateway_words(line, self.options.config):
+                self.journal.line(Journal.ERROR, why)
 
     def _gateway_ended(self, why: str) -> None:
         if self.status_code is None:
@@ -394,6 +415,8 @@ class Driver:
         self.snapshots.look()
         self.guards.look(now)
         self._look_at_dark(now)
+        if self.calls:
+            self.calls.look()
 
     def _found(self, finding: Finding) -> None:
         if finding.what == 'rate':
@@ -429,6 +452,8 @@ class Driver:
             self.journal.line(level, words_of(event), name)
         elif name == 'state' and event['state'] == State.FAULT:
             self.journal.line(Journal.WARNING, words_of(event), name)
+        if self.calls and name == 'state':
+            self.calls.took(event)
         self.snapshots.changed()
         followers = [peer for peer in self.peers if isinstance(peer, Client) and peer.follows]
         if followers or self._json:
@@ -444,6 +469,7 @@ class Driver:
         """All that is known without asking the kernel, as plain values."""
         status = self.lines.status()
         status |= {
+            'name': self.options.name, 'version': self._version,
             'time': round(time.time(), 3), 'uptime': round(time.monotonic() - self.began, 3),
             'trunk_up': self.trunk is not None, 'transport': self.trunk.status() if self.trunk else {},
             'slowest_turn': round(max(self._slowest), 6), 'clock': self.clock.status(),
@@ -498,7 +524,9 @@ class Driver:
         for peer in list(self.peers):
             peer.flush()
             peer.close()
-        for outlet in (self._session, self._json, self._out):
+        if self.calls:
+            self.calls.finish()
+        for outlet in (self._session, self._json, self._calls_out, self._out):
             if outlet:
                 outlet.close()
         self._take_metrics_away()

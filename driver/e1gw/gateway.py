@@ -35,6 +35,16 @@ def check_config(program: str, config: str) -> None:
         raise ConfigRefused(done.stderr.decode(errors='replace').strip() or f'status {done.returncode}')
 
 
+def version_of(program: str) -> str:
+    """The version that the program says, as 0.1.0; nothing if it says none."""
+    try:
+        done = subprocess.run([program, '--version'], stdin=subprocess.DEVNULL, stdout=subprocess.PIPE,
+                              stderr=subprocess.DEVNULL, check=False, timeout=GRACE)
+    except (OSError, subprocess.TimeoutExpired):
+        return ''
+    return done.stdout.decode(errors='replace').strip().removeprefix('e1gw ')
+
+
 def _widen(file: int) -> None:
     """Gives a pipe room, as far as the kernel lets it."""
     try:

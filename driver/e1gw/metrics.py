@@ -108,7 +108,8 @@ def _of_driver(status: Status) -> list[Family]:
          [({'what': what}, int(why is not None)) for what, why in status['ended'].items()]),
         ('e1gw_slowest_turn_seconds', 'gauge', 'The longest time from octets of the trunk to their answer in the last '
          'minute.', [({}, status['slowest_turn'])]),
-        ('e1gw_uptime_seconds', 'gauge', 'Seconds since the driver began.', [({}, status['uptime'])])]
+        ('e1gw_uptime_seconds', 'gauge', 'Seconds since the driver began.', [({}, status['uptime'])]),
+        ('e1gw_build_info', 'gauge', 'The version of e1gw; always 1.', [({'version': status['version']}, 1)])]
 
 
 # ---- the table ----
@@ -118,13 +119,18 @@ def _alignments(alarms: Mapping[str, bool], good: str) -> str:
     return ', '.join(missing) or good
 
 
-def _head(status: Status) -> list[str]:
-    clock = status['clock']
-    rate = '' if clock['ppm'] is None else f', rate {clock["ppm"]:+.0f} ppm'
-    state = 'no trunk' if not status['trunk_up'] else 'stalled' if clock['stalled'] else _alignments(
+def state_of(status: Status) -> str:
+    """How the trunk stands at this end, in a word or some."""
+    return 'no trunk' if not status['trunk_up'] else 'stalled' if status['clock']['stalled'] else _alignments(
         status['alarm'], 'aligned')
+
+
+def _head(status: Status) -> list[str]:
+    clock, state = status['clock'], state_of(status)
+    rate = '' if clock['ppm'] is None else f', rate {clock["ppm"]:+.0f} ppm'
     at = time.strftime('%H:%M:%S', time.gmtime(status['time']))
     lines = [
+        f'trunk {status["name"]}, e1gw {status["version"]}, up {status["uptime"]:.0f} s',
         f'{status["octets"] / 256_000:.1f} s of the trunk at {at} UTC, {state}; the other end: '
         + _alignments(status['remote_alarm'], 'no alarm'),
         'alignment lost: ' + ', '.join(f'{what} {n}' for what, n in status['losses'].items())
@@ -145,8 +151,16 @@ def _row(row: Mapping[str, Any]) -> str:
             f'{sent:9} {admitted:9} {row["lost"]:5} {row["jitter_ms"]:7.1f}  {refused}').rstrip()
 
 
+COLUMNS = (' n role     state       sent got       for  calls answered      open  codec        sent  admitted  lost '
+           'jitter  refused')
+
+
 def table(status: Status) -> str:
     """The state of a trunk for people."""
-    head = (' n role     state       sent got       for  calls answered      open  codec        sent  admitted  lost '
-            'jitter  refused')
-    return '\n'.join([*_head(status), head, *map(_row, status['circuits'])]) + '\n'
+    return '\n'.join([*_head(status), COLUMNS, *map(_row, status['circuits'])]) + '\n'
+
+
+def circuit_table(status: Status, circuit: int) -> str:
+    """The row of one circuit, below its head."""
+    rows = [_row(row) for row in status['circuits'] if row['circuit'] == circuit]
+    return '\n'.join([COLUMNS, *(rows or [f'{circuit:2} has no table in the configuration, and no call yet'])])

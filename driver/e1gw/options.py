@@ -29,6 +29,7 @@ class Options:
     metrics: str | None = None
     json: str | None = None
     session: str | None = None
+    calls: str | None = None
     keep: int | None = None
     gap: float = 0.1
     dark: float | None = None

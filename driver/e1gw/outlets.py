@@ -17,10 +17,12 @@ MOST_WAITING = 16 << 20     # octets for one place; more are not kept
 class Outlet:
     """Writes pieces in their order by `write`, which may wait and may fail; before the first one `begin` opens what is
     to be opened. After a failure, or where too much waits, the outlet has ended, and `ended(why)` is called once, in
-    another thread or in that of `put`."""
+    another thread or in that of `put`. `where` is the path that the reason names."""
 
     def __init__(self, name: str, write: Callable[[bytes], object], ended: Callable[[str, str], None] | None = None,
-                 finish: Callable[[], object] | None = None, begin: Callable[[], object] | None = None) -> None:
+                 finish: Callable[[], object] | None = None, begin: Callable[[], object] | None = None,
+                 where: str = '') -> None:
+        self._where = where
         self.name, self._write, self._ended, self._finish, self._begin = name, write, ended, finish, begin
         self.has_ended = False
         self._queue: queue.SimpleQueue[bytes | None] = queue.SimpleQueue()
@@ -51,7 +53,7 @@ class Outlet:
         if not self.has_ended:
             self.has_ended = True
             if self._ended:
-                self._ended(self.name, why)
+                self._ended(self.name, f'{why}: {self._where}' if self._where else why)
 
     def _run(self) -> None:
         try:
@@ -119,7 +121,7 @@ class OneFile:
 def to_file(name: str, path: str, ended: Callable[[str, str], None]) -> Outlet:
     """An outlet to a file of this path, which may not be there, and may never open."""
     file = OneFile(path)
-    return Outlet(name, file.write, ended, file.close, file.open)
+    return Outlet(name, file.write, ended, file.close, file.open, path)
 
 
 @dataclass

@@ -15,6 +15,7 @@ from collections import Counter
 from dataclasses import asdict, dataclass
 from typing import Any, Callable
 
+from .faults import named
 from .satop_align import SlotAligner
 from .satop_packet import SEQUENCES, Fault, Packet, parse, rtp_header, spell
 from .satop_playout import Fill, Playout
@@ -318,7 +319,10 @@ def ends_of(text: str) -> tuple[tuple[str, int], tuple[str, int]]:
 def open_satop(local_and_peer: str, circuit: Circuit = Circuit(), program: str | None = None) -> Satop:
     """The trunk at LOCAL:PORT,PEER:PORT, aligned by this program. ValueError where that is none, OSError where no
     socket opens there."""
-    return Satop(connected(*ends_of(local_and_peer)), circuit, program=program)
+    try:
+        return Satop(connected(*ends_of(local_and_peer)), circuit, program=program)
+    except OSError as fault:
+        raise named(fault, local_and_peer) from None
 
 
 def add_arguments(parser: argparse.ArgumentParser) -> None:

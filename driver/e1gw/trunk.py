@@ -24,6 +24,8 @@ from .aligned import align
 from .clear import Clear, Place
 from .control import DoorTaken
 from .driver import Driver
+from .explain import config_words
+from .faults import Parser, options_words, words_of_fault
 from .gateway import ConfigRefused, check_config
 from .guards import OnLoss, on_loss_of
 from .keep import seconds_of
@@ -107,8 +109,8 @@ def _number(least: float, most: float, kind: type = int) -> Callable[[str], floa
 def parser() -> argparse.ArgumentParser:
     """The options."""
     about, _, rest = (__doc__ or '').partition('\n\n')
-    words = argparse.ArgumentParser(prog='e1gw-trunk', description=f'{about}\n\n{rest}',
-                                    formatter_class=argparse.RawDescriptionHelpFormatter)
+    words = Parser(prog='e1gw-trunk', description=f'{about}\n\n{rest}',
+                   formatter_class=argparse.RawDescriptionHelpFormatter)
     words.add_argument('--config', metavar='FILE', required=True, help='the configuration, e1gw.toml(5)')
     words.add_argument('--name', help='the name of the trunk in metrics and files [default: that of FILE]')
     words.add_argument('--program', metavar='E1GW', help='the program [default: that of this repository, or e1gw]')
@@ -146,8 +148,8 @@ def _add_control(words: argparse._ArgumentGroup) -> None:
                        help='its mode, in octal [default: 660]')
     words.add_argument('--control-group', metavar='GROUP', help='its group')
     words.add_argument('--on-loss', nargs='+', default=['keep'], metavar='WORD',
-                       help='keep, or clear SECONDS: what is done with the calls when the last control client that '
-                       'asked for it is gone [default: keep]')
+                       help='keep, clear SECONDS, or block SECONDS: what is done with the calls when the last '
+                       'control client that asked for it is gone [default: keep]')
     words.add_argument('--http', metavar='HOST:PORT',
                        help='serves /metrics (Prometheus), /status (JSON), /table and / (the table, or the picture)')
     words.add_argument('--picture', type=_number(10, 3600, float), metavar='SECONDS',
@@ -162,6 +164,7 @@ def _add_control(words: argparse._ArgumentGroup) -> None:
 
 def _add_calls(words: argparse._ArgumentGroup) -> None:
     words.add_argument('--session', metavar='FILE', help='keeps all that the gateway takes, for e1gw replay and check')
+    words.add_argument('--calls', metavar='FILE', help='a line of CSV for each call; ten files of 10 MiB are kept')
     words.add_argument('--keep', metavar='TIME', help='--session is a folder for the last 30m, 1h, 2d, in twelve files')
     words.add_argument('--gap', type=_number(20, 10_000), default=100, metavar='MS',
                        help='lost octets of so many milliseconds restart the playout of open calls [default: 100]')
@@ -194,8 +197,8 @@ def options_of(words: list[str]) -> Options:
         most=asked.most or (2048 if asked.pace and not asked.satop else 256), pace=asked.pace / 1000,
         serve=_serve_words(asked), reopen=asked.reopen, watch=asked.watch, top=asked.top, control=asked.control,
         control_mode=asked.control_mode, control_group=asked.control_group, http=http, metrics=asked.metrics,
-        json=asked.json, session=asked.session, keep=keep, gap=asked.gap / 1000, dark=asked.dark, on_loss=on_loss,
-        counts=asked.counts, picture=asked.picture)
+        json=asked.json, session=asked.session, calls=asked.calls, keep=keep, gap=asked.gap / 1000, dark=asked.dark,
+        on_loss=on_loss, counts=asked.counts, picture=asked.picture)
 
 
 def _serve_words(asked: argparse.Namespace) -> list[str]:
@@ -231,7 +234,7 @@ def _serve(options: Options, journal: Journal) -> int:
     try:
         driver[0].open_doors()
     except (OSError, DoorTaken, KeyError, ValueError) as fault:
-        journal.line(Journal.ERROR, f'cannot listen: {fault}')
+        journal.line(Journal.ERROR, f'cannot listen: {words_of_fault(fault)}')
         driver[0].end(2)
     return driver[0].run()
 
@@ -245,11 +248,13 @@ def main(words: list[str] | None = None) -> NoReturn:
         options = options_of(sys.argv[1:] if words is None else words)
         status = _serve(options, journal)
     except Usage as fault:
-        journal.line(Journal.ERROR, f'{fault}; see e1gw-trunk --help')
+        journal.line(Journal.ERROR, f'{fault}; see e1gw-trunk --help{options_words()}')
     except ConfigRefused as fault:
         journal.line(Journal.ERROR, str(fault))
+        if why := config_words(options.config):
+            journal.line(Journal.ERROR, why)
     except (OSError, subprocess.CalledProcessError) as fault:
-        journal.line(Journal.ERROR, str(fault))
+        journal.line(Journal.ERROR, words_of_fault(fault))
     journal.close()
     # A thread may still wait for a disk or a reader; nothing waits for it.
     os._exit(status)

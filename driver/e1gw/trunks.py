@@ -12,12 +12,15 @@ import tty
 from abc import ABC, abstractmethod
 from typing import Any, Callable
 
+from .faults import named
+
 MOST_WAITING = 1 << 20      # octets that wait to be written before the trunk counts as broken
 
 
 class Trunk(ABC):
     """A trunk. Nothing here waits: `read` gives what there is, `write` keeps what the other end does not take yet."""
 
+    name = ''                       # where it is: a path, or an address
     deadline: float | None = None   # of time.monotonic: `read` is called then although nothing has come
     paced = True                    # octets come by a clock, and not as fast as they are read
     may_wait = True                 # octets may wait for some milliseconds before they are read
@@ -150,16 +153,19 @@ def open_unix(path: str) -> Stream:
     line = socket.socket(socket.AF_UNIX)
     try:
         line.connect(path)
-    except OSError:
+    except OSError as fault:
         line.close()
-        raise
+        raise named(fault, path) from None
     file = line.detach()
     return Stream(file, file, path)
 
 
 def open_tcp(host: str, port: int) -> Stream:
     """A TCP socket, to which it connects."""
-    line = socket.create_connection((host, port), timeout=10)
+    try:
+        line = socket.create_connection((host, port), timeout=10)
+    except OSError as fault:
+        raise named(fault, f'{host}:{port}') from None
     line.settimeout(None)
     line.setsockopt(socket.IPPROTO_TCP, socket.TCP_NODELAY, 1)
     file = line.detach()

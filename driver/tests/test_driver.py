@@ -10,6 +10,7 @@ import sys
 import tempfile
 import time
 import unittest
+import unittest.mock
 from typing import Any
 
 from . import support
@@ -117,7 +118,7 @@ class Commands(unittest.TestCase):
         world.step(60)
         status = world.status()
         self.assertEqual([row['state'] for row in status['circuits'][:3]], ['answered', 'idle', 'idle'])
-        self.assertEqual(len(world.ask('status').splitlines()), 33)
+        self.assertEqual(len(world.ask('status').splitlines()), 34)
         world.quit()
         told = [json.loads(line) for line in events]
         self.assertTrue(all(event['time'] > 1e9 for event in told))
@@ -401,6 +402,7 @@ class Refused(unittest.TestCase):
         bad = self.write('bad.toml', 'law = "B"\n')
         status, said = self.run_driver('--config', bad, '--in', '/dev/null', '--out', out, '--session', out)
         self.assertEqual((status, 'config 5 OutOfRange at 0' in said), (2, True))
+        self.assertIn(f'{bad}:1: law is \'B\', and has to be "A" or "mu"', said)
         with open(out, encoding='utf-8') as file:
             self.assertEqual(file.read(), 'precious')
 
@@ -429,8 +431,44 @@ class Refused(unittest.TestCase):
         self.assertEqual((status, 'another one listens' in said), (2, True))
 
     def test_a_trunk_that_is_not_there(self) -> None:
-        status, said = self.run_driver('--config', self.good, '--unix', os.path.join(self.folder, 'none'))
-        self.assertEqual((status, 'the trunk cannot be opened' in said), (1, True))
+        none = os.path.join(self.folder, 'none')
+        status, said = self.run_driver('--config', self.good, '--unix', none)
+        self.assertEqual((status, f'the trunk cannot be opened: {none}: No such file or directory' in said), (1, True))
+        with socket.socket() as held:
+            held.bind(('127.0.0.1', 0))             # and does not listen
+            place = f'127.0.0.1:{held.getsockname()[1]}'
+            status, said = self.run_driver('--config', self.good, '--tcp', place)
+        self.assertEqual((status, f'the trunk cannot be opened: {place}: Connection refused' in said), (1, True))
+
+    def test_no_error_is_a_number_alone(self) -> None:
+        """What is refused names the file or the address that it is of."""
+        none = os.path.join(self.folder, 'none')
+        with socket.create_server(('127.0.0.1', 0)) as held:
+            place = f'127.0.0.1:{held.getsockname()[1]}'
+            for words, told in ((('--control', f'{none}/ctl'), f'cannot listen: --control {none}/ctl: No such file'),
+                                (('--http', place), f'cannot listen: --http {place}: Address already in use'),
+                                (('--config', none), f'{none}: No such file or directory'),
+                                (('--program', none), f'{none}: No such file or directory')):
+                with self.subTest(words=words):
+                    status, said = self.run_driver('--config', self.good, '--unix', 'card', *words)
+                    self.assertEqual((status, told in said, 'Errno' in said), (2, True, False), said)
+
+    def test_a_port_in_use(self) -> None:
+        with socket.socket(socket.AF_INET, socket.SOCK_DGRAM) as held:
+            held.bind(('127.0.0.1', 0))
+            port = held.getsockname()[1]
+            text = f'law = "A"\n[[circuit]]\nnumber = 3\nlocal_port = {port}\npeer_port = 9\n'
+            config = self.write('port.toml', text)
+            status, said = self.run_driver('--config', config, '--unix', os.path.join(self.folder, 'none'), '--reopen')
+        lines = [line.removeprefix('e1gw-trunk: ') for line in said.splitlines()]
+        at = lines.index('gateway: socket 3')
+        self.assertEqual((status, lines[at + 1]), (1, f'port {port} is in use (ss -ulpn tells by whom)'))
+
+    def test_options_that_a_unit_lacks(self) -> None:
+        none = os.path.join(self.folder, 'west.options')
+        with unittest.mock.patch.dict(os.environ, {'E1GW_OPTIONS': none}):
+            status, said = self.run_driver('--config', self.good)
+        self.assertEqual((status, f'{none} is not there' in said), (2, True))
 
     def test_whose_datagrams_are_received(self) -> None:
         words = ('--in', '/dev/null', '--out', '/dev/null')

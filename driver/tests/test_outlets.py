@@ -34,7 +34,7 @@ class Openings(unittest.TestCase):
             open_to_append(self.fifo, 0.1)
         outlet = to_file('session', self.fifo, lambda what, why: self.ended.append(f'{what}: {why}'))
         outlet.put(b'abc')
-        self.assertEqual(self.until_ended(), 'session: nobody reads it')
+        self.assertEqual(self.until_ended(), f'session: nobody reads it: {self.fifo}')
 
     def test_a_fifo_that_somebody_reads_in_time(self) -> None:
         outlet = to_file('session', self.fifo, lambda what, why: self.ended.append(why))

@@ -223,6 +223,18 @@ class WithProgram(Folder):
         self.assertEqual(said, '')
         self.assertIn('WrongSource', page)
 
+    def test_octets_where_a_session_is_wanted(self) -> None:
+        """The page says it, with the command that makes a session of them; the status is 1."""
+        pair = b'\x9b' + b'\xd5' * 15 + b'\x0b' + b'\xd5' * 15 + b'\xdf' + b'\xd5' * 15 + b'\x99' + b'\xd5' * 15
+        raw = os.path.join(self.folder, 'trunk.raw')
+        with open(raw, 'wb') as file:
+            file.write(pair * 100)
+        config = self.file('trunk.toml', 'law = "A"\n')
+        page, said = self.drawn('--program', program(), '--config', config, raw, status=1)
+        for text in (page, said):
+            self.assertIn('the session failed: fault 1 BadKind', text)
+            self.assertIn(f'e1gw-records --from-raw {raw}', text)
+
     def test_refused_configuration(self) -> None:
         config = self.file('trunk.toml', 'law = "A"\nhost = ""\n')
         page, said = self.drawn('--program', program(), '--config', config, '-', status=1)

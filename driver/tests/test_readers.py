@@ -360,7 +360,8 @@ class ProcessOfPages(unittest.TestCase):
         self.assertEqual(self.ended, [])
 
 
-STATUS = {'octets': 0, 'time': 0.0, 'trunk_up': True, 'alarm': {}, 'remote_alarm': {}, 'losses': {}, 'ended': {},
+STATUS = {'octets': 0, 'time': 0.0, 'name': 'west', 'version': '0', 'uptime': 0.0,
+          'trunk_up': True, 'alarm': {}, 'remote_alarm': {}, 'losses': {}, 'ended': {},
           'clock': {'ppm': None, 'stalled': False, 'stalls': 0, 'gaps': 0, 'gap_seconds': 0.0}, 'slowest_turn': 0.0,
           'stale': False, 'circuits': []}
 

@@ -110,8 +110,10 @@ class Pages(unittest.TestCase):
         self.assertIn('answered', self.get('/'))
 
     def test_rules_name_what_there_is(self) -> None:
-        with open(f'{support.TOP}/package/alerts.yml', encoding='utf-8') as file:
-            named = set(re.findall(r'\be1gw_\w+', file.read()))
+        named = set[str]()
+        for name in ('alerts.yml', 'dashboard.json'):
+            with open(f'{support.TOP}/package/{name}', encoding='utf-8') as file:
+                named |= set(re.findall(r'\be1gw_\w+', file.read()))
         metrics = self.get('/metrics')
         declared = set(re.findall(r'^# TYPE (\w+)', metrics, re.M)) | {'e1gw_trunk_rate_ppm'}
         self.assertLessEqual(named, declared)

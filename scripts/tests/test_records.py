@@ -2,6 +2,7 @@
 import os
 import subprocess
 import sys
+import tempfile
 import unittest
 
 RECORDS = os.path.join(os.path.dirname(os.path.dirname(os.path.abspath(__file__))), 'records')
@@ -48,6 +49,30 @@ class Octets(unittest.TestCase):
 
     def test_a_size_that_no_record_has(self) -> None:
         self.assertEqual(ran('--from-raw', '--size', '65536').returncode, 2)
+
+
+class Raw(unittest.TestCase):
+    """Octets of a trunk where a session is wanted: the command that is told makes a session of them."""
+
+    def told(self, octets: bytes) -> str:
+        with tempfile.TemporaryDirectory() as folder:
+            path = os.path.join(folder, 'trunk.raw')
+            with open(path, 'wb') as file:
+                file.write(octets)
+            ended = ran('--circuit', '3', path)
+            self.assertEqual((ended.returncode, ended.stdout, ran(path).stderr), (1, b'', ended.stderr))
+            return ended.stderr.decode().replace(path, 'FILE')
+
+    def test_what_is_recognised(self) -> None:
+        octets = trunk(40, 3, bytes(40))
+        turned = bytes(int(f'{octet:08b}'[::-1], 2) for octet in octets)
+        later = (int.from_bytes(octets, 'big') >> 3).to_bytes(len(octets), 'big')
+        for given, command in ((octets, 'e1gw-records --from-raw FILE'),
+                               (turned, 'e1gw-records --from-raw --reverse FILE'), (later, 'e1gw align < FILE | e1gw')):
+            self.assertIn(f'no session: {command}', self.told(given))
+        self.assertNotIn('no session', self.told(bytes(4096)))
+        session = ran('--from-raw', '--reverse', given=turned).stdout
+        self.assertEqual(session, ran('--from-raw', given=octets).stdout)
 
 
 class Circuits(unittest.TestCase):

@@ -9,6 +9,7 @@ import sys
 from collections.abc import Iterator
 
 from ..lines import read_config
+from ..raw import raw_words_of
 from ..session import OCTETS_A_SECOND, BadSession
 from .answers import Kept, Replayed, Source, Trouble, kept, octets_of, pieces, program_of
 from .capture import merged, reckoned
@@ -125,8 +126,17 @@ def gathered(options: argparse.Namespace, session: Kept, config: str) -> tuple[F
     return facts, replayed.end() or fault
 
 
-def drawn(options: argparse.Namespace) -> str:
-    """The page that was asked for."""
+def failure_of(word: str, session: Kept) -> str:
+    """Why a session failed before its end, and where it is no session but octets of a trunk the command that makes one;
+    nothing for one that ends inside a record, as one does that is still written."""
+    if not word.startswith('fault') or 'Truncated' in word:
+        return ''
+    raw = raw_words_of(session.files[0]) if session.files[0] != '-' else None
+    return f'the session failed: {word}{f": {raw}" if raw else ""}'
+
+
+def drawn(options: argparse.Namespace) -> tuple[str, bool]:
+    """The page that was asked for, and whether its session is whole."""
     if not options.session and not options.capture:
         raise Trouble('no session was named, and no capture')
     session = kept(options.session) if options.session and options.session != '-' else Kept(['-'])
@@ -140,17 +150,18 @@ def drawn(options: argparse.Namespace) -> str:
     facts.port_faults = port_faults(options.totals) if options.totals else 0
     name = os.path.basename(os.path.normpath(options.session or options.capture))
     title = options.title or f'e1gw: {name if name != "-" else "a session"}'
-    notes = [f'{word}; what was before it is drawn'] if word else []
+    failure = failure_of(word, session)
+    notes = [f'{failure or word}; what was before it is drawn'] if word else []
     notes += [MIDDLE] if session.middle else []
     for note in notes:
         print(f'e1gw-picture: {note}', file=sys.stderr)
-    return draw(facts, title, options.circuits, notes=notes)
+    return draw(facts, title, options.circuits, notes=notes), not failure
 
 
 def main() -> int:
     options = parser().parse_args()
     try:
-        page = drawn(options)
+        page, is_whole = drawn(options)
         if options.output and options.output != '-':
             with open(options.output, 'w', encoding='utf-8') as file:
                 file.write(page)
@@ -166,4 +177,4 @@ def main() -> int:
     except OSError as trouble:
         print(f'e1gw-picture: {trouble.filename or ""}: {trouble.strerror}', file=sys.stderr)
         return 1
-    return 0
+    return 0 if is_whole else 1

@@ -14,6 +14,7 @@ import sys
 import time
 from typing import Any
 
+from ..faults import Parser, named, words_of_fault
 from ..outlets import hold_descriptors, to_descriptor
 from ..trunks import host_and_port
 from .kept import Kept
@@ -44,7 +45,7 @@ def place(text: str) -> tuple[str, int]:
 
 
 def parser() -> argparse.ArgumentParser:
-    made = argparse.ArgumentParser('e1gw-tie', description=ABOUT, epilog=MORE)
+    made = Parser('e1gw-tie', description=ABOUT, epilog=MORE)
     made.add_argument('--control', required=True, metavar='SOCKET', help='the control socket of the driver here')
     ways = made.add_mutually_exclusive_group(required=True)
     ways.add_argument('--listen', type=place, metavar='HOST:PORT', help='where the other site connects')
@@ -89,7 +90,10 @@ def site_of(options: argparse.Namespace, tie: Tie) -> Site:
     context: ssl.SSLContext | None = None
     if options.tls:
         certificate, key, authority = options.tls
-        context = context_of(certificate, key, authority, listens)
+        try:
+            context = context_of(certificate, key, authority, listens)
+        except OSError as fault:
+            raise named(fault, f'--tls {" ".join(options.tls)}') from None
     return Site(options.listen or options.connect, listens, context, options.peer, tie)
 
 
@@ -145,7 +149,7 @@ def main() -> None:
                   kept, tell)
         site = tie.site = site_of(options, tie)
     except (OSError, BadPairs, ValueError) as fault:
-        return refuse(f'{options.map}: {fault}' if isinstance(fault, BadPairs) else fault)
+        return refuse(f'{options.map}: {fault}' if isinstance(fault, BadPairs) else words_of_fault(fault))
     host, port = site.place
     tell('start', control=options.control, hold=options.hold, place=f'{host}:{port}',
          connection='TLS' if options.tls else 'neither secret nor authenticated: for 127.0.0.1 or a tunnel')

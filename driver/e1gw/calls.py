@@ -1,0 +1,144 @@
+"""A line for each call, as CSV: written when the call has ended and its packets are counted."""
+from __future__ import annotations
+
+import csv
+import io
+import os
+import stat
+import time
+from dataclasses import dataclass
+from typing import Callable, Iterable, Mapping
+
+from .counts import Counts
+from .lines import IN_CALL, Event, Line, Role, State
+from .outlets import Outlet, open_to_append, write_all
+
+FIELDS = ('trunk', 'circuit', 'direction', 'seized', 'answered', 'ended', 'by', 'codec', 'sent', 'received', 'lost',
+          'late')
+MOST_OCTETS = 10 << 20      # of a file, before it is FILE.1
+KEPT = 9                    # FILE.1 to FILE.9
+EACH = ('sent', 'admitted', 'lost', 'Late')     # what is counted, by the words of the counts
+
+
+def csv_line(fields: Iterable[object]) -> bytes:
+    text = io.StringIO()
+    csv.writer(text, lineterminator='\n').writerow(fields)
+    return text.getvalue().encode()
+
+
+def moment(seconds: float | None) -> str:
+    """A time of day in UTC, with milliseconds; nothing if there is none."""
+    if seconds is None:
+        return ''
+    return time.strftime('%Y-%m-%dT%H:%M:%S', time.gmtime(seconds)) + f'.{int(seconds * 1000) % 1000:03}Z'
+
+
+@dataclass
+class Call:
+    """One call: when it was seized, answered and ended, who ended it, and where on the trunk it ended."""
+
+    circuit: int
+    seized: float
+    unacknowledged: int         # of its line, before it
+    answered: float | None = None
+    ended: float | None = None
+    by: str = ''
+    codec: str = ''
+    place: int = 0
+
+
+class Calls:
+    """Follows the calls of a trunk. `put` is given a line for each; `clock` is that of the day."""
+
+    def __init__(self, trunk: str, lines: Mapping[int, Line], counts: Counts, put: Callable[[bytes], None],
+                 clock: Callable[[], float] = time.time) -> None:
+        self._trunk, self._lines, self._counts, self._put, self._clock = trunk, lines, counts, put, clock
+        self._calls: dict[int, Call] = {}
+        self._ended: list[Call] = []                # whose packets are not all counted yet
+        self._before: dict[int, dict[str, int]] = {}   # the counts at the end of the last call of each circuit
+
+    def took(self, event: Event) -> None:
+        """A change of a line's state."""
+        circuit, was, state = event['circuit'], State(event['was']), State(event['state'])
+        if was not in IN_CALL and state in IN_CALL:
+            self._calls[circuit] = Call(circuit, self._clock(), self._lines[circuit].unacknowledged)
+        call = self._calls.get(circuit)
+        if call and state is State.ANSWERED and call.answered is None:
+            call.answered = self._clock()
+        if call and state not in IN_CALL:
+            self._end(call, self._who(call, was, state), event['place'])
+
+    def _who(self, call: Call, was: State, state: State) -> str:
+        """Who ended a call: the one that hung up first."""
+        line = self._lines[call.circuit]
+        if state is State.FAULT:
+            return 'fault'
+        if line.unacknowledged > call.unacknowledged:
+            return 'not acknowledged'
+        is_ours = (line.role is Role.OUTGOING) != (was is State.CLEAREDBACK)
+        return 'gateway' if is_ours else 'exchange'
+
+    def _end(self, call: Call, by: str, place: int) -> None:
+        call.ended, call.by, call.place, call.codec = self._clock(), by, place, self._lines[call.circuit].codec
+        self._ended.append(self._calls.pop(call.circuit))
+
+    def look(self) -> None:
+        """To be called now and then: writes the calls whose packets are counted, or will not be."""
+        while self._ended and (self._counts.stale() or self._counts.answered_place >= self._ended[0].place):
+            self._write(self._ended.pop(0))
+
+    def finish(self) -> None:
+        """The trunk is no longer carried: writes all."""
+        for call in list(self._calls.values()):
+            self._end(call, 'stop', 0)
+        for call in self._ended:
+            self._write(call)
+        self._ended = []
+
+    def _write(self, call: Call) -> None:
+        counts = self._counts.circuits[call.circuit]
+        now = {**counts.counts, 'lost': counts.stream.lost}
+        before = self._before.get(call.circuit, {})
+        self._before[call.circuit] = now
+        # (a packet that was thought lost may come behind the end of its call)
+        numbers = [max(0, now.get(word, 0) - before.get(word, 0)) for word in EACH]
+        told: list[object] = [''] * len(EACH) if self._counts.stale() else [*numbers]
+        self._put(csv_line([self._trunk, call.circuit, self._lines[call.circuit].role, moment(call.seized),
+                            moment(call.answered), moment(call.ended), call.by, call.codec, *told]))
+
+
+class Rotated:
+    """A file of lines with a head, written behind what it has. A file that is full is moved away, and the oldest of
+    those is forgotten. All of it is in the thread of an outlet."""
+
+    def __init__(self, path: str, head: bytes, most: int = MOST_OCTETS) -> None:
+        self._path, self._head, self._most, self._file = path, head, most, -1
+
+    def open(self) -> None:
+        self._file = open_to_append(self._path)
+        if os.fstat(self._file).st_size == 0:
+            write_all(self._file, self._head)
+
+    def write(self, octets: bytes) -> None:
+        about = os.fstat(self._file)
+        if stat.S_ISREG(about.st_mode) and about.st_size + len(octets) > self._most:
+            self._rotate()
+        write_all(self._file, octets)
+
+    def _rotate(self) -> None:
+        os.close(self._file)
+        for number in range(KEPT, 0, -1):
+            older = f'{self._path}.{number}'
+            newer = f'{self._path}.{number - 1}' if number > 1 else self._path
+            if os.path.exists(newer):
+                os.replace(newer, older)
+        self.open()
+
+    def close(self) -> None:
+        os.close(self._file)
+
+
+def to_calls(path: str, ended: Callable[[str, str], None]) -> Outlet:
+    """An outlet for the lines of calls."""
+    file = Rotated(path, csv_line(FIELDS))
+    return Outlet('calls', file.write, ended, file.close, file.open, path)

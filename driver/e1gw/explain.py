@@ -1,0 +1,334 @@
+"""Explains why e1gw refuses a configuration, or cannot open a circuit's socket.
+
+  e1gw-explain FILE                 the line that e1gw says, the key, its line in FILE, and what it may have
+  e1gw-explain --no-sockets FILE    the configuration alone
+
+The checks are those of docs/CONFIGURATION.md, in its order, so the fault is the one that `e1gw check` tells. Where the
+configuration has none, each socket that `e1gw serve` would open is opened and closed again, in the order of the
+circuits, and the first that can't be is told with its cause. (Where that e1gw runs already, its own ports are in use.)
+
+The status is 0 where nothing was found, 1 for a socket, and 2 for the configuration."""
+from __future__ import annotations
+
+import argparse
+import errno
+import math
+import re
+import socket
+import tomllib
+from dataclasses import dataclass
+from typing import Any, Callable
+
+LONGEST, DEEPEST = 65_536, 80
+MOST_SHOWN = 120            # characters of a value, or of what the reader of TOML says
+KINDS = {'Syntax': 1, 'UnknownKey': 2, 'Missing': 3, 'WrongType': 4, 'OutOfRange': 5, 'Twice': 6, 'LawCodec': 7,
+         'TooLong': 8}
+CODECS = ('pcma', 'pcmu', 'g726-16', 'g726-24', 'g726-32', 'g726-40')
+
+
+@dataclass
+class Fault(Exception):
+    """The first fault of a configuration: its kind, the place of its table or 0, the key, and what is wrong."""
+
+    kind: str
+    place: int
+    key: str
+    text: str
+    line: int | None = None
+
+
+@dataclass
+class Key:
+    """What a key may have: its type, a test of the values, and the values as a reader wants them."""
+
+    type: type
+    holds: Callable[[Any], bool]
+    values: str
+
+
+def numbers(low: int, high: int) -> Key:
+    return Key(int, lambda value: bool(low <= value <= high), f'a whole number from {low} to {high}')
+
+
+def words(*texts: str) -> Key:
+    return Key(str, lambda value: bool(value in texts), ' or '.join(f'"{text}"' for text in texts))
+
+
+TEXT = Key(str, lambda value: bool(value != ''), 'a text that is not empty')
+PORT = numbers(1, 65_535)
+TOP_KEYS = {'law': words('A', 'mu'), 'host': TEXT,
+            'circuit': Key(list, lambda value: True, 'tables that begin with [[circuit]]')}
+CIRCUIT_KEYS = {
+    'number': numbers(1, 30), 'role': words('outgoing', 'incoming'), 'codec': words(*CODECS),
+    'payload': numbers(0, 127),
+    'ptime': Key(int, lambda value: value in (10, 20, 30), '10, 20 or 30'),
+    'prefill': numbers(0, 1600), 'ssrc': numbers(0, 4_294_967_295), 'sequence': numbers(0, 65_535),
+    'timestamp': numbers(0, 4_294_967_295), 'local_port': PORT, 'peer_port': PORT, 'peer_host': TEXT}
+TYPES = {int: 'a whole number', str: 'a text in quotes', list: 'a list of tables'}
+
+
+# ---- the file ----
+
+# Comments and strings. One without an end is all that follows, so that this takes no more time than the text is long.
+PASSED_OVER = re.compile(r'''\#[^\n]*|"""(?:[^\\]|\\.)*?(?:"""|\Z)|\'{3}.*?(?:\'{3}|\Z)|"(?:[^"\\\n]|\\.)*+"?'''
+                         r'''|\'[^\'\n]*+\'?''', re.DOTALL)
+NO_KEY = re.compile(r'[^\w.\t -]')
+BRACKETS = {'[': 1, '{': 1, ']': -1, '}': -1}
+
+
+def check_depth(text: str) -> None:
+    """e1gw's limits of depth: parts of a key and values within values. It comes first, since the reader of TOML takes
+    time by the square of a key's parts."""
+    bare = PASSED_OVER.sub(lambda found: 's' + '\n' * found[0].count('\n'), text)
+    depth = 0
+    for number, line in enumerate(bare.split('\n'), 1):
+        if any(piece.count('.') >= DEEPEST for piece in NO_KEY.split(line)):
+            raise Fault('Syntax', 0, '', f'a key has more than {DEEPEST} parts', number)
+        for each in line:
+            depth += BRACKETS.get(each, 0)
+            if depth > DEEPEST:
+                raise Fault('Syntax', 0, '', f'values stand within values more than {DEEPEST} deep', number)
+
+
+def check_numbers(table: dict[str, Any]) -> None:
+    """A limit that the reader here does not have: 64 bits."""
+    left: list[Any] = [table]
+    while left:
+        value = left.pop()
+        if type(value) is int and not -2**63 <= value < 2**63:
+            raise Fault('Syntax', 0, '', f'a whole number{f" ({value})" if abs(value) < 10**40 else ""} has more than '
+                        '64 bits')
+        left += value.values() if isinstance(value, dict) else value if isinstance(value, list) else ()
+
+
+def float_of(text: str) -> float:
+    """A number with a point or an exponent. e1gw takes none that is too large for 64 bits."""
+    value = float(text)
+    if math.isinf(value) and 'inf' not in text:
+        raise Fault('Syntax', 0, '', f'the number {cut(text)} is too large')
+    return value
+
+
+def cut(text: str) -> str:
+    """A text on one line, and not all of a long one."""
+    shown = text if text.isprintable() else repr(text)
+    return shown if len(shown) <= MOST_SHOWN else f'{shown[:MOST_SHOWN]}..'
+
+
+def parsed(octets: bytes) -> dict[str, Any]:
+    """The table that a file is."""
+    if len(octets) > LONGEST:
+        raise Fault('TooLong', 0, '', f'the file has more than the {LONGEST} octets that it may have')
+    try:
+        text = octets.decode('utf-8').removeprefix('\N{ZERO WIDTH NO-BREAK SPACE}')
+        check_depth(text)
+        table = tomllib.loads(text, parse_float=float_of)
+    except UnicodeDecodeError as error:
+        line = octets[:error.start].count(b'\n') + 1
+        raise Fault('Syntax', 0, '', 'there is an octet that is no UTF-8', line) from error
+    except tomllib.TOMLDecodeError as error:
+        found = re.search(r'\(at line (\d+)', str(error))
+        line = int(found[1]) if found else octets.rstrip().count(b'\n') + 1
+        raise Fault('Syntax', 0, '', f'no TOML: {cut(str(error))}', line) from error
+    except (ValueError, RecursionError) as error:
+        # (int() takes no more than 4,300 digits.)
+        raise Fault('Syntax', 0, '', f'no TOML: {cut(str(error))}') from error
+    check_numbers(table)
+    return table
+
+
+def line_of(text: str, place: int, key: str) -> int | None:
+    """The line of a key in the table at this place, or of the table where it has no such key."""
+    at, head = 0, None
+    for number, line in enumerate(text.split('\n'), 1):
+        if re.match(r'\s*\[\[\s*["\']?circuit["\']?\s*\]\]', line):
+            at += 1
+            head = number if at == place else head
+        if at == place and key and re.match(rf'\s*\[?["\']?{re.escape(key)}["\']?\s*[=\]]', line):
+            return number
+        if at == place == 0 and re.match(r'\s*\[', line):
+            break
+    return head
+
+
+# ---- the checks ----
+
+def check_key(table: dict[str, Any], place: int, name: str, key: Key, needed: str | None) -> None:
+    """A key's value: Missing, then WrongType, then OutOfRange."""
+    if name not in table:
+        if needed:
+            raise Fault('Missing', place, name, f'{name} is not there: {needed}; it is {key.values}')
+        return
+    value = table[name]
+    if type(value) is not key.type:
+        raise Fault('WrongType', place, name, f'{name} has to be {TYPES[key.type]}; it may have: {key.values}')
+    if not key.holds(value):
+        raise Fault('OutOfRange', place, name, f'{name} is {cut(repr(value))}, and has to be {key.values}')
+
+
+def check_names(table: dict[str, Any], place: int, known: dict[str, Key]) -> None:
+    unknown = [name for name in table if name not in known]
+    if unknown:
+        raise Fault('UnknownKey', place, unknown[0], f'{cut(unknown[0])} is no key here; there are {", ".join(known)}')
+
+
+def payload_key(codec: str) -> Key:
+    """The payload types that a codec may have."""
+    fixed = {'pcma': 8, 'pcmu': 0}.get(codec)
+    values = 'a whole number from 96 to 127' if fixed is None else f'{fixed}, or a whole number from 96 to 127'
+    return Key(int, lambda value: bool(value == fixed or 96 <= value <= 127), f'{values} (codec {codec})')
+
+
+def needs(table: dict[str, Any], name: str, codec: str) -> str | None:
+    """Why a key has to be there, or None."""
+    other = {'local_port': 'peer_port', 'peer_port': 'local_port'}.get(name)
+    if name == 'number':
+        return 'each circuit has one'
+    if name == 'payload' and codec.startswith('g726'):
+        return 'G.726 has no payload type of its own'
+    return f'there is a {other}, and a circuit has both or none' if other in table else None
+
+
+def check_circuit(table: dict[str, Any], place: int, law: str, before: list[dict[str, Any]]) -> None:
+    """One table, by itself and against the earlier ones."""
+    check_names(table, place, CIRCUIT_KEYS)
+    codec = 'pcma' if law == 'A' else 'pcmu'
+    for name, key in CIRCUIT_KEYS.items():
+        if name == 'payload':
+            key = payload_key(codec)
+        check_key(table, place, name, key, needs(table, name, codec))
+        codec = table.get('codec', codec) if name == 'codec' else codec
+    if codec == ('pcmu' if law == 'A' else 'pcma'):
+        raise Fault('LawCodec', place, 'codec', f'{codec} is G.711 of the other law than the trunk\'s, "{law}"')
+    for name in ('number', 'local_port'):
+        for at, other in enumerate(before, 1):
+            if name in table and other.get(name) == table[name]:
+                raise Fault('Twice', place, name, f'{name} {table[name]} is also that of table {at}')
+
+
+def check(octets: bytes) -> dict[str, Any]:
+    """The table that a configuration is; Fault where it is none."""
+    table = parsed(octets)
+    check_names(table, 0, TOP_KEYS)
+    for name, key in TOP_KEYS.items():
+        check_key(table, 0, name, key, 'a trunk has one' if name == 'law' else None)
+    circuits = table.get('circuit', [])
+    if not all(isinstance(circuit, dict) for circuit in circuits):
+        raise Fault('WrongType', 0, 'circuit', 'circuit has to be a list of tables that begin with [[circuit]]')
+    for place, circuit in enumerate(circuits, 1):
+        check_circuit(circuit, place, table['law'], circuits[:place - 1])
+    return table
+
+
+# ---- the sockets ----
+
+def address(host: str, port: int, name: str) -> tuple[int, Any]:
+    """The family and the first address of a host; ValueError where it has none."""
+    try:
+        family, _, _, _, where = socket.getaddrinfo(host, port, type=socket.SOCK_DGRAM)[0]
+    except (OSError, UnicodeError) as error:
+        raise ValueError(f'{name} "{cut(host)}" has no address: {error}') from error
+    return family, where
+
+
+def socket_fault(host: str, circuit: dict[str, Any]) -> str | None:
+    """Why a circuit's socket cannot be opened, or None."""
+    port = circuit['local_port']
+    try:
+        family, where = address(host, port, 'host')
+        peer, _ = address(circuit.get('peer_host', '127.0.0.1'), circuit['peer_port'], 'peer_host')
+        with socket.socket(family, socket.SOCK_DGRAM) as door:
+            door.bind(where)
+    except ValueError as error:
+        return str(error)
+    except OSError as error:
+        why = {errno.EADDRINUSE: f'port {port} is in use (ss -ulpn tells by whom)',
+               errno.EADDRNOTAVAIL: f'host "{host}" is no address of this machine (ip addr lists them)',
+               errno.EACCES: f'port {port} is below 1024, and needs a privilege'}
+        return why.get(error.errno or 0, str(error))
+    if family != peer:
+        return f'host "{host}" and peer_host "{circuit["peer_host"]}" are of different address families'
+    return None
+
+
+def first_socket_fault(table: dict[str, Any]) -> tuple[int, str] | None:
+    """Opens each socket by itself: the circuit of the first that cannot be opened, and why; None if all can."""
+    with_ports = [circuit for circuit in table.get('circuit', []) if 'local_port' in circuit]
+    for circuit in sorted(with_ports, key=lambda it: int(it['number'])):
+        if why := socket_fault(table.get('host', '127.0.0.1'), circuit):
+            return circuit['number'], why
+    return None
+
+
+# ---- the words ----
+
+def read_octets(path: str) -> bytes:
+    """The octets of a configuration, and of a longer file one more than it may have."""
+    with open(path, 'rb') as file:
+        return file.read(LONGEST + 1)
+
+
+def words_of(fault: Fault, path: str, octets: bytes) -> str:
+    """The file, the line and what is wrong."""
+    line = fault.line or line_of(octets.decode('utf-8', 'replace'), fault.place, fault.key)
+    return f'{path}:{line}: {fault.text}' if line else f'{path}: {fault.text}'
+
+
+def config_words(path: str) -> str | None:
+    """Why a configuration is refused, in words; None if nothing is found."""
+    octets = b''
+    try:
+        octets = read_octets(path)
+        check(octets)
+    except Fault as fault:
+        return words_of(fault, path, octets)
+    except OSError as fault:
+        return f'{path}: {fault.strerror or fault}'
+    return None
+
+
+def socket_words(path: str, number: int) -> str | None:
+    """Why the socket of a circuit cannot be opened, in words; None if it can by now."""
+    try:
+        table = check(read_octets(path))
+    except (Fault, OSError):
+        return None
+    for circuit in table.get('circuit', []):
+        if circuit['number'] == number and 'local_port' in circuit:
+            return socket_fault(table.get('host', '127.0.0.1'), circuit)
+    return None
+
+
+def gateway_words(line: str, path: str) -> str | None:
+    """What stands behind a line with which `e1gw serve` ended at its start, in words; None for another line."""
+    if found := re.fullmatch(r'socket (\d+)', line):
+        return socket_words(path, int(found[1])) or 'its port is free by now, or its peer is not reached'
+    if line == 'cannot open the recording':
+        return 'the driver reads what the gateway takes from a pipe, /dev/fd: is /proc mounted?'
+    return None
+
+
+def main() -> int:
+    asked = argparse.ArgumentParser(prog='e1gw-explain', description=__doc__, usage=argparse.SUPPRESS,
+                                    formatter_class=argparse.RawDescriptionHelpFormatter)
+    asked.add_argument('--no-sockets', action='store_true')
+    asked.add_argument('file')
+    given = asked.parse_args()
+    octets = b''
+    try:
+        octets = read_octets(given.file)
+        table = check(octets)
+    except OSError as error:
+        print(f'cannot read the configuration\n  {given.file}: {error.strerror or error}')
+        return 2
+    except Fault as fault:
+        print(f'config {KINDS[fault.kind]} {fault.kind} at {fault.place}\n  {words_of(fault, given.file, octets)}')
+        return 2
+    print('the configuration has no fault')
+    if given.no_sockets:
+        return 0
+    if found := first_socket_fault(table):
+        print(f'socket {found[0]}\n  {found[1]}')
+        return 1
+    print(f'{sum("local_port" in circuit for circuit in table.get("circuit", []))} sockets can be opened')
+    return 0

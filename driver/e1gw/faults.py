@@ -1,0 +1,35 @@
+"""What the system refuses, in words that name what was refused: no number of an error stands alone."""
+from __future__ import annotations
+
+import argparse
+import os
+from typing import NoReturn
+
+
+def words_of_fault(fault: BaseException, what: str = '') -> str:
+    """`what: No such file or directory`; `what` is by default the file that the fault names."""
+    if not isinstance(fault, OSError):
+        return f'{what}: {fault}' if what else str(fault)
+    why = fault.strerror or str(fault) or type(fault).__name__
+    name = what or (fault.filename if isinstance(fault.filename, str) else '')
+    return f'{name}: {why}' if name and name not in why else why
+
+
+def named(fault: OSError, what: str) -> OSError:
+    """The same fault, which says what it is of."""
+    return OSError(fault.errno or 0, words_of_fault(fault, what))
+
+
+def options_words() -> str:
+    """Where the options of a unit stand, for who reads that they are wrong; nothing where no unit started this."""
+    path = os.environ.get('E1GW_OPTIONS')
+    if not path:
+        return ''
+    return f'; its options stand in {path}' if os.path.exists(path) else f'; {path} is not there, which has its options'
+
+
+class Parser(argparse.ArgumentParser):
+    """A parser that says where the options of a unit stand."""
+
+    def error(self, message: str) -> NoReturn:
+        super().error(message + options_words())

@@ -1,0 +1,218 @@
+"""Writes whole configurations of e1gw, and checks those that there are: e1gw-config(1).
+
+  e1gw-config [--trunk N] [VALUES]                     prints a configuration of thirty circuits
+  e1gw-config --write NAME [--trunk N] [VALUES]        writes NAME.toml and NAME.options
+  e1gw-config --write NAME --tie OTHER [VALUES]        writes those of both ends of a tie
+  e1gw-config --check FILE..                           says what is wrong with files, and ports that two have
+
+Trunk N of a machine has the ports from 24002 + 100 (N - 1) on and the metrics at 9100 + N, so trunks never clash.
+
+The status is 0 where all was written or nothing was found, and else 2.
+"""
+from __future__ import annotations
+
+import argparse
+import os
+import sys
+from dataclasses import dataclass, replace
+from typing import Any
+
+from .explain import CODECS, Fault, check, config_words, read_octets
+from .faults import words_of_fault
+from .session import CIRCUITS
+
+FIRST, APART, TRUNKS = 24_002, 100, 64      # ports of a trunk: one for RTP and the next one free for each circuit
+SAME_HOST = 10_000                          # ports between the two ends of a tie on one machine
+METRICS = 9100
+ROLES = ('outgoing', 'incoming', 'odd', 'even')
+
+
+class Usage(Exception):
+    """What is wrong with the values."""
+
+
+@dataclass(frozen=True)
+class Plan:
+    """What a configuration is made from."""
+
+    trunk: int
+    law: str
+    codec: str
+    payload: int | None
+    ptime: int
+    prefill: int
+    role: str
+    host: str
+    peer: str
+    first_local: int
+    first_peer: int
+
+    def other_end(self, trunk: int) -> Plan:
+        """The plan of the other end: hosts and ports change places, and the end that seizes is the other one."""
+        other = {'outgoing': 'incoming', 'incoming': 'outgoing', 'odd': 'even', 'even': 'odd'}
+        return replace(self, trunk=trunk, role=other[self.role], host=self.peer, peer=self.host,
+                       first_local=self.first_peer, first_peer=self.first_local)
+
+
+def is_outgoing(role: str, circuit: int) -> bool:
+    """Whether e1gw seizes the circuit: `odd` and `even` name the circuits on which it does."""
+    return {'outgoing': True, 'incoming': False, 'odd': circuit % 2 == 1, 'even': circuit % 2 == 0}[role]
+
+
+def table_of(plan: Plan, circuit: int) -> str:
+    """The table of a circuit."""
+    step = 2 * (circuit - 1)
+    lines = ['', '[[circuit]]', f'number = {circuit}',
+             f'role = "{"outgoing" if is_outgoing(plan.role, circuit) else "incoming"}"', f'codec = "{plan.codec}"']
+    if plan.payload is not None:
+        lines.append(f'payload = {plan.payload}')
+    lines += [f'ptime = {plan.ptime}', f'prefill = {plan.prefill}', f'local_port = {plan.first_local + step}',
+              f'peer_host = "{plan.peer}"', f'peer_port = {plan.first_peer + step}']
+    return '\n'.join(lines) + '\n'
+
+
+def text_of(plan: Plan) -> str:
+    """The whole configuration. Usage where e1gw would refuse it."""
+    head = (f'# Thirty circuits of one trunk, made by e1gw-config(1); e1gw.toml(5) has each key.\n'
+            f'# {plan.prefill / 8:g} ms of late packets are borne (prefill).\n'
+            f'law = "{plan.law}"\nhost = "{plan.host}"\n')
+    text = head + ''.join(table_of(plan, circuit) for circuit in CIRCUITS)
+    try:
+        check(text.encode())
+    except Fault as fault:
+        raise Usage(fault.text) from None
+    return text
+
+
+def options_text(name: str, trunk: int, device: str) -> str:
+    """The options of the unit of a trunk."""
+    return (f'# Options of e1gw-trunk(1) for the trunk {name}.\n'
+            f'TRUNK="{device.replace("NAME", name)} --http 127.0.0.1:{METRICS + trunk} --session /var/lib/e1gw/{name} '
+            f'--keep 1h --calls /var/lib/e1gw/{name}/calls.csv"\n')
+
+
+def plan_of(asked: argparse.Namespace) -> Plan:
+    """The plan of a command line."""
+    first = asked.first_local or FIRST + APART * (asked.trunk - 1)
+    codec = asked.codec or ('pcma' if asked.law == 'A' else 'pcmu')
+    payload = asked.payload if asked.payload is not None or not codec.startswith('g726') else 96
+    first_peer = asked.first_peer or (first + SAME_HOST if asked.peer == asked.host else first)
+    return Plan(asked.trunk, asked.law, codec, payload, asked.ptime, asked.prefill, asked.role, asked.host, asked.peer,
+                first, first_peer)
+
+
+# ---- what is written ----
+
+def write_new(path: str, text: str, over: bool) -> None:
+    """Writes a file; one that is there already is kept, unless it is to be written over."""
+    with open(path, 'w' if over else 'x', encoding='utf-8') as file:
+        file.write(text)
+    print(path)
+
+
+def write_all(asked: argparse.Namespace, plan: Plan) -> None:
+    """Writes the two files of a trunk, and those of the other end of a tie."""
+    ends = [(asked.write, plan)]
+    if asked.tie:
+        # (two trunks of one machine have each a port for metrics)
+        ends.append((asked.tie, plan.other_end(plan.trunk + (plan.host == plan.peer))))
+    texts = [(name, text_of(each), options_text(name, each.trunk, asked.device)) for name, each in ends]
+    for name, text, options in texts:
+        path = os.path.join(asked.folder, name)
+        write_new(f'{path}.toml', text, asked.over)
+        write_new(f'{path}.options', options, asked.over)
+
+
+# ---- what is checked ----
+
+def doors_of(table: dict[str, Any]) -> dict[tuple[str, int], int]:
+    """The address and port of each circuit that has one."""
+    host = table.get('host', '127.0.0.1')
+    return {(host, circuit['local_port']): circuit['number'] for circuit in table.get('circuit', [])
+            if 'local_port' in circuit}
+
+
+def check_files(paths: list[str]) -> bool:
+    """Prints what is wrong with each, and ports that two of them have; returns whether nothing is."""
+    good, taken = True, dict[tuple[str, int], str]()
+    for path in paths:
+        if why := config_words(path):
+            print(why)
+            good = False
+            continue
+        for (host, port), circuit in doors_of(check(read_octets(path))).items():
+            before = taken.setdefault((host, port), f'{path}, circuit {circuit}')
+            if before != f'{path}, circuit {circuit}':
+                print(f'{path}, circuit {circuit}: {host}:{port} is also the port of {before}')
+                good = False
+    if good:
+        print(f'{len(paths)} configurations have no fault')
+    return good
+
+
+# ---- the command line ----
+
+def number(low: int, high: int) -> Any:
+    def read(text: str) -> int:
+        value = int(text)
+        if not low <= value <= high:
+            raise argparse.ArgumentTypeError(f'{low} to {high}')
+        return value
+    return read
+
+
+def parser() -> argparse.ArgumentParser:
+    words = argparse.ArgumentParser(prog='e1gw-config', description=__doc__, usage=argparse.SUPPRESS,
+                                    formatter_class=argparse.RawDescriptionHelpFormatter)
+    words.add_argument('--check', nargs='+', metavar='FILE', help='checks configurations, and that no port is in two')
+    words.add_argument('--write', metavar='NAME', help='writes NAME.toml and NAME.options')
+    words.add_argument('--tie', metavar='OTHER', help='with --write, the other end of a tie: OTHER.toml, OTHER.options')
+    words.add_argument('--folder', default='.', help='where files are written [default: here]')
+    words.add_argument('--over', action='store_true', help='writes over files that are there')
+    words.add_argument('--device', default='--unix /run/card/NAME', metavar='OPTIONS',
+                       help='what e1gw-trunk(1) is to open, in .options [default: --unix /run/card/NAME]')
+    values = words.add_argument_group('values')
+    values.add_argument('--trunk', type=number(1, TRUNKS), default=1, metavar='N',
+                        help=f'which trunk of the machine, 1 to {TRUNKS}: its ports [default: 1]')
+    values.add_argument('--law', choices=('A', 'mu'), default='A', help='the law of the trunk [default: A]')
+    values.add_argument('--codec', choices=CODECS, help='[default: G.711 of the law]')
+    values.add_argument('--payload', type=number(0, 127), metavar='TYPE', help='[default: 96 for G.726]')
+    values.add_argument('--ptime', type=int, choices=(10, 20, 30), default=20, help='ms in a packet [default: 20]')
+    values.add_argument('--prefill', type=number(0, 1600), default=320, metavar='SAMPLES',
+                        help='how late packets may be, in samples, 8 a ms [default: 320, 40 ms]')
+    values.add_argument('--role', choices=ROLES, default='outgoing',
+                        help='circuits that e1gw seizes: all, none, odd or even ones [default: outgoing, all]')
+    values.add_argument('--host', default='127.0.0.1', help='the address of this end [default: 127.0.0.1]')
+    values.add_argument('--peer', default='127.0.0.1', metavar='HOST', help='that of the other [default: 127.0.0.1]')
+    values.add_argument('--first-local', type=number(1, 65_535), metavar='PORT',
+                        help='the port of circuit 1 here [default: by --trunk]')
+    values.add_argument('--first-peer', type=number(1, 65_535), metavar='PORT',
+                        help='that of circuit 1 there [default: the same, and 10000 more at the same address]')
+    return words
+
+
+def run(asked: argparse.Namespace) -> int:
+    if asked.check:
+        return 0 if check_files(asked.check) else 2
+    if asked.tie and (not asked.write or asked.tie == asked.write):
+        raise Usage('--tie wants --write, and another name')
+    plan = plan_of(asked)
+    if asked.write:
+        write_all(asked, plan)
+    else:
+        print(text_of(plan), end='')
+    return 0
+
+
+def main() -> None:
+    asked = parser().parse_args()
+    status = 2
+    try:
+        status = run(asked)
+    except Usage as fault:
+        print(f'e1gw-config: {fault}', file=sys.stderr)
+    except BrokenPipeError:
+        os.dup2(os.open(os.devnull, os.O_WRONLY), 1)
+    except OSError as fault:
+        print(f'e1gw-config: {words_of_fault(fault)}', file=sys.stderr)
+    sys.exit(status)

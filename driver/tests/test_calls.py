@@ -1,0 +1,132 @@
+"""A line for each call: who ended it, its packets, a file that is rotated, and a disk that is full."""
+from __future__ import annotations
+
+import csv
+import os
+import tempfile
+import time
+import unittest
+from typing import Any
+
+from . import support
+from .test_driver import FOUR, aligned, call
+from .world import SECONDS, World, config_of
+from e1gw.calls import FIELDS, KEPT, Calls, Rotated
+from e1gw.counts import Counts
+from e1gw.lines import Line, Role
+
+
+class Ends(unittest.TestCase):
+    """The states of a line as ITU-T Q.421 has them, one after another, a second each."""
+
+    def setUp(self) -> None:
+        self.now, self.rows = 1_000_000_000.0, list[list[str]]()
+        self.lines = {1: Line(1), 2: Line(2, Role.INCOMING)}
+        self.counts = Counts()
+        self.calls = Calls('west', self.lines, self.counts, self.put, lambda: self.now)
+
+    def put(self, line: bytes) -> None:
+        self.rows += csv.reader([line.decode()])
+
+    def states(self, circuit: int, *states: str) -> None:
+        for was, state in zip(states, states[1:]):
+            self.calls.took({'event': 'state', 'circuit': circuit, 'was': was, 'state': state, 'place': 100})
+            self.now += 1
+
+    def test_who_ends(self) -> None:
+        self.counts.answered_place = 100
+        for circuit, states, by in (
+                (1, ('idle', 'seized', 'acked', 'answered', 'releasing', 'idle'), 'gateway'),
+                (1, ('idle', 'seized', 'acked', 'answered', 'clearedback', 'releasing', 'idle'), 'exchange'),
+                (1, ('idle', 'seized', 'acked', 'fault', 'idle'), 'fault'),
+                (2, ('idle', 'acked', 'answered', 'idle'), 'exchange'),
+                (2, ('idle', 'acked', 'answered', 'clearedback', 'idle'), 'gateway')):
+            with self.subTest(states=states):
+                self.states(circuit, *states)
+                self.calls.look()
+                self.assertEqual((self.rows.pop()[6], self.rows), (by, []))
+
+    def test_a_seizure_that_is_not_acknowledged(self) -> None:
+        self.counts.answered_place = 100
+        self.states(1, 'idle', 'seized')
+        self.lines[1].unacknowledged += 1
+        self.states(1, 'seized', 'releasing', 'idle')
+        self.calls.look()
+        self.assertEqual(self.rows, [['west', '1', 'outgoing', '2001-09-09T01:46:40.000Z', '',
+                                      '2001-09-09T01:46:41.000Z', 'not acknowledged', 'pcma', '0', '0', '0', '0']])
+
+    def test_packets_are_those_of_the_call(self) -> None:
+        """Each line waits until its packets are counted, and has none of the call before."""
+        self.states(1, 'idle', 'seized', 'acked', 'answered', 'releasing', 'idle')
+        self.calls.look()
+        self.assertEqual(self.rows, [])
+        counts = self.counts.circuits[1].counts
+        for packets in (50, 70):
+            counts['sent'] += packets
+            counts['admitted'] += packets - 3
+            counts['Late'] = counts.get('Late', 0) + 3
+            self.counts.answered_place = 100
+            self.calls.look()
+            self.assertEqual(self.rows.pop()[8:], [str(packets), str(packets - 3), '0', '3'])
+            self.states(1, 'idle', 'seized', 'acked', 'answered', 'releasing', 'idle')
+
+    def test_the_trunk_ends_before_the_call(self) -> None:
+        self.counts.ended = 'it fell behind'
+        self.states(2, 'idle', 'acked', 'answered')
+        self.calls.finish()
+        self.assertEqual([(row[4] != '', row[6], row[8:]) for row in self.rows], [(True, 'stop', [''] * 4)])
+
+
+class Files(unittest.TestCase):
+    def test_a_full_file_is_moved_away(self) -> None:
+        with tempfile.TemporaryDirectory() as folder:
+            path = os.path.join(folder, 'calls.csv')
+            file = Rotated(path, b'head\n', 30)
+            file.open()
+            for number in range(10, 40):
+                file.write(b'line of %d\n' % number)
+            file.close()
+            names = sorted(os.listdir(folder))
+            self.assertEqual(names, ['calls.csv', *(f'calls.csv.{n}' for n in range(1, KEPT + 1))])
+            for name, line in (('calls.csv', b'39'), ('calls.csv.1', b'37'), (f'calls.csv.{KEPT}', b'21')):
+                with open(os.path.join(folder, name), 'rb') as held:
+                    self.assertEqual((held.readline(), line in held.read()), (b'head\n', True), name)
+
+
+class Service(unittest.TestCase):
+    def setUp(self) -> None:
+        support.program()
+
+    def rows(self, path: str, count: int) -> list[dict[str, Any]]:
+        until, found = time.monotonic() + SECONDS, list[dict[str, Any]]()
+        while len(found) < count and time.monotonic() < until:
+            time.sleep(0.05)
+            with open(path, encoding='utf-8', newline='') as file:
+                found = list(csv.DictReader(file))
+        return found
+
+    def test_a_call(self) -> None:
+        with World(config_of(FOUR), '--calls', '@/calls.csv') as world:
+            aligned(world)
+            call(world, 1)
+            world.step(30)
+            world.ask('clear 1')
+            world.step(30)
+            rows = self.rows(world.path('calls.csv'), 1)
+            counts = world.status()['circuits'][0]['datagrams']
+            self.assertEqual(list(rows[0]), list(FIELDS))
+            self.assertEqual([(row['trunk'], row['circuit'], row['by']) for row in rows], [('trunk', '1', 'gateway')])
+            self.assertTrue(rows[0]['seized'] <= rows[0]['answered'] <= rows[0]['ended'])
+            self.assertEqual(int(rows[0]['sent']), counts['sent'])
+            self.assertGreater(counts['sent'], 0)
+
+    def test_a_full_disk_ends_no_call(self) -> None:
+        with World(config_of(FOUR), '--calls', '/dev/full') as world:
+            aligned(world)
+            call(world, 1)
+            self.assertEqual(world.state(1), 'answered')
+            self.assertIn('No space left', world.status()['ended']['calls'])
+
+
+if __name__ == '__main__':
+    unittest.main()

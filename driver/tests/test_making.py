@@ -1,0 +1,97 @@
+"""e1gw-config: what it writes is a configuration to the program, and no two trunks have a port in common."""
+from __future__ import annotations
+
+import os
+import subprocess
+import sys
+import tempfile
+import tomllib
+import unittest
+from typing import Any
+
+from . import support
+from e1gw.making import options_text, parser, plan_of, text_of
+
+LAUNCHER = os.path.join(support.TOP, 'driver', 'e1gw-config')
+
+
+class Made(unittest.TestCase):
+    def setUp(self) -> None:
+        folder = tempfile.TemporaryDirectory()
+        self.addCleanup(folder.cleanup)
+        self.folder = folder.name
+
+    def path(self, name: str) -> str:
+        return os.path.join(self.folder, name)
+
+    def made(self, *words: str) -> tuple[int, str, str]:
+        done = subprocess.run([sys.executable, '-B', LAUNCHER, *words], capture_output=True, text=True, check=False,
+                              cwd=self.folder)
+        return done.returncode, done.stdout, done.stderr
+
+    def table(self, name: str) -> dict[str, Any]:
+        """A file that was written, which the program takes, with a line for each of thirty circuits."""
+        done = subprocess.run([support.program(), 'check', '--config', self.path(name)], stdin=subprocess.DEVNULL,
+                              capture_output=True, text=True, check=False)
+        self.assertEqual((done.returncode, len(done.stdout.splitlines()), done.stderr), (0, 30, ''))
+        with open(self.path(name), 'rb') as file:
+            return tomllib.load(file)
+
+    def test_the_example_of_the_package(self) -> None:
+        with open(f'{support.TOP}/system/thirty.toml', encoding='utf-8') as file:
+            self.assertEqual(self.made(), (0, file.read(), ''))
+
+    def test_thirty_circuits_of_each_codec(self) -> None:
+        for words, codec, payload in ((['--law', 'mu'], 'pcmu', None), (['--codec', 'g726-32'], 'g726-32', 96),
+                                      (['--codec', 'g726-16', '--payload', '101'], 'g726-16', 101)):
+            with self.subTest(words=words):
+                self.assertEqual(self.made('--write', 'one', '--over', *words)[0], 0)
+                table = self.table('one.toml')
+                self.assertEqual({(each['codec'], each.get('payload'), each['prefill']) for each in table['circuit']},
+                                 {(codec, payload, 320)})
+                self.assertEqual([each['number'] for each in table['circuit']], list(range(1, 31)))
+
+    def test_both_ends_of_a_tie(self) -> None:
+        """On each circuit one end seizes, and each sends to the port of the other."""
+        self.assertEqual(self.made('--write', 'west', '--tie', 'east', '--role', 'odd', '--host', '192.0.2.10',
+                                   '--peer', '198.51.100.20', '--first-peer', '25002', '--codec', 'g726-32')[0], 0)
+        west, east = self.table('west.toml'), self.table('east.toml')
+        self.assertEqual((west['host'], east['host']), ('192.0.2.10', '198.51.100.20'))
+        for here, there in zip(west['circuit'], east['circuit']):
+            self.assertEqual({here['role'], there['role']}, {'outgoing', 'incoming'})
+            self.assertEqual((here['peer_host'], here['peer_port']), (east['host'], there['local_port']))
+            self.assertEqual((there['peer_host'], there['peer_port']), (west['host'], here['local_port']))
+        self.assertEqual([each['role'] for each in west['circuit'][:2]], ['outgoing', 'incoming'])
+
+    def test_trunks_of_a_machine_never_clash(self) -> None:
+        ports, doors = set(), set()
+        for trunk in range(1, 65):
+            plan = plan_of(parser().parse_args(['--trunk', str(trunk)]))
+            ports |= {circuit['local_port'] + more for circuit in tomllib.loads(text_of(plan))['circuit']
+                      for more in (0, 1)}
+            doors.add(options_text('rack', plan.trunk, '').partition('--http ')[2].split()[0])
+        self.assertEqual((len(ports), len(doors)), (64 * 30 * 2, 64))
+
+    def test_a_clash_is_found(self) -> None:
+        self.made('--write', 'rack1')
+        self.made('--write', 'rack2', '--first-local', '24060')
+        status, said, _ = self.made('--check', 'rack1.toml', 'rack2.toml')
+        self.assertEqual((status, said), (2, 'rack2.toml, circuit 1: 127.0.0.1:24060 is also the port of rack1.toml, '
+                                          'circuit 30\n'))
+
+    def test_what_is_refused(self) -> None:
+        self.made('--write', 'old')
+        with open(self.path('bad.toml'), 'w', encoding='utf-8') as file:
+            file.write('law = "A"\ncodecc = 1\n')
+        for words, told in ((['--law', 'mu', '--codec', 'pcma'], 'other law'),
+                            (['--first-local', '65500', '--first-peer', '9002'], 'local_port'),
+                            (['--write', 'old'], 'old.toml: File exists'), (['--tie', 'east'], '--tie wants --write'),
+                            (['--trunk', '65'], '1 to 64'), (['--check', 'none.toml'], 'none.toml: No such file'),
+                            (['--check', 'bad.toml'], 'bad.toml:2: codecc is no key here')):
+            with self.subTest(words=words):
+                status, said, fault = self.made(*words)
+                self.assertEqual((status, told in said + fault), (2, True), said + fault)
+
+
+if __name__ == '__main__':
+    unittest.main()
