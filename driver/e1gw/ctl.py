@@ -17,7 +17,7 @@ import socket
 import sys
 from typing import BinaryIO
 
-from .ctl_all import PATIENCE, SOCKETS, overview, trunks_here
+from .ctl_all import SOCKETS, connected, overview, trunks_here
 from .faults import words_of_fault
 
 ASKING = ('status', 'events', 'help')
@@ -96,9 +96,7 @@ def run_all(words: list[str]) -> int:
     status = 0
     for name, path in trunks_here():
         try:
-            with socket.socket(socket.AF_UNIX) as line:
-                line.settimeout(PATIENCE)
-                line.connect(path)
+            with connected(path) as line:
                 stream: BinaryIO = line.makefile('rb')
                 done = [ask(stream, line, each, f'{name}: ') for each in each_circuit(' '.join(words))]
                 status |= not all(done)

@@ -4,6 +4,7 @@ from __future__ import annotations
 import json
 import os
 import socket
+import struct
 import time
 from typing import Any, BinaryIO, Mapping
 
@@ -34,11 +35,23 @@ def units_here() -> list[str]:
     return [name.removesuffix('.options') for name in names if name.endswith('.options')]
 
 
+def connected(path: str) -> socket.socket:
+    """A connection to a trunk, within PATIENCE, which each answer has, too. OSError if there is none."""
+    line = socket.socket(socket.AF_UNIX)
+    try:
+        # connect waits for a place only if the socket blocks; settimeout would have it refused at once.
+        line.setsockopt(socket.SOL_SOCKET, socket.SO_SNDTIMEO, struct.pack('ll', int(PATIENCE), 0))
+        line.connect(path)
+        line.settimeout(PATIENCE)
+    except OSError:
+        line.close()
+        raise
+    return line
+
+
 def status_of(path: str) -> dict[str, Any]:
     """The status that a trunk answers. OSError or ValueError where it answers none."""
-    with socket.socket(socket.AF_UNIX) as line:
-        line.settimeout(PATIENCE)
-        line.connect(path)
+    with connected(path) as line:
         stream: BinaryIO = line.makefile('rb')
         line.sendall(b'status json\n')
         found = json.loads(stream.readline())

@@ -434,6 +434,7 @@ class Lines(Sites):
         await self.both()
         self.east.send(5, HELD)
         await self.until(self.at(5, State.BLOCKED, State.BLOCKED))
+        await self.until(lambda: 5 not in self.sites[0][0]._busy)       # its own block has been answered
         self.assertIn('not idle', self.west.obey(['block', '5']))
         self.east.send(5, IDLE)
         self.east.send(7, HELD)

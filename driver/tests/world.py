@@ -164,8 +164,8 @@ class World:
     def ask(self, command: str | bytes) -> str:
         """The answer to a command."""
         with socket.socket(socket.AF_UNIX) as line:
+            line.connect(self.path('ctl'))      # waits for a place; with a time limit it would be refused
             line.settimeout(SECONDS)
-            line.connect(self.path('ctl'))
             line.sendall((command.encode() if isinstance(command, str) else command) + b'\n')
             answer = b''
             while not answer.endswith(b'\n\n'):
