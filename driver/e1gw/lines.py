@@ -111,6 +111,7 @@ class Line:
     faults: int = 0
     open_for: int = 0                   # octets with the path open, before this stretch
     opened: int | None = None
+    configured: tuple[str, int] = ('pcma', 8)       # the codec and payload type of the configuration
 
     def hear(self, pair: int) -> None:
         """A pair of bits came."""
@@ -158,7 +159,7 @@ class Line:
             'recognised': PAIRS[self.recognised], 'for': round((place - self.since) / OCTETS_A_SECOND, 3),
             'seizures': self.seizures, 'answers': self.answers, 'unacknowledged': self.unacknowledged,
             'faults': self.faults, 'open': round((self.open_for + opened) / OCTETS_A_SECOND, 3), 'codec': self.codec,
-            'payload': self.payload}
+            'payload': self.payload, 'configured_codec': self.configured[0], 'configured_payload': self.configured[1]}
 
 
 def read_config(path: str) -> dict[str, Any]:
@@ -183,6 +184,8 @@ def lines_of(config: Mapping[str, Any]) -> dict[int, Line]:
         line.ptime = table.get('ptime', line.ptime)
         line.prefill = table.get('prefill', line.prefill)
         line.port = table.get('local_port')
+    for line in lines.values():
+        line.configured = line.codec, line.payload
     return lines
 
 
@@ -459,7 +462,7 @@ class Lines:
     def status(self) -> dict[str, Any]:
         """All that is known, as a dictionary of plain values."""
         return {
-            'octets': self.place,
+            'octets': self.place, 'law': self.law,
             'alarm': {str(what): on for what, on in self.alarms.items()},
             'remote_alarm': {str(what): on for what, on in self.remote.items()},
             'losses': {str(what): n for what, n in self.losses.items()},

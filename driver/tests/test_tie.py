@@ -17,6 +17,7 @@ from e1gw.lines import Role, State
 from e1gw.session import CIRCUITS, Command
 from e1gw.tie import site as site_module
 from e1gw.tie.circuit import End
+from e1gw.tie.coding import Coding, Codings
 from e1gw.tie.kept import Kept, read
 from e1gw.tie.main import ANYBODY, is_loopback, parser
 from e1gw.tie.messages import All, Alive, BadMessage, Change, Dark, Greeting, message_of, spell
@@ -29,6 +30,7 @@ from tests.test_tie_circuit import CALLED, COLUMN, DONE, INCOMING, OUTGOING
 HERE = os.path.dirname(os.path.dirname(os.path.abspath(__file__)))
 HOLD = 3.0                  # seconds
 IDLE, SEIZED, ANSWER, HELD = 0b10, 0b00, 0b01, 0b11         # bits a and b
+PCMA, G726 = Coding('pcma', 8), Coding('g726-16', 96)
 
 
 class Pairs(unittest.TestCase):
@@ -50,8 +52,8 @@ class Pairs(unittest.TestCase):
 class Messages(unittest.TestCase):
     def test_there_and_back(self) -> None:
         end = End(Role.INCOMING, State.ACKED, 'a.1', True, 'a.0')
-        for message in (Greeting('ab', None), Greeting('ab', {1: 30}), All(True, {30: end}), Change(1, end),
-                        Dark(False), Alive(), Change(2, End(Role.OUTGOING, State.FAULT, None))):
+        for message in (Greeting('ab', None), Greeting('ab', {1: 30}), All(True, {30: end}), All(False, {}, 'pcma'),
+                        Change(1, end), Dark(False), Alive(), Change(2, End(Role.OUTGOING, State.FAULT, None))):
             self.assertEqual(message_of(spell(message)), message)
 
     def test_no_message(self) -> None:
@@ -59,6 +61,7 @@ class Messages(unittest.TestCase):
                      b'{"tie": 1, "run": 7}', b'{"tie": 1, "run": "a", "pairs": {"1": 2, "2": 2}}', b'{"circuit": 1}',
                      b'{"circuit": true, "end": {}}', b'{"circuit": 31, "end": {}}', b'{"all": [], "dark": true}',
                      b'{"all": {"1": {"role": "both"}}, "dark": true}', b'[' * 100_000,
+                     b'{"all": {}, "dark": true, "until_answer": 8}',
                      b'{"tie": 1, "run": "' + b'a' * 200 + b'", "pairs": null}'):
             with self.subTest(line=line[:60]), self.assertRaises(BadMessage):
                 message_of(line)
@@ -68,7 +71,7 @@ class Help(unittest.TestCase):
     def test_help(self) -> None:
         said = subprocess.run([os.path.join(HERE, 'e1gw-tie'), '--help'], check=True, stdout=subprocess.PIPE).stdout
         for option in ('--control', '--listen', '--connect', '--map', '--tls', '--insecure', '--peer', '--hold',
-                       '--congestion', '--state'):
+                       '--congestion', '--until-answer', '--state'):
             self.assertIn(option.encode(), said)
 
     def test_refused(self) -> None:
@@ -216,6 +219,8 @@ class Played:
         self.states = dict.fromkeys(CIRCUITS, State.IDLE)
         self.pairs = dict.fromkeys(CIRCUITS, IDLE)
         self.seizures = dict.fromkeys(CIRCUITS, 0)
+        self.codecs = dict.fromkeys(CIRCUITS, G726)
+        self.law = 'A'
         self.alarm = self.acknowledges = False
         self.octets = 0
         self.asked: list[str] = []
@@ -252,6 +257,8 @@ class Played:
             return json.dumps(self.status())
         if words[0] in ('events', 'on-loss'):
             return f'{words[0]}: done'
+        if words[0] == 'codec':
+            return self.change(int(words[1]), Coding(words[2], int(words[3])))
         n, command = int(words[1]), next(each for each in Command if each.word == words[0])
         of, to = DONE[command]
         mine = (self.roles[n] is Role.OUTGOING) == (command in (Command.SEIZE, Command.CLEAR))
@@ -264,9 +271,17 @@ class Played:
     def status(self) -> dict[str, Any]:
         self.octets += 256
         none = {'frame': False, 'multiframe': False}
-        return {'octets': self.octets, 'alarm': {**none, 'frame': self.alarm}, 'remote_alarm': none, 'circuits': [
-            {'circuit': n, 'role': str(self.roles[n]), 'state': str(self.states[n]), 'seizures': self.seizures[n]}
+        trunk = {'octets': self.octets, 'law': self.law, 'alarm': {**none, 'frame': self.alarm}, 'remote_alarm': none}
+        return trunk | {'circuits': [
+            {'circuit': n, 'role': str(self.roles[n]), 'state': str(self.states[n]), 'seizures': self.seizures[n],
+             'codec': self.codecs[n].codec, 'payload': self.codecs[n].payload, 'configured_codec': G726.codec,
+             'configured_payload': G726.payload}
             for n in CIRCUITS]}
+
+    def change(self, n: int, coding: Coding) -> str:
+        self.codecs[n] = coding
+        self.tell(event='codec', circuit=n, codec=coding.codec, payload=coding.payload)
+        return f'codec {n}: done'
 
     def move(self, n: int, state: State) -> None:
         was, self.states[n] = self.states[n], state
@@ -319,8 +334,8 @@ class Sites(unittest.IsolatedAsyncioTestCase):
     def tie(self, name: str, waits: bool = False, **more: Any) -> tuple[Tie, Site]:
         driver = self.west if name == 'west' else self.east
         told = self.events[name]
-        made = Tie(Options(driver.path, more.get('pairs'), HOLD, waits), f'run of {name} {time.monotonic()}',
-                   Kept(os.path.join(self.folder.name, f'{name}.kept')),
+        options = Options(driver.path, more.get('pairs'), HOLD, waits, more.get('until'))
+        made = Tie(options, f'run of {name} {time.monotonic()}', Kept(os.path.join(self.folder.name, f'{name}.kept')),
                    lambda event, **fields: told.append({'event': event, **fields}))
         if not self.port:
             self.port = free_port()
@@ -524,6 +539,152 @@ class Lines(Sites):
         self.assertFalse(self.told('west', 'site gone'))
         self.west.send(3, SEIZED)
         await self.until(self.at(3, State.ACKED, State.ACKED))
+
+
+class UntilAnswer(Sites):
+    """G.711 until the answer, and the configured codec from it on, at both ends."""
+
+    def have(self, n: int, coding: Coding) -> Callable[[], bool]:
+        return lambda: self.west.codecs[n] == self.east.codecs[n] == coding
+
+    async def answered(self, n: int) -> None:
+        self.west.send(n, SEIZED)
+        await self.until(self.at(n, State.ACKED, State.ACKED))
+        self.east.send(n, ANSWER)
+        await self.until(self.at(n, State.ANSWERED, State.ANSWERED))
+
+    async def test_call(self) -> None:
+        """A call from its seizure to its end; an idle circuit is ready for the next one, and no other is touched."""
+        await self.both(until='pcma')
+        await self.until(lambda: all(self.have(n, PCMA)() for n in CIRCUITS))
+        self.west.send(3, SEIZED)
+        await self.until(self.at(3, State.ACKED, State.ACKED))
+        self.assertTrue(self.have(3, PCMA)())
+        self.east.send(3, ANSWER)
+        await self.until(self.have(3, G726))
+        self.assertEqual({state[3] for state in (self.west.states, self.east.states)}, {State.ANSWERED})
+        self.east.send(3, HELD)
+        await self.until(self.at(3, State.CLEAREDBACK, State.CLEAREDBACK))
+        self.assertTrue(self.have(3, G726)())
+        self.west.send(3, IDLE)
+        await self.until(self.have(3, PCMA))
+        self.assertTrue(self.have(1, PCMA)())
+        self.assertEqual([each for each in self.east.asked if each.startswith('codec 3 ')],
+                         ['codec 3 pcma 8', 'codec 3 g726-16 96', 'codec 3 pcma 8'])
+
+    async def test_not_asked_for(self) -> None:
+        await self.both()
+        await self.answered(3)
+        self.assertFalse([each for each in self.west.asked + self.east.asked if each.startswith('codec')])
+
+    async def test_other_site_has_it_not(self) -> None:
+        """A site alone changes nothing, and says why."""
+        self.run_tie(*self.tie('west', until='pcma'))
+        self.run_tie(*self.tie('east'))
+        await self.until(lambda: bool(self.told('west', 'warning')))
+        await self.until(self.at(3, State.IDLE, State.IDLE))
+        await self.answered(3)
+        self.assertTrue(self.have(3, G726)())
+        self.assertIn('--until-answer', self.told('west', 'warning')[-1]['about'])
+
+    async def test_another_law(self) -> None:
+        """A trunk that can't have this codec: both ends keep the configured one."""
+        self.east.law = 'mu'
+        await self.both(until='pcma')
+        await self.until(lambda: bool(self.told('west', 'warning')))
+        await self.answered(3)
+        self.assertTrue(self.have(3, G726)())
+        self.assertIn('law', self.told('east', 'warning')[0]['about'])
+
+    async def test_started_in_call(self) -> None:
+        """A tie that comes again in mid-call, and was not there at the answer: the call goes on, in the right codec."""
+        await self.both(until='pcma')
+        await self.until(lambda: all(self.have(n, PCMA)() for n in CIRCUITS))
+        for n in (3, 5):
+            self.west.send(n, SEIZED)
+            await self.until(self.at(n, State.ACKED, State.ACKED))
+        self.east.send(3, ANSWER)
+        await self.until(self.have(3, G726))
+        await self.kill(self.tasks[2:], self.sites[1][1])
+        self.east.send(5, ANSWER)
+        self.east.asked.clear()
+        self.run_tie(*self.tie('east', until='pcma'))
+        await self.until(self.have(5, G726))
+        await self.until(self.at(5, State.ANSWERED, State.ANSWERED))
+        self.assertTrue(self.have(3, G726)())
+        self.assertFalse([each for each in self.east.asked if each.startswith('codec 3 ')])
+
+    async def test_connection_broken(self) -> None:
+        """A call that ends without the other end is followed by the codec of the next one, at both ends."""
+        await self.both(until='pcma')
+        await self.answered(3)
+        await self.until(self.have(3, G726))
+        await self.kill(self.tasks[2:], self.sites[1][1])
+        await self.until(lambda: self.west.states[3] is State.CLEAREDBACK)
+        self.west.send(3, IDLE)
+        await self.until(lambda: self.west.codecs[3] == PCMA)
+        self.east.move(3, State.IDLE)
+        self.run_tie(*self.tie('east', until='pcma'))
+        await self.until(self.have(3, PCMA))
+
+    async def test_driver_anew(self) -> None:
+        """A driver that comes again has the configured codecs: they are changed anew."""
+        await self.both(until='pcma')
+        await self.until(lambda: all(self.have(n, PCMA)() for n in CIRCUITS))
+        await self.east.stop()
+        await self.until(lambda: self.west.states[1] is State.BLOCKED)
+        self.east.codecs = dict.fromkeys(CIRCUITS, G726)
+        await self.east.start()
+        await self.until(lambda: all(self.have(n, PCMA)() for n in CIRCUITS))
+
+    async def test_left(self) -> None:
+        """At its end a tie gives circuits without a call what is configured."""
+        await self.both(until='pcma')
+        self.west.send(3, SEIZED)
+        await self.until(self.at(3, State.ACKED, State.ACKED))
+        await self.until(lambda: all(self.have(n, PCMA)() for n in CIRCUITS))
+        await self.sites[0][0].leave()
+        self.assertEqual([n for n in CIRCUITS if self.west.codecs[n] == PCMA], [3])
+
+
+class WantedCodec(unittest.TestCase):
+    """Which codec is wanted where, by hand."""
+
+    def codings(self, law: str = 'A', payload: int = 96, codec: str = 'g726-16') -> tuple[Codings, str | None]:
+        made = Codings('pcma')
+        why = made.begin({'law': law, 'circuits': [{'circuit': 1, 'codec': codec, 'payload': payload,
+                                                    'configured_codec': codec, 'configured_payload': payload}]})
+        return made, why
+
+    def test_states(self) -> None:
+        for state in State:
+            made, why = self.codings()
+            self.assertIsNone(why)
+            self.assertIsNone(made.wants(1, state))             # the other site was not heard yet
+            self.assertIsNone(made.heard('pcma'))
+            wanted = None if state in (State.ANSWERED, State.CLEAREDBACK) else PCMA
+            self.assertEqual(made.wants(1, state), wanted)
+
+    def test_g711_is_left_alone(self) -> None:
+        made, why = self.codings(codec='pcma', payload=100)
+        made.heard('pcma')
+        self.assertEqual((why, made.wants(1, State.IDLE)), (None, None))
+
+    def test_what_cannot_be_had(self) -> None:
+        for made, why in (self.codings('mu'), self.codings(payload=8)):
+            self.assertIsNotNone(why)
+            self.assertIsNone(made.own)
+            made.heard('pcma')
+            self.assertIsNone(made.wants(1, State.IDLE))
+
+    def test_refused(self) -> None:
+        """What the driver refuses is asked once, and again when another one was wanted in between."""
+        made, _ = self.codings()
+        made.heard('pcma')
+        made.answered(1, PCMA, False)
+        self.assertIsNone(made.wants(1, State.IDLE))
+        made.answered(1, PCMA, True)
+        self.assertEqual(made.wants(1, State.ANSWERED), G726)
 
 
 def free_port() -> int:

@@ -12,11 +12,13 @@ import signal
 import ssl
 import sys
 import time
+from contextlib import suppress
 from typing import Any
 
 from ..faults import Parser, named, words_of_fault
 from ..outlets import hold_descriptors, to_descriptor
 from ..trunks import host_and_port
+from .coding import SIGNALLING
 from .kept import Kept
 from .pairs import BadPairs, Pairs, pairs_of
 from .site import Site, context_of
@@ -27,6 +29,7 @@ and answers, clear-backs, clearing, blocking, faults and alarms are passed on.''
 MORE = '''One of these runs at each site beside its e1gw-trunk. Each thing that it does is a line of JSON on standard
 output. Without --tls the connection is neither secret nor authenticated. See e1gw-tie(1).'''
 ANYBODY = 'any certificate of the authority is let in, since no --peer names that of the other site'
+LEAVES = 1.0                # seconds at most in which codecs are given back
 MOST_MAP = 100_000          # characters of the map's file that are looked at
 
 
@@ -63,6 +66,8 @@ def parser() -> argparse.ArgumentParser:
                       'the other end [default: 2]')
     made.add_argument('--congestion', choices=('clear-back', 'wait'), default='clear-back', help='a call that cannot '
                       'be had is answered and cleared back, or the caller waits [default: clear-back]')
+    made.add_argument('--until-answer', choices=tuple(SIGNALLING), help='calls pass in G.711 until they are answered, '
+                      'and then in the configured codec; both sites want the same')
     made.add_argument('--state', metavar='FILE', help='keeps which circuits the operator has blocked')
     return made
 
@@ -107,6 +112,9 @@ async def work(tie: Tie, site: Site) -> int:
     tie.start()
     tasks = [asyncio.create_task(each) for each in (tie.follow_trunk(), site.run(), asked.wait())]
     done, _ = await asyncio.wait(tasks, return_when=asyncio.FIRST_COMPLETED)
+    with suppress(TimeoutError):
+        async with asyncio.timeout(LEAVES):
+            await tie.leave()
     status = 0
     for task in done:
         fault = task.exception()
@@ -145,8 +153,8 @@ def main() -> None:
     kept = Kept(options.state)
     try:
         pairs = read_map(options.map) if options.map else None
-        tie = Tie(Options(options.control, pairs, options.hold, options.congestion == 'wait'), secrets.token_hex(8),
-                  kept, tell)
+        wanted = Options(options.control, pairs, options.hold, options.congestion == 'wait', options.until_answer)
+        tie = Tie(wanted, secrets.token_hex(8), kept, tell)
         site = tie.site = site_of(options, tie)
     except (OSError, BadPairs, ValueError) as fault:
         return refuse(f'{options.map}: {fault}' if isinstance(fault, BadPairs) else words_of_fault(fault))

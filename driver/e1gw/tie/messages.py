@@ -37,6 +37,7 @@ class All:
 
     dark: bool
     ends: dict[int, End]
+    until_answer: str | None = None     # the codec that it can give its circuits until the answer
 
 
 @dataclass(frozen=True)
@@ -66,7 +67,8 @@ def _plain(message: Message) -> dict[str, Any]:
     if isinstance(message, Greeting):
         return {'tie': VERSION, 'run': message.run, 'pairs': message.pairs}
     if isinstance(message, All):
-        return {'all': {n: asdict(end) for n, end in message.ends.items()}, 'dark': message.dark}
+        return {'all': {n: asdict(end) for n, end in message.ends.items()}, 'dark': message.dark,
+                'until_answer': message.until_answer}
     if isinstance(message, Change):
         return {'circuit': message.circuit, 'end': asdict(message.end)}
     return {'dark': message.dark} if isinstance(message, Dark) else {'alive': True}
@@ -128,7 +130,8 @@ def message_of(line: bytes) -> Message:
         return Greeting(_name(fields.get('run'), 'run'), _pairs(fields.get('pairs')))
     if 'all' in fields:
         ends = {_circuit(n): _end(end) for n, end in _is(fields['all'], dict, 'circuits').items()}
-        return All(_is(fields.get('dark'), bool, 'dark'), ends)
+        codec = fields.get('until_answer')
+        return All(_is(fields.get('dark'), bool, 'dark'), ends, None if codec is None else _name(codec, 'codec'))
     if 'circuit' in fields:
         return Change(_circuit(fields['circuit']), _end(fields.get('end')))
     if 'dark' in fields:

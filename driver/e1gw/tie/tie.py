@@ -5,12 +5,13 @@ import asyncio
 import json
 import time
 from dataclasses import dataclass, replace
-from typing import Any, Callable
+from typing import Any, Callable, Coroutine
 
-from ..lines import Role, State
+from ..lines import IN_CALL, Role, State
 from ..session import Command
 from .circuit import NO_CALL, Circuit, End, Link
 from .client import Client, Event, connect, life_of
+from .coding import Coding, Codings
 from .kept import Kept
 from .messages import All, Change, Dark, Greeting, Message
 from .pairs import Pairs, agreed
@@ -32,6 +33,7 @@ class Options:
     pairs: Pairs | None
     hold: float
     waits: bool             # no answer is feigned to tell of congestion
+    until_answer: str | None = None     # the codec of each call until it is answered
 
 
 class Tie:
@@ -44,6 +46,7 @@ class Tie:
         self.circuits: dict[int, Circuit] = {}
         self.there = agreed(options.pairs, None)        # of each circuit here the one there
         self.link = Link.LOST
+        self.codings = Codings(options.until_answer)
         self._client: Client | None = None
         self._life = self._why = ''                     # of the driver; why it is gone
         self._seizures: dict[int, int] = {}
@@ -121,6 +124,7 @@ class Tie:
             self._moved(n)
         states = [str(circuit.state) for circuit in self.circuits.values()]
         self.tell('trunk', states={state: states.count(state) for state in sorted(set(states))})
+        self._warn_of_codecs(self.codings.begin(status))
         self._join()
         self._stands(status)
         self._send_all()
@@ -141,11 +145,13 @@ class Tie:
         for row in status['circuits']:
             n = int(row['circuit'])
             circuit = self.circuits[n]
+            self.codings.stands(n, row)
             if row['state'] != circuit.state and n not in self._busy:
                 self._seizures[n] = int(row['seizures'])
                 call = self._call(n) if circuit.role is Role.INCOMING else circuit.call
                 self._put(n, circuit.moved(State(row['state']), None if call == circuit.call else call))
                 self._moved(n)
+            self._look_at_codec(n)
 
     def _told(self, event: Event) -> None:
         """A change that the driver tells."""
@@ -210,6 +216,7 @@ class Tie:
 
     def _look(self, n: int) -> None:
         """Gives a circuit the command that it wants."""
+        self._look_at_codec(n)
         if not self._client or n in self._busy or n not in self.there:
             return
         link = self._link_of(n)
@@ -221,9 +228,12 @@ class Tie:
         command = settled.wants(link, self.options.waits)
         if command is not None:
             self._busy[n] = command
-            task = asyncio.create_task(self._do(self._client, n, command))
-            self._tasks.add(task)
-            task.add_done_callback(self._tasks.discard)
+            self._begin_task(self._do(self._client, n, command))
+
+    def _begin_task(self, work: Coroutine[Any, Any, None]) -> None:
+        task = asyncio.create_task(work)
+        self._tasks.add(task)
+        task.add_done_callback(self._tasks.discard)
 
     def _look_at_all(self) -> None:
         for n in list(self.circuits):
@@ -247,6 +257,36 @@ class Tie:
             await asyncio.sleep(ANSWER_LASTS if done else AGAIN)
         del self._busy[n]
         self._look(n)
+
+    # ---- codecs ----
+
+    def _look_at_codec(self, n: int) -> None:
+        """Gives a circuit the codec that it is to have."""
+        coding = self.codings.wants(n, self.circuits[n].state) if n in self.there else None
+        if self._client and coding is not None:
+            self.codings.changing.add(n)
+            self._begin_task(self._change(self._client, n, coding))
+
+    async def _change(self, client: Client, n: int, coding: Coding) -> None:
+        try:
+            answer = (await client.ask(f'codec {n} {coding.codec} {coding.payload}')).rpartition(': ')[2]
+        except (OSError, EOFError):
+            return
+        finally:
+            self.codings.changing.discard(n)
+        self.tell('codec', circuit=n, codec=coding.codec, payload=coding.payload, answer=answer)
+        self.codings.answered(n, coding, answer == 'done')
+        self._look_at_codec(n)
+
+    def _warn_of_codecs(self, why: str | None) -> None:
+        if why:
+            self.tell('warning', about=f'each call has its configured codec from its beginning: {why}')
+
+    async def leave(self) -> None:
+        """Before the end: circuits without a call get their configured codec."""
+        for n, coding in self.codings.end().items():
+            if self._client and self.circuits[n].state not in IN_CALL:
+                await self._change(self._client, n, coding)
 
     # ---- the link ----
 
@@ -287,6 +327,7 @@ class Tie:
     def heard(self, message: Message) -> None:
         if isinstance(message, All):
             self._far, self._far_dark = dict(message.ends), message.dark
+            self._warn_of_codecs(self.codings.heard(message.until_answer))
             self._join()
             self._look_at_link()
             self._look_at_all()
@@ -335,7 +376,7 @@ class Tie:
         """Tells how all circuits stand, once that is known."""
         if self.site and self.circuits:
             ends = {n: self.circuits[n].end() for n in self.there if n in self.circuits}
-            self.site.send(All(self._dark, ends))
+            self.site.send(All(self._dark, ends, self.codings.own))
         if self._far is not None:
             self._join()
             self._look_at_link()
