@@ -28,6 +28,16 @@ def asked(script: str, *words: str) -> list[str]:
             return file.read().split()
 
 
+def purged(folder: str) -> str:
+    """What a purge says, if this folder is the root of the machine."""
+    with open(os.path.join(TOP, 'package', 'postrm'), encoding='ascii') as file:
+        text = file.read()
+    for path in ('/var/lib', '/etc/'):
+        text = text.replace(f' {path}', f' {folder}{path}')
+    return subprocess.run(['sh', '-c', text, 'postrm', 'purge'], check=True, timeout=20, capture_output=True,
+                          text=True).stdout
+
+
 class Units(unittest.TestCase):
     def units(self) -> list[str]:
         return [name.replace('@.', '@*.') for name in sorted(os.listdir(os.path.join(TOP, 'system')))
@@ -42,6 +52,24 @@ class Units(unittest.TestCase):
         self.assertEqual(asked('prerm', 'upgrade', '0.2.0'), [])
         self.assertEqual(asked('postrm', 'upgrade', '0.2.0'), [])
         self.assertNotIn('stop', asked('postinst', 'configure', '0.1.0'))
+
+    def test_purge_says_what_is_left(self) -> None:
+        """Recordings with their size, and each other thing that stays; nothing where nothing does."""
+        left = {'/var/lib/e1gw': '/var/lib/e1gw', '/var/lib/e1gw-tie': 'ties', '/etc/e1gw': 'keys',
+                '/etc/systemd/system/multi-user.target.wants/e1gw-trunk@west.service': 'west.service'}
+        with tempfile.TemporaryDirectory() as folder:
+            self.assertNotIn('recordings', purged(folder))
+            for path in left:
+                os.makedirs(os.path.dirname(folder + path), exist_ok=True)
+                if path.endswith('.service'):
+                    os.symlink('/lib/systemd/system/e1gw-trunk@.service', folder + path)
+                else:
+                    os.mkdir(folder + path)
+            with open(f'{folder}/var/lib/e1gw/west-1', 'wb') as file:
+                file.write(bytes(3 << 20))
+            said = purged(folder)
+        for word in (*left.values(), 'recordings of calls, with speech: 3.'):
+            self.assertIn(word, said)
 
     def test_units_are_read_anew(self) -> None:
         for script, word in (('postinst', 'configure'), ('postrm', 'remove')):
