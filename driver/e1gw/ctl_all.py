@@ -9,6 +9,7 @@ import time
 from typing import Any, BinaryIO, Mapping
 
 from .faults import words_of_fault
+from .events import REMOTE
 from .metrics import state_of
 
 SOCKETS, UNITS = '/run/e1gw', '/etc/e1gw'
@@ -67,7 +68,7 @@ def line_of(name: str, status: Mapping[str, Any]) -> str:
     lost, late = sum(row['lost'] for row in rows), sum(row['datagrams'].get('Late', 0) for row in rows)
     since = time.strftime('%Y-%m-%d %H:%M', time.gmtime(status['time'] - status['uptime']))
     far = [what for what, on in status['remote_alarm'].items() if on]
-    alarms = f'; the other end: no {", no ".join(far)} alignment' if far and status['trunk_up'] else ''
+    alarms = f'; the other end: {", ".join(REMOTE[what] for what in far)}' if far and status['trunk_up'] else ''
     ended = [what for what, why in status['ended'].items() if why is not None]
     told = f'; ended: {", ".join(ended)}' if ended else ''
     return (f'{name:12} {status["version"]:8} {since:17} {calls:5} {lost:8} {late:8}  '

@@ -8,29 +8,40 @@ from .lines import Event
 WARNED = frozenset(('lost', 'gap', 'ahead', 'stalled', 'ended', 'trunk lost', 'cleared', 'slots'))
 NOTICED = frozenset(('aligned', 'alarm', 'remote alarm', 'flows', 'rate', 'renewed', 'satop', 'trunk'))
 
+# The alarms of ITU-T G.704, G.706 and G.732, by what has no alignment: at this end, and as the other one tells.
+LOSSES = {'frame': 'loss of frame alignment (LFA)', 'multiframe': 'loss of multiframe alignment'}
+REMOTE = {'frame': 'RAI (bit A)', 'multiframe': 'distant multiframe alarm (bit y)'}
 _SLOTS = {'lost': 'slot 16 lost: both directions silent', 'found': 'slot 16 found again, speech goes on',
           'moved': 'slots moved by {}: slot 16 found again, speech goes on'}
 _WORDS: dict[str, Callable[[Event], str]] = {
     'state': lambda e: f'{e["circuit"]}: {e["state"]}, was {e["was"]}',
-    'alarm': lambda e: f'alarm: no {e["what"]} alignment' if e['on'] else f'alarm over: {e["what"]} alignment',
-    'remote alarm': lambda e: f'remote alarm{"" if e["on"] else " over"}: {e["what"]} alignment',
+    'alarm': lambda e: f'alarm{_over(e)}: {LOSSES[e["what"]]}',
+    'remote alarm': lambda e: f'alarm of the other end{_over(e)}: {REMOTE[e["what"]]}',
     'aligned': lambda e: f'{e["what"]} alignment found',
     'lost': lambda e: f'{e["what"]} alignment lost',
     'codec': lambda e: f'{e["circuit"]}: codec {e["codec"]}, payload type {e["payload"]}',
     'command': lambda e: f'{e["circuit"]}: {e["command"]}: {e["answer"]}',
-    'renewed': lambda e: f'playout restarted{_times(e)}, {e["why"]}: circuits {", ".join(map(str, e["circuits"]))}',
-    'cleared': lambda e: f'calls cleared, {e["why"]}: circuits {", ".join(map(str, e["circuits"]))}',
-    'stalled': lambda e: f'no octets for {e["seconds"]} s',
+    'renewed': lambda e: f'jitter buffer resynchronised{_times(e)}, {e["why"]}: circuits {_circuits(e)}',
+    'cleared': lambda e: f'calls cleared, {e["why"]}: circuits {_circuits(e)}',
+    'stalled': lambda e: f'no octets of the trunk for {e["seconds"]} s',
     'flows': lambda e: f'octets again after {e["seconds"]} s',
-    'gap': lambda e: f'gap: octets of {e["seconds"]} s were lost',
-    'ahead': lambda e: f'octets of {e["seconds"]} s came too early',
-    'rate': lambda e: f'rate: {e["ppm"]:+} ppm beside this machine\'s clock',
+    'gap': lambda e: f'slip: {e["seconds"]} s of the trunk were lost',
+    'ahead': lambda e: f'burst: {e["seconds"]} s of the trunk came too early',
+    'rate': lambda e: f'rate: {e["ppm"]:+} ppm relative to this machine\'s clock',
     'ended': lambda e: f'{e["what"]} ended, the calls go on: {e["why"]}',
     'slots': lambda e: _SLOTS[e['what']].format(e.get('by')),
     'trunk': lambda e: f'trunk open: {e.get("trunk", "")}',
     'trunk lost': lambda e: f'trunk lost: {e["why"]}',
     'satop': lambda e: f'satop: {e["what"]}{"" if e.get("on", True) else " over"}{_why(e)}',
 }
+
+
+def _over(event: Event) -> str:
+    return '' if event['on'] else ' over'
+
+
+def _circuits(event: Event) -> str:
+    return ', '.join(map(str, event['circuits']))
 
 
 def _why(event: Event) -> str:

@@ -12,7 +12,7 @@ from dataclasses import dataclass, field
 from enum import StrEnum
 from typing import Any, Callable, Mapping
 
-from .session import CIRCUITS, FRAME, MULTIFRAME, OCTETS_A_SECOND, Codec, Command
+from .session import CIRCUITS, FRAME, MULTIFRAME, OCTETS_A_SECOND, SAMPLES_A_SECOND, Codec, Command
 
 RECOGNISED = 10             # equal pairs in a row
 UNACKNOWLEDGED = 100        # signals after which a seizure is released
@@ -159,7 +159,8 @@ class Line:
             'recognised': PAIRS[self.recognised], 'for': round((place - self.since) / OCTETS_A_SECOND, 3),
             'seizures': self.seizures, 'answers': self.answers, 'unacknowledged': self.unacknowledged,
             'faults': self.faults, 'open': round((self.open_for + opened) / OCTETS_A_SECOND, 3), 'codec': self.codec,
-            'payload': self.payload, 'configured_codec': self.configured[0], 'configured_payload': self.configured[1]}
+            'payload': self.payload, 'configured_codec': self.configured[0], 'configured_payload': self.configured[1],
+            'prefill': self.prefill, 'jitter_buffer_ms': self.prefill * 1000 / SAMPLES_A_SECOND}
 
 
 def read_config(path: str) -> dict[str, Any]:

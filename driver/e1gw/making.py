@@ -74,7 +74,7 @@ def table_of(plan: Plan, circuit: int) -> str:
 def text_of(plan: Plan) -> str:
     """The whole configuration. Usage where e1gw would refuse it."""
     head = (f'# Thirty circuits of one trunk, made by e1gw-config(1); e1gw.toml(5) has each key.\n'
-            f'# {plan.prefill / 8:g} ms of late packets are borne (prefill).\n'
+            f'# The jitter buffer (prefill) is {plan.prefill / 8:g} ms deep.\n'
             f'law = "{plan.law}"\nhost = "{plan.host}"\n')
     text = head + ''.join(table_of(plan, circuit) for circuit in CIRCUITS)
     try:

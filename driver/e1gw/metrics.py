@@ -4,6 +4,7 @@ from __future__ import annotations
 import time
 from typing import Any, Iterable, Mapping
 
+from .events import LOSSES, REMOTE
 from .lines import State
 
 Status = Mapping[str, Any]
@@ -12,7 +13,7 @@ Samples = Iterable[tuple[Labels, float | int]]
 
 CIRCUIT_COUNTS = (('seizures', 'Calls begun.'), ('answers', 'Calls answered.'),
                   ('unacknowledged', 'Seizures that were not acknowledged.'),
-                  ('faults', 'Signals without a meaning in their state.'))
+                  ('faults', 'Invalid line signals.'))
 
 
 # ---- the text of Prometheus, version 0.0.4 ----
@@ -33,7 +34,8 @@ def family(name: str, kind: str, about: str, samples: Samples, common: str = '')
 def exposition(status: Status, trunk: str = '') -> str:
     """All metrics of a trunk, which `trunk` names."""
     common = f'trunk="{_escaped(trunk)}"' if trunk else ''
-    families = [*_of_trunk(status), *_of_lines(status), *_of_datagrams(status), *_of_driver(status)]
+    families = [*_of_trunk(status), *_of_lines(status), *_of_packets(status), *_of_datagrams(status),
+                *_of_driver(status)]
     return ''.join(family(*each, common) for each in families)
 
 
@@ -45,19 +47,19 @@ def _of_trunk(status: Status) -> list[Family]:
     found: list[Family] = [
         ('e1gw_trunk_octets_total', 'counter', 'Octets of the trunk.', [({}, status['octets'])]),
         ('e1gw_trunk_up', 'gauge', '1 where the trunk is open.', [({}, int(status['trunk_up']))]),
-        ('e1gw_alarm', 'gauge', 'Alarms: this end, or the other one, has no alignment.',
+        ('e1gw_alarm', 'gauge', 'Alarms: loss of alignment at this end, RAI or distant multiframe alarm of the other.',
          [({'end': end, 'alignment': what}, int(on)) for end, alarms in ends for what, on in alarms.items()]),
         ('e1gw_alignment_losses_total', 'counter', 'How often alignment was lost.',
          [({'alignment': what}, n) for what, n in status['losses'].items()]),
-        ('e1gw_wrong_signals_total', 'counter', 'Wrong octets of slot 0 while aligned.',
+        ('e1gw_wrong_signals_total', 'counter', 'Frame alignment signals in error.',
          [({}, status['wrong_signals'])]),
         ('e1gw_trunk_stalled', 'gauge', '1 while no octets come.', [({}, int(clock['stalled']))]),
         ('e1gw_trunk_stalls_total', 'counter', 'Times without octets.', [({}, clock['stalls'])]),
-        ('e1gw_trunk_gaps_total', 'counter', 'Times at which octets were lost.', [({}, clock['gaps'])]),
-        ('e1gw_trunk_gap_seconds_total', 'counter', 'Seconds of octets that were lost.',
+        ('e1gw_trunk_gaps_total', 'counter', 'Slips, at which octets of the trunk were lost.', [({}, clock['gaps'])]),
+        ('e1gw_trunk_gap_seconds_total', 'counter', 'Seconds of the trunk that slips have lost.',
          [({}, clock['gap_seconds'])])]
     if clock['ppm'] is not None:
-        found.append(('e1gw_trunk_rate_ppm', 'gauge', 'The rate beside this machine\'s clock, over a minute.',
+        found.append(('e1gw_trunk_rate_ppm', 'gauge', 'The rate relative to this machine\'s clock, over a minute.',
                       [({}, clock['ppm'])]))
     numbers = [({'what': what}, n) for what, n in status['transport'].items()
                if isinstance(n, (int, float)) and not isinstance(n, bool)]
@@ -71,29 +73,46 @@ def _of_lines(status: Status) -> list[Family]:
         ('e1gw_circuit_state', 'gauge', 'The state of each line: 1 for the one that it is in.',
          [({'circuit': row['circuit'], 'role': row['role'], 'state': state}, int(state == row['state']))
           for row in rows for state in State]),
-        ('e1gw_circuit_state_seconds', 'gauge', 'How long the line has been in its state, by the trunk.',
+        ('e1gw_circuit_state_seconds', 'gauge', 'Time in state, by the trunk.',
          [({'circuit': row['circuit']}, row['for']) for row in rows])]
     for name, about in CIRCUIT_COUNTS:
         found.append((f'e1gw_circuit_{name}_total', 'counter', about,
                       [({'circuit': row['circuit']}, row[name]) for row in rows]))
-    found.append(('e1gw_circuit_open_seconds_total', 'counter', 'Time with the speech path open.',
+    found.append(('e1gw_circuit_open_seconds_total', 'counter', 'Time with the speech path connected.',
                   [({'circuit': row['circuit']}, row['open']) for row in rows]))
     return found
+
+
+def _of_packets(status: Status) -> list[Family]:
+    rows = [({'circuit': row['circuit']}, row) for row in status['circuits']]
+    way = {'sent': 'sent', 'admitted': 'received'}
+    counts = [(labels, what, n) for labels, row in rows for what, n in row['datagrams'].items()]
+    return [
+        ('e1gw_rtp_packets_total', 'counter', 'RTP packets sent, and received and not discarded.',
+         [({**labels, 'direction': way[what]}, n) for labels, what, n in counts if what in way]),
+        ('e1gw_rtp_discarded_total', 'counter', 'Packets that were received and discarded, by cause.',
+         [({**labels, 'cause': what}, n) for labels, what, n in counts if what not in way]),
+        ('e1gw_rtp_lost', 'gauge', 'Packets that did not come, by sequence number.',
+         [(labels, row['lost']) for labels, row in rows]),
+        ('e1gw_rtp_jitter_seconds', 'gauge', 'Interarrival jitter (RFC 3550, 6.4.1).',
+         [(labels, round(row['jitter_ms'] / 1000, 6)) for labels, row in rows]),
+        ('e1gw_jitter_buffer_seconds', 'gauge', 'Depth of the jitter buffer, prefill of the configuration.',
+         [(labels, row['jitter_buffer_ms'] / 1000) for labels, row in rows])]
 
 
 def _of_datagrams(status: Status) -> list[Family]:
     rows = status['circuits']
     sockets = [row for row in rows if row['socket']]
     return [
-        ('e1gw_datagrams_total', 'counter', 'Datagrams sent, admitted, and refused by cause.',
+        ('e1gw_datagrams_total', 'counter', 'Old names: e1gw_rtp_packets_total, e1gw_rtp_discarded_total.',
          [({'circuit': row['circuit'], 'what': what}, n) for row in rows for what, n in row['datagrams'].items()]),
-        ('e1gw_datagrams_lost', 'gauge', 'Packets that did not come, by sequence number.',
+        ('e1gw_datagrams_lost', 'gauge', 'Old name: e1gw_rtp_lost.',
          [({'circuit': row['circuit']}, row['lost']) for row in rows]),
-        ('e1gw_datagrams_jitter_seconds', 'gauge', 'Jitter between arrivals (RFC 3550).',
+        ('e1gw_datagrams_jitter_seconds', 'gauge', 'Old name: e1gw_rtp_jitter_seconds.',
          [({'circuit': row['circuit']}, round(row['jitter_ms'] / 1000, 6)) for row in rows]),
-        ('e1gw_counts_stale', 'gauge', '1 where the counts of datagrams are not those of now.',
+        ('e1gw_counts_stale', 'gauge', '1 where the counts of packets are not those of now.',
          [({}, int(status['stale']))]),
-        ('e1gw_socket_dropped_total', 'counter', 'Datagrams for which the kernel had no room.',
+        ('e1gw_socket_dropped_total', 'counter', 'Packets for which the kernel had no room.',
          [({'circuit': row['circuit']}, row['socket']['dropped']) for row in sockets]),
         ('e1gw_socket_waiting_octets', 'gauge', 'Octets that wait in the socket.',
          [({'circuit': row['circuit']}, row['socket']['waiting']) for row in sockets])]
@@ -103,7 +122,9 @@ def _of_driver(status: Status) -> list[Family]:
     return [
         ('e1gw_commands_total', 'counter', 'Commands by answer.',
          [({'command': row['command'], 'answer': row['answer']}, row['count']) for row in status['commands']]),
-        ('e1gw_renewed_total', 'counter', 'Calls whose playout was begun anew.', [({}, status['renewed'])]),
+        ('e1gw_renewed_total', 'counter', 'Old name: e1gw_jitter_buffer_resyncs_total.', [({}, status['renewed'])]),
+        ('e1gw_jitter_buffer_resyncs_total', 'counter', 'Jitter buffers that were resynchronised.',
+         [({}, status['renewed'])]),
         ('e1gw_ended', 'gauge', '1 where something beside the calls has ended.',
          [({'what': what}, int(why is not None)) for what, why in status['ended'].items()]),
         ('e1gw_slowest_turn_seconds', 'gauge', 'The longest time from octets of the trunk to their answer in the last '
@@ -114,15 +135,20 @@ def _of_driver(status: Status) -> list[Family]:
 
 # ---- the table ----
 
-def _alignments(alarms: Mapping[str, bool], good: str) -> str:
-    missing = [f'no {what} alignment' for what, on in alarms.items() if on]
-    return ', '.join(missing) or good
+def _alarms(alarms: Mapping[str, bool], words: Mapping[str, str], good: str) -> str:
+    return ', '.join(words[what] for what, on in alarms.items() if on) or good
+
+
+def _far_end(status: Status) -> str:
+    """What the other end tells, which is heard only where this end has alignment."""
+    is_heard = status['trunk_up'] and not status['clock']['stalled'] and not any(status['alarm'].values())
+    return _alarms(status['remote_alarm'], REMOTE, 'no alarm') if is_heard else 'not heard'
 
 
 def state_of(status: Status) -> str:
     """How the trunk stands at this end, in a word or some."""
-    return 'no trunk' if not status['trunk_up'] else 'stalled' if status['clock']['stalled'] else _alignments(
-        status['alarm'], 'aligned')
+    return 'no trunk' if not status['trunk_up'] else 'stalled' if status['clock']['stalled'] else _alarms(
+        status['alarm'], LOSSES, 'aligned')
 
 
 def _head(status: Status) -> list[str]:
@@ -132,27 +158,29 @@ def _head(status: Status) -> list[str]:
     lines = [
         f'trunk {status["name"]}, e1gw {status["version"]}, up {status["uptime"]:.0f} s',
         f'{status["octets"] / 256_000:.1f} s of the trunk at {at} UTC, {state}; the other end: '
-        + _alignments(status['remote_alarm'], 'no alarm'),
+        + _far_end(status),
         'alignment lost: ' + ', '.join(f'{what} {n}' for what, n in status['losses'].items())
-        + f'; stalls {clock["stalls"]}, gaps {clock["gaps"]} ({clock["gap_seconds"]:.1f} s){rate}; slowest turn '
+        + f'; stalls {clock["stalls"]}, slips {clock["gaps"]} ({clock["gap_seconds"]:.1f} s){rate}; slowest turn '
         f'{status["slowest_turn"] * 1000:.1f} ms']
     lines += [f'ended: {what}: {why}' for what, why in status['ended'].items() if why is not None]
     if status['stale']:
-        lines.append('the counts of datagrams are not those of now')
+        lines.append('the counts of packets are not those of now')
     return lines
 
 
 def _row(row: Mapping[str, Any]) -> str:
     counts = dict(row['datagrams'])
-    sent, admitted = counts.pop('sent'), counts.pop('admitted')
-    refused = ', '.join(f'{n} {why}' for why, n in counts.items())
+    sent, received = counts.pop('sent'), counts.pop('admitted')
+    discarded = ', '.join(f'{n} {why}' for why, n in counts.items())
     return (f'{row["circuit"]:2} {row["role"]:8} {row["state"]:11} {row["sent"]:4} {row["recognised"]:3} '
             f'{row["for"]:9.1f} {row["seizures"]:6} {row["answers"]:8} {row["open"]:9.1f}  {row["codec"]:7} '
-            f'{sent:9} {admitted:9} {row["lost"]:5} {row["jitter_ms"]:7.1f}  {refused}').rstrip()
+            f'{row["jitter_buffer_ms"]:6g} {sent:9} {received:9} {row["lost"]:5} {row["jitter_ms"]:7.1f}  '
+            f'{discarded}').rstrip()
 
 
-COLUMNS = (' n role     state       sent got       for  calls answered      open  codec        sent  admitted  lost '
-           'jitter  refused')
+# Times in s, jitter and the depth of its buffer in ms; Tx and Rx are bits a and b of slot 16.
+COLUMNS = (' n role     state       TxAB RxAB in state calls answered connected  codec   buffer      sent  received  '
+           'lost  jitter  discarded')
 
 
 def table(status: Status) -> str:

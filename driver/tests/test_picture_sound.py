@@ -138,7 +138,7 @@ class Laws(unittest.TestCase):
 
     def test_of_a_trunk_in_service(self) -> None:
         path = program()
-        for name, words in (('other-order', 'read like the order of AAL2'), ('other-law', 'read like mu-law')):
+        for name, words in (('other-order', 'is packed as in AAL2'), ('other-law', 'read like mu-law')):
             session = TROUBLES[name]()
             given = b''.join(session.given())
             live = Live(tomllib.loads(session.config()), 60, 'a trunk', path)

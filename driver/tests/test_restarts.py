@@ -1,4 +1,4 @@
-"""Which calls have their playout restarted: by the rule alone, and in simulated time with the gateway's playout."""
+"""Which calls have their jitter buffer resynchronised: by the rule alone, and in simulated time with the gateway's playout."""
 from __future__ import annotations
 
 import unittest
@@ -110,8 +110,8 @@ class Rule(unittest.TestCase):
         self.go(119, LATE, circuits=(1, 2))
         self.assertEqual(len(self.restarted), 24)
         self.assertEqual([words_of(event) for event in self.told], [
-            f'playout restarted, {REFUSED}: circuits 1, 2',
-            'playout restarted 10 times more, again within a minute: circuits 1, 2'])
+            f'jitter buffer resynchronised, {REFUSED}: circuits 1, 2',
+            'jitter buffer resynchronised 10 times more, again within a minute: circuits 1, 2'])
         self.assertEqual(self.told[1]['count'], 10)
 
 

@@ -21,7 +21,7 @@ SHAPES = {'idle': (3, 4), 'seized': (7, 2), 'acked': (11, 0), 'answered': (11, 0
 HATCHED = {'seized': 'dots', 'clearedback': 'bars', 'releasing': 'dots', 'blocked': 'slant', 'fault': 'cross'}
 Pixels = dict[int, Cell]
 # What reads like another law or order, by the way, in a word.
-LIKE = {'came': 'other law', 'slot': 'slot: other law', 'order': 'order of AAL2'}
+LIKE = {'came': 'other law', 'slot': 'slot: other law', 'order': 'AAL2 packing'}
 
 
 def name_of(code: int) -> str:
@@ -46,7 +46,7 @@ def unlike(cell: Cell) -> list[str]:
 def trunk(facts: Facts, scale: Scale) -> str:
     """The alarms of both ends over time."""
     rows = [(facts.alarms[where, what], name) for where, what, name in ALARMS if facts.alarms]
-    rows.append((facts.ones, 'all ones come'))
+    rows.append((facts.ones, 'AIS'))
     sheet = Sheet(20 + 16 * len(rows), 'The alarms of the trunk over time')
     sheet.grid(scale, 16, sheet.height - 2)
     for n, (spans, name) in enumerate(rows):
@@ -240,7 +240,7 @@ class Playout:
         row = self.row
         marked = 13 * (len(self.others) + len(self.unlike))
         sheet = Sheet(self.y0 + self.high + 6 + marked, f'Datagrams of circuit {row.number} against the '
-                      f'playout: {self.whole.admitted} admitted; refused: {refusals(self.whole) or "none"}')
+                      f'jitter buffer: {self.whole.admitted} received; discarded: {refusals(self.whole) or "none"}')
         self._frame(sheet)
         self._admitted(sheet)
         self._untimely(sheet)

@@ -56,7 +56,7 @@ def _clock(row: Row, parts: list[Points], found: list[Step]) -> Iterator[Finding
                       f'datagrams come ever {way}: by {abs(gone) / 8:.0f} ms in {duration(long)}, so the sender\'s '
                       f'clock is {side} than the trunk\'s by {abs(rate):.0f} ppm',
                       'one clock for both, or a prefill that lasts for the longest call; `codec` with the codec that '
-                      'the circuit has begins the playout anew')
+                      'the circuit has resynchronises the jitter buffer')
 
 
 def _steps(facts: Facts, rows: list[Row], found: dict[int, list[Step]]) -> Iterator[Finding]:
@@ -85,7 +85,7 @@ def _steps(facts: Facts, rows: list[Row], found: dict[int, list[Step]]) -> Itera
 
 def _gaps(facts: Facts, gaps: list[tuple[int, float, int]]) -> Iterator[Finding]:
     """Moments at which octets of the trunk were lost: the place, the samples, and how many circuits show it."""
-    hint = 'the device lost octets; `codec` for each call begins its playout anew'
+    hint = 'the device lost octets (a slip); `codec` for each call resynchronises its jitter buffer'
     if len(gaps) == 1:
         place, ahead, circuits = gaps[0]
         yield Finding('gap', 0, f'at {_moment(facts, place)} the datagrams of {circuits} circuits come '
@@ -168,7 +168,7 @@ def _silent(row: Row, whole: Cell, opened: int) -> Iterator[Finding]:
     if whole.uneven > max(20, whole.admitted // 2):
         count, step = row.mismatch
         yield Finding('words', row.number,
-                      f'a datagram has {count} words of {row.codec}, and timestamps go on by {step}',
+                      f'a packet has {count} samples of {row.codec}, and timestamps go on by {step}',
                       'another codec under this payload type, or a clock other than 8000 Hz')
 
 
@@ -180,7 +180,7 @@ def _sound(row: Row, whole: Cell, law: str) -> Iterator[Finding]:
              'the sender has the other law under this payload type: one law at both ends, or G.726'),
             ('slot', f'the time slot reads like {there}, not like {here}',
              '`law` is not the trunk\'s: set it as the exchange has it, and the sender\'s payload type with it'),
-            ('order', 'the datagrams that came read like the order of AAL2, not like that of RFC 3551',
+            ('order', 'the G.726 that came is packed as in AAL2 (ITU-T I.366.2), not as in RFC 3551',
              'the sender has the first word in the high bits: a name such as g726 for g726le, or AAL2-G726 for G726; '
              'it may want what it is sent in that order, too')):
         seen = whole.heard.get(way)
@@ -280,7 +280,7 @@ def _trunk(facts: Facts) -> Iterator[Finding]:
                           f'{_moment(facts, places[0])}', 'the device lost or doubled octets, or the line was cut')
     ones = sum(last - first for first, last, on in facts.ones.between(facts.start, facts.place) if on)
     if ones:
-        yield Finding('ones', 0, f'all ones (AIS) came for {duration(ones)}',
+        yield Finding('ones', 0, f'AIS (all ones) came for {duration(ones)}',
                       'calls stand and send idle packets as long as it lasts; seizures are released')
 
 

@@ -195,7 +195,7 @@ class Page:
     def alarms(self) -> str:
         rows: list[tuple[object, ...]] = []
         spans = [(name, self.facts.alarms[where, what]) for where, what, name in charts.ALARMS if self.facts.alarms]
-        for name, each in (*spans, ('all ones come', self.facts.ones)):
+        for name, each in (*spans, ('AIS (all ones)', self.facts.ones)):
             for first, last, on in each.between(self.facts.start, self.facts.place):
                 if on:
                     rows.append((name, self.scale.words(first), self.scale.words(last), duration(last - first)))
