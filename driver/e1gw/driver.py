@@ -16,7 +16,7 @@ from .control import Client, Console, Say, listen_unix, seat
 from .counts import Counts
 from .events import NOTICED, WARNED, words_of
 from .explain import gateway_words
-from .faults import named, words_of_fault
+from .faults import named, words_of_fault, words_of_refusal
 from .gateway import Gateway, Shadow, version_of
 from .guards import Guards
 from .keep import Ring
@@ -352,7 +352,7 @@ class Driver:
             elif refusal is None:
                 self.lines.codec(circuit, Codec(number), more[0])
             self._count(circuit, words, text)
-            say(text)
+            say(words_of_refusal(refusal, circuit, self.lines.lines[circuit].role) if refusal else text)
         self.gateway.give(record, answered)
         self.gateway.settle()
         if self.gateway.busy():

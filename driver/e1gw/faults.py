@@ -5,6 +5,9 @@ import argparse
 import os
 from typing import NoReturn
 
+from .lines import Role
+from .session import CommandRefusal, Refusal
+
 
 def words_of_fault(fault: BaseException, what: str = '') -> str:
     """`what: No such file or directory`; `what` is by default the file that the fault names."""
@@ -18,6 +21,15 @@ def words_of_fault(fault: BaseException, what: str = '') -> str:
 def named(fault: OSError, what: str) -> OSError:
     """The same fault, which says what it is of."""
     return OSError(fault.errno or 0, words_of_fault(fault, what))
+
+
+def words_of_refusal(refusal: Refusal, circuit: int, role: Role) -> str:
+    """The words of a refusal, and behind `wrong role` which end gives such a command."""
+    if refusal is not CommandRefusal.WRONG_ROLE:
+        return refusal.words
+    whose = ('the exchange seizes and clears it' if role is Role.INCOMING
+             else 'the exchange answers, clears back and blocks it')
+    return f'{refusal.words} (circuit {circuit} is {role}; {whose})'
 
 
 def options_words() -> str:

@@ -63,8 +63,9 @@ class Commands(unittest.TestCase):
 
     def test_an_outgoing_circuit(self) -> None:
         aligned(self.world)
-        self.answers(('answer 1', 'answer 1: wrong role'), ('clear-back 1', 'clear-back 1: wrong role'),
-                     ('block 1', 'block 1: wrong role'), ('unblock 1', 'unblock 1: wrong role'),
+        wrong = 'wrong role (circuit 1 is outgoing; the exchange answers, clears back and blocks it)'
+        self.answers(('answer 1', f'answer 1: {wrong}'), ('clear-back 1', f'clear-back 1: {wrong}'),
+                     ('block 1', f'block 1: {wrong}'), ('unblock 1', f'unblock 1: {wrong}'),
                      ('clear 1', 'clear 1: not in a call'), ('seize 1', 'seize 1: done'),
                      ('seize 1', 'seize 1: not idle'))
         self.world.step(60)
@@ -75,7 +76,8 @@ class Commands(unittest.TestCase):
 
     def test_an_incoming_circuit(self) -> None:
         world = aligned(self.world)
-        self.answers(('seize 2', 'seize 2: wrong role'), ('clear 2', 'clear 2: wrong role'),
+        wrong = 'wrong role (circuit 2 is incoming; the exchange seizes and clears it)'
+        self.answers(('seize 2', f'seize 2: {wrong}'), ('clear 2', f'clear 2: {wrong}'),
                      ('answer 2', 'answer 2: not seized'), ('clear-back 2', 'clear-back 2: not in a call'),
                      ('unblock 2', 'unblock 2: not blocked'), ('block 2', 'block 2: done'),
                      ('block 2', 'block 2: not idle'), ('unblock 2', 'unblock 2: done'))
