@@ -1,4 +1,4 @@
-"""Which calls have their jitter buffer resynchronised: by the rule alone, and in simulated time with the gateway's playout."""
+"""Which calls have their playout restarted: by the rule alone, and in simulated time with the gateway's playout."""
 from __future__ import annotations
 
 import unittest

@@ -82,7 +82,7 @@ def found_items(found: list[Finding], shown: set[int]) -> list[str]:
         seen = escape(first.seen) + (f' <span class="note">(circuit {first.circuit}; the others alike)</span>'
                                      if len(others) > 1 else '')
         if 1 < len(others) <= 4:
-            seen = '; '.join(f'{each.circuit}: {escape(each.seen)}' for each in group)
+            seen = '; '.join(f'{each.circuit}: ' * (len(circuits) > 1) + escape(each.seen) for each in group)
         seen, hint = (re.sub('`(.*?)`', r'<code>\1</code>', words) for words in (seen, escape(first.hint)))
         items.append(f'<li class="{"alert" if first.bad else "plain"}"><b>{who}</b>{seen}'
                      f'<span class="hint"> &rarr; {hint}</span></li>')
