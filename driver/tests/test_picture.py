@@ -301,8 +301,8 @@ class Drawn(unittest.TestCase):
         session.senders.append(Sender(3, 0.2, 1.0 - 0.001, kind=13))
         records = list(session.given())
         words = self.checked(page(b''.join(records), answered(records, [11] * 40), config_of(session)))
-        self.assertIn('40 of 40 datagrams were refused as PayloadType: type 13 came, the circuit has 8', words)
-        self.assertIn('0 sent, 0 admitted, 40 refused', words)
+        self.assertIn('40 of 40 packets were discarded as PayloadType: type 13 came, the circuit has 8', words)
+        self.assertIn('0 sent, 0 received, 40 discarded', words)
         self.assertIn('127.0.0.1:24106', words)
 
     def test_words_are_escaped(self) -> None:

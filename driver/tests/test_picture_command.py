@@ -85,7 +85,7 @@ class Run(Folder):
         config, given, answers = self.small()
         page, said = self.drawn('--config', config, '--answers', answers, given)
         self.assertEqual(said, '')
-        self.assertIn('20 admitted, 0 refused', page)
+        self.assertIn('20 received, 0 discarded', page)
         path = os.path.join(self.folder, 'page.html')
         self.drawn('--config', config, '--answers', answers, '-o', path, given)
         with open(path, encoding='utf-8') as file:
@@ -95,7 +95,7 @@ class Run(Folder):
         config, given, answers = self.small(12)
         with open(given, 'rb') as file:
             page, _ = self.drawn('--config', config, '--answers', answers, '--title', 'A <b>', '-', given=file.read())
-        self.assertIn('0 admitted, 20 refused', page)
+        self.assertIn('0 received, 20 discarded', page)
         self.assertIn('<h1>A &lt;b&gt;</h1>', page)
 
     def test_times_in_utc(self) -> None:
@@ -119,7 +119,7 @@ class Run(Folder):
         with open(given, 'r+b') as file:
             file.truncate(os.path.getsize(given) - 100)
         page, said = self.drawn('--config', config, '--answers', answers, given)
-        self.assertIn('20 admitted, 0 refused', page)
+        self.assertIn('20 received, 0 discarded', page)
         self.assertIn('what was before it is drawn', said)
         self.assertIn('what was before it is drawn', page)
 
@@ -163,7 +163,7 @@ class Run(Folder):
             file.write(b'half')
         page, said = self.drawn('--answers', answers, folder)
         self.assertEqual(said, '')
-        self.assertIn('20 admitted, 0 refused', page)
+        self.assertIn('20 received, 0 discarded', page)
 
     def test_pages_name_the_options(self) -> None:
         options = {word for action in parser()._actions for word in action.option_strings if word.startswith('--')}
@@ -210,7 +210,7 @@ class Run(Folder):
     def test_circuits_alone(self) -> None:
         config, given, answers = self.small()
         page, _ = self.drawn('--config', config, '--answers', answers, '--circuits', '4-6', given)
-        self.assertIn('0 sent, 0 admitted, 0 refused', page)
+        self.assertIn('0 sent, 0 received, 0 discarded', page)
 
 
 class WithProgram(Folder):
@@ -305,7 +305,7 @@ class Captured(Folder):
                 whole, _ = self.drawn('--program', path, '--config', config, '-', given=given)
                 beside, _ = self.drawn('--program', path, '--config', config, '--capture',
                                        self.file('call.pcap', capture), '-', given=bare)
-                counts = r'(\d+) sent, (\d+) admitted, (\d+) refused'
+                counts = r'(\d+) sent, (\d+) received, (\d+) discarded'
                 wanted, found = (re.findall(counts, page)[0] for page in (whole, beside))
                 self.assertEqual(wanted[0], found[0])
                 # A microsecond of the capture's times can put a datagram into the frame before.
@@ -321,7 +321,7 @@ class Captured(Folder):
         packed = self.file('call.pcap', capture)
         pages = [self.drawn('--program', path, '--config', config, '--capture', packed, '-', given=given)[0]
                  for given in (bare, short)]
-        wanted, found = (re.findall(r'(\d+) sent, (\d+) admitted, (\d+) refused', page)[0] for page in pages)
+        wanted, found = (re.findall(r'(\d+) sent, (\d+) received, (\d+) discarded', page)[0] for page in pages)
         self.assertEqual(wanted, found)
 
     def test_alone(self) -> None:

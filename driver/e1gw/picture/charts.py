@@ -21,6 +21,7 @@ SHAPES = {'idle': (3, 4), 'seized': (7, 2), 'acked': (11, 0), 'answered': (11, 0
 HATCHED = {'seized': 'dots', 'clearedback': 'bars', 'releasing': 'dots', 'blocked': 'slant', 'fault': 'cross'}
 Pixels = dict[int, Cell]
 # What reads like another law or order, by the way, in a word.
+WORDS = {'sent': 'sent', 'admitted': 'received', 'refused': 'discarded'}
 LIKE = {'came': 'other law', 'slot': 'slot: other law', 'order': 'AAL2 packing'}
 
 
@@ -125,7 +126,7 @@ def _line(sheet: Sheet, row: Row, scale: Scale, y: float) -> None:
 def _lanes(sheet: Sheet, row: Row, facts: Facts, scale: Scale, seen: Pixels, y: float) -> None:
     """Datagrams under a line's bar: sent, admitted, refused."""
     packet = max(1.0, facts.width / scale.octets) + 1.6 * row.ptime / 1000 * SECOND / scale.octets
-    for n, what in enumerate(('sent', 'admitted', 'refused')):
+    for n, what in enumerate(WORDS):
         columns = sorted(x for x, cell in seen.items() if getattr(cell, what))
         gap = packet if what != 'refused' else 4.0
         found = runs(columns, gap)
@@ -137,7 +138,7 @@ def _lanes(sheet: Sheet, row: Row, facts: Facts, scale: Scale, seen: Pixels, y: 
             for x in range(first, last + 1):
                 if x in seen:
                     whole.join(seen[x])
-            words = refusals(whole) if what == 'refused' else f'{getattr(whole, what)} {what}'
+            words = refusals(whole) if what == 'refused' else f'{getattr(whole, what)} {WORDS[what]}'
             sheet.box(LEFT + first, y + 3.4 * n, last - first + 1, 2.2 + (n == 2), f'd-{what}',
                       f'circuit {row.number}: {words}')
 
@@ -318,10 +319,10 @@ class Playout:
             if not (whole.admitted or whole.refused):
                 continue
             first = self.scale.start + int(begin * self.scale.octets)
-            told = f'{whole.admitted} admitted'
+            told = f'{whole.admitted} received'
             if whole.admitted:
                 told += f', {whole.low / 8:.1f} to {whole.high / 8:.1f} ms before their turn'
             if whole.refused:
-                told += f'; refused: {refusals(whole)}'
+                told += f'; discarded: {refusals(whole)}'
             title = f'{self.scale.words(first)}, {duration(wide * self.scale.octets)}: {told}'
             sheet.box(LEFT + begin, self.y0, wide, sheet.height - self.y0, 'over', title)

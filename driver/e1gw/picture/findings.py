@@ -113,7 +113,7 @@ def _refused(row: Row, whole: Cell) -> Iterator[Finding]:
     """Refused datagrams, by cause."""
     all_of = whole.admitted + sum(seen[0] for seen in whole.refused.values())
     for code, (count, low, high) in sorted(whole.refused.items()):
-        part = f'{count} of {all_of} datagrams were refused as '
+        part = f'{count} of {all_of} packets were discarded as '
         if code in HINTS:
             names = {1: 'Short', 2: 'Version', 3: 'ShortSources', 4: 'ShortExtension', 5: 'BadPadding', 13: 'Repeat',
                      15: 'TooMany'}

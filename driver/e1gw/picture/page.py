@@ -126,8 +126,8 @@ class Page:
         calls, answers = (sum(whole.counts.get(name, 0) for whole in wholes) for name in ('calls', 'answers'))
         parts = [f'{when}{duration(facts.place - facts.start)} of the trunk',
                  f'{calls} call{"s" * (calls != 1)}, {answers} answered',
-                 f'datagrams: {sum(w.sent for w in wholes)} sent, {sum(w.admitted for w in wholes)} admitted, '
-                 f'{refused} refused{"" if facts.told == "e1gw" else " (" + facts.told + ")"}']
+                 f'packets: {sum(w.sent for w in wholes)} sent, {sum(w.admitted for w in wholes)} received, '
+                 f'{refused} discarded{"" if facts.told == "e1gw" else " (" + facts.told + ")"}']
         return ' &middot; '.join(escape(part) for part in parts)
 
     def playouts(self, rows: list[Row]) -> str:
@@ -140,7 +140,7 @@ class Page:
         """The drawings against the playout, the troubled circuits first."""
         out = ('<p class="note">How long before its turn each datagram came: the line at 0 is its turn, the dashed one '
                'the prefill, the tinted field the window of 400 ms or what of it is drawn. &#9660; Late, &#9650; Full; '
-               'other refused ones stand in rows of their own. A slope is a difference of clocks, a band is jitter, a '
+               'others stand in rows of their own. A slope is a difference of clocks, a band is jitter, a '
                'step is a gap.</p>')
         if not (self.troubled or self.even):
             return out + '<p>No datagrams came. (A session that was kept of <code>serve</code> may hold none: give a ' \
@@ -170,7 +170,8 @@ class Page:
                          loud(whole.heard, 'order' if 'order' in whole.heard else 'came'), loud(whole.heard, 'slot'),
                          f'{row.codec} {row.payload}', row.local, row.peer))
         return table('Each circuit: counts; ms before their turn; levels, as played / in the other law or order', (
-            'circuit', 'role', 'at the end', 'calls', 'answered', 'open, s', 'sent', 'admitted', 'refused', 'causes',
+            'circuit', 'role', 'at the end', 'calls', 'answered', 'connected, s', 'sent', 'received', 'discarded',
+            'causes',
             'lost', 'least / mean / most ms', 'came, dBm0', 'slot, dBm0', 'codec, type', 'receives at', 'sends to'),
                      rows)
 
@@ -225,7 +226,7 @@ class Page:
                  f'<h2>The circuits</h2>{key(any(row.wire for row in self.rows))}<div class="wide">'
                  f'{charts.circuits(facts, self.rows, self.scale, self.seen)}</div>{quiet}' if self.rows else
                  f'<h2>The circuits</h2>{quiet}',
-                 f'<h2>Datagrams against the playout</h2>{self.datagrams()}',
+                 f'<h2>Packets in the jitter buffer</h2>{self.datagrams()}',
                  f'<div class="screen"><h2>Counts</h2>{self.counts()}<details><summary>The same in words: alarms, '
                  f'commands, states</summary>{self.alarms()}{self.commands()}{self.states()}</details></div>']
         return f'<style>@media print{{body{{zoom:{self.zoom():.3f}}}}}</style>{"".join(parts)}'
@@ -241,8 +242,8 @@ def key(captured: bool) -> str:
         if hatch:
             box += f'<rect y="{down + 1}" width="26" height="{high}" class="h-{hatch}"/>'
         out.append((box, charts.MEANS[state]))
-    for n, (kind, words) in enumerate((('sent', 'datagrams sent (upper line)'), ('admitted', 'admitted (middle)'),
-                                       ('refused', 'refused (lower, thick)'))):
+    for n, (kind, words) in enumerate((('sent', 'packets sent (upper line)'), ('admitted', 'received (middle)'),
+                                       ('refused', 'discarded (lower, thick)'))):
         out.append((f'<rect y="{2 + 3.4 * n}" width="26" height="{2.2 + (n == 2)}" class="d-{kind}"/>', words))
     out.append(('<path d="M0 6.5H26" class="nothing"/>', 'open, and nothing comes (middle)'))
     out.append(('<rect y="5.4" width="26" height="2.2" class="d-admitted"/><rect x="4" y="4.4" width="5" height="4.2" '
