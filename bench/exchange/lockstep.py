@@ -18,7 +18,8 @@ sys.dont_write_bytecode = True
 HERE = os.path.dirname(os.path.abspath(__file__))
 TOP = os.path.dirname(os.path.dirname(HERE))
 sys.path[:0] = [HERE, os.path.join(TOP, 'driver')]
-from e1gw.session import HEAD, MULTIFRAME, Command, Kind, command_record, datagram_record, trunk_record  # noqa: E402
+from e1gw.session import (HEAD, MULTIFRAME, Codec, Command, Kind, codec_record, command_record,  # noqa: E402
+                          datagram_record, trunk_record)
 from openr2 import OpenR2  # noqa: E402
 
 CODECS = ('pcma', 'g726-40', 'g726-32', 'g726-24', 'g726-16')
@@ -50,8 +51,9 @@ class Gateway:
         self._input, self._output = self._process.stdin, self._process.stdout
         self.refused: Counter[int] = Counter()      # datagrams, by the code of the refusal
 
-    def command(self, circuit: int, command: Command) -> None:
-        self._input.write(command_record(circuit, command))
+    def give(self, record: bytes) -> None:
+        """A command, or another codec."""
+        self._input.write(record)
 
     def step(self, octets: bytes, datagrams: Iterable[tuple[int, bytes]]) -> tuple[bytes, list[tuple[int, bytes]]]:
         for circuit, datagram in datagrams:
@@ -130,7 +132,7 @@ class Site:
         self._to_exchange = b'\xff' * MULTIFRAME
         self._signalling = b''
         self._pairs = dict.fromkeys(CIRCUITS, IDLE)
-        self.commands: list[tuple[int, int, Command]] = []      # from the other site: step, circuit, command
+        self.commands: list[tuple[int, bytes]] = []             # from the tie: step, record
         self.changes: list[tuple[int, int, int]] = []           # of the exchange's signals: circuit, pair before, pair
 
     def step(self, step: int, datagrams: list[tuple[int, bytes]]) -> list[tuple[int, bytes]]:
@@ -138,8 +140,7 @@ class Site:
         octets = self.exchange.step(self._to_exchange)
         self._read_signals(octets)
         while self.commands and self.commands[0][0] <= step:
-            _, circuit, command = self.commands.pop(0)
-            self.gateway.command(circuit, command)
+            self.gateway.give(self.commands.pop(0)[1])
         self._to_exchange, sent = self.gateway.step(octets, datagrams)
         return sent
 
@@ -165,14 +166,25 @@ def command_of(calls: bool, before: int, pair: int) -> Command | None:
     return Command.CLEAR_BACK if before == ANSWERED and pair == CLEARED_BACK else None
 
 
-class World:
-    """Two sites, and a tie between them: a line signal of one exchange is a command at the other gateway."""
+def coded(circuit: int, codec: str) -> bytes:
+    """The record that gives a circuit a codec."""
+    return codec_record(circuit, next(each for each in Codec if each.word('A') == codec), 8 if codec == 'pcma' else 96)
 
-    def __init__(self, sites: tuple[Site, Site], networks: tuple[Network, Network], tie: int) -> None:
+
+class World:
+    """Two sites, and a tie between them: a line signal of one exchange is a command at the other gateway. With
+    `until_answer`, the codecs of the circuits, each call passes in G.711 until its answer."""
+
+    def __init__(self, sites: tuple[Site, Site], networks: tuple[Network, Network], tie: int,
+                 until_answer: dict[int, str] | None = None) -> None:
         self.west, self.east = sites
         self.sites, self.networks = sites, networks
         self.tie = tie // STEP_MS       # steps until a line signal is at the other site
         self.steps = 0
+        self.until_answer = until_answer
+        for n in CIRCUITS if until_answer else ():
+            for site in sites:
+                site.gateway.give(coded(n, 'pcma'))
 
     def step(self) -> None:
         """A multiframe at each site, 2 ms."""
@@ -183,7 +195,11 @@ class World:
             for circuit, before, pair in site.changes:
                 command = command_of(circuit in site.incoming, before, pair)
                 if command:
-                    other.commands.append((self.steps + self.tie, circuit, command))
+                    other.commands.append((self.steps + self.tie, command_record(circuit, command)))
+                if command in (Command.ANSWER, Command.CLEAR) and self.until_answer:
+                    codec = self.until_answer[circuit] if command is Command.ANSWER else 'pcma'
+                    site.commands.insert(0, (self.steps, coded(circuit, codec)))
+                    other.commands.append((self.steps + self.tie, coded(circuit, codec)))
         self.steps += 1
 
     def run(self, seconds: float, until: Callable[[], bool] = lambda: False) -> bool:
@@ -209,6 +225,7 @@ class Plan:
     prefill: int = 40                   # ms, as are the others
     ptime: int = 20
     tie: int = 20
+    until_answer: bool = False
     jitter: int = 0
     loss: float = 0.0
     pairs: bool = False
@@ -227,7 +244,8 @@ def world_of(folder: str, exchange: str, gateway: str, plan: Plan) -> Iterator[W
             file.write(config(incoming[k], plan.codecs, plan.prefill * 8, plan.ptime))
         sites.append(Site(OpenR2(exchange, *plan.options), Gateway(gateway, path), incoming[k]))
         networks.append(Network(plan.loss, plan.pairs, jitter=plan.jitter, seed=plan.seed * 2 + k))
-    world = World((sites[0], sites[1]), (networks[0], networks[1]), plan.tie)
+    world = World((sites[0], sites[1]), (networks[0], networks[1]), plan.tie,
+                  plan.codecs if plan.until_answer else None)
     try:
         world.run(1)
         if not all(site.exchange.found(0, 'multiframe alignment found') for site in sites):
