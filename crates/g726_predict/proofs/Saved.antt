@@ -1,6 +1,6 @@
 -- The variables as numbers of 16 bits, and back.
 use Rattle.std.proofs.Common.{◌≡◌, refl, sym, ap, ◌∙◌, subst, ℕ, ◌+◌, ◌<◌, ◌≤◌, ℤ, pos, Bool, true, false}
-use Rattle.std.proofs.Common.{Option, Some, nat_le, nat_lt, ◌-◌, take, drop, List, [], ◌∷◌, ◌++◌, length, map, get_or, All, arith, SFits, w16, to_z, of_z}
+use Rattle.std.proofs.Common.{nat_le, nat_lt, ◌-◌, take, drop, List, [], ◌∷◌, ◌++◌, length, map, get_or, All, arith, SFits, w16, to_z, of_z}
 use Rattle.std.proofs.lemmas.Bool.Decides.{nat_tests}
 use Rattle.std.proofs.lemmas.Int.{to_z-of_z, of_z-to_z}
 use Rattle.std.proofs.lemmas.List.{ext_get_or, get_or-take, get_or-drop, length-take-le, length-drop}
@@ -235,7 +235,3 @@ numbers-fit s fits =
     (λ i less. fits.b i (pos 0) (omega (arith, fits.b_count))) fits.a1 fits.a2
     (λ i less. fits.dq i (unpacked 0) (omega (arith, fits.dq_count)))
     (λ i less. fits.sr i (unpacked 0) (omega (arith, fits.sr_count))))
-
--- a flag that is read
-pub flag_read : (a b : Bool) → ◌≡◌ {A = Option Bool} (Some a) (Some b) → a ≡ b
-flag_read a b e = cc
