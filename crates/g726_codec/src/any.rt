@@ -6,6 +6,8 @@ ghost use Rattle.g726_codec.specs.Kinds.{bits_of, tables_of, word_by, octet_by, 
 ghost use Rattle.g726_codec.specs.Kinds.{codec_after, after_encoding, after_decoding};
 ghost use Rattle.g726_codec.specs.Views.{kind_of, state_of};
 
+mod saving;
+
 use crate::{CodecKind, Decoder, Encoder};
 use e1_g711::Law;
 use g726_quant::{R16, R24, R32, R40, Word};

@@ -2,6 +2,8 @@
 ghost use Rattle.std.specs.Prelude.{◌≡◌, ℕ, List, [], ◌∷◌, ◌++◌};
 ghost use Rattle.g726_codec.specs.Codec.{at_reset, stepped, adjusted, sync, decoded, after_words};
 
+mod saving;
+
 use crate::state::{State, word_of};
 use e1_g711::{Law, compress, next_down, next_up};
 use g726_quant::{Rate, Word, order};

@@ -5,6 +5,8 @@ ghost use Rattle.e1_g711.specs.Samples.{expand};
 ghost use Rattle.g726_codec.specs.Codec.{at_reset, word_for, stepped, encoded, after_octets};
 ghost use Rattle.g726_codec.specs.Codec.{words_from, state_after};
 
+mod saving;
+
 use crate::state::{State, word_of};
 use e1_g711::Law;
 use g726_quant::{Rate, Word};

@@ -7,6 +7,8 @@ ghost use Rattle.g726_tone.specs.Adaptation.{scale};
 ghost use Rattle.g726_predict.specs.Predictor.{se};
 ghost use Rattle.g726_codec.specs.Codec.{at_reset, word_for, addb, stepped};
 
+mod saving;
+
 use e1_g711::{Law, expand};
 use g726_predict::Predictor;
 use g726_quant::{Dq, Rate, Word, magnitude, quantise, reconstruct, wrap16};

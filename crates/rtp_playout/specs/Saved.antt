@@ -1,6 +1,6 @@
 -- The octets of a saved playout: its stream, then its places from the next take on. Its prefill and its room
 -- are not among them: a playout that is loaded has its own.
-use Rattle.std.specs.Prelude.{◌<◌, ◌^◌, ℕ, List, [], ◌∷◌, ◌++◌, Option, Some, None}
+use Rattle.std.specs.Prelude.{◌<◌, ◌^◌, ℕ, List, [], ◌∷◌, ◌++◌, Option, Some, None, flat_map}
 use Rattle.saved_octets.specs.Numbers.{four_octets}
 use Rattle.rtp_playout.specs.declared.playout.Playout.{Playout}
 use Rattle.rtp_playout.specs.declared.playout.Stream.{Stream}
@@ -11,8 +11,7 @@ saved_place None = 0 ∷ []
 saved_place (Some word) = 1 ∷ word ∷ []
 
 abbrev pub saved_places : List (Option ℕ) → List ℕ
-saved_places [] = []
-saved_places (place ∷ places) = saved_place place ++ saved_places places
+saved_places places = flat_map saved_place places
 
 -- a stream: 0 if there is none, else 1, its SSRC, and the timestamp that is due at the next take
 abbrev pub saved_stream : Option Stream → List ℕ

@@ -1,6 +1,6 @@
 //! A reader over octets, from the first on.
 
-ghost use Rattle.std.specs.Prelude.{◌≡◌, ◌++◌, ◌∷◌, ◌^◌, ◌<◌, ℕ, Bool, ◌==◌, List, length, IfSome, IfNone, Some};
+ghost use Rattle.std.specs.Prelude.{◌≡◌, ◌++◌, ◌∷◌, ◌^◌, ◌<◌, ℕ, Bool, ◌==◌, List, length, IfSome, IfNone, Some, All, flat_map};
 ghost use Rattle.saved_octets.specs.Numbers.{flag_octet, two_octets, four_octets};
 
 use byteorder::{BigEndian, ByteOrder};
@@ -73,6 +73,20 @@ impl<'a> Octets<'a> {
         };
         self.left = others;
         Some(BigEndian::read_u32(&[*a, *b, *c, *d]))
+    }
+
+    /// Reads as many numbers of 16 bits as there is room for; None if fewer are left.
+    pub fn read_u16_into(&mut self, numbers: &mut [u16]) -> Option<()>
+        ensures next { (saved rest : List ℕ) → length saved ≡ length numbers.old → All (λ n. n < 2 ^ 16) saved
+            → self.old ≡ flat_map two_octets saved ++ rest
+            → (result ≡ Some tt) × (numbers.new ≡ saved) × (self.new ≡ rest) }
+        ensures read { IfSome result (λ done. self.old ≡ flat_map two_octets numbers.new ++ self.new) }
+        ensures len { length numbers.new ≡ length numbers.old }
+    {
+        for i in 0..numbers.len() {
+            numbers[i] = self.read_u16()?;
+        }
+        Some(())
     }
 
     /// Reads a flag; None if the next octet is neither 0 nor 1, or if no octet is left.

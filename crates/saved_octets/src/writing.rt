@@ -1,6 +1,6 @@
 //! Numbers appended to octets, the most significant octet first.
 
-ghost use Rattle.std.specs.Prelude.{◌≡◌, ◌++◌, OnOk, OnErr, [], ◌∷◌};
+ghost use Rattle.std.specs.Prelude.{◌≡◌, ◌++◌, OnOk, OnErr, [], ◌∷◌, flat_map};
 ghost use Rattle.saved_octets.specs.Numbers.{flag_octet, two_octets, four_octets};
 
 use byteorder::{BigEndian, ByteOrder};
@@ -22,6 +22,16 @@ pub fn append_u16(out: &mut Vec<u8>, number: u16) -> Result<(), AllocError>
     let mut octets = [0; 2];
     BigEndian::write_u16(&mut octets, number);
     out.extend_from_slice(&octets)
+}
+
+/// Appends numbers of 16 bits.
+pub fn append_u16s(out: &mut Vec<u8>, numbers: &[u16]) -> Result<(), AllocError>
+    ensures { OnOk result (out.new.items ≡ out.old.items ++ flat_map two_octets numbers.now) }
+{
+    for number in numbers {
+        append_u16(out, *number)?;
+    }
+    Ok(())
 }
 
 /// Appends a number of 32 bits.

@@ -3,7 +3,8 @@ use Rattle.std.proofs.Common.{length, append_assoc, length-append, refl}
 use Rattle.std.proofs.lemmas.List.Elements.{All-push}
 use Rattle.circular_buffer.specs.Buffer.{Buffer}
 use Rattle.rtp_playout.specs.Saved.{saved_place, saved_places}
-use Rattle.rtp_playout.proofs.Loading.{saved-push, keep-all, next-place, all-read, is-buffer}
+use Rattle.rtp_playout.proofs.Loading.{keep-all, place-tells, is-buffer}
+use Rattle.saved_octets.proofs.Items.{saved-push, next-item, all-read}
 use Rattle.rtp_playout.proofs.playout.saving.load_places.Goals as goal
 
 pub returns-in_err-load_place-clause-loaded : goal.returns-in_err-load_place-clause-loaded
@@ -13,8 +14,9 @@ returns-in_err-load_place-clause-loaded c = λ places rest size each e.
     let end = c.capacity-end.ensures.capacity in
     let before = c.loop-test.true in
     let many = inv.many in
-    let next = next-place (λ place. IfSome place (λ word. word < c.args.bound)) c.loop.window.items places
-    c.loop.octets rest (sym inv.octets ∙ e) (omega arith) each in
+    let below : Option ℕ → Type 0 = λ place. IfSome place (λ word. word < c.args.bound) in
+    let next = next-item below saved_place c.loop.window.items places c.loop.octets rest (place-tells below)
+    inv.below each (sym inv.octets ∙ e) (omega arith) in
     let told = c.in_err-load_place.ensures.loaded next.0 (saved_places next.1 ++ rest) next.2 next.3 in
     absurd (cc told.0)
 
@@ -36,7 +38,7 @@ loop-preserved c =
       octets = inv.octets
           ∙ ap (λ (os : List ℕ). saved_places items ++ os) c.in_ok-load_place.ensures.read
           ∙ sym (append_assoc (saved_places items) (saved_place place) left)
-          ∙ ap (λ (os : List ℕ). os ++ left) (sym (saved-push items place))
+          ∙ ap (λ (os : List ℕ). os ++ left) (sym (saved-push saved_place items place))
           ∙ ap (λ (xs : List (Option ℕ)). saved_places xs ++ left) (sym pushed);
       many = omega arith;
       within = omega arith;
@@ -54,5 +56,7 @@ returns-clause-loaded c = λ places rest size each e.
     let over = c.loop-test.false in
     let many = inv.many in
     let within = inv.within in
-    let read = all-read c.loop.window.items places c.loop.octets rest (sym inv.octets ∙ e) (omega arith) in
+    let below : Option ℕ → Type 0 = λ place. IfSome place (λ word. word < c.args.bound) in
+    let read = all-read below saved_place c.loop.window.items places c.loop.octets rest (place-tells below)
+    inv.below each (sym inv.octets ∙ e) (omega arith) in
     (refl, is-buffer c.loop.window places c.args.window.now.capacity read.0 (inv.room ∙ room), read.1)

@@ -3,7 +3,7 @@ use Rattle.std.proofs.Common.{◌∙◌, arith, append_assoc, refl, slice_get, s
 use Rattle.std.proofs.lemmas.Grind.{take_at_read}
 use Rattle.std.specs.Option.{option_flatten}
 use Rattle.rtp_playout.specs.Saved.{saved_place, saved_places}
-use Rattle.rtp_playout.proofs.Loading.{saved-push}
+use Rattle.saved_octets.proofs.Items.{saved-push}
 use Rattle.rtp_playout.proofs.playout.saving.save_places.Goals as goal
 
 -- what is got of a place, as what it holds
@@ -25,7 +25,7 @@ loop-i-preserved c =
     c.in_ok-save_place.ensures
     ∙ ap (λ (os : List ℕ). os ++ saved_place c.flatten.result) c.loop-i.invariant
     ∙ append_assoc c.args.out.now.items (saved_places (take i items)) (saved_place c.flatten.result)
-    ∙ ap (λ (os : List ℕ). c.args.out.now.items ++ os) (sym (saved-push (take i items) c.flatten.result))
+    ∙ ap (λ (os : List ℕ). c.args.out.now.items ++ os) (sym (saved-push saved_place (take i items) c.flatten.result))
     ∙ ap (λ (p : Option ℕ). c.args.out.now.items ++ saved_places (take i items ++ p ∷ [])) place
     ∙ ap (λ (xs : List (Option ℕ)). c.args.out.now.items ++ saved_places xs)
     (sym (take_at_read items i None less).1)
