@@ -9,13 +9,13 @@ use Rattle.g704_crc4.specs.declared.sending.Multiframer.{Multiframer}
 use Rattle.g704_crc4.specs.Remainder.{no_remainder, after_octet, sent_bits, remainder_of, crc_number}
 use Rattle.g704_crc4.specs.Submultiframes.{each_at, submultiframe}
 use Rattle.g704_crc4.specs.Multiframe.{octet_at, zeroed, check_bits_after}
-use Rattle.g704_crc4.specs.States.{SendsAfter}
+use Rattle.g704_crc4.specs.States.{SendsAfter, SendsNext}
 use Rattle.g704_crc4.proofs.Submultiframes.{part-stays, remainder-grows, remainder-none}
 
 -- A multiframer that has sent nothing.
 pub sends-none : SendsAfter (record { place = 0; before = 0; running = 0 }) []
 unfolding check_bits_after each_at submultiframe remainder_of sent_bits
-sends-none = record { place = refl; before = refl; running = refl }
+sends-none = record { place = refl; before = λ _. refl; running = refl }
 
 -- The check bits are the remainder of the submultiframe before, if there is one.
 pub check-bits-are : (before : List ℕ) (number : ℕ) → length before / 256 ≡ number + 1
@@ -45,45 +45,52 @@ check-bits-stay h x ne =
           ∙ sym (check-bits-are h (length h / 256 - 1) a)
     ]
 
--- What a multiframer counts with the next octet is the remainder with that octet.
-counted-more : (m : Multiframer) (h : List ℕ) (x counted left : ℕ) → SendsAfter m h
-    → counted ≡ octet_at no_remainder (length h) x
-    → ((remainder : Remainder) → m.running ≡ crc_number remainder → left ≡ crc_number (after_octet remainder counted))
-    → left ≡ crc_number (remainder_of (submultiframe (length h / 256) (zeroed (h ++ x ∷ []))))
-counted-more m h x counted left s is more =
-    let running = remainder_of (submultiframe (length h / 256) (zeroed h)) in
-    more running s.running
-    ∙ ap crc_number (ap (after_octet running) is ∙ sym (remainder-grows (octet_at no_remainder) h x))
-
--- An octet within a submultiframe.
-pub sends-within : (m : Multiframer) (h : List ℕ) (x counted place left : ℕ) → SendsAfter m h
-    → counted ≡ octet_at no_remainder (length h) x → place ≡ (m.place + 1) % 512
-    → ((remainder : Remainder) → m.running ≡ crc_number remainder → left ≡ crc_number (after_octet remainder counted))
-    → place % 256 ≢ 0 → SendsAfter (record { place = place; before = m.before; running = left }) (h ++ x ∷ [])
-sends-within m h x counted place left s is at more ne =
-    let p = s.place in
-    let l = length_push h x in
-    let same : length h / 256 ≡ length (h ++ x ∷ []) / 256 = omega (arith, ne) in
+-- Within a submultiframe a multiframer is ready for the next octet.
+pub next-within : (m : Multiframer) (h : List ℕ) → SendsAfter m h → length h % 256 ≢ 0 → SendsNext m h
+next-within m h s ne =
+    let same : (length h - 1) / 256 ≡ length h / 256 = omega (arith, ne) in
     record {
-      place = omega arith;
-      before = s.before ∙ ap crc_number (sym (check-bits-stay h x (λ z. ne (omega (arith, z)))));
-      running = counted-more m h x counted left s is more
-          ∙ ap (λ n. crc_number (remainder_of (submultiframe n (zeroed (h ++ x ∷ []))))) same;
+      place = s.place;
+      before = s.before ne;
+      running = s.running ∙ ap (λ n. crc_number (remainder_of (submultiframe n (zeroed h)))) same;
     }
 
--- The last octet of a submultiframe.
-pub sends-last : (m : Multiframer) (h : List ℕ) (x counted place left : ℕ) → SendsAfter m h
-    → counted ≡ octet_at no_remainder (length h) x → place ≡ (m.place + 1) % 512
+-- No octets have no remainder.
+ended-none : remainder_of (submultiframe 0 (zeroed [])) ≡ check_bits_after []
+unfolding check_bits_after each_at submultiframe remainder_of sent_bits
+ended-none = refl
+
+-- The remainder of the submultiframe that has ended is what is sent in the next one.
+ended-is-before : (h : List ℕ) → length h % 256 ≡ 0
+    → remainder_of (submultiframe ((length h - 1) / 256) (zeroed h)) ≡ check_bits_after h
+ended-is-before [] e = ended-none
+ended-is-before (x ∷ h) e =
+    let n : length (x ∷ h) / 256 ≡ (length (x ∷ h) - 1) / 256 + 1 = omega (arith, e) in
+    sym (check-bits-are (x ∷ h) ((length (x ∷ h) - 1) / 256) n)
+
+-- At the end of a submultiframe it is ready once its remainder is that of the one before.
+pub next-begins : (m : Multiframer) (h : List ℕ) → SendsAfter m h → length h % 256 ≡ 0
+    → SendsNext (record { place = m.place; before = m.running; running = 0 }) h
+next-begins m h s e = record {
+  place = s.place;
+  before = s.running ∙ ap crc_number (ended-is-before h e);
+  running = ap crc_number (remainder-none (octet_at no_remainder) (length h / 256) h (omega (arith, e)));
+}
+
+-- One octet more.
+pub sends-more : (m : Multiframer) (h : List ℕ) (x counted place left : ℕ) → SendsNext m h
+    → counted ≡ octet_at no_remainder (length h) x → place ≡ (m.place + 1) % 65536
     → ((remainder : Remainder) → m.running ≡ crc_number remainder → left ≡ crc_number (after_octet remainder counted))
-    → place % 256 ≡ 0 → SendsAfter (record { place = place; before = left; running = 0 }) (h ++ x ∷ [])
-sends-last m h x counted place left s is at more e =
+    → SendsAfter (record { place = place; before = m.before; running = left }) (h ++ x ∷ [])
+sends-more m h x counted place left s is at more =
     let p = s.place in
     let l = length_push h x in
-    let next : length (h ++ x ∷ []) / 256 ≡ length h / 256 + 1 = omega arith in
+    let running = remainder_of (submultiframe (length h / 256) (zeroed h)) in
+    let same : length h / 256 ≡ (length (h ++ x ∷ []) - 1) / 256 = omega arith in
     record {
       place = omega arith;
-      before = counted-more m h x counted left s is more
-          ∙ ap crc_number (sym (check-bits-are (h ++ x ∷ []) (length h / 256) next));
-      running = ap crc_number
-          (remainder-none (octet_at no_remainder) (length (h ++ x ∷ []) / 256) (h ++ x ∷ []) (omega arith));
+      before = λ ne. s.before ∙ ap crc_number (sym (check-bits-stay h x (λ z. ne (omega (arith, z)))));
+      running = more running s.running
+          ∙ ap crc_number (ap (after_octet running) is ∙ sym (remainder-grows (octet_at no_remainder) h x))
+          ∙ ap (λ n. crc_number (remainder_of (submultiframe n (zeroed (h ++ x ∷ []))))) same;
     }

@@ -1,5 +1,5 @@
 -- What the two machines hold after some octets.
-use Rattle.std.specs.Prelude.{◌≡◌, ℕ, ◌+◌, ◌-◌, ◌*◌, ◌/◌, ◌%◌, ◌<◌, ◌≤◌, nat_le, List, length}
+use Rattle.std.specs.Prelude.{◌≡◌, ◌≢◌, ℕ, ◌+◌, ◌-◌, ◌*◌, ◌/◌, ◌%◌, ◌<◌, ◌≤◌, nat_le, List, length}
 use Rattle.g704_crc4.specs.declared.sending.Multiframer.{Multiframer}
 use Rattle.g704_crc4.specs.declared.checking.Checker.{Checker}
 use Rattle.g704_crc4.specs.Remainder.{remainder_of, crc_number}
@@ -7,10 +7,18 @@ use Rattle.g704_crc4.specs.Submultiframes.{submultiframe}
 use Rattle.g704_crc4.specs.Multiframe.{zeroed, check_bits_after}
 use Rattle.g704_crc4.specs.Receiving.{si_of, cleared, remainder_in}
 
--- A multiframer after these octets: the place of the next octet, and the remainders of the submultiframe
--- before and of this one so far, as numbers.
+-- A multiframer after these octets: how many they are, modulo 2^16; the remainder of the submultiframe that the
+-- last octet belongs to, as a number; and that of the one before it, if an octet is yet to come there.
 pub record SendsAfter (multiframer : Multiframer) (history : List ℕ) : Type 0 where
-  pub place : multiframer.place ≡ length history % 512
+  pub place : multiframer.place ≡ length history % 65536
+  pub before : length history % 256 ≢ 0 → multiframer.before ≡ crc_number (check_bits_after history)
+  pub running :
+      multiframer.running ≡ crc_number (remainder_of (submultiframe ((length history - 1) / 256) (zeroed history)))
+
+-- A multiframer that is ready for the octet after these: the remainders of the submultiframe to which that
+-- octet belongs, as far as it has come, and of the one before it.
+pub record SendsNext (multiframer : Multiframer) (history : List ℕ) : Type 0 where
+  pub place : multiframer.place ≡ length history % 65536
   pub before : multiframer.before ≡ crc_number (check_bits_after history)
   pub running :
       multiframer.running ≡ crc_number (remainder_of (submultiframe (length history / 256) (zeroed history)))

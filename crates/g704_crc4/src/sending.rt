@@ -3,21 +3,21 @@
 ghost use Rattle.std.specs.Prelude.{◌≡◌, ◌+◌, ◌%◌, ◌/◌, ◌<◌, ℕ, List, [], ◌∷◌, ◌++◌, length};
 ghost use Rattle.g704_crc4.specs.declared.remainder.Remainder.{Remainder};
 ghost use Rattle.g704_crc4.specs.Remainder.{no_remainder, crc_number};
-ghost use Rattle.g704_crc4.specs.Multiframe.{check_bit, signal_bit, si_at, with_si, sent_octet, octet_at};
-ghost use Rattle.g704_crc4.specs.States.{SendsAfter};
+ghost use Rattle.g704_crc4.specs.Multiframe.{check_bit, signal_bit, si_at, with_si, sent_octet};
+ghost use Rattle.g704_crc4.specs.States.{SendsAfter, SendsNext};
 
 use crate::remainder::number_after;
-use crate::{BIT_1, FRAME, MULTIFRAME, SUBMULTIFRAME};
+use crate::{BIT_1, FRAME, SUBMULTIFRAME};
 
 /// Puts CRC-4 multiframes into bit 1 of time slot 0 of a stream of octets. The frames begin at the first
 /// octet, and the first one carries the frame alignment signal. No other bit changes.
 #[derive(Clone, Copy, Debug, PartialEq, Eq)]
 pub struct Multiframer {
-    // The place of the next octet in its multiframe.
+    // The octets so far, modulo 2^16: a whole number of multiframes.
     place: u16,
-    // The remainder of the submultiframe before, as a number.
+    // The remainder of the submultiframe before that of the last octet, as a number.
     before: u8,
-    // That of this one so far.
+    // The remainder of the submultiframe of the last octet.
     running: u8,
 }
 
@@ -40,36 +40,38 @@ impl Multiframer {
         ensures stands { (history : List ℕ) → SendsAfter self.old history
             → SendsAfter self.new (history ++ octet ∷ []) }
     {
-        let place = self.place;
-        let sent = octet_at(self.before, place, octet);
-        self.count(octet_at(0, place, octet));
-        sent
+        if self.place % FRAME == 0 {
+            return self.first_octet(octet);
+        }
+        self.place = self.place.wrapping_add(1);
+        self.running = number_after(self.running, octet);
+        octet
     }
 
-    // Takes an octet into the remainder of the submultiframe, its check bit replaced by zero.
-    fn count(&mut self, zeroed: u8)
-        ensures { (history : List ℕ) (octet : ℕ) → SendsAfter self.old history
-            → zeroed ≡ octet_at no_remainder (length history) octet
+    // Takes the first octet of a frame. It is out of line, so that thirty-one of thirty-two octets cost a step
+    // of the remainder alone.
+    #[inline(never)]
+    fn first_octet(&mut self, octet: u8) -> u8
+        ensures reply { (history : List ℕ) → SendsAfter self.old history → length history % 32 ≡ 0
+            → result ≡ sent_octet history octet }
+        ensures stands { (history : List ℕ) → SendsAfter self.old history → length history % 32 ≡ 0
             → SendsAfter self.new (history ++ octet ∷ []) }
     {
-        self.place = self.place.wrapping_add(1) % MULTIFRAME;
-        self.running = number_after(self.running, zeroed);
+        self.begin_submultiframe();
+        let frame = self.place / FRAME % 16;
+        self.place = self.place.wrapping_add(1);
+        self.running = number_after(self.running, with_si(octet, si_at(0, frame)));
+        with_si(octet, si_at(self.before, frame))
+    }
+
+    // Begins the next submultiframe if the last one has ended.
+    fn begin_submultiframe(&mut self)
+        ensures { (history : List ℕ) → SendsAfter self.old history → SendsNext self.new history }
+    {
         if self.place % SUBMULTIFRAME == 0 {
             self.before = self.running;
             self.running = 0;
         }
-    }
-}
-
-// The octet as it is sent at this place of a multiframe, with the check bits of this number.
-fn octet_at(number: u8, place: u16, octet: u8) -> u8
-    ensures { (bits : Remainder) (position : ℕ) → number ≡ crc_number bits → place ≡ position % 512
-        → result ≡ octet_at bits position octet }
-{
-    if place % FRAME == 0 {
-        with_si(octet, si_at(number, place / FRAME))
-    } else {
-        octet
     }
 }
 
