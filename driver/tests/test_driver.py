@@ -244,7 +244,7 @@ class Beside(unittest.TestCase):
             time.sleep(0.1)
             self.goes_on(world, 'shadow')
             self.assertTrue(world.status()['stale'])
-            self.assertIn('the counts of datagrams are not those of now', world.ask('status'))
+            self.assertIn('the counts of packets are not those of now', world.ask('status'))
 
     def test_a_shadow_that_stands_still(self) -> None:
         with World(config_of(FOUR)) as world:
