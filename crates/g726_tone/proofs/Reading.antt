@@ -67,7 +67,7 @@ same s yu yl dms dml ap td r a b c d e f =
     let p = once s.ap (few_bits s.ap 0 r.ap_low (omega (arith, ints, r.ap_high))) in
     rw (a, b, c, d, e, f, y, l, m, n, p) refl
 
--- two numbers that are read are those that were saved_adaptation
+-- two numbers that are read are those that were saved
 pub two_read : (a b c d : ℤ) → ◌≡◌ {A = Option (ℤ × ℤ)} (Some (a, b)) (Some (c, d)) → (a ≡ c) × (b ≡ d)
 two_read a b c d e =
     let both : ◌≡◌ {A = ℤ × ℤ} (a, b) (c, d) = cc in

@@ -22,7 +22,7 @@ impl Adapt {
         append_bool(out, self.td)
     }
 
-    /// A saved_adaptation state; None where the octets are those of none, as where a variable is out of its range.
+    /// A saved adaptation; None where the octets are those of none, as where a variable is out of its range.
     #[tactic(auto, unfolding(crate::specs::Saved::saved_adaptation))]
     pub fn load(octets: &mut Octets<'_>) -> Option<Adapt>
         ensures loaded { (s : Adaptation) (rest : List ℕ) → InRange s → octets.old ≡ saved_adaptation s ++ rest
@@ -58,7 +58,7 @@ fn within(number: u32, low: u32, high: u32) -> Option<i32>
     Some(number as i32)
 }
 
-// A variable that is saved_adaptation in 16 bits, where it is from one number to another.
+// A variable that is saved in 16 bits, where it is from one number to another.
 fn load_u16(octets: &mut Octets<'_>, low: u32, high: u32) -> Option<i32>
     requires { high < 2 ^ 16 }
     ensures loaded { (z : ℤ) (rest : List ℕ) → pos low ≤ℤ z → z ≤ℤ pos high
