@@ -15,6 +15,7 @@ import argparse
 import os
 import socket
 import sys
+from contextlib import suppress
 from typing import BinaryIO
 
 from .ctl_all import SOCKETS, connected, overview, trunks_here
@@ -62,7 +63,8 @@ def answer_of(stream: BinaryIO) -> list[str]:
 
 def ask(stream: BinaryIO, line: socket.socket, command: str, front: str = '') -> bool:
     """Gives a command and prints what answers it; returns whether it was done."""
-    line.sendall(command.encode() + b'\n')
+    with suppress(BrokenPipeError):     # a trunk that has no seat says so before it is asked, and ends the connection
+        line.sendall(command.encode() + b'\n')
     lines = answer_of(stream)
     print('\n'.join(f'{front}{each}' for each in lines), flush=True)
     if command.split()[0] in ASKING and not lines[0].endswith(('help', 'to 30')):

@@ -1,6 +1,7 @@
 """A driver in service for tests: an exchange at the far end of its trunk, which goes in lock step, and its control."""
 from __future__ import annotations
 
+import contextlib
 import json
 import os
 import socket
@@ -166,7 +167,8 @@ class World:
         with socket.socket(socket.AF_UNIX) as line:
             line.connect(self.path('ctl'))      # waits for a place; with a time limit it would be refused
             line.settimeout(SECONDS)
-            line.sendall((command.encode() if isinstance(command, str) else command) + b'\n')
+            with contextlib.suppress(BrokenPipeError):      # who has no seat is told so at once
+                line.sendall((command.encode() if isinstance(command, str) else command) + b'\n')
             answer = b''
             while not answer.endswith(b'\n\n'):
                 piece = line.recv(65536)
