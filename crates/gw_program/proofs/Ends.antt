@@ -7,8 +7,3 @@ pub either : {T E : Type 0} (r : Result T E) (P : T → Type 0) (Q : E → Type 
     → MatchResult r P Q
 either (Ok x) P Q p q = p
 either (Err e) P Q p q = q
-
--- what was not begun in a part was not begun in the whole, and what was done in it was
-pub begun_by : {N P Q : Type 0} → (P → Q) → N ⊎ P → N ⊎ Q
-begun_by f (inl n) = inl n
-begun_by f (inr p) = inr (f p)

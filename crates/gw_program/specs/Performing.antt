@@ -1,5 +1,5 @@
 -- What a command does on its streams, and what is told of its end (module `performing`).
-use Rattle.std.specs.Prelude.{◌≡◌, false, [], Option, Some, None, Result, Ok, Err}
+use Rattle.std.specs.Prelude.{◌≡◌, ◌⊎◌, false, [], Option, Some, None, Result, Ok, Err}
 use Rattle.gw_config.specs.declared.config.Config.{Config}
 use Rattle.gw_records.specs.declared.outcome.Totals.{Totals}
 use Rattle.gw_records.specs.declared.outcome.RunFault.{RunFault}
@@ -21,13 +21,18 @@ pub record Ended (ends : Result Totals RunFault → Type 0) (told : Result Total
   pub done : ends end
   pub told_is : told ≡ told_as end
 
--- a trouble is told, and nothing was read or written
-pub record NotBegun (source source' : SourceState) (sink sink' : SinkState) (told : Result Totals Trouble)
-    : Type 0 where
+-- a trouble is told for a reason, and nothing was read or written
+pub record NotBegun (source source' : SourceState) (sink sink' : SinkState) (Why : Trouble → Type 0)
+    (told : Result Totals Trouble) : Type 0 where
   pub trouble : Trouble
+  pub why : Why trouble
   pub told_is : told ≡ Err trouble
   pub unread : source' ≡ source
   pub unwritten : sink' ≡ sink
+
+-- no tape was begun, or no ports were opened
+abbrev pub LacksTapeOrPorts : (Trouble → Type 0) → (Trouble → Type 0) → Trouble → Type 0
+LacksTapeOrPorts lacks_tape lacks_ports trouble = lacks_tape trouble ⊎ lacks_ports trouble
 
 -- this was done with ports that were opened so and a tape that was begun so
 pub record HasServed {P T : Type 0} (Opens : P → Type 0) (Begins : T → Type 0)

@@ -1,11 +1,12 @@
 //! What the program does on its standard streams: each command joined to what it takes from the system.
 
-ghost use Rattle.std.specs.Prelude.{◌≡◌, ◌⊎◌, ◌-◌, ◌^◌, ◌<◌, IfOk, MatchResult};
+ghost use Rattle.std.specs.Prelude.{◌≡◌, ◌⊎◌, ◌-◌, ◌^◌, ◌<◌, IfOk, IfErr, MatchResult};
 ghost use Rattle.gw_records.specs.Streams.{CanBegin};
 ghost use Rattle.gw_session.specs.Serve.{around};
 ghost use Rattle.gw_program.specs.Jobs.{Does, DoesUntil};
 ghost use Rattle.gw_program.specs.Sessions.{Ends, EndsRecorded, Runs, Checks};
-ghost use Rattle.gw_program.specs.Performing.{Ended, NotBegun, HasServed, HasConfig, by_session, told_as};
+ghost use Rattle.gw_program.specs.Performing.{Ended, NotBegun, LacksTapeOrPorts, HasServed, HasConfig};
+ghost use Rattle.gw_program.specs.Performing.{by_session, told_as};
 
 use crate::jobs::do_job;
 use crate::report::passed_over;
@@ -20,6 +21,7 @@ use std::alloc::Global;
 /// knows nothing of the type has them of what these calls returned alone.
 pub trait System {
     ghost use Rattle.gw_config.specs.declared.config.Config.{Config};
+    ghost use Rattle.gw_program.specs.declared.trouble.Trouble.{Trouble};
 
     /// Where the datagrams of circuits come from, and where they go.
     type Ports: Ports + Drop;
@@ -30,29 +32,41 @@ pub trait System {
     /// Holds of a configuration that was read.
     ghost reads: { Self → Config → Type 0 };
 
+    /// Holds of why no configuration was read.
+    ghost lacks_config: { Self → Trouble → Type 0 };
+
     /// Holds of a tape that was begun.
     ghost begins: { Self → Self.Tape → Type 0 };
+
+    /// Holds of why no tape was begun.
+    ghost lacks_tape: { Self → Trouble → Type 0 };
 
     /// Holds of ports that were opened for a configuration.
     ghost opens: { Self → Config → Self.Ports → Type 0 };
 
+    /// Holds of a configuration and why no ports were opened for it.
+    ghost lacks_ports: { Self → Config → Trouble → Type 0 };
+
     /// Reads the configuration.
     fn read_config(&self) -> Result<Config, Trouble>
-        ensures { IfOk result (λ config. reads self.now config) };
+        ensures ok { IfOk result (λ config. reads self.now config) }
+        ensures err { IfErr result (λ trouble. lacks_config self.now trouble) };
 
     /// Begins the recording, if one is asked for.
     fn begin_tape(&self) -> Result<Self::Tape, Trouble>
-        ensures { IfOk result (λ tape. begins self.now tape) };
+        ensures ok { IfOk result (λ tape. begins self.now tape) }
+        ensures err { IfErr result (λ trouble. lacks_tape self.now trouble) };
 
     /// Opens the ports of a configuration.
     fn open_ports(&self, config: &Config) -> Result<Self::Ports, Trouble>
-        ensures { IfOk result (λ ports. opens self.now config.now ports) };
+        ensures ok { IfOk result (λ ports. opens self.now config.now ports) }
+        ensures err { IfErr result (λ trouble. lacks_ports self.now config.now trouble) };
 
     /// Tells where a recording has ended before its session.
     fn tell_end(&self, tape: &Self::Tape);
 }
 
-// What is told of an end.
+// What is told of how a job or a session ended.
 fn told_as(ended: Result<Totals, RunFault>) -> Result<Totals, Trouble>
     ensures { result ≡ told_as ended }
 {
@@ -97,7 +111,8 @@ fn perform_serve<Y: System, S: Source, K: Sink>(
     sink: &mut K,
 ) -> Result<Totals, Trouble>
     requires { CanBegin (S.tells source.old) (K.tells sink.old) }
-    ensures { NotBegun (S.tells source.old) (S.tells source.new) (K.tells sink.old) (K.tells sink.new) result
+    ensures { NotBegun (S.tells source.old) (S.tells source.new) (K.tells sink.old) (K.tells sink.new)
+        (LacksTapeOrPorts (Y.lacks_tape system.now) (Y.lacks_ports system.now config.now)) result
         ⊎ HasServed (Y.opens system.now config.now) (Y.begins system.now) (λ ports ports' tape tape'. Ended
         (EndsRecorded config.now.gateway
         (around (S.tells source.old) (K.tells sink.old) (Y.Ports.tells ports) (Y.Tape.tells tape))
@@ -110,7 +125,8 @@ fn perform_serve<Y: System, S: Source, K: Sink>(
     told_as(ended)
 }
 
-/// Does a session by the configuration of the system's, on its ports and its tape where it serves.
+/// Does a session by the configuration of the system's, on its ports and its tape where it serves. What the
+/// system lacked is told, and nothing was read or written then.
 pub fn perform_session<Y: System, S: Source, K: Sink>(
     system: &Y,
     alloc: Global,
@@ -119,13 +135,16 @@ pub fn perform_session<Y: System, S: Source, K: Sink>(
     sink: &mut K,
 ) -> Result<Totals, Trouble>
     requires { CanBegin (S.tells source.old) (K.tells sink.old) }
-    ensures { NotBegun (S.tells source.old) (S.tells source.new) (K.tells sink.old) (K.tells sink.new) result
+    ensures { NotBegun (S.tells source.old) (S.tells source.new) (K.tells sink.old) (K.tells sink.new)
+        (Y.lacks_config system.now) result
         ⊎ HasConfig (Y.reads system.now) (λ config. by_session session
         (Ended (Ends Runs config.gateway
         (S.tells source.old) (S.tells source.new) (K.tells sink.old) (K.tells sink.new)) result)
         (Ended (Ends Checks config.gateway
         (S.tells source.old) (S.tells source.new) (K.tells sink.old) (K.tells sink.new)) result)
-        (HasServed (Y.opens system.now config) (Y.begins system.now) (λ ports ports' tape tape'. Ended
+        (NotBegun (S.tells source.old) (S.tells source.new) (K.tells sink.old) (K.tells sink.new)
+        (LacksTapeOrPorts (Y.lacks_tape system.now) (Y.lacks_ports system.now config)) result
+        ⊎ HasServed (Y.opens system.now config) (Y.begins system.now) (λ ports ports' tape tape'. Ended
         (EndsRecorded config.gateway
         (around (S.tells source.old) (K.tells sink.old) (Y.Ports.tells ports) (Y.Tape.tells tape))
         (around (S.tells source.new) (K.tells sink.new) (Y.Ports.tells ports') (Y.Tape.tells tape'))) result))) }

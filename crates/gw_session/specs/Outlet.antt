@@ -21,6 +21,7 @@ abbrev pub no_ports : PortsState
 no_ports = record {
   receive_failures = 0;
   send_failures = 0;
+  addresses = λ circuit. None;
   waiting = Some (λ circuit. []);
   given = None;
   taken = None;

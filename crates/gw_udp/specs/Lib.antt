@@ -2,6 +2,7 @@ pub mod Senders
 pub mod Socket
 pub mod Names
 pub mod Udp
+pub mod Calls
 pub mod Opening
 pub mod Outcome
 pub mod Resting

@@ -1,12 +1,12 @@
 -- What the sockets of circuits are, and what a receive and a send for a circuit do.
-use Rattle.std.specs.Prelude.{◌≡◌, ◌≢◌, ◌⊎◌, ◌-◌, ◌<◌, ◌≤◌, ℕ, zero, suc, List, slice_index_or, ⊤}
+use Rattle.std.specs.Prelude.{◌≡◌, ◌≢◌, ◌⊎◌, ◌-◌, ◌<◌, ◌≤◌, ℕ, zero, suc, List, flat_map, slice_index_or, ⊤}
 use Rattle.std.specs.Prelude.{Option, Some, None, Result, Ok, Err, string_bytes}
 use Rattle.std.specs.declared.net.socket_addr.SocketAddr.{SocketAddr}
 use Rattle.std.specs.Net.Addr.{is_ipv4}
 use Rattle.std.specs.Net.Socket.{socket_ip}
 use Rattle.gw_config.specs.declared.config.Port.{Port}
 use Rattle.gw_records.specs.declared.ports.PortFault.{PortFault}
-use Rattle.gw_records.specs.Ports.{PortsState}
+use Rattle.gw_records.specs.Ports.{PortsState, PortCall, Addresses, given_by_call, taken_by_call}
 use Rattle.gw_udp.specs.Names.{LookUp, IsAddressOf}
 use Rattle.gw_udp.specs.Senders.{IsLetIn}
 use Rattle.gw_udp.specs.Socket.{Bound, Received, Sent}
@@ -17,12 +17,11 @@ use Rattle.gw_udp.specs.declared.udp.Endpoint.{Endpoint}
 -- both addresses are of one family
 pub record IsEndpointOf {S : Type 0} (is_bound : Bound S) (looks_up : LookUp) (host : List ℕ)
     (senders : Senders) (port : Port) (e : Endpoint S) : Type 0 where
-  pub here : SocketAddr
-  pub bound : is_bound e.socket here
-  pub here_is : IsAddressOf looks_up host port.local_port here
+  pub bound : is_bound e.socket e.here.value
+  pub here_is : IsAddressOf looks_up host port.local_port e.here.value
   pub senders_are : e.senders ≡ senders
   pub peer_is : IsAddressOf looks_up (string_bytes port.peer_host) port.peer_port e.peer
-  pub one_family : is_ipv4 (socket_ip here) ≡ is_ipv4 (socket_ip e.peer)
+  pub one_family : is_ipv4 (socket_ip e.here.value) ≡ is_ipv4 (socket_ip e.peer)
 
 -- there is a socket exactly where there are ports, and it is theirs
 abbrev pub IsEndpoint : {S : Type 0} → Bound S → LookUp → List ℕ → Senders → Option Port
@@ -86,7 +85,8 @@ abbrev pub ReceivesAt : {S : Type 0} → Received S → Option (Endpoint S) → 
     → Result (Option ℕ) PortFault → List ℕ → Type 0
 ReceivesAt receives None new r room = (new ≡ None) × (r ≡ Ok None)
 ReceivesAt receives (Some e) None r room = ⊥
-ReceivesAt receives (Some e) (Some f) r room = (f.peer ≡ e.peer) × (f.senders ≡ e.senders)
+ReceivesAt receives (Some e) (Some f) r room =
+    (f.here ≡ e.here) × (f.peer ≡ e.peer) × (f.senders ≡ e.senders)
     × ReceivesFrom receives e.senders e.peer e.socket f.socket r room
 
 -- a receive for circuit c was one at its own socket
@@ -101,7 +101,8 @@ abbrev pub SendsAt : {S : Type 0} → Sent S → Option (Endpoint S) → Option 
     → Result (Unit {0}) PortFault → Type 0
 SendsAt sends None new datagram r = (new ≡ None) × (r ≡ Ok tt)
 SendsAt sends (Some e) None datagram r = ⊥
-SendsAt sends (Some e) (Some f) datagram r = (f.peer ≡ e.peer) × (f.senders ≡ e.senders)
+SendsAt sends (Some e) (Some f) datagram r =
+    (f.here ≡ e.here) × (f.peer ≡ e.peer) × (f.senders ≡ e.senders)
     × sends e.socket f.socket e.peer datagram r
 
 -- a send for circuit c was one at its own socket, to its own peer
@@ -110,13 +111,24 @@ abbrev pub EndpointSends : {S : Type 0} → Sent S → ℕ → List (Option (End
 EndpointSends {S} sends c old new datagram r = (d : Option (Endpoint S))
     → SendsAt sends (slice_index_or old (c - 1) d) (slice_index_or new (c - 1) d) datagram r
 
--- sockets tell how many receives and sends have failed; which datagrams wait, came and went, none of std does
-abbrev pub told : ℕ → ℕ → PortsState
-told receive_failed send_failed = record {
+-- the addresses of a circuit's socket: its own, and its peer's
+abbrev pub addresses_at : {S : Type 0} → Option (Endpoint S) → Option (SocketAddr × SocketAddr)
+addresses_at None = None
+addresses_at (Some e) = Some (e.here.value, e.peer)
+
+-- .. of each circuit, of 1 to 30
+abbrev pub addresses_of : {S : Type 0} → List (Option (Endpoint S)) → Addresses
+addresses_of endpoints circuit = addresses_at (slice_index_or endpoints (circuit - 1) None)
+
+-- Sockets tell how many receives and sends have failed, their addresses and all calls, with what the calls gave
+-- and took. What waits in the system is not known.
+abbrev pub told : ℕ → ℕ → Addresses → List PortCall → PortsState
+told receive_failed send_failed addresses calls = record {
   receive_failures = receive_failed;
   send_failures = send_failed;
+  addresses = addresses;
   waiting = None;
-  given = None;
-  taken = None;
-  calls = None;
+  given = Some (flat_map given_by_call calls);
+  taken = Some (flat_map taken_by_call calls);
+  calls = Some calls;
 }

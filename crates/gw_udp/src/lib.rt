@@ -2,6 +2,7 @@
 #![tactic(auto)]
 
 mod asking;
+pub mod laws;
 mod names;
 mod outcome;
 mod resting;

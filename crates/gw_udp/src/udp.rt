@@ -6,14 +6,15 @@ ghost use Rattle.gw_records.specs.Ports.{Receives, Sends, CountsFault, KeepsSend
 ghost use Rattle.gw_udp.specs.Names.{IsAddressOf, LacksAddress, SystemLooksUp};
 ghost use Rattle.gw_udp.specs.Udp.{IsEndpointOf, IsEndpoint, HasEndpoints, KeepsOthers};
 ghost use Rattle.gw_udp.specs.Opening.{Blames, LacksSocket, IsFaultOf, FailsToOpen};
-ghost use Rattle.gw_udp.specs.Udp.{ReceivesFrom, EndpointReceives, EndpointSends, told};
+ghost use Rattle.gw_udp.specs.Udp.{ReceivesFrom, EndpointReceives, EndpointSends, addresses_of, told};
+ghost use Rattle.gw_udp.specs.Calls.{HasCalled, AreBound, IsFresh};
 
 use crate::names::NameLookup;
 use crate::senders::Senders;
 use crate::socket::Socket;
 use g704_cas::CircuitNo;
 use gw_config::Port;
-use gw_records::{PortFault, Ports};
+use gw_records::{AtStart, CallLog, PortFault, Ports};
 use std::alloc::Global;
 use std::io::{Error, ErrorKind};
 use std::net::{IpAddr, Net, SocketAddr};
@@ -33,22 +34,27 @@ pub enum OpenFault {
     Socket(u8),
 }
 
-/// The socket of a circuit, where its datagrams go, and from whom they come.
+/// The socket of a circuit, the address that it is bound to, where its datagrams go, and from whom they come.
 #[derive(Drop)]
 pub struct Endpoint<S> {
     socket: S,
+    here: AtStart<SocketAddr>,
     peer: SocketAddr,
     senders: Senders,
 }
 
 /// A socket for each circuit that has ports. A circuit without ports receives none, and its datagrams are
-/// dropped.
+/// dropped. The sockets as they were opened and all calls are known to proofs alone.
 #[derive(Drop)]
-pub struct UdpPorts<S> {
-    endpoints: Vec<Option<Endpoint<S>>>,
+pub struct UdpPorts<S: Socket> {
+    pub(crate) endpoints: Vec<Option<Endpoint<S>>>,
     receive_failed: u64,
     send_failed: u64,
+    pub(crate) opened: AtStart<Vec<Option<Endpoint<S>>>>,
+    pub(crate) log: CallLog,
     ghost thirty: { vec_len endpoints ≡ 30 },
+    ghost bound: { ∥ AreBound S.is_bound opened.value.items ∥₁ },
+    ghost called: { ∥ HasCalled S.receives S.sends log.calls opened.value.items endpoints.items ∥₁ },
 }
 
 // Why a socket is not to be had: want of memory, or else a fault of this circuit.
@@ -113,6 +119,7 @@ fn open_endpoint<S: Socket, L: NameLookup>(
     }
     Ok(Endpoint {
         socket,
+        here: AtStart::of(&here),
         peer,
         senders,
     })
@@ -234,6 +241,7 @@ impl<S: Socket> UdpPorts<S> {
     ) -> Result<UdpPorts<S>, OpenFault>
         ensures ok { IfOk result (λ opened.
             HasEndpoints S.is_bound SystemLooksUp host.now senders ports.now opened.endpoints.items 30) }
+        ensures fresh { IfOk result (λ p. IsFresh p.endpoints.items p.opened.value.items p.log.calls) }
         ensures err { IfErr result
             (FailsToOpen S.is_bound S.refuses SystemLooksUp host.now senders ports.now) }
     {
@@ -254,29 +262,40 @@ impl<S: Socket> UdpPorts<S> {
                 Err(_) => return Err(OpenFault::OutOfMemory),
             }
         }
+        let opened = AtStart::of(&endpoints);
         Ok(UdpPorts {
             endpoints,
             receive_failed: 0,
             send_failed: 0,
+            opened,
+            log: CallLog::new(),
         })
     }
 }
 
 impl<S: Socket> Ports for UdpPorts<S> {
-    ghost tells = { λ p. told p.receive_failed p.send_failed };
+    ghost tells = { λ p.
+        told p.receive_failed p.send_failed (addresses_of p.opened.value.items) p.log.calls };
 
     fn receive(&mut self, circuit: CircuitNo, room: &mut [u8]) -> Result<Option<usize>, PortFault>
         ensures bound { IfOk result (λ got. IfSome got (λ n. n ≤ length room.new)) }
-        ensures receives { Receives (told self.old.receive_failed self.old.send_failed)
-            (told self.new.receive_failed self.new.send_failed) circuit result room.new }
+        ensures receives { Receives
+            (told self.old.receive_failed self.old.send_failed (addresses_of self.old.opened.value.items)
+            self.old.log.calls)
+            (told self.new.receive_failed self.new.send_failed (addresses_of self.new.opened.value.items)
+            self.new.log.calls) circuit result room.new }
         ensures counts { CountsFault self.old.receive_failed self.new.receive_failed result }
-        ensures sends_stay { KeepsSends (told self.old.receive_failed self.old.send_failed)
-            (told self.new.receive_failed self.new.send_failed) }
+        ensures sends_stay { KeepsSends
+            (told self.old.receive_failed self.old.send_failed (addresses_of self.old.opened.value.items)
+            self.old.log.calls)
+            (told self.new.receive_failed self.new.send_failed (addresses_of self.new.opened.value.items)
+            self.new.log.calls) }
         ensures own { EndpointReceives S.receives circuit self.old.endpoints.items self.new.endpoints.items
             result room.new }
         ensures others { KeepsOthers circuit self.old.endpoints.items self.new.endpoints.items }
     {
         let received = receive_at(&mut self.endpoints, circuit, room);
+        self.log.received(circuit, &received, room);
         if received.is_err() {
             self.receive_failed = self.receive_failed.saturating_add(1);
         }
@@ -284,16 +303,23 @@ impl<S: Socket> Ports for UdpPorts<S> {
     }
 
     fn send(&mut self, circuit: CircuitNo, datagram: &[u8]) -> Result<(), PortFault>
-        ensures sends { Sends (told self.old.receive_failed self.old.send_failed)
-            (told self.new.receive_failed self.new.send_failed) circuit result datagram.now }
+        ensures sends { Sends
+            (told self.old.receive_failed self.old.send_failed (addresses_of self.old.opened.value.items)
+            self.old.log.calls)
+            (told self.new.receive_failed self.new.send_failed (addresses_of self.new.opened.value.items)
+            self.new.log.calls) circuit result datagram.now }
         ensures counts { CountsFault self.old.send_failed self.new.send_failed result }
-        ensures receives_stay { KeepsReceives (told self.old.receive_failed self.old.send_failed)
-            (told self.new.receive_failed self.new.send_failed) }
+        ensures receives_stay { KeepsReceives
+            (told self.old.receive_failed self.old.send_failed (addresses_of self.old.opened.value.items)
+            self.old.log.calls)
+            (told self.new.receive_failed self.new.send_failed (addresses_of self.new.opened.value.items)
+            self.new.log.calls) }
         ensures own { EndpointSends S.sends circuit self.old.endpoints.items self.new.endpoints.items
             datagram.now result }
         ensures others { KeepsOthers circuit self.old.endpoints.items self.new.endpoints.items }
     {
         let sent = send_from(&mut self.endpoints, circuit, datagram);
+        self.log.sent(circuit, datagram, &sent);
         if sent.is_err() {
             self.send_failed = self.send_failed.saturating_add(1);
         }

@@ -71,4 +71,4 @@ returns-clause-comes g c =
     let w = c.receiving.invariant.receiving in
     let four : length w.0 ≡ 4 = omega (arith, w.1, c.receiving-test.false) in
     comes_so _ _ 0 w.2 w.3 c.in-Some.is c.next_slot.ensures (omega (arith, w.1)) Stop.Enough four refl
-    (Grows-none _) refl (refl, refl) refl (λ none. (refl, inl four))
+    (Grows-none _) refl (refl, refl, refl) refl (λ none. (refl, inl four))

@@ -1,0 +1,145 @@
+-- The sockets of circuits from call to call.
+use Rattle.std.proofs.Common.{◌≡◌, ◌≢◌, ℕ, ◌-◌, ◌+◌, ◌≤◌, ◌<◌, ◌++◌, ◌∷◌, ◌==◌, [], List, length, Bool, true, false}
+use Rattle.std.proofs.Common.{Option, Some, None, Result, Ok, Err, refl, sym, ap, ◌∙◌, inl, inr, arith, append-nil}
+use Rattle.std.proofs.lemmas.Bool.{ltb-true, ltb-false}
+use Rattle.std.proofs.lemmas.Bool.Decides.{eqb_tells}
+use Rattle.std.proofs.lemmas.Grind.{flat_map-append}
+use Rattle.std.proofs.Math.ListN.{get_or-eq_default}
+use Rattle.std.specs.Prelude.{nat_lt, slice_index_or, flat_map}
+use Rattle.gw_config.specs.declared.config.Port.{Port}
+use Rattle.gw_records.specs.declared.ports.PortFault.{PortFault}
+use Rattle.gw_records.specs.Ports.{Addresses, PortCall, Receives, Sends, KeepsSends, KeepsReceives}
+use Rattle.gw_records.specs.Ports.{given_by_call, taken_by_call, receive_call, send_call}
+use Rattle.gw_udp.specs.Names.{LookUp}
+use Rattle.gw_udp.specs.Socket.{Bound, Received, Sent}
+use Rattle.gw_udp.specs.Udp.{IsEndpoint, HasEndpoints, KeepsOthers, EndpointReceives, EndpointSends, told}
+use Rattle.gw_udp.specs.Calls.{circuit_of, HasCalledOne, HasCalled, HasMadeAll, calls_for, IsBoundTo, AreBound}
+use Rattle.gw_udp.specs.Calls.{EachHasItsSocket}
+use Rattle.gw_udp.specs.declared.senders.Senders.{Senders}
+use Rattle.gw_udp.specs.declared.udp.Endpoint.{Endpoint}
+
+-- calls were made at the sockets, and then one more
+pub called_more : {S : Type 0} {receives : Received S} {sends : Sent S} {call : PortCall} (calls : List PortCall)
+    {old between new : List (Option (Endpoint S))} → HasCalled receives sends calls old between
+    → HasCalledOne receives sends call between new → HasCalled receives sends (calls ++ call ∷ []) old new
+called_more [] {new = new} none one = (new, rw none at one, refl)
+called_more (c ∷ calls) some one = (some.0, some.1, called_more calls some.2 one)
+
+-- a receive for a circuit was a call at its own socket
+pub receive_called : {S : Type 0} (receives : Received S) (sends : Sent S) (circuit : ℕ)
+    (old new : List (Option (Endpoint S))) (r : Result (Option ℕ) PortFault) (room : List ℕ) → 1 ≤ circuit
+    → EndpointReceives receives circuit old new r room → KeepsOthers circuit old new
+    → HasCalledOne receives sends (receive_call circuit r room) old new
+receive_called receives sends circuit old new (Ok (Some n)) room some own others = record {
+  some = some;
+  own = λ d. record { len = n; room = room; front = refl; received = own d };
+  others = others;
+}
+receive_called receives sends circuit old new (Ok None) room some own others =
+    record { some = some; own = λ d. (room, own d); others = others }
+receive_called receives sends circuit old new (Err fault) room some own others =
+    record { some = some; own = λ d. (fault, room, own d); others = others }
+
+-- a send of a circuit was a call at its own socket
+pub send_called : {S : Type 0} (receives : Received S) (sends : Sent S) (circuit : ℕ)
+    (old new : List (Option (Endpoint S))) (datagram : List ℕ) (r : Result (Unit {0}) PortFault) → 1 ≤ circuit
+    → EndpointSends sends circuit old new datagram r → KeepsOthers circuit old new
+    → HasCalledOne receives sends (send_call circuit datagram r) old new
+send_called receives sends circuit old new datagram (Ok tt) some own others =
+    record { some = some; own = own; others = others }
+send_called receives sends circuit old new datagram (Err fault) some own others =
+    record { some = some; own = λ d. (fault, own d); others = others }
+
+-- what calls gave or took, where one more gave or took nothing
+none_more : (f : PortCall → List (ℕ × List ℕ)) (calls : List PortCall) (call : PortCall) → f call ≡ []
+    → flat_map f (calls ++ call ∷ []) ≡ flat_map f calls
+none_more f calls call none = flat_map-append f calls (call ∷ []) ∙ rw (none, append-nil) refl
+
+-- a receive is told as one call more, by its result
+pub more_received : (failed failed' sent : ℕ) (addresses : Addresses) (calls : List PortCall) (circuit : ℕ)
+    (r : Result (Option ℕ) PortFault) (room : List ℕ)
+    → Receives (told failed sent addresses calls)
+    (told failed' sent addresses (calls ++ receive_call circuit r room ∷ [])) circuit r room
+more_received failed failed' sent addresses calls circuit (Ok (Some n)) room =
+    (flat_map-append given_by_call calls (receive_call {E = PortFault} circuit (Ok (Some n)) room ∷ []), tt, refl)
+more_received failed failed' sent addresses calls circuit (Ok None) room =
+    (ap Some (none_more given_by_call calls (PortCall.FoundNone circuit) refl), refl, tt, refl)
+more_received failed failed' sent addresses calls circuit (Err fault) room =
+    (ap Some (none_more given_by_call calls (PortCall.ReceiveFailed circuit) refl), refl)
+
+-- .. and leaves what sends took
+pub receive_keeps : (failed failed' sent : ℕ) (addresses : Addresses) (calls : List PortCall) (circuit : ℕ)
+    (r : Result (Option ℕ) PortFault) (room : List ℕ)
+    → KeepsSends (told failed sent addresses calls)
+    (told failed' sent addresses (calls ++ receive_call circuit r room ∷ []))
+receive_keeps failed failed' sent addresses calls circuit (Ok (Some n)) room =
+    (refl, ap Some (none_more taken_by_call calls _ refl), refl)
+receive_keeps failed failed' sent addresses calls circuit (Ok None) room =
+    (refl, ap Some (none_more taken_by_call calls _ refl), refl)
+receive_keeps failed failed' sent addresses calls circuit (Err fault) room =
+    (refl, ap Some (none_more taken_by_call calls _ refl), refl)
+
+-- a send is told as one call more, by its result
+pub more_sent : (failed sent sent' : ℕ) (addresses : Addresses) (calls : List PortCall) (circuit : ℕ)
+    (datagram : List ℕ) (r : Result (Unit {0}) PortFault)
+    → Sends (told failed sent addresses calls)
+    (told failed sent' addresses (calls ++ send_call circuit datagram r ∷ [])) circuit r datagram
+more_sent failed sent sent' addresses calls circuit datagram (Ok tt) =
+    (flat_map-append taken_by_call calls (PortCall.Took circuit datagram ∷ []), refl)
+more_sent failed sent sent' addresses calls circuit datagram (Err fault) =
+    (ap Some (none_more taken_by_call calls (PortCall.SendFailed circuit datagram) refl), refl)
+
+-- .. and leaves what receives gave
+pub send_keeps : (failed sent sent' : ℕ) (addresses : Addresses) (calls : List PortCall) (circuit : ℕ)
+    (datagram : List ℕ) (r : Result (Unit {0}) PortFault)
+    → KeepsReceives (told failed sent addresses calls)
+    (told failed sent' addresses (calls ++ send_call circuit datagram r ∷ []))
+send_keeps failed sent sent' addresses calls circuit datagram (Ok tt) =
+    (refl, ap Some (none_more given_by_call calls _ refl), refl, refl)
+send_keeps failed sent sent' addresses calls circuit datagram (Err fault) =
+    (refl, ap Some (none_more given_by_call calls _ refl), refl, refl)
+
+-- the socket of a circuit's own ports is bound to its address
+bound_to : {S : Type 0} {is_bound : Bound S} {looks_up : LookUp} {host : List ℕ} {senders : Senders}
+    (port : Option Port) (e : Option (Endpoint S)) → IsEndpoint is_bound looks_up host senders port e
+    → IsBoundTo is_bound e
+bound_to port None is = tt
+bound_to None (Some e) is = absurd is
+bound_to (Some port) (Some e) is = is.bound
+
+-- sockets that were opened for ports are bound to their addresses
+pub are_bound : {S : Type 0} {is_bound : Bound S} {looks_up : LookUp} {host : List ℕ} {senders : Senders}
+    (ports : List (Option Port)) (endpoints : List (Option (Endpoint S))) (n : ℕ) → length endpoints ≡ n
+    → HasEndpoints is_bound looks_up host senders ports endpoints n → AreBound is_bound endpoints
+are_bound {S} {is_bound} ports endpoints n len has = λ i. go i (nat_lt i n) refl
+  where
+    go : (i : ℕ) (b : Bool) → nat_lt i n ≡ b → IsBoundTo is_bound (slice_index_or endpoints i None)
+    go i true below = bound_to (slice_index_or ports i None) _ (has i None None (ltb-true i n below))
+    go i false past =
+        let none : slice_index_or endpoints i None ≡ None =
+            get_or-eq_default endpoints None (omega (arith, len, ltb-false i n past)) in
+        rw none tt
+
+-- what the socket of a circuit is came of the calls for this circuit
+made_all : {S : Type 0} {receives : Received S} {sends : Sent S} (calls : List PortCall)
+    (old new : List (Option (Endpoint S))) → HasCalled receives sends calls old new
+    → (circuit : ℕ) → 1 ≤ circuit
+    → HasMadeAll receives sends (calls_for circuit calls) (slice_index_or old (circuit - 1) None)
+    (slice_index_or new (circuit - 1) None)
+made_all [] old new none circuit some = rw none refl
+made_all (call ∷ calls) old new has circuit some = elim (eqb_tells (circuit_of call) circuit) [
+  | inl t ↦ rw (t.0) (slice_index_or has.0 (circuit - 1) None, rw (t.1) at (has.1.own None),
+      made_all calls has.0 new has.2 circuit some)
+  | inr t ↦ rw (t.0, ← has.1.others (circuit - 1) None (λ same. t.1 (omega (arith, same, some, has.1.some))))
+      (made_all calls has.0 new has.2 circuit some)
+]
+
+-- each circuit has its own socket, by what is true of all ports over sockets
+pub each_has : {S : Type 0} {is_bound : Bound S} {receives : Received S} {sends : Sent S} (calls : List PortCall)
+    (opened endpoints : List (Option (Endpoint S))) → AreBound is_bound opened
+    → HasCalled receives sends calls opened endpoints
+    → EachHasItsSocket is_bound receives sends calls opened endpoints
+each_has calls opened endpoints bound called = λ circuit some. record {
+  bound = bound (circuit - 1);
+  called = made_all calls opened endpoints called circuit some;
+}
