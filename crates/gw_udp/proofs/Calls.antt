@@ -1,6 +1,6 @@
 -- The sockets of circuits from call to call.
-use Rattle.std.proofs.Common.{◌≡◌, ◌≢◌, ℕ, ◌-◌, ◌+◌, ◌≤◌, ◌<◌, ◌++◌, ◌∷◌, ◌==◌, [], List, length, Bool, true, false}
-use Rattle.std.proofs.Common.{Option, Some, None, Result, Ok, Err, refl, sym, ap, ◌∙◌, inl, inr, arith, append-nil}
+use Rattle.std.proofs.Common.{◌≡◌, ℕ, ◌-◌, ◌≤◌, ◌++◌, ◌∷◌, [], List, length, Bool, true, false}
+use Rattle.std.proofs.Common.{Option, Some, None, Result, Ok, Err, refl, ap, ◌∙◌, inl, inr, arith, append-nil}
 use Rattle.std.proofs.lemmas.Bool.{ltb-true, ltb-false}
 use Rattle.std.proofs.lemmas.Bool.Decides.{eqb_tells}
 use Rattle.std.proofs.lemmas.Grind.{flat_map-append}
@@ -19,11 +19,12 @@ use Rattle.gw_udp.specs.declared.senders.Senders.{Senders}
 use Rattle.gw_udp.specs.declared.udp.Endpoint.{Endpoint}
 
 -- calls were made at the sockets, and then one more
-pub called_more : {S : Type 0} {receives : Received S} {sends : Sent S} {call : PortCall} (calls : List PortCall)
-    {old between new : List (Option (Endpoint S))} → HasCalled receives sends calls old between
+pub called_more : {S : Type 0} (receives : Received S) (sends : Sent S) (call : PortCall) (calls : List PortCall)
+    (old between new : List (Option (Endpoint S))) → HasCalled receives sends calls old between
     → HasCalledOne receives sends call between new → HasCalled receives sends (calls ++ call ∷ []) old new
-called_more [] {new = new} none one = (new, rw none at one, refl)
-called_more (c ∷ calls) some one = (some.0, some.1, called_more calls some.2 one)
+called_more receives sends call [] old between new none one = (new, rw none at one, refl)
+called_more receives sends call (c ∷ calls) old between new some one =
+    (some.0, some.1, called_more receives sends call calls some.0 between new some.2 one)
 
 -- a receive for a circuit was a call at its own socket
 pub receive_called : {S : Type 0} (receives : Received S) (sends : Sent S) (circuit : ℕ)
@@ -100,46 +101,49 @@ send_keeps failed sent sent' addresses calls circuit datagram (Err fault) =
     (refl, ap Some (none_more given_by_call calls _ refl), refl, refl)
 
 -- the socket of a circuit's own ports is bound to its address
-bound_to : {S : Type 0} {is_bound : Bound S} {looks_up : LookUp} {host : List ℕ} {senders : Senders}
+bound_to : {S : Type 0} (is_bound : Bound S) (looks_up : LookUp) (host : List ℕ) (senders : Senders)
     (port : Option Port) (e : Option (Endpoint S)) → IsEndpoint is_bound looks_up host senders port e
     → IsBoundTo is_bound e
-bound_to port None is = tt
-bound_to None (Some e) is = absurd is
-bound_to (Some port) (Some e) is = is.bound
+bound_to is_bound looks_up host senders port None is = tt
+bound_to is_bound looks_up host senders None (Some e) is = absurd is
+bound_to is_bound looks_up host senders (Some port) (Some e) is = is.bound
 
 -- sockets that were opened for ports are bound to their addresses
-pub are_bound : {S : Type 0} {is_bound : Bound S} {looks_up : LookUp} {host : List ℕ} {senders : Senders}
+pub are_bound : {S : Type 0} (is_bound : Bound S) (looks_up : LookUp) (host : List ℕ) (senders : Senders)
     (ports : List (Option Port)) (endpoints : List (Option (Endpoint S))) (n : ℕ) → length endpoints ≡ n
     → HasEndpoints is_bound looks_up host senders ports endpoints n → AreBound is_bound endpoints
-are_bound {S} {is_bound} ports endpoints n len has = λ i. go i (nat_lt i n) refl
+are_bound is_bound looks_up host senders ports endpoints n len has = λ i. go i (nat_lt i n) refl
   where
     go : (i : ℕ) (b : Bool) → nat_lt i n ≡ b → IsBoundTo is_bound (slice_index_or endpoints i None)
-    go i true below = bound_to (slice_index_or ports i None) _ (has i None None (ltb-true i n below))
+    go i true below = bound_to is_bound looks_up host senders (slice_index_or ports i None) _ (has i None None (ltb-true i n below))
     go i false past =
         let none : slice_index_or endpoints i None ≡ None =
-            get_or-eq_default endpoints None (omega (arith, len, ltb-false i n past)) in
+        get_or-eq_default endpoints None (omega (arith, len, ltb-false i n past)) in
         rw none tt
 
 -- what the socket of a circuit is came of the calls for this circuit
-made_all : {S : Type 0} {receives : Received S} {sends : Sent S} (calls : List PortCall)
+made_all : {S : Type 0} (receives : Received S) (sends : Sent S) (calls : List PortCall)
     (old new : List (Option (Endpoint S))) → HasCalled receives sends calls old new
     → (circuit : ℕ) → 1 ≤ circuit
     → HasMadeAll receives sends (calls_for circuit calls) (slice_index_or old (circuit - 1) None)
     (slice_index_or new (circuit - 1) None)
-made_all [] old new none circuit some = rw none refl
-made_all (call ∷ calls) old new has circuit some = elim (eqb_tells (circuit_of call) circuit) [
-  | inl t ↦ rw (t.0) (slice_index_or has.0 (circuit - 1) None, rw (t.1) at (has.1.own None),
-      made_all calls has.0 new has.2 circuit some)
+made_all receives sends [] old new none circuit some = rw none refl
+made_all receives sends (call ∷ calls) old new has circuit some = elim (eqb_tells (circuit_of call) circuit) [
+  | inl t ↦ rw (t.0) (
+    slice_index_or has.0 (circuit - 1) None,
+    rw (t.1) at (has.1.own None),
+    made_all receives sends calls has.0 new has.2 circuit some,
+  )
   | inr t ↦ rw (t.0, ← has.1.others (circuit - 1) None (λ same. t.1 (omega (arith, same, some, has.1.some))))
-      (made_all calls has.0 new has.2 circuit some)
+      (made_all receives sends calls has.0 new has.2 circuit some)
 ]
 
 -- each circuit has its own socket, by what is true of all ports over sockets
-pub each_has : {S : Type 0} {is_bound : Bound S} {receives : Received S} {sends : Sent S} (calls : List PortCall)
+pub each_has : {S : Type 0} (is_bound : Bound S) (receives : Received S) (sends : Sent S) (calls : List PortCall)
     (opened endpoints : List (Option (Endpoint S))) → AreBound is_bound opened
     → HasCalled receives sends calls opened endpoints
     → EachHasItsSocket is_bound receives sends calls opened endpoints
-each_has calls opened endpoints bound called = λ circuit some. record {
+each_has is_bound receives sends calls opened endpoints bound called = λ circuit some. record {
   bound = bound (circuit - 1);
-  called = made_all calls opened endpoints called circuit some;
+  called = made_all receives sends calls opened endpoints called circuit some;
 }

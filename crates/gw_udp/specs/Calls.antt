@@ -1,6 +1,6 @@
 -- What the calls of ports did at the sockets of circuits.
-use Rattle.std.specs.Prelude.{◌≡◌, ◌+◌, ◌==◌, ◌-◌, ◌≤◌, ℕ, List, [], ◌∷◌, take, filter, slice_index_or}
-use Rattle.std.specs.Prelude.{Option, Some, None, Result, Ok, Err, ⊤}
+use Rattle.std.specs.Prelude.{◌≡◌, ◌==◌, ◌-◌, ◌≤◌, ℕ, List, [], ◌∷◌, take, filter, slice_index_or}
+use Rattle.std.specs.Prelude.{Option, Some, None, Ok, Err, ⊤}
 use Rattle.gw_records.specs.declared.ports.PortFault.{PortFault}
 use Rattle.gw_records.specs.Ports.{PortCall}
 use Rattle.gw_udp.specs.Socket.{Bound, Received, Sent}

@@ -199,6 +199,7 @@ fn receive_at<S: Socket>(
         result room.new }
     ensures others { KeepsOthers circuit endpoints.old.items endpoints.new.items }
     ensures thirty { vec_len endpoints.new ≡ 30 }
+    ensures some { 1 ≤ circuit }
 {
     match &mut endpoints[usize::from(circuit.get()) - 1] {
         Some(endpoint) => receive_from(
@@ -222,6 +223,7 @@ fn send_from<S: Socket>(
     ensures own { EndpointSends S.sends circuit endpoints.old.items endpoints.new.items datagram.now result }
     ensures others { KeepsOthers circuit endpoints.old.items endpoints.new.items }
     ensures thirty { vec_len endpoints.new ≡ 30 }
+    ensures some { 1 ≤ circuit }
 {
     let number = usize::from(circuit.get());
     match &mut endpoints[number - 1] {

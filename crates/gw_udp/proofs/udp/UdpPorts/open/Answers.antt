@@ -1,6 +1,7 @@
-use Rattle.std.proofs.Common.{◌≡◌, ◌+◌, ◌-◌, arith, rules}
+use Rattle.std.proofs.Common.{◌≡◌, ◌+◌, ◌-◌, arith, refl, rules}
 use Rattle.std.proofs.lemmas.List.{get_or_default}
 use Rattle.std.proofs.lemmas.Result.{err_from_is_err_and}
+use Rattle.gw_udp.proofs.Calls.{are_bound}
 use Rattle.gw_udp.proofs.Opening.{fault_since, first_without, one_more}
 use Rattle.gw_udp.specs.Names.{SystemLooksUp}
 use Rattle.gw_udp.proofs.udp.UdpPorts.open.Goals as goal
@@ -32,3 +33,12 @@ loop-number-preserved g c =
           c.index-ports-from.result (omega (arith, c.type_inv.ports, c.from.ensures, c.loop-number.invariant.some))))
           c.loop-number.invariant.own c.in_ok-endpoint.ensures.ok);
     }
+
+pub invariant_of-result : goal.invariant_of-result
+invariant_of-result g c = record {
+  thirty = omega (arith, c.loop-number.invariant.len, c.loop-number-test.false, c.loop-number.auto.number-end);
+  bound = ∣ rw c.of-opened.ensures (are_bound g.S.Socket.is_bound SystemLooksUp c.args.host.now c.args.senders
+      c.args.ports.now c.loop-number.endpoints.items (c.loop-number.number - 1) (search rules)
+      c.loop-number.invariant.own) ∣₁;
+  called = ∣ rw (c.new.ensures, c.of-opened.ensures) refl ∣₁;
+}
