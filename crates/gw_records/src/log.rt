@@ -9,9 +9,13 @@ use std::marker::{Model, PhantomData};
 
 // The kinds of calls, in the order of their definition.
 const GAVE: u8 = 0;
+
 const FOUND_NONE: u8 = 1;
+
 const RECEIVE_FAILED: u8 = 2;
+
 const TOOK: u8 = 3;
+
 const SEND_FAILED: u8 = 4;
 
 /// The octets that passed, one after another. It takes no memory, and its functions do nothing.
