@@ -1,18 +1,17 @@
 -- The sockets of circuits from call to call.
 use Rattle.std.proofs.Common.{◌≡◌, ℕ, ◌-◌, ◌≤◌, ◌++◌, ◌∷◌, [], List, length, Bool, true, false}
-use Rattle.std.proofs.Common.{Option, Some, None, Result, Ok, Err, refl, ap, ◌∙◌, inl, inr, arith, append-nil}
+use Rattle.std.proofs.Common.{Option, Some, None, Result, Ok, Err, refl, inl, inr, arith}
 use Rattle.std.proofs.lemmas.Bool.{ltb-true, ltb-false}
 use Rattle.std.proofs.lemmas.Bool.Decides.{eqb_tells}
-use Rattle.std.proofs.lemmas.Grind.{flat_map-append}
 use Rattle.std.proofs.Math.ListN.{get_or-eq_default}
-use Rattle.std.specs.Prelude.{nat_lt, slice_index_or, flat_map}
+use Rattle.std.specs.Prelude.{nat_lt, slice_index_or}
 use Rattle.gw_config.specs.declared.config.Port.{Port}
 use Rattle.gw_records.specs.declared.ports.PortFault.{PortFault}
-use Rattle.gw_records.specs.Ports.{Addresses, PortCall, Receives, Sends, KeepsSends, KeepsReceives}
-use Rattle.gw_records.specs.Ports.{given_by_call, taken_by_call, receive_call, send_call}
+use Rattle.gw_records.specs.Ports.{PortCall}
+use Rattle.gw_records.specs.Ports.{receive_call, send_call}
 use Rattle.gw_udp.specs.Names.{LookUp}
 use Rattle.gw_udp.specs.Socket.{Bound, Received, Sent}
-use Rattle.gw_udp.specs.Udp.{IsEndpoint, HasEndpoints, KeepsOthers, EndpointReceives, EndpointSends, told}
+use Rattle.gw_udp.specs.Udp.{IsEndpoint, HasEndpoints, KeepsOthers, EndpointReceives, EndpointSends}
 use Rattle.gw_udp.specs.Calls.{circuit_of, HasCalledOne, HasCalled, HasMadeAll, calls_for, IsBoundTo, AreBound}
 use Rattle.gw_udp.specs.Calls.{EachHasItsSocket}
 use Rattle.gw_udp.specs.declared.senders.Senders.{Senders}
@@ -50,55 +49,6 @@ send_called receives sends circuit old new datagram (Ok tt) some own others =
     record { some = some; own = own; others = others }
 send_called receives sends circuit old new datagram (Err fault) some own others =
     record { some = some; own = λ d. (fault, own d); others = others }
-
--- what calls gave or took, where one more gave or took nothing
-none_more : (f : PortCall → List (ℕ × List ℕ)) (calls : List PortCall) (call : PortCall) → f call ≡ []
-    → flat_map f (calls ++ call ∷ []) ≡ flat_map f calls
-none_more f calls call none = flat_map-append f calls (call ∷ []) ∙ rw (none, append-nil) refl
-
--- a receive is told as one call more, by its result
-pub more_received : (failed failed' sent : ℕ) (addresses : Addresses) (calls : List PortCall) (circuit : ℕ)
-    (r : Result (Option ℕ) PortFault) (room : List ℕ)
-    → Receives (told failed sent addresses calls)
-    (told failed' sent addresses (calls ++ receive_call circuit r room ∷ [])) circuit r room
-more_received failed failed' sent addresses calls circuit (Ok (Some n)) room =
-    (flat_map-append given_by_call calls (receive_call {E = PortFault} circuit (Ok (Some n)) room ∷ []), tt, refl)
-more_received failed failed' sent addresses calls circuit (Ok None) room =
-    (ap Some (none_more given_by_call calls (PortCall.FoundNone circuit) refl), refl, tt, refl)
-more_received failed failed' sent addresses calls circuit (Err fault) room =
-    (ap Some (none_more given_by_call calls (PortCall.ReceiveFailed circuit) refl), refl)
-
--- .. and leaves what sends took
-pub receive_keeps : (failed failed' sent : ℕ) (addresses : Addresses) (calls : List PortCall) (circuit : ℕ)
-    (r : Result (Option ℕ) PortFault) (room : List ℕ)
-    → KeepsSends (told failed sent addresses calls)
-    (told failed' sent addresses (calls ++ receive_call circuit r room ∷ []))
-receive_keeps failed failed' sent addresses calls circuit (Ok (Some n)) room =
-    (refl, ap Some (none_more taken_by_call calls _ refl), refl)
-receive_keeps failed failed' sent addresses calls circuit (Ok None) room =
-    (refl, ap Some (none_more taken_by_call calls _ refl), refl)
-receive_keeps failed failed' sent addresses calls circuit (Err fault) room =
-    (refl, ap Some (none_more taken_by_call calls _ refl), refl)
-
--- a send is told as one call more, by its result
-pub more_sent : (failed sent sent' : ℕ) (addresses : Addresses) (calls : List PortCall) (circuit : ℕ)
-    (datagram : List ℕ) (r : Result (Unit {0}) PortFault)
-    → Sends (told failed sent addresses calls)
-    (told failed sent' addresses (calls ++ send_call circuit datagram r ∷ [])) circuit r datagram
-more_sent failed sent sent' addresses calls circuit datagram (Ok tt) =
-    (flat_map-append taken_by_call calls (PortCall.Took circuit datagram ∷ []), refl)
-more_sent failed sent sent' addresses calls circuit datagram (Err fault) =
-    (ap Some (none_more taken_by_call calls (PortCall.SendFailed circuit datagram) refl), refl)
-
--- .. and leaves what receives gave
-pub send_keeps : (failed sent sent' : ℕ) (addresses : Addresses) (calls : List PortCall) (circuit : ℕ)
-    (datagram : List ℕ) (r : Result (Unit {0}) PortFault)
-    → KeepsReceives (told failed sent addresses calls)
-    (told failed sent' addresses (calls ++ send_call circuit datagram r ∷ []))
-send_keeps failed sent sent' addresses calls circuit datagram (Ok tt) =
-    (refl, ap Some (none_more given_by_call calls _ refl), refl, refl)
-send_keeps failed sent sent' addresses calls circuit datagram (Err fault) =
-    (refl, ap Some (none_more given_by_call calls _ refl), refl, refl)
 
 -- the socket of a circuit's own ports is bound to its address
 bound_to : {S : Type 0} (is_bound : Bound S) (looks_up : LookUp) (host : List ℕ) (senders : Senders)
