@@ -97,7 +97,7 @@ class Calls:
 
     def _write(self, call: Call) -> None:
         counts = self._counts.circuits[call.circuit]
-        now = {**counts.counts, 'lost': counts.stream.lost}
+        now = {**counts.counts(), 'lost': counts.stream.lost}
         before = self._before.get(call.circuit, {})
         self._before[call.circuit] = now
         # (a packet that was thought lost may come behind the end of its call)

@@ -4,14 +4,14 @@ from __future__ import annotations
 import struct
 from collections import deque
 from dataclasses import dataclass, field
-from typing import Any, Callable, Iterator
+from typing import Any, Callable
 
 from .session import CIRCUITS, HEAD, OCTETS_A_SECOND, DatagramRefusal, Kind
 
 SAMPLE = 32                     # octets of the trunk
 LATE = OCTETS_A_SECOND          # octets by which the answers may be behind before the counts are stale
-_WORDS = {int(refusal): refusal.label for refusal in DatagramRefusal} | {0: 'admitted'}
-_FIELDS = struct.Struct('>HII')
+_WORDS = {int(refusal): refusal.label for refusal in DatagramRefusal}
+_head, _fields = HEAD.unpack_from, struct.Struct('>HII').unpack_from
 _TRUNK, _DATAGRAM = int(Kind.TRUNK), int(Kind.DATAGRAM)
 _ANSWER = int(Kind.ANSWER)
 
@@ -47,18 +47,14 @@ class Stream:
 class Circuit:
     """The datagrams of a circuit."""
 
-    counts: dict[str, int] = field(default_factory=lambda: {'sent': 0, 'admitted': 0})
+    sent: int = 0
+    admitted: int = 0
+    refused: dict[str, int] = field(default_factory=dict)   # by the reason
     stream: Stream = field(default_factory=Stream)
 
-
-def _records(held: bytes) -> Iterator[tuple[int, int, int, int]]:
-    """The whole records among octets: of each its kind, its circuit, and where its body begins and ends."""
-    at, size, unpack = 0, len(held), HEAD.unpack_from
-    while size - at >= 4:
-        kind, circuit, length = unpack(held, at)
-        if at + 4 + length > size:
-            return
-        yield kind, circuit, at + 4, (at := at + 4 + length)
+    def counts(self) -> dict[str, int]:
+        """How many were sent, admitted and refused, by what is told of them."""
+        return {'sent': self.sent, 'admitted': self.admitted, **self.refused}
 
 
 class Counts:
@@ -83,38 +79,52 @@ class Counts:
         """Octets of the recording: notes each datagram and where on the trunk it came. Returns the records that are
         whole now."""
         held, at = self._tape + octets, 0
-        for kind, circuit, body, at in _records(held):
-            if kind == _TRUNK:
-                self.place += at - body
-            elif kind == _DATAGRAM:
-                sequence, timestamp, ssrc = _FIELDS.unpack_from(held, body + 2) if at - body >= 12 else (0, 0, 0)
+        upto = len(held) - 4
+        while at <= upto:
+            kind, circuit, length = _head(held, at)
+            after = at + 4 + length
+            if after > upto + 4:
+                break
+            if kind == _DATAGRAM:
+                sequence, timestamp, ssrc = _fields(held, at + 6) if length >= 12 else (0, 0, 0)
                 self._asked.append((circuit, self.place, sequence, timestamp, ssrc))
+            elif kind == _TRUNK:
+                self.place += length
+            at = after
         self._tape = held[at:]
         return held[:at]
 
     def answered(self, octets: bytes) -> None:
         """Octets of the replay: what was sent, and what became of each datagram."""
         held, at = self._answers + octets, 0
-        for kind, circuit, body, at in _records(held):
+        upto = len(held) - 4
+        while at <= upto:
+            kind, circuit, length = _head(held, at)
+            after = at + 4 + length
+            if after > upto + 4:
+                break
             if kind == _DATAGRAM:
-                self.circuits[circuit].counts['sent'] += 1
+                self.circuits[circuit].sent += 1
             elif kind == _TRUNK:
-                self.answered_place += at - body
-            elif kind == _ANSWER and held[body] == _DATAGRAM:
-                self._count(circuit, held[body + 1])
+                self.answered_place += length
+            elif kind == _ANSWER and held[at + 4] == _DATAGRAM:
+                self._count(circuit, held[at + 5])
+            at = after
         self._answers = held[at:]
 
     def _count(self, circuit: int, code: int) -> None:
         _, place, sequence, timestamp, ssrc = self._asked.popleft()
         row = self.circuits[circuit]
-        word = _WORDS.get(code, str(code))
-        row.counts[word] = row.counts.get(word, 0) + 1
         if code == 0:
+            row.admitted += 1
             row.stream.take(sequence, timestamp, ssrc, place // SAMPLE)
+        else:
+            word = _WORDS.get(code, str(code))
+            row.refused[word] = row.refused.get(word, 0) + 1
         self._counted(circuit, code, place)
 
     def status(self, circuit: int) -> dict[str, Any]:
         """The counts of a circuit, as plain values."""
         row = self.circuits[circuit]
-        return {'datagrams': dict(row.counts), 'lost': row.stream.lost, 'jitter_ms': round(row.stream.jitter / 8, 2),
-                'stale': self.stale()}
+        return {'datagrams': row.counts(), 'lost': row.stream.lost,
+                'jitter_ms': round(row.stream.jitter / 8, 2), 'stale': self.stale()}

@@ -37,6 +37,7 @@ from .trunks import Trunk
 # what may end without the calls
 BESIDE = ('shadow', 'recording', 'session', 'json', 'calls', 'metrics', 'picture', 'pages')
 REOPEN_MOST = 30.0              # seconds between two tries to open the trunk
+SELDOM = 5                      # ticks between two looks at what is to become of calls
 
 
 def _with_place(fault: OSError, trunk: Trunk) -> str:
@@ -63,6 +64,7 @@ class Driver:
         self.ended: dict[str, str | None] = dict.fromkeys(BESIDE)
         self.done: dict[tuple[str, str], int] = {}  # commands, by name and answer
         self.renewed = 0
+        self._ticks = 0
         self.peers: set[Peer] = set()
         self._doors: list[Door] = []
         self._paused = False
@@ -405,14 +407,22 @@ class Driver:
         self.gateway.drain()
         if self.shadow:
             self.shadow.drain()
+        self._ticks = (self._ticks + 1) % SELDOM
         if self.trunk and self.trunk.paced and not self.gateway.busy():
-            for finding in self.clock.look(now):
+            found = self.clock.look(now)
+            for finding in found:
                 self._found(finding)
-            self.restarts.look(now, self.lines.place, self._open_circuits(), not self.counts.stale())
+            if found or not self._ticks:
+                self.restarts.look(now, self.lines.place, self._open_circuits(), not self.counts.stale())
         self._look_at_opening()
         while self._notes:
             self._end_beside(*self._notes.popleft())
         self.snapshots.look()
+        if not self._ticks:
+            self._look_at_calls(now)
+
+    def _look_at_calls(self, now: float) -> None:
+        """Each SELDOM ticks: what is to become of calls."""
         self.guards.look(now)
         self._look_at_dark(now)
         if self.calls:

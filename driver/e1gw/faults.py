@@ -3,7 +3,7 @@ from __future__ import annotations
 
 import argparse
 import os
-from typing import NoReturn
+from typing import Any, Callable, NoReturn
 
 from .lines import Role
 from .session import CommandRefusal, Refusal
@@ -38,6 +38,16 @@ def options_words() -> str:
     if not path:
         return ''
     return f'; its options stand in {path}' if os.path.exists(path) else f'; {path} is not there, which has its options'
+
+
+def number(least: float, most: float, kind: type = int) -> Callable[[str], Any]:
+    """What reads a number of an option; a number outside is refused with the least and the most."""
+    def read(text: str) -> Any:
+        value = kind(text)
+        if not least <= value <= most:
+            raise argparse.ArgumentTypeError(f'{least} to {most}')
+        return value
+    return read
 
 
 class Parser(argparse.ArgumentParser):

@@ -117,7 +117,7 @@ class Gateway:
             return self._gone()
         self._reader.push(octets)
         try:
-            while (record := self._reader.take()) is not None:
+            while (self._asked or self._reader.waiting()) and (record := self._reader.take()) is not None:
                 self._asked.popleft()(record)
         except (BadSession, IndexError):
             return self._gone('the gateway answers what is no answer')
@@ -128,7 +128,7 @@ class Gateway:
         """Takes what stands on the recording."""
         while self.tape >= 0:
             try:
-                octets = os.read(self.tape, TAPE_ROOM)
+                octets = os.read(self.tape, PIECE)
             except BlockingIOError:
                 return
             if not octets:
@@ -136,6 +136,8 @@ class Gateway:
                 self.tape = -1
                 return
             self.taped(octets)
+            if len(octets) < PIECE:
+                return
 
     def _hear(self) -> None:
         """Lines that it prints."""
@@ -238,12 +240,14 @@ class Shadow:
         """Takes what it answers."""
         while not self.has_ended:
             try:
-                octets = os.read(self.answers, TAPE_ROOM)
+                octets = os.read(self.answers, PIECE)
             except BlockingIOError:
                 return
             if not octets:
                 return self._end('it has ended')
             self.answered(octets)
+            if len(octets) < PIECE:
+                return
 
     def _end(self, why: str) -> None:
         if not self.has_ended:

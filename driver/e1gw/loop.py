@@ -12,6 +12,7 @@ import signal
 import time
 from collections import deque
 from dataclasses import dataclass
+from math import inf
 from typing import Callable
 
 READ, WRITE = select.EPOLLIN, select.EPOLLOUT
@@ -40,6 +41,7 @@ class Loop:
         self._beside_calls: dict[int, Call] = {}
         self._always: dict[int, Call] = {}          # files, which are always ready
         self._timers: list[Timer] = []
+        self._due = inf                             # the first moment at which a timer or what is for later is due
         self._later: list[tuple[float, int, Callable[[], None]]] = []
         self._numbers = itertools.count()
         self._soon: deque[Callable[[], None]] = deque()
@@ -82,6 +84,7 @@ class Loop:
     def every(self, seconds: float, call: Callable[[], None]) -> Timer:
         timer = Timer(time.monotonic() + seconds, seconds, call)
         self._timers.append(timer)
+        self._due = min(self._due, timer.due)
         return timer
 
     def soon(self, call: Callable[[], None]) -> None:
@@ -90,7 +93,9 @@ class Loop:
 
     def later(self, seconds: float, call: Callable[[], None]) -> None:
         """Calls it as `soon` does, once so many seconds are over."""
-        heapq.heappush(self._later, (time.monotonic() + seconds, next(self._numbers), call))
+        due = time.monotonic() + seconds
+        heapq.heappush(self._later, (due, next(self._numbers), call))
+        self._due = min(self._due, due)
 
     def wake(self) -> None:
         """Ends the waiting of `turn`; from any thread, and from a signal."""
@@ -132,21 +137,23 @@ class Loop:
         self._run_timers()
 
     def _call_always(self) -> bool:
+        if not self._always:
+            return False
         for file, call in list(self._always.items()):
             if file in self._always:
                 call(READ)
-        return bool(self._always)
+        return True
 
     def _seconds(self, now: float, held: float, deadline: float | None) -> float:
         """How long may be waited."""
         if self._always or self._soon and not held:
             return 0.0
-        due = min((timer.due for timer in self._timers), default=now + 1)
-        if deadline is not None:
-            due = min(due, deadline)
-        if self._later:
-            due = min(due, self._later[0][0])
-        return max(0.0, min(due - now, held or due - now))
+        due = min(now + 1, self._due)
+        if deadline is not None and deadline < due:
+            due = deadline
+        if held and due > now + held:
+            due = now + held
+        return max(0.0, due - now)
 
     def _save_up(self, now: float) -> float:
         """What is beside the trunk gets its share of the time that went by. Returns for how long it is held off."""
@@ -172,9 +179,12 @@ class Loop:
 
     def _run_timers(self) -> None:
         now = time.monotonic()
+        if now < self._due:
+            return
         for timer in self._timers:
             if timer.due <= now:
                 timer.due = max(timer.due + timer.seconds, now)
                 timer.call()
         while self._later and self._later[0][0] <= now:
             self._soon.append(heapq.heappop(self._later)[2])
+        self._due = min([timer.due for timer in self._timers] + [due for due, _, _ in self._later[:1]], default=inf)

@@ -18,7 +18,7 @@ from dataclasses import dataclass, replace
 from typing import Any
 
 from .explain import CODECS, Fault, check, config_words, read_octets
-from .faults import words_of_fault
+from .faults import number, words_of_fault
 from .session import CIRCUITS
 
 FIRST, APART, TRUNKS = 24_002, 100, 64      # ports of a trunk: one for RTP and the next one free for each circuit
@@ -151,15 +151,6 @@ def check_files(paths: list[str]) -> bool:
 
 
 # ---- the command line ----
-
-def number(low: int, high: int) -> Any:
-    def read(text: str) -> int:
-        value = int(text)
-        if not low <= value <= high:
-            raise argparse.ArgumentTypeError(f'{low} to {high}')
-        return value
-    return read
-
 
 def parser() -> argparse.ArgumentParser:
     words = argparse.ArgumentParser(prog='e1gw-config', description=__doc__, usage=argparse.SUPPRESS,

@@ -40,11 +40,12 @@ class Call:
         """What was answered to a datagram."""
         if place < self.since:
             return
-        self.seen.append((place, refused))
+        seen = self.seen
+        seen.append((place, refused))
         self.refused += refused
         self.fresh = True
-        while self.seen[0][0] <= place - _SPAN:
-            self.refused -= self.seen.popleft()[1]
+        while seen[0][0] <= place - _SPAN:
+            self.refused -= seen.popleft()[1]
 
     def is_refused(self) -> bool:
         """Whether half of the datagrams are refused, for more than a moment."""
@@ -81,7 +82,8 @@ class Restarts:
         """What was answered to a datagram that came at this place of the trunk."""
         refused = _OF_TIME.get(code)
         if refused is not None:
-            self._call(circuit).take(place, refused)
+            call = self._calls.get(circuit) or self._call(circuit)
+            call.take(place, refused)
 
     def want(self, circuits: Iterable[int], why: str) -> None:
         """Open calls are to be restarted."""

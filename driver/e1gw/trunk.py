@@ -25,7 +25,7 @@ from .clear import Clear, Place
 from .control import DoorTaken
 from .driver import Driver
 from .explain import config_words
-from .faults import Parser, options_words, words_of_fault
+from .faults import Parser, number, options_words, words_of_fault
 from .gateway import ConfigRefused, check_config
 from .guards import OnLoss, on_loss_of
 from .keep import seconds_of
@@ -97,15 +97,6 @@ def _satop_of(asked: argparse.Namespace) -> Callable[[str], Trunk]:
     return functools.partial(satop.open_satop, asked.satop, circuit)
 
 
-def _number(least: float, most: float, kind: type = int) -> Callable[[str], float]:
-    def read(text: str) -> float:
-        value = kind(text)
-        if not least <= value <= most:
-            raise argparse.ArgumentTypeError(f'{least:g} to {most:g}')
-        return value        # type: ignore[no-any-return]
-    return read
-
-
 def parser() -> argparse.ArgumentParser:
     """The options."""
     about, _, rest = (__doc__ or '').partition('\n\n')
@@ -133,10 +124,10 @@ def _add_trunk(words: argparse._ArgumentGroup) -> None:
     words.add_argument('--clear', action='store_true', help='the device gives time slots 1 to 31 alone')
     words.add_argument('--align', action='store_true',
                        help='octets of the trunk may begin at any bit; e1gw align runs between it and the gateway')
-    words.add_argument('--pace', type=_number(0, 20), default=4, metavar='MS',
+    words.add_argument('--pace', type=number(0, 20), default=4, metavar='MS',
                        help='a trunk that flows is read each so many milliseconds, 0 to 20; 0 reads it when octets '
                        'come; not with --satop [default: 4]')
-    words.add_argument('--most', type=_number(1, 65535), metavar='OCTETS',
+    words.add_argument('--most', type=number(1, 65535), metavar='OCTETS',
                        help='octets in a record at most, 1 to 65535; a frame has 32 [default: 2048, 8 ms; 256 with '
                        '--satop or --pace 0]')
     words.add_argument('--reopen', action='store_true', help='opens a trunk that ends or fails again, within 30 s')
@@ -152,7 +143,7 @@ def _add_control(words: argparse._ArgumentGroup) -> None:
                        'control client that asked for it is gone [default: keep]')
     words.add_argument('--http', metavar='HOST:PORT',
                        help='serves /metrics (Prometheus), /status (JSON), /table and / (the table, or the picture)')
-    words.add_argument('--picture', type=_number(10, 3600, float), metavar='SECONDS',
+    words.add_argument('--picture', type=number(10, 3600, float), metavar='SECONDS',
                        help='/ is a picture of the last seconds, 10 to 3600, drawn by a process of its own')
     words.add_argument('--metrics', metavar='FILE', help='a file of metrics for node_exporter, every 5 s')
     words.add_argument('--json', metavar='FILE', help='a line of JSON for each change; - is standard output')
@@ -166,9 +157,9 @@ def _add_calls(words: argparse._ArgumentGroup) -> None:
     words.add_argument('--session', metavar='FILE', help='keeps all that the gateway takes, for e1gw replay and check')
     words.add_argument('--calls', metavar='FILE', help='a line of CSV for each call; ten files of 10 MiB are kept')
     words.add_argument('--keep', metavar='TIME', help='--session is a folder for the last 30m, 1h, 2d, in twelve files')
-    words.add_argument('--gap', type=_number(20, 10_000), default=100, metavar='MS',
+    words.add_argument('--gap', type=number(20, 10_000), default=100, metavar='MS',
                        help='lost octets of so many milliseconds restart the playout of open calls [default: 100]')
-    words.add_argument('--dark', type=_number(0, 86_400, float), metavar='SECONDS',
+    words.add_argument('--dark', type=number(0, 86_400, float), metavar='SECONDS',
                        help='clears the calls of a trunk that has been in alarm for so long [default: never]')
 
 

@@ -4,6 +4,7 @@ from __future__ import annotations
 import os
 import subprocess
 import sys
+import tempfile
 import unittest
 
 TOP = os.path.dirname(os.path.dirname(os.path.dirname(os.path.abspath(__file__))))
@@ -13,7 +14,25 @@ sys.path[:0] = [os.path.join(TOP, 'driver'), os.path.join(TOP, 'scripts')]
 from exchange import Exchange       # noqa: E402
 from service import Service         # noqa: E402
 
-__all__ = ['Exchange', 'Service', 'TOP', 'program', 'run']
+__all__ = ['Exchange', 'Folder', 'Service', 'TOP', 'program', 'run']
+
+
+class Folder(unittest.TestCase):
+    """Tests with a folder of their own."""
+
+    def setUp(self) -> None:
+        folder = tempfile.TemporaryDirectory()
+        self.addCleanup(folder.cleanup)
+        self.folder = folder.name
+
+    def path(self, name: str) -> str:
+        return os.path.join(self.folder, name)
+
+    def write(self, name: str, octets: bytes | str) -> str:
+        """Writes a file of the folder, and returns its path."""
+        with open(self.path(name), 'wb') as file:
+            file.write(octets.encode() if isinstance(octets, str) else octets)
+        return self.path(name)
 
 
 def program() -> str:

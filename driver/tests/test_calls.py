@@ -60,11 +60,11 @@ class Ends(unittest.TestCase):
         self.states(1, 'idle', 'seized', 'acked', 'answered', 'releasing', 'idle')
         self.calls.look()
         self.assertEqual(self.rows, [])
-        counts = self.counts.circuits[1].counts
+        counts = self.counts.circuits[1]
         for packets in (50, 70):
-            counts['sent'] += packets
-            counts['admitted'] += packets - 3
-            counts['Late'] = counts.get('Late', 0) + 3
+            counts.sent += packets
+            counts.admitted += packets - 3
+            counts.refused['Late'] = counts.refused.get('Late', 0) + 3
             self.counts.answered_place = 100
             self.calls.look()
             self.assertEqual(self.rows.pop()[8:], [str(packets), str(packets - 3), '0', '3'])

@@ -3,7 +3,6 @@ from __future__ import annotations
 
 import os
 import random
-import tempfile
 import unittest
 from typing import Any
 
@@ -222,14 +221,12 @@ class Moves(unittest.TestCase):
         self.assertEqual(self.events, [{'event': 'slots', 'what': 'moved', 'by': 5}])
 
 
-class Gateway(unittest.TestCase):
+class Gateway(support.Folder):
     """The same with the gateway between: what each circuit's peer hears, and how the lines stand."""
 
     def setUp(self) -> None:
         self.program = support.program()
-        folder = tempfile.TemporaryDirectory()
-        self.addCleanup(folder.cleanup)
-        self.folder = folder.name
+        super().setUp()
 
     def multiframes(self, call: wire.Call, count: int) -> bytes:
         """Slots 1 to 31 of multiframes in which each circuit speaks its own octet."""

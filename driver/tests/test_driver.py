@@ -7,7 +7,6 @@ import signal
 import socket
 import subprocess
 import sys
-import tempfile
 import time
 import unittest
 import unittest.mock
@@ -376,21 +375,13 @@ def child(world: World, word: str) -> int:
     raise AssertionError(f'no process {word}')
 
 
-class Refused(unittest.TestCase):
+class Refused(support.Folder):
     """Command lines that are refused with status 2, before anything is emptied."""
 
     def setUp(self) -> None:
         support.program()
-        folder = tempfile.TemporaryDirectory()
-        self.addCleanup(folder.cleanup)
-        self.folder = folder.name
+        super().setUp()
         self.good = self.write('good.toml', 'law = "A"\n')
-
-    def write(self, name: str, text: str) -> str:
-        path = os.path.join(self.folder, name)
-        with open(path, 'w', encoding='utf-8') as file:
-            file.write(text)
-        return path
 
     def run_driver(self, *words: str) -> tuple[int, str]:
         done = subprocess.run([sys.executable, '-B', LAUNCHER, '--program', support.program(), *words],

@@ -4,7 +4,6 @@ from __future__ import annotations
 import json
 import os
 import stat
-import tempfile
 import time
 import types
 import unittest
@@ -27,14 +26,10 @@ class Now:
         self.start = lambda: target(*args)
 
 
-class Rings(unittest.TestCase):
+class Rings(support.Folder):
     def setUp(self) -> None:
-        folder = tempfile.TemporaryDirectory()
-        self.addCleanup(folder.cleanup)
-        self.folder, self.ring = folder.name, os.path.join(folder.name, 'ring')
-        self.config = os.path.join(self.folder, 'trunk.toml')
-        with open(self.config, 'w', encoding='utf-8') as file:
-            file.write('law = "A"\n')
+        super().setUp()
+        self.ring, self.config = self.path('ring'), self.write('trunk.toml', 'law = "A"\n')
         self.passed, self.day = 1000.0, 1_800_000_000.0
         clock = types.SimpleNamespace(monotonic=lambda: self.passed, time=lambda: self.day, strftime=time.strftime,
                                       gmtime=lambda: time.gmtime(self.day))

@@ -4,7 +4,6 @@ from __future__ import annotations
 import os
 import subprocess
 import sys
-import tempfile
 import tomllib
 import unittest
 from typing import Any
@@ -15,15 +14,7 @@ from e1gw.making import options_text, parser, plan_of, text_of
 LAUNCHER = os.path.join(support.TOP, 'driver', 'e1gw-config')
 
 
-class Made(unittest.TestCase):
-    def setUp(self) -> None:
-        folder = tempfile.TemporaryDirectory()
-        self.addCleanup(folder.cleanup)
-        self.folder = folder.name
-
-    def path(self, name: str) -> str:
-        return os.path.join(self.folder, name)
-
+class Made(support.Folder):
     def made(self, *words: str) -> tuple[int, str, str]:
         done = subprocess.run([sys.executable, '-B', LAUNCHER, *words], capture_output=True, text=True, check=False,
                               cwd=self.folder)

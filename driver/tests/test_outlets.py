@@ -4,7 +4,6 @@ from __future__ import annotations
 import json
 import os
 import stat
-import tempfile
 import threading
 import time
 import unittest
@@ -15,11 +14,10 @@ from .world import SECONDS, World, config_of
 from e1gw.outlets import Journal, Outlet, open_to_append, to_file
 
 
-class Openings(unittest.TestCase):
+class Openings(support.Folder):
     def setUp(self) -> None:
-        folder = tempfile.TemporaryDirectory()
-        self.addCleanup(folder.cleanup)
-        self.fifo = os.path.join(folder.name, 'fifo')
+        super().setUp()
+        self.fifo = self.path('fifo')
         os.mkfifo(self.fifo)
         self.ended: list[str] = []
 

@@ -8,10 +8,9 @@ import re
 import shutil
 import struct
 import subprocess
-import tempfile
 import unittest
 
-from .support import TOP, program, run
+from .support import TOP, Folder, program, run
 
 from .picture_made import (
     BEGIN, CAPTURED, PEER, TROUBLES, Made, Sender, answered, beside, captured, icmp, pcap, recorded, udp)
@@ -41,19 +40,8 @@ def pcapng(packets: list[tuple[float, bytes]]) -> bytes:
     return b''.join(out)
 
 
-class Folder(unittest.TestCase):
-    """Has a folder for what is read and written."""
-
-    def setUp(self) -> None:
-        folder = tempfile.TemporaryDirectory()
-        self.addCleanup(folder.cleanup)
-        self.folder = folder.name
-
-    def file(self, name: str, octets: bytes | str) -> str:
-        path = os.path.join(self.folder, name)
-        with open(path, 'wb') as file:
-            file.write(octets.encode() if isinstance(octets, str) else octets)
-        return path
+class Drawn(Folder):
+    """Runs the command on files."""
 
     def drawn(self, *words: str, status: int = 0, given: bytes = b'') -> tuple[str, str]:
         """Runs the command; returns the page and what it said."""
@@ -68,11 +56,11 @@ class Folder(unittest.TestCase):
         made.call(3, 0.05, 1.0)
         made.senders.append(Sender(3, 0.2, 0.5999))
         records = list(made.given())
-        return (self.file('trunk.toml', made.config()), self.file('given.rec', b''.join(records)),
-                self.file('answers.rec', answered(records, [codes] * 20)))
+        return (self.write('trunk.toml', made.config()), self.write('given.rec', b''.join(records)),
+                self.write('answers.rec', answered(records, [codes] * 20)))
 
 
-class Run(Folder):
+class Run(Drawn):
     """The command line."""
 
     def test_help_comes_first(self) -> None:
@@ -108,9 +96,9 @@ class Run(Folder):
     def test_totals(self) -> None:
         config, given, answers = self.small()
         words = ['--config', config, '--answers', answers, '--totals']
-        page, _ = self.drawn(*words, self.file('totals', 'a line\nport_faults 3\nports 9\nport_faults 7\n'), given)
+        page, _ = self.drawn(*words, self.write('totals', 'a line\nport_faults 3\nports 9\nport_faults 7\n'), given)
         self.assertIn('7 times a socket could not send or receive', page)
-        page, _ = self.drawn(*words, self.file('totals', 'dropped 1\nport_faults 0\n'), given)
+        page, _ = self.drawn(*words, self.write('totals', 'dropped 1\nport_faults 0\n'), given)
         self.assertNotIn('could not send', page)
         self.assertIn('no line with port_faults', self.drawn(*words, config, given, status=1)[1])
 
@@ -213,13 +201,13 @@ class Run(Folder):
         self.assertIn('0 sent, 0 received, 0 discarded', page)
 
 
-class WithProgram(Folder):
+class WithProgram(Drawn):
     """With `e1gw replay` for the answers."""
 
     def test_replayed(self) -> None:
         path = program()
         text, given = recorded('stranger')
-        page, said = self.drawn('--program', path, '--config', self.file('trunk.toml', text), '-', given=given)
+        page, said = self.drawn('--program', path, '--config', self.write('trunk.toml', text), '-', given=given)
         self.assertEqual(said, '')
         self.assertIn('WrongSource', page)
 
@@ -229,14 +217,14 @@ class WithProgram(Folder):
         raw = os.path.join(self.folder, 'trunk.raw')
         with open(raw, 'wb') as file:
             file.write(pair * 100)
-        config = self.file('trunk.toml', 'law = "A"\n')
+        config = self.write('trunk.toml', 'law = "A"\n')
         page, said = self.drawn('--program', program(), '--config', config, raw, status=1)
         for text in (page, said):
             self.assertIn('the session failed: fault 1 BadKind', text)
             self.assertIn(f'e1gw-records --from-raw {raw}', text)
 
     def test_refused_configuration(self) -> None:
-        config = self.file('trunk.toml', 'law = "A"\nhost = ""\n')
+        config = self.write('trunk.toml', 'law = "A"\nhost = ""\n')
         page, said = self.drawn('--program', program(), '--config', config, '-', status=1)
         self.assertEqual((page, said), ('', 'e1gw-picture: config 5 OutOfRange at 0\n'))
 
@@ -248,15 +236,15 @@ class WithProgram(Folder):
         for name, who, words in quotes:
             with self.subTest(name):
                 config, given, capture = captured(name) if name in CAPTURED else (*recorded(name), b'')
-                beside_it = ['--capture', self.file('call.pcap', capture)] if capture else []
-                page, _ = self.drawn('--program', path, '--config', self.file('trunk.toml', config), *beside_it, '-',
+                beside_it = ['--capture', self.write('call.pcap', capture)] if capture else []
+                page, _ = self.drawn('--program', path, '--config', self.write('trunk.toml', config), *beside_it, '-',
                                      given=given)
                 entries = [re.sub('<.*?>', '', entry) for entry in re.findall('<li.*?</li>', page, re.S)]
                 wanted = who + words.replace("'", '&#x27;')
                 self.assertTrue(any(entry.startswith(wanted) for entry in entries), (wanted, entries))
 
 
-class Captured(Folder):
+class Captured(Drawn):
     """Datagrams of a capture."""
 
     def test_forms_of_captures(self) -> None:
@@ -295,7 +283,7 @@ class Captured(Folder):
         """A session with a trouble, its octets and commands alone, and a capture of its datagrams both ways."""
         text, given = recorded(name)
         bare, capture = beside(text, given)
-        return self.file('trunk.toml', text), given, bare, capture
+        return self.write('trunk.toml', text), given, bare, capture
 
     def test_beside_a_session(self) -> None:
         path = program()
@@ -304,7 +292,7 @@ class Captured(Folder):
                 config, given, bare, capture = self.split(name)
                 whole, _ = self.drawn('--program', path, '--config', config, '-', given=given)
                 beside, _ = self.drawn('--program', path, '--config', config, '--capture',
-                                       self.file('call.pcap', capture), '-', given=bare)
+                                       self.write('call.pcap', capture), '-', given=bare)
                 counts = r'(\d+) sent, (\d+) received, (\d+) discarded'
                 wanted, found = (re.findall(counts, page)[0] for page in (whole, beside))
                 self.assertEqual(wanted[0], found[0])
@@ -318,7 +306,7 @@ class Captured(Folder):
         config, _, bare, capture = self.split('hold')
         short = b''.join(trunk_record(record.body[at:at + 128]) if record.kind is Kind.TRUNK else record.spelled()
                          for record in records_in(bare) for at in range(0, len(record.body), 128))
-        packed = self.file('call.pcap', capture)
+        packed = self.write('call.pcap', capture)
         pages = [self.drawn('--program', path, '--config', config, '--capture', packed, '-', given=given)[0]
                  for given in (bare, short)]
         wanted, found = (re.findall(r'(\d+) sent, (\d+) received, (\d+) discarded', page)[0] for page in pages)
@@ -327,7 +315,7 @@ class Captured(Folder):
     def test_alone(self) -> None:
         program()
         config, given, _, capture = self.split('hold')
-        path = self.file('call.pcap', capture)
+        path = self.write('call.pcap', capture)
         answers = run('replay', '--config', config, given=given)
         told = [record.body[1] for record in records_in(answers)
                 if record.kind is Kind.ANSWER and record.body[0] == Kind.DATAGRAM]
@@ -345,7 +333,7 @@ class Captured(Folder):
     def said(self, name: str, packets: list[tuple[float, bytes]], *words: str) -> str:
         """The page of the octets and commands of a session, beside a capture."""
         config, _, bare, _ = self.split(name)
-        capture = self.file('call.pcap', pcap(packets))
+        capture = self.write('call.pcap', pcap(packets))
         return self.drawn('--program', program(), '--config', config, '--capture', capture, *words, '-', given=bare)[0]
 
     def test_where_datagrams_go(self) -> None:
@@ -366,7 +354,7 @@ class Captured(Folder):
         config, _, bare, capture = self.split('hold')
         packets = [(each.time, udp(each.source, each.target, each.body)) for each in datagrams(io.BytesIO(capture))
                    if each.target == 24006]
-        path = self.file('call.pcap', pcap(packets))
+        path = self.write('call.pcap', pcap(packets))
         _, said = self.drawn('--program', program(), '--config', config, '--capture', path, '-', given=bare, status=1)
         self.assertIn('--begin', said)
         page, _ = self.drawn('--program', program(), '--config', config, '--capture', path, '--begin', str(BEGIN), '-',

@@ -5,7 +5,6 @@ import json
 import os
 import signal
 import socket
-import tempfile
 import threading
 import time
 import unittest
@@ -21,16 +20,8 @@ from e1gw.trunks import Stream, Trunk, host_and_port, open_files
 OCTETS = bytes(range(256)) * 2
 
 
-class Kinds(unittest.TestCase):
+class Kinds(support.Folder):
     """Each kind gives the octets that come and sends those that go, and ends with an EOFError."""
-
-    def setUp(self) -> None:
-        folder = tempfile.TemporaryDirectory()
-        self.addCleanup(folder.cleanup)
-        self.folder = folder.name
-
-    def path(self, name: str) -> str:
-        return os.path.join(self.folder, name)
 
     def both_ways(self, trunk: Trunk, reads: int, writes: int) -> None:
         """The other end writes and reads by these descriptors, which it then closes."""
