@@ -131,10 +131,13 @@ goes_on octets coded way words stands = record {
   whole = way.whole;
 }
 
--- where encoding stands between two reads: the records of the first packets are written, and the words behind them
--- are held
+-- where encoding stands between two reads: the source gave octets, of whose words the first are sent, in so many
+-- packets whose records are written, and those behind them are held
 pub record Encoding (s : StreamSpec) (source source' : SourceState) (sink sink' : SinkState) (codec : CodecState)
-    (held : ℕ) (speech given sent : List ℕ) (count : ℕ) : Type 0 where
+    (held : ℕ) (speech : List ℕ) : Type 0 where
+  pub given : List ℕ
+  pub sent : List ℕ
+  pub count : ℕ
   pub way : IsUnderWay s codec given sent count (take held speech)
   pub fit : All (λ w. w < 2 ^ word_bits s) (take held speech)
   pub open_packet : held < packet_len s
@@ -146,9 +149,8 @@ pub record Encoding (s : StreamSpec) (source source' : SourceState) (sink sink' 
 
 -- nothing more is read
 pub reads_no_more : {s : StreamSpec} {held : ℕ} {speech : List ℕ} {a b b' : SourceState} {c d : SinkState}
-    {codec : CodecState} {given sent : List ℕ} {count : ℕ} → OneWordAnOctet
-    → Encoding s a b c d codec held speech given sent count
-    → Gives b b' [] → GivesUp a b' given → EncodesUntilRead s a b' c d
+    {codec : CodecState} → OneWordAnOctet → (w : Encoding s a b c d codec held speech)
+    → Gives b b' [] → GivesUp a b' w.given → EncodesUntilRead s a b' c d
 reads_no_more {s} {held} {speech} counted w none cause =
     let short : length (take held speech) < packet_len s = omega (arith, w.open_packet, length-take held speech) in
     record {
@@ -160,17 +162,17 @@ reads_no_more {s} {held} {speech} counted w none cause =
     }
 
 -- where octets came behind what is held, and are coded in place, encoding is under way behind them
-pub coded_way : {s : StreamSpec} {held n : ℕ} {old given sent : List ℕ} {count : ℕ} {a b b' : SourceState}
-    {c d : SinkState} {codec codec' : CodecState} (new coded : List ℕ)
-    → Encoding s a b c d codec held old given sent count
+pub coded_way : {s : StreamSpec} {held n : ℕ} {old : List ℕ} {a b b' : SourceState}
+    {c d : SinkState} {codec codec' : CodecState} (new coded : List ℕ) → (w : Encoding s a b c d codec held old)
     → (r : Refills (take held old) (take (held + n) new) b b' n) → held + n ≤ length new
-    → (HasEncoded s codec given
-    → words_for s (given ++ take (held + n - held) (drop held new)) ≡ words_for s given ++ coded)
-    → (HasEncoded s codec given → HasEncoded s codec' (given ++ take (held + n - held) (drop held new)))
+    → (HasEncoded s codec w.given
+    → words_for s (w.given ++ take (held + n - held) (drop held new)) ≡ words_for s w.given ++ coded)
+    → (HasEncoded s codec w.given → HasEncoded s codec' (w.given ++ take (held + n - held) (drop held new)))
     → length coded ≡ length (take (held + n - held) (drop held new)) → All (λ w. w < 2 ^ word_bits s) coded
-    → IsUnderWay s codec' (given ++ r.octets) sent count (take (held + n) (put_mid held (held + n - held) new coded))
+    → IsUnderWay s codec' (w.given ++ r.octets) w.sent w.count
+    (take (held + n) (put_mid held (held + n - held) new coded))
     × All (λ w. w < 2 ^ word_bits s) (take (held + n) (put_mid held (held + n - held) new coded))
-coded_way {s} {held} {n} {old} {given} new coded w r o words stands l fit =
+coded_way {s} {held} {n} {old} new coded w r o words stands l fit =
     let h : held ≤ length old = omega (arith, w.open_packet, w.fits, s.ptime_fits.most) in
     let came = came_is held n old new r.octets h r.holds in
     rw (window_is held n old new r.octets coded h o r.holds l, ← came) (
@@ -242,14 +244,15 @@ words_left {s} buffer new end left h way fit w e =
 
 -- where no octet came and the last packet is filled, its records end those of all the octets: where the words of the
 -- filled octets are sent and held, the full packets of those that are held are the last ones
-pub last_written : {s : StreamSpec} {held n count : ℕ} {old given sent window : List ℕ} {a b b' : SourceState}
+pub last_written : {s : StreamSpec} {held n : ℕ} {old window : List ℕ} {a b b' : SourceState}
     {c d : SinkState} {codec codec' : CodecState} (new : List ℕ) → OneWordAnOctet
-    → Encoding s a b c d codec held old given sent count → Refills (take held old) (take (held + n) new) b b' n
-    → (IsUnderWay s codec given sent count (take held new) → IsUnderWay s codec' (filled s given) sent count window)
-    → (records_of s given ≡ records_from s 0 sent count ++ records_from s count window (full_packets s window))
-    × (packets s given ≡ count + full_packets s window)
+    → (w : Encoding s a b c d codec held old) → Refills (take held old) (take (held + n) new) b b' n
+    → (IsUnderWay s codec w.given w.sent w.count (take held new)
+    → IsUnderWay s codec' (filled s w.given) w.sent w.count window)
+    → (records_of s w.given ≡ records_from s 0 w.sent w.count ++ records_from s w.count window (full_packets s window))
+    × (packets s w.given ≡ w.count + full_packets s window)
 unfolding records_of
-last_written {s} {held} {n} {count} {old} {given} {sent} {window} new counted w r fills =
+last_written {s} {held} {n} {old} {window} new counted w r fills =
     let held_is = front_is held n old new r.octets (omega (arith, w.open_packet, w.fits, s.ptime_fits.most)) r.holds in
     let some : 0 < packet_len s = omega (arith, s.ptime_fits.least) in
     let full = packet_len s * full_packets s window in

@@ -12,78 +12,76 @@ use Rattle.gw_speech.proofs.PacketLemmas.{reads_no_more, coded_way, words_left, 
 use Rattle.gw_speech.proofs.encode.encode_stream.Goals as goal
 
 pub reading-init : goal.reading-init
-reading-init g c = (
-  [],
-  [],
-  0,
-  record {
-    stage = record {
-      way = record {
-        stands = c.new-codec.ensures;
-        words = nil_from_length _ ((c.words_are_counted.ensures _ _).0 []);
-        whole = omega arith;
-      };
-      fit = All-nil (λ w. w < 2 ^ word_bits c.args.spec.now);
-      open_packet = omega (arith, c.args.spec.now.ptime_fits.least);
-      fits = refl;
-      gives = Gives-none _;
-      took = Appends-none _;
-      no_read = refl;
-      no_write = refl;
+reading-init g c = record {
+  stage = record {
+    given = [];
+    sent = [];
+    count = 0;
+    way = record {
+      stands = c.new-codec.ensures;
+      words = nil_from_length _ ((c.words_are_counted.ensures _ _).0 []);
+      whole = omega arith;
     };
-    kind = ap (λ (a : CodecState). a.kind) c.new-codec.ensures;
-    at = c.first_packet-progress.ensures c.args.spec.now refl refl;
-    none = c.new-waiting.ensures;
-    turns = omega arith;
-    calls = omega arith;
-  },
-)
+    fit = All-nil (λ w. w < 2 ^ word_bits c.args.spec.now);
+    open_packet = omega (arith, c.args.spec.now.ptime_fits.least);
+    fits = refl;
+    gives = Gives-none _;
+    took = Appends-none _;
+    no_read = refl;
+    no_write = refl;
+  };
+  kind = ap (λ (a : CodecState). a.kind) c.new-codec.ensures;
+  at = c.first_packet-progress.ensures c.args.spec.now refl refl;
+  none = c.new-waiting.ensures;
+  turns = omega arith;
+  calls = omega arith;
+}
 
 pub write_packets-requires-in-reading-clause-fit : goal.write_packets-requires-in-reading-clause-fit
 write_packets-requires-in-reading-clause-fit g c =
     let w = c.reading.invariant in
     let e = c.encode_all.ensures in
-    (coded_way _ _ w.3.stage c.in-Ok.ensures.gives c.in-Ok.ensures.fits (e.words w.0) (e.stands w.0) e.len e.fit).1
+    (coded_way _ _ w.stage c.in-Ok.ensures.gives c.in-Ok.ensures.fits (e.words w.stage.given) (e.stands w.stage.given) e.len e.fit).1
 
 pub returns-in_default-clause-fault : goal.returns-in_default-clause-fault
 returns-in_default-clause-fault g c =
     let w = c.reading.invariant in
-    reads_no_more c.words_are_counted.ensures w.3.stage c.in_default.ensures.none
-    (inl (read_failed _ _ _ w.3.stage.no_read c.requires.reads c.in_default.ensures.counts))
+    reads_no_more c.words_are_counted.ensures w.stage c.in_default.ensures.none
+    (inl (read_failed _ _ _ w.stage.no_read c.requires.reads c.in_default.ensures.counts))
 
 pub returns-clause-fault : goal.returns-clause-fault
 returns-clause-fault g c =
     let w = c.reading.invariant in
-    reads_no_more c.words_are_counted.ensures w.3.stage (Gives-none _)
-    (inr (omega (arith, w.3.calls), omega (arith, w.3.turns)))
+    reads_no_more c.words_are_counted.ensures w.stage (Gives-none _)
+    (inr (omega (arith, w.calls), omega (arith, w.turns)))
 
 pub returns-then-n-eq0-clause-ok : goal.returns-then-n-eq0-clause-ok
 returns-then-n-eq0-clause-ok g c =
     let w = c.reading.invariant in
     let came = c.in-Ok.ensures.gives in
-    let all = last_written _ c.words_are_counted.ensures w.3.stage came (c.fill_last-end.ensures.filled w.0 w.1 w.2) in
-    let wrote = c.in_ok-write_packets.ensures.writes w.2 w.3.at in
+    let all = last_written _ c.words_are_counted.ensures w.stage came (c.fill_last-end.ensures.filled w.stage.given w.stage.sent w.stage.count) in
+    let wrote = c.in_ok-write_packets.ensures.writes w.stage.count w.at in
     record {
-      octets = w.0;
-      gives = Gives-end _ _ _ w.0 came.octets (came.counted ∙ c.if-n-eq0.true) w.3.stage.gives came.gives;
+      octets = w.stage.given;
+      gives = Gives-end _ _ _ w.stage.given came.octets (came.counted ∙ c.if-n-eq0.true) w.stage.gives came.gives;
       ended = came.ended c.if-n-eq0.true;
-      took = rw (all.0) (Appends-join _ _ _ _ _ w.3.stage.took wrote.0);
-      totals_are = rw ((c.in_ok-write_packets.ensures.next w.2 w.3.at).counted, all.1) refl;
-      no_read = c.in-Ok.ensures.counts ∙ w.3.stage.no_read;
-      no_write = wrote.1 ∙ w.3.stage.no_write;
+      took = rw (all.0) (Appends-join _ _ _ _ _ w.stage.took wrote.0);
+      totals_are = rw ((c.in_ok-write_packets.ensures.next w.stage.count w.at).counted, all.1) refl;
+      no_read = c.in-Ok.ensures.counts ∙ w.stage.no_read;
+      no_write = wrote.1 ∙ w.stage.no_write;
     }
 
 pub returns-in_err-write_packets-clause-fault : goal.returns-in_err-write_packets-clause-fault
 returns-in_err-write_packets-clause-fault g c =
     let w = c.reading.invariant in
     let came = c.in-Ok.ensures.gives in
-    let all = last_written _ c.words_are_counted.ensures w.3.stage came (c.fill_last-end.ensures.filled w.0 w.1 w.2) in
-    let broken = c.in_err-write_packets.ensures.writes w.2 w.3.at in
+    let all = last_written _ c.words_are_counted.ensures w.stage came (c.fill_last-end.ensures.filled w.stage.given w.stage.sent w.stage.count) in
+    let broken = c.in_err-write_packets.ensures.writes w.stage.count w.at in
     goes_up _ _ faults.Write c.from_residual.ensures.1 broken.0 (record {
-      octets = w.0;
-      gives = Gives-end _ _ _ w.0 came.octets (came.counted ∙ c.if-n-eq0.true) w.3.stage.gives came.gives;
-      breaks = rw (all.0) (Breaks-after _ _ _ _ _ w.3.stage.took w.3.stage.no_write broken.1);
-      no_read = c.in-Ok.ensures.counts ∙ w.3.stage.no_read;
+      octets = w.stage.given;
+      gives = Gives-end _ _ _ w.stage.given came.octets (came.counted ∙ c.if-n-eq0.true) w.stage.gives came.gives;
+      breaks = rw (all.0) (Breaks-after _ _ _ _ _ w.stage.took w.stage.no_write broken.1);
+      no_read = c.in-Ok.ensures.counts ∙ w.stage.no_read;
     })
 
 pub returns-in_err-left-clause-fault : goal.returns-in_err-left-clause-fault
@@ -91,15 +89,15 @@ returns-in_err-left-clause-fault g c =
     let w = c.reading.invariant in
     let came = c.in-Ok.ensures.gives in
     let e = c.encode_all.ensures in
-    let way = coded_way _ _ w.3.stage came c.in-Ok.ensures.fits (e.words w.0) (e.stands w.0) e.len e.fit in
+    let way = coded_way _ _ w.stage came c.in-Ok.ensures.fits (e.words w.stage.given) (e.stands w.stage.given) e.len e.fit in
     let all = window_begins c.prefixes_come_first.ensures c.words_are_counted.ensures way.0 in
-    let broken = c.in_err-left.ensures.writes w.2 w.3.at in
+    let broken = c.in_err-left.ensures.writes w.stage.count w.at in
     goes_up _ _ faults.Write c.from_residual-in_err-left.ensures.1 broken.0 (record {
-      octets = w.0 ++ came.octets;
-      gives = Gives-join _ _ _ _ _ w.3.stage.gives came.gives;
+      octets = w.stage.given ++ came.octets;
+      gives = Gives-join _ _ _ _ _ w.stage.gives came.gives;
       breaks = rw (all.1) (Breaks-more _ _ _ _
-          (Breaks-after _ _ _ _ _ w.3.stage.took w.3.stage.no_write broken.1));
-      no_read = c.in-Ok.ensures.counts ∙ w.3.stage.no_read;
+          (Breaks-after _ _ _ _ _ w.stage.took w.stage.no_write broken.1));
+      no_read = c.in-Ok.ensures.counts ∙ w.stage.no_read;
     })
 
 pub reading-preserved : goal.reading-preserved
@@ -107,30 +105,28 @@ reading-preserved g c =
     let w = c.reading.invariant in
     let came = c.in-Ok.ensures.gives in
     let e = c.encode_all.ensures in
-    let way = coded_way _ _ w.3.stage came c.in-Ok.ensures.fits (e.words w.0) (e.stands w.0) e.len e.fit in
+    let way = coded_way _ _ w.stage came c.in-Ok.ensures.fits (e.words w.stage.given) (e.stands w.stage.given) e.len e.fit in
     let long = same_len_mid c.reading.held (c.reading.held + c.in-Ok.n - c.reading.held) c.read_behind.new.buffer
     c.encode_all.new.octets e.len in
     let left = words_left _ c.copy_within.new.self _ _ (omega (arith, long, c.in-Ok.ensures.fits)) way.0 way.1
     c.in_ok-left.ensures.left.1 c.copy_within.ensures.after in
-    let wrote = c.in_ok-left.ensures.writes w.2 w.3.at in (
-      w.0 ++ came.octets,
-      left.0.now_sent,
-      w.2 + full_packets c.args.spec.now _,
-      record {
-        stage = record {
-          way = left.0.way;
-          fit = left.1;
-          open_packet = c.in_ok-left.ensures.left.0;
-          fits = omega (arith, c.copy_within.ensures.len, long, c.in-Ok.ensures.len, w.3.stage.fits);
-          gives = Gives-join _ _ _ _ _ w.3.stage.gives came.gives;
-          took = rw (left.0.records) (Appends-join _ _ _ _ _ w.3.stage.took wrote.0);
-          no_read = c.in-Ok.ensures.counts ∙ w.3.stage.no_read;
-          no_write = wrote.1 ∙ w.3.stage.no_write;
-        };
-        kind = e.kind;
-        at = c.in_ok-left.ensures.next w.2 w.3.at;
-        none = c.in_ok-left.ensures.empty;
-        turns = omega (arith, w.3.turns, c.if-n-eq0.false, came.counted, length-append w.0 came.octets);
-        calls = omega (arith, w.3.calls, c.in-Ok.ensures.turns, c.requires.turns);
-      },
-    )
+    let wrote = c.in_ok-left.ensures.writes w.stage.count w.at in record {
+      stage = record {
+        given = w.stage.given ++ came.octets;
+        sent = left.0.now_sent;
+        count = w.stage.count + full_packets c.args.spec.now _;
+        way = left.0.way;
+        fit = left.1;
+        open_packet = c.in_ok-left.ensures.left.0;
+        fits = omega (arith, c.copy_within.ensures.len, long, c.in-Ok.ensures.len, w.stage.fits);
+        gives = Gives-join _ _ _ _ _ w.stage.gives came.gives;
+        took = rw (left.0.records) (Appends-join _ _ _ _ _ w.stage.took wrote.0);
+        no_read = c.in-Ok.ensures.counts ∙ w.stage.no_read;
+        no_write = wrote.1 ∙ w.stage.no_write;
+      };
+      kind = e.kind;
+      at = c.in_ok-left.ensures.next w.stage.count w.at;
+      none = c.in_ok-left.ensures.empty;
+      turns = omega (arith, w.turns, c.if-n-eq0.false, came.counted, length-append w.stage.given came.octets);
+      calls = omega (arith, w.calls, c.in-Ok.ensures.turns, c.requires.turns);
+    }

@@ -1,15 +1,15 @@
-use Rattle.std.proofs.Common.{◌≡◌, ◌+◌, ◌≤◌, [], List, ℕ, length}
+use Rattle.std.proofs.Common.{◌≡◌, ◌+◌, ◌≤◌, [], length}
 use Rattle.gw_speech.specs.Encode.{IsPacket}
 use Rattle.gw_speech.proofs.PacketLemmas.{Encoding}
 use Rattle.gw_speech.proofs.encode.encode_stream.Given as goal
 
 abbrev pub invariant-reading : goal.invariant-reading
-invariant-reading g l = (given : List ℕ) × (sent : List ℕ) × (count : ℕ) × record {
+invariant-reading g l = record {
   stage : Encoding l.spec (g.S.Source.tells l.initial.source) (g.S.Source.tells l.source)
-      (g.K.Sink.tells l.initial.sink) (g.K.Sink.tells l.sink) l.codec l.held l.speech given sent count;
+      (g.K.Sink.tells l.initial.sink) (g.K.Sink.tells l.sink) l.codec l.held l.speech;
   kind : l.codec.kind ≡ l.spec.codec;
-  at : IsPacket l.spec l.progress count;
+  at : IsPacket l.spec l.progress stage.count;
   none : l.waiting.items ≡ [];
-  turns : l.turn ≤ length given;
+  turns : l.turn ≤ length stage.given;
   calls : (g.S.Source.tells l.source).reads ≡ (g.S.Source.tells l.initial.source).reads + l.turn;
 }
