@@ -16,3 +16,4 @@ pub mod Parts
 pub mod Blocks
 pub mod Followings
 pub mod Searched
+pub mod Tallies

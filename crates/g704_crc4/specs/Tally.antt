@@ -1,5 +1,5 @@
 -- What a receiver counts of a trunk.
-use Rattle.std.specs.Prelude.{ℕ, ◌+◌, ◌-◌, ◌^◌, Bool, true, false, not, min, List, [], ◌∷◌, ◌++◌, Option, Some}
+use Rattle.std.specs.Prelude.{ℕ, ◌+◌, ◌-◌, ◌^◌, Bool, true, false, not, min, if◌then◌else◌, List, [], ◌∷◌, ◌++◌, Option, Some}
 use Rattle.g704_crc4.specs.declared.receiving.Learned.{Learned}
 use Rattle.g704_crc4.specs.declared.receiving.Learned.TheVariants.{Found, Lost, GivenUp, Received}
 use Rattle.g704_crc4.specs.declared.checking.Event.TheVariants.{Block, FarEnd}
@@ -59,4 +59,19 @@ tally_of octets = record {
   found = times tells_found octets;
   lost = times tells_lost octets;
   given_up = times tells_given_up octets;
+}
+
+-- A count after what may be one more; it stops at the greatest number.
+abbrev pub counted : ℕ → Bool → ℕ
+counted count more = if more then min (count + 1) (2 ^ 64 - 1) else count
+
+-- What is counted with what is learned with one more octet.
+abbrev pub tally_with : Tally → Option Learned → Tally
+tally_with tally learned = record {
+  submultiframes = counted tally.submultiframes (tells_block learned);
+  errored = counted tally.errored (tells_errored learned);
+  far_end_errored = counted tally.far_end_errored (tells_far_end learned);
+  found = counted tally.found (tells_found learned);
+  lost = counted tally.lost (tells_lost learned);
+  given_up = counted tally.given_up (tells_given_up learned);
 }
