@@ -4,5 +4,5 @@
 mod filters;
 mod through;
 
-pub use filters::{align_stream, crc4_stream};
+pub use filters::{Checked, align_stream, crc4_check_stream, crc4_stream};
 pub use through::{OctetFilter, octets_through};
