@@ -13,7 +13,8 @@ _e1gw_values() {
 # The options of a subcommand, or those without one.
 _e1gw_options() {
   case $1 in
-    align | crc4) echo '--totals --help' ;;
+    align) echo '--totals --help' ;;
+    crc4) echo '--check --totals --help' ;;
     encode | decode) echo '--law --codec --payload --ptime --ssrc --sequence --timestamp --totals --help' ;;
     replay | check) echo '--config --totals --help' ;;
     serve) echo '--config --record --record-over --senders --totals --help' ;;

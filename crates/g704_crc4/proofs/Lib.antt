@@ -9,3 +9,11 @@ pub mod Received
 pub mod Checked
 pub mod Counted
 pub mod NotFound
+pub mod Rows
+pub mod Ages
+pub mod Alignments
+pub mod Parts
+pub mod Blocks
+pub mod Followings
+pub mod Searched
+pub mod Tallies

@@ -18,7 +18,7 @@ unfolding remainder_in
 remainder-stays h x n le = ap remainder_of (part-stays cleared_at n h (x ∷ []) le)
 
 -- The Si bit of a frame that has begun stays the same.
-si-before : (h : List ℕ) (x frame : ℕ) → 32 * frame < length h → si_of (h ++ x ∷ []) frame ≡ si_of h frame
+pub si-before : (h : List ℕ) (x frame : ℕ) → 32 * frame < length h → si_of (h ++ x ∷ []) frame ≡ si_of h frame
 unfolding si_of
 si-before h x frame lt = ap (nat_le 128) (get_or_append_left h (x ∷ []) 0 (32 * frame) lt)
 

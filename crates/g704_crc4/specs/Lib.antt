@@ -6,3 +6,6 @@ pub mod Receiving
 pub mod Checking
 pub mod States
 pub mod Searching
+pub mod Aligning
+pub mod Tally
+pub mod Receivers

@@ -4,15 +4,19 @@
 
 mod checking;
 pub mod laws;
+mod receiving;
 mod remainder;
 mod searching;
 mod sending;
 mod table;
+mod tallying;
 
 pub use checking::{Checker, Counts, Event, check};
+pub use receiving::{Learned, Receiver};
 pub use remainder::Remainder;
 pub use searching::find_multiframe;
 pub use sending::Multiframer;
+pub use tallying::{Tally, TrunkChecker};
 
 // Octets of a frame, of a double frame, of a submultiframe and of a multiframe.
 const FRAME: u16 = 32;

@@ -1,5 +1,5 @@
 //! The command line: what the program is asked to do.
-ghost use Rattle.std.specs.Prelude.{◌≡◌, ◌≢◌, Some, IfSome, IfNone, option_map, codes};
+ghost use Rattle.std.specs.Prelude.{◌≡◌, ◌≢◌, true, Some, IfSome, IfNone, option_map, codes};
 ghost use Rattle.e1_g711.specs.declared.Law.{Law};
 ghost use Rattle.g726_codec.specs.declared.CodecKind.{CodecKind};
 ghost use Rattle.clap.specs.Words.{found_of, rows_of, subcommand_rows_of};
@@ -245,6 +245,19 @@ pub fn recording_of<'m>(matches: &'m ArgMatches<'_>) -> Option<&'m str>
         ≡ text_in (codes "record") (subcommand_rows_of matches.now) }
 {
     text_of(matches, "record")
+}
+
+/// Whether CRC-4 multiframes are to be checked in place of sent.
+pub fn asks_check(matches: &ArgMatches<'_>) -> bool
+    ensures yes { text_in (codes "check") (subcommand_rows_of matches.now) ≡ Some (codes "true")
+        → result ≡ true }
+    ensures no { result ≡ true
+        → text_in (codes "check") (subcommand_rows_of matches.now) ≡ Some (codes "true") }
+{
+    match text_of(matches, "check") {
+        Some("true") => true,
+        _ => false,
+    }
 }
 
 /// Whether a recording may be written over an old file.

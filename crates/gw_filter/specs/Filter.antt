@@ -23,6 +23,12 @@ pub record Filters (reply : List ℕ → ℕ → ℕ) (source source' : SourceSt
   pub no_read : source'.failures ≡ source.failures
   pub no_write : sink'.failures ≡ sink.failures
 
+-- It gave these octets, and the filter has taken them.
+pub record HasTakenAll (Has : List ℕ → Type 0) (reply : List ℕ → ℕ → ℕ) (source source' : SourceState)
+    (sink sink' : SinkState) (totals : Totals) : Type 0 where
+  pub filters : Filters reply source source' sink sink' totals
+  pub taken : Has filters.octets
+
 -- A read failed, or there were 2 ^ 62 of them, each of which gave an octet. The sink took a reply for each octet.
 pub record FiltersUntilRead (reply : List ℕ → ℕ → ℕ) (source source' : SourceState) (sink sink' : SinkState)
     : Type 0 where

@@ -1,3 +1,4 @@
 pub mod Filter
 pub mod Align
 pub mod Crc4
+pub mod Check

@@ -6,11 +6,13 @@ ghost use Rattle.g704_crc4.specs.States.{SendsAfter};
 ghost use Rattle.g704_crc4.specs.Multiframe.{sent_octet};
 ghost use Rattle.gw_records.specs.Streams.{CanBegin};
 ghost use Rattle.gw_filter.specs.Align.{align_reply, Aligns, AlignsUntil};
+ghost use Rattle.g704_crc4.specs.Receivers.{ChecksTrunk};
+ghost use Rattle.gw_filter.specs.Check.{same_octet, ChecksMultiframes, ChecksMultiframesUntil};
 ghost use Rattle.gw_filter.specs.Crc4.{SendsMultiframes, SendsMultiframesUntil};
 
 use crate::through::{OctetFilter, octets_through};
 use g704_bits::BitAligner;
-use g704_crc4::Multiframer;
+use g704_crc4::{Multiframer, Tally, TrunkChecker};
 use gw_records::{RunFault, Sink, Source, Totals};
 
 impl OctetFilter for BitAligner {
@@ -31,6 +33,26 @@ impl OctetFilter for Multiframer {
     fn next_octet(&mut self, octet: u8) -> u8 {
         self.octet(octet)
     }
+}
+
+impl OctetFilter for TrunkChecker {
+    ghost has_taken = { ChecksTrunk };
+
+    ghost reply_after = { same_octet };
+
+    fn next_octet(&mut self, octet: u8) -> u8 {
+        self.octet(octet);
+        octet
+    }
+}
+
+/// What was counted of a trunk whose CRC-4 multiframes were checked.
+#[derive(Clone, Copy, Debug, PartialEq, Eq)]
+pub struct Checked {
+    /// The octets.
+    pub totals: Totals,
+    /// What was learned of the multiframes.
+    pub tally: Tally,
 }
 
 /// Writes the octets of the time slots of a trunk whose octets come at any offset: one for each octet of the
@@ -74,4 +96,29 @@ pub fn crc4_stream<S: Source, K: Sink>(source: &mut S, sink: &mut K) -> Result<T
         (S.tells source.old) (S.tells source.new) (K.tells sink.old) (K.tells sink.new)) }
 {
     octets_through(&mut Multiframer::new(), source, sink)
+}
+
+/// Writes the octets of a trunk as they came, and counts what its CRC-4 multiframes tell, as
+/// `g704_crc4::TrunkChecker` finds them. All of them are written before the source is read again. No memory is
+/// taken.
+///
+/// # Errors
+///
+/// Those of [`octets_through`].
+pub fn crc4_check_stream<S: Source, K: Sink>(
+    source: &mut S,
+    sink: &mut K,
+) -> Result<Checked, RunFault>
+    requires { CanBegin (S.tells source.old) (K.tells sink.old) }
+    ensures ok { IfOk result (ChecksMultiframes
+        (S.tells source.old) (S.tells source.new) (K.tells sink.old) (K.tells sink.new)) }
+    ensures fault { IfErr result (ChecksMultiframesUntil
+        (S.tells source.old) (S.tells source.new) (K.tells sink.old) (K.tells sink.new)) }
+{
+    let mut checker = TrunkChecker::new();
+    let totals = octets_through(&mut checker, source, sink)?;
+    Ok(Checked {
+        totals,
+        tally: checker.tally(),
+    })
 }

@@ -4,5 +4,6 @@
 mod filters;
 mod through;
 
-pub use filters::{align_stream, crc4_stream};
+pub use filters::{Checked, align_stream, crc4_check_stream, crc4_stream};
 pub use through::{OctetFilter, octets_through};
+pub use g704_crc4::Tally;

@@ -3,7 +3,7 @@
 ghost use Rattle.std.specs.Prelude.{◌≡◌, ◌-◌, ◌^◌, ◌<◌, ◌∷◌, ◌++◌, ℕ, List, [], length, IfOk, IfErr};
 ghost use Rattle.g704_framing.specs.Replies.{replies_after};
 ghost use Rattle.gw_records.specs.Streams.{CanBegin};
-ghost use Rattle.gw_filter.specs.Filter.{Filters, FiltersUntil};
+ghost use Rattle.gw_filter.specs.Filter.{Filters, FiltersUntil, HasTakenAll};
 
 use gw_records::{MAX_READS, NO_TOTALS, RunFault, Sink, Source, Totals, read_behind, write_all};
 
@@ -55,6 +55,8 @@ pub fn octets_through<F: OctetFilter, S: Source, K: Sink>(
     requires streams { CanBegin (S.tells source.old) (K.tells sink.old) }
     ensures ok { IfOk result (Filters F.reply_after
         (S.tells source.old) (S.tells source.new) (K.tells sink.old) (K.tells sink.new)) }
+    ensures taken { IfOk result (λ totals. HasTakenAll (F.has_taken filter.new) F.reply_after
+        (S.tells source.old) (S.tells source.new) (K.tells sink.old) (K.tells sink.new) totals) }
     ensures fault { IfErr result (FiltersUntil F.reply_after
         (S.tells source.old) (S.tells source.new) (K.tells sink.old) (K.tells sink.new)) }
 {

@@ -61,7 +61,13 @@ From standard input come the octets that a gateway sends, the first octet of a
 frame first. To standard output go the same octets with CRC-4 multiframes (ITU-T
 G.704) in bit 1 of time slot 0.
 
+With --check the octets are those of any trunk, from any octet on. They go out
+as they came. At the end standard error tells what their CRC-4 multiframes were:
+submultiframes received and errored, and times that alignment was found and lost.
+
 Example: e1gw crc4 < trunk.raw > crc4.raw";
+
+const CRC4_CHECK_TEXT: &str = "Pass octets as they come, and count errored submultiframes";
 
 const CODEC_TEXT: &str =
     "Coding of the datagrams [possible values: g711, g726-16,\ng726-24, g726-32, g726-40]";
@@ -89,6 +95,7 @@ enum Opt {
     Record,
     RecordOver,
     Senders,
+    Crc4Check,
 }
 
 // A subcommand, and the options that it takes, in the order of its help.
@@ -164,7 +171,7 @@ const SUBCOMMANDS: [Subcommand; 7] = [
         name: "crc4",
         about: "A trunk as it is sent to the same with CRC-4 multiframes",
         after_help: CRC4_HELP,
-        options: &[Opt::Totals],
+        options: &[Opt::Crc4Check, Opt::Totals],
     },
 ];
 
@@ -290,6 +297,7 @@ fn declared<'a>(alloc: Global, option: Opt) -> Arg<'a> {
         Opt::Record => record_option(alloc),
         Opt::RecordOver => over_option(alloc),
         Opt::Senders => senders_option(alloc),
+        Opt::Crc4Check => flag(alloc, "check", CRC4_CHECK_TEXT),
     }
 }
 

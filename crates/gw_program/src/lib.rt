@@ -12,11 +12,11 @@ mod setup;
 mod standard;
 mod trouble;
 
-pub use filters::do_filter;
+pub use filters::{do_filter, perform_crc4_check};
 pub use jobs::do_job;
 pub use performing::{System, perform_job, perform_session};
 pub use recording::{Recording, Tape, begin, tell_end};
-pub use report::{PassedOver, passed_over, print_totals};
+pub use report::{PassedOver, passed_over, print_tally, print_totals};
 pub use sessions::{check, replay, serve_through};
 pub use setup::read_config;
 pub use standard::{Held, hold};

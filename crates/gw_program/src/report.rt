@@ -4,6 +4,7 @@ ghost use Rattle.std.specs.Prelude.{◌≡◌};
 ghost use Rattle.gw_program.specs.Report.{passed_over};
 
 use gw_command::Job;
+use gw_filter::Tally;
 use gw_session::Totals;
 use thiserror::Error;
 
@@ -37,4 +38,14 @@ pub fn print_totals(rt: &impl Eprint, totals: &Totals) {
     let _ = eprintln!(rt; "datagrams {}", totals.datagrams);
     let _ = eprintln!(rt; "dropped {}", totals.dropped);
     let _ = eprintln!(rt; "port_faults {}", totals.port_faults);
+}
+
+/// Prints what was counted of CRC-4 multiframes on standard error, one name and value a line.
+pub fn print_tally(rt: &impl Eprint, tally: &Tally) {
+    let _ = eprintln!(rt; "submultiframes {}", tally.submultiframes);
+    let _ = eprintln!(rt; "errored {}", tally.errored);
+    let _ = eprintln!(rt; "far_end_errored {}", tally.far_end_errored);
+    let _ = eprintln!(rt; "multiframes_found {}", tally.found);
+    let _ = eprintln!(rt; "multiframes_lost {}", tally.lost);
+    let _ = eprintln!(rt; "given_up {}", tally.given_up);
 }

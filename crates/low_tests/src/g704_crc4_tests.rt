@@ -1,4 +1,4 @@
-use g704_crc4::{Counts, Multiframer, check, find_multiframe};
+use g704_crc4::{Counts, Multiframer, Tally, TrunkChecker, check, find_multiframe};
 use std::process::Abort;
 
 // An octet that comes, at a place of the stream.
@@ -65,4 +65,104 @@ fn one_bit_error_is_counted(rt: HostRuntime) {
     sent[416] ^= 0x80;
     let counts = check(&sent);
     assert!(rt; counts.errored == 1 && counts.far_end_errored == 1);
+}
+
+// An octet of a trunk: slot 0 as it is to be, and speech that is no signal.
+fn trunk(place: usize) -> u8 {
+    match place % 64 {
+        0 => 0x1B,
+        32 => 0x5F,
+        _ => (place % 251) as u8 | 0x44,
+    }
+}
+
+// The same, but slot 5 reads like slot 0.
+fn imitated(place: usize) -> u8 {
+    match place % 64 {
+        5 => 0x1B,
+        37 => 0x5F,
+        _ => trunk(place),
+    }
+}
+
+// Nothing is counted.
+const NO_TALLY: Tally = Tally {
+    submultiframes: 0,
+    errored: 0,
+    far_end_errored: 0,
+    found: 0,
+    lost: 0,
+    given_up: 0,
+};
+
+// Eight multiframes of the trunk as they are sent, some bits of some octets turned.
+fn checked(turned: &[(usize, u8)]) -> Tally {
+    let mut multiframer = Multiframer::new();
+    let mut checker = TrunkChecker::new();
+    for place in 0..4096usize {
+        let mut octet = multiframer.octet(trunk(place));
+        for (at, bits) in turned {
+            if *at == place {
+                octet ^= *bits;
+            }
+        }
+        checker.octet(octet);
+    }
+    checker.tally()
+}
+
+// Frame alignment begins at octet 0 and is found at 64. The 8 ms end before octet 2112, where CRC multiframe
+// alignment is found; multiframes begin every 512 octets, so the first submultiframe that is checked begins at
+// 2560. Six are whole up to octet 4096, and of five the check bits have come.
+#[test]
+fn trunk_is_checked(rt: HostRuntime) {
+    let right = Tally {
+        submultiframes: 5,
+        found: 1,
+        ..NO_TALLY
+    };
+    assert!(rt; checked(&[]) == right);
+    // a bit of the second submultiframe; then the first E bit of the multiframe that begins at 3072, which is
+    // itself a bit error
+    assert!(rt; checked(&[(3000, 0x10)]) == Tally { errored: 1, ..right });
+    let at_both_ends = Tally {
+        errored: 1,
+        far_end_errored: 1,
+        ..right
+    };
+    assert!(rt; checked(&[(3488, 0x80)]) == at_both_ends);
+}
+
+// The frame alignment signals at 3072, 3136 and 3200 are wrong: alignment is lost by the third. By then two
+// submultiframes are whole, and of one the check bits have come.
+#[test]
+fn multiframes_are_lost_with_alignment(rt: HostRuntime) {
+    let lost = Tally {
+        submultiframes: 1,
+        found: 1,
+        lost: 1,
+        ..NO_TALLY
+    };
+    assert!(rt; checked(&[(3072, 0x04), (3136, 0x04), (3200, 0x04)]) == lost);
+}
+
+// From the second octet of a trunk on slot 5 is found first, at octet 5. It has no multiframes, so alignment is
+// looked for anew behind octet 2117: slot 0 is found at 2176, its 8 ms end before 4288, the first multiframe
+// after that begins at 4608. Of the four submultiframes up to octet 5632 three are known.
+#[test]
+fn false_alignment_is_given_up(rt: HostRuntime) {
+    let mut multiframer = Multiframer::new();
+    let mut checker = TrunkChecker::new();
+    for place in 0..5632usize {
+        let octet = multiframer.octet(imitated(place));
+        if place > 0 {
+            checker.octet(octet);
+        }
+    }
+    let right = Tally {
+        submultiframes: 3,
+        found: 1,
+        ..NO_TALLY
+    };
+    assert!(rt; checker.tally() == right);
 }

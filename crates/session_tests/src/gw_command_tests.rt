@@ -2,7 +2,7 @@ use clap::error::ErrorKind;
 use e1_g711::Law;
 use g726_codec::CodecKind;
 use gw_command::{
-    Filter, Job, Request, Session, job_of, path_of, request_of, senders_of, session_of,
+    Filter, Job, Request, Session, asks_check, job_of, path_of, request_of, senders_of, session_of,
     wants_totals,
 };
 use gw_options::matches;
@@ -118,6 +118,7 @@ fn subcommands_are_named(rt: HostRuntime) -> Result<(), Fail> {
     for (line, request) in [
         ("e1gw align", Request::Filter(Filter::Align)),
         ("e1gw crc4 --totals", Request::Filter(Filter::Crc4)),
+        ("e1gw crc4 --check", Request::Filter(Filter::Crc4)),
         (
             "e1gw check --config align",
             Request::Session(Session::Check),
@@ -182,6 +183,23 @@ fn refuses_command_lines(rt: HostRuntime) -> Result<(), Fail> {
         "e1gw replay --config x --senders any",
     ] {
         assert!(rt; job(rt.alloc(), line)?.is_err(), "at {line}");
+    }
+    Ok(())
+}
+
+#[test]
+fn crc4_is_checked_or_sent(rt: HostRuntime) -> Result<(), Fail> {
+    for (line, asked) in [
+        ("e1gw crc4", false),
+        ("e1gw crc4 --totals", false),
+        ("e1gw crc4 --check", true),
+        ("e1gw check --config check", false),
+    ] {
+        let words = words(rt.alloc(), line)?;
+        let matches = matches(rt.alloc(), words.as_slice())
+            .ok()
+            .ok_or("a command line")?;
+        assert!(rt; asks_check(&matches) == asked, "at {line}");
     }
     Ok(())
 }

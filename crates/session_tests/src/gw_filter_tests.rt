@@ -1,7 +1,7 @@
 ghost use Rattle.std.specs.Prelude.{◌≡◌, None, length};
 
 use arrayvec::ArrayVec;
-use gw_filter::{align_stream, crc4_stream};
+use gw_filter::{Checked, Tally, align_stream, crc4_check_stream, crc4_stream};
 use gw_records::{NO_TOTALS, RunFault, Sink, SinkFault, Source, SourceFault, Totals};
 
 // The octet at a place of the far end's trunk: slot 0 as it is to be, and speech that is no signal.
@@ -167,5 +167,29 @@ fn multiframes_are_sent(rt: HostRuntime) {
             let expected = SI[place / 32] * 128 + late(place) % 128;
             assert_eq!(rt; *octet, expected, "at {place}");
         }
+    }
+}
+
+#[test]
+fn a_checked_trunk_passes(rt: HostRuntime) {
+    let mut sink = Taken::new(600);
+    let ended = crc4_check_stream(&mut LateTrunk::new(1000), &mut sink);
+    let checked = Checked {
+        totals: Totals {
+            octets: 600,
+            ..NO_TOTALS
+        },
+        tally: Tally {
+            submultiframes: 0,
+            errored: 0,
+            far_end_errored: 0,
+            found: 0,
+            lost: 0,
+            given_up: 0,
+        },
+    };
+    assert!(rt; ended == Ok(checked));
+    for (place, octet) in sink.octets.iter().enumerate() {
+        assert_eq!(rt; *octet, late(place), "at {place}");
     }
 }

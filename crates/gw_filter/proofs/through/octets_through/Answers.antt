@@ -98,6 +98,11 @@ returns-then-n-eq0-clause-ok g c =
       no_write = w.1.stage.no_write;
     }
 
+pub returns-then-n-eq0-clause-taken : goal.returns-then-n-eq0-clause-taken
+unfolding returns-then-n-eq0-clause-ok
+returns-then-n-eq0-clause-taken g c =
+    record { filters = returns-then-n-eq0-clause-ok g c; taken = c.reading.invariant.1.stage.stands }
+
 pub returns-in_default-clause-fault : goal.returns-in_default-clause-fault
 returns-in_default-clause-fault g c =
     let w = c.reading.invariant in

@@ -1,0 +1,107 @@
+-- Submultiframes that are known, and how many are errored.
+use Rattle.std.proofs.Common.{◌≡◌, ℕ, zero, suc, ◌+◌, ◌-◌, ◌*◌, ◌/◌, ◌%◌, ◌<◌, ◌≤◌, Bool, true, false, not, cond}
+use Rattle.std.proofs.Common.{List, [], ◌∷◌, ◌++◌, length, Option, Some, refl, sym, ap, ◌∙◌, arith, inl, inr}
+use Rattle.std.specs.Prelude.{nat_le, ◌||◌, ◌==◌}
+use Rattle.std.proofs.lemmas.Bool.{cases_eq, cases_lt, cases_Bool, eq-eqb, ne_eqb, lt-ltb, le-ltb, and_left, and_right}
+use Rattle.g704_crc4.specs.declared.checking.Event.{Event}
+use Rattle.g704_crc4.specs.declared.checking.Event.TheVariants.{Block}
+use Rattle.g704_crc4.specs.Receiving.{si_of, check_bits_in}
+use Rattle.g704_crc4.specs.Checking.{is_right, event_of, far_end_event}
+use Rattle.g704_crc4.specs.Aligning.{count_in, errored_in, known_blocks, is_excessive}
+use Rattle.g704_crc4.proofs.Received.{si-before, remainder-stays}
+
+-- Tests that agree on these numbers count alike.
+count-alike : (p q : ℕ → Bool) (from count : ℕ) → ((k : ℕ) → k < count → p (from + k) ≡ q (from + k))
+    → count_in p from count ≡ count_in q from count
+unfolding count_in
+count-alike p q from zero e = refl
+count-alike p q from (suc n) e =
+    rw (e n (omega arith), count-alike p q from n (λ k lt. e k (omega arith))) refl
+
+-- A later octet does not change whether a submultiframe is right that is known.
+right-stays : (d : List ℕ) (x n : ℕ) → 256 * (n + 2) ≤ length d → is_right (d ++ x ∷ []) n ≡ is_right d n
+unfolding is_right check_bits_in
+right-stays d x n le =
+    rw (
+      remainder-stays d x n (omega arith),
+      si-before d x (8 * (n + 1)) (omega arith),
+      si-before d x (8 * (n + 1) + 2) (omega arith),
+      si-before d x (8 * (n + 1) + 4) (omega arith),
+      si-before d x (8 * (n + 1) + 6) (omega arith),
+    ) refl
+
+-- Nor how many are errored.
+pub errored-stays : (d : List ℕ) (x from count : ℕ) → (0 < count → 256 * (from + count + 1) ≤ length d)
+    → errored_in (d ++ x ∷ []) from count ≡ errored_in d from count
+unfolding errored_in
+errored-stays d x from count le =
+    count-alike _ _ from count (λ k lt. ap not (right-stays d x (from + k) (omega (arith, le (omega arith)))))
+
+-- One more is known.
+pub errored-more : (d : List ℕ) (from count number : ℕ) → from + count ≡ number
+    → errored_in d from (count + 1)
+    ≡ cond (is_right d number) (errored_in d from count) (errored_in d from count + 1)
+unfolding errored_in count_in
+errored-more d from count number e =
+    let one : count + 1 ≡ suc count = omega arith in
+    rw (one, e) (turned (is_right d number) _)
+  where
+    turned : (right : Bool) (n : ℕ) → cond (not right) (n + 1) n ≡ cond right n (n + 1)
+    turned true n = refl
+    turned false n = refl
+
+-- None of no numbers is.
+pub errored-none : (d : List ℕ) (from : ℕ) → 0 ≡ errored_in d from 0
+unfolding errored_in count_in
+errored-none d from = refl
+
+-- With the last octet of a submultiframe that has one before it, that one is known.
+pub block-comes : (d : List ℕ) → length d % 256 ≡ 0 → 256 < length d
+    → event_of d ≡ Some (Block (is_right d (length d / 256 - 2)))
+unfolding event_of
+block-comes d e lt = rw (eq-eqb (length d % 256) 0 e, lt-ltb 256 (length d) lt) refl
+
+-- An E bit is no submultiframe.
+far_end-no_block : (place : ℕ) (si right : Bool) → far_end_event place si ≡ Some (Block right) → ⊥
+far_end-no_block place si right e = elim (cases_Bool ((place == 416) || (place == 480))) [
+  | inl reports ↦ let i = rw reports at e in cc
+  | inr other ↦ let i = rw other at e in cc
+]
+
+-- Where one is known, the last octet is that of a submultiframe with one before it.
+pub block-came : (d : List ℕ) (right : Bool) → Some (Block right) ≡ event_of d
+    → (length d % 256 ≡ 0) × (256 < length d) × (right ≡ is_right d (length d / 256 - 2))
+unfolding event_of
+block-came d right e = elim (cases_eq (length d % 256) 0) [
+  | inr ne ↦ absurd (far_end-no_block ((length d - 1) % 512) (si_of d ((length d - 1) / 32)) right (sym (rw (ne_eqb (length d % 256) 0 ne) at e)))
+  | inl whole ↦ elim (cases_lt 256 (length d)) [
+    | inr ge ↦ let i = rw (eq-eqb (length d % 256) 0 whole, le-ltb 256 (length d) ge) at e in cc
+    | inl lt ↦
+        let i = rw (eq-eqb (length d % 256) 0 whole, lt-ltb 256 (length d) lt) at e in
+        let same : right ≡ is_right d (length d / 256 - 2) = cc in
+        (whole, lt, same)
+  ]
+]
+
+-- Where none is, there is no such octet.
+pub none-came : (d : List ℕ) (o : Option Event) → o ≡ event_of d → ((right : Bool) → o ≡ Some (Block right) → ⊥)
+    → length d % 256 ≡ 0 → length d ≤ 256
+none-came d o e other whole = elim (cases_lt 256 (length d)) [
+  | inr ge ↦ ge
+  | inl lt ↦ absurd (other _ (e ∙ block-comes d whole lt))
+]
+
+-- Then no thousand has too many.
+pub not_excessive : (d : List ℕ) → (length d % 256 ≡ 0 → length d ≤ 256) → is_excessive d ≡ false
+unfolding is_excessive
+not_excessive d none = elim (cases_eq (length d % 256) 0) [
+  | inr ne ↦ and_left _ _ (ne_eqb (length d % 256) 0 ne)
+  | inl whole ↦ and_right _ _ (and_left _ _ (le-ltb 256 (length d) (none whole)))
+]
+
+-- With one more that is known, its thousand decides.
+pub excessive-is : (d : List ℕ) (known total : ℕ) → length d % 256 ≡ 0 → 256 < length d → known_blocks d - 1 ≡ known
+    → errored_in d (1000 * (known / 1000)) (known % 1000 + 1) ≡ total → is_excessive d ≡ nat_le 915 total
+unfolding is_excessive
+excessive-is d known total whole lt e t =
+    rw (eq-eqb (length d % 256) 0 whole, lt-ltb 256 (length d) lt, e, t) refl

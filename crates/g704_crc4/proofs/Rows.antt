@@ -1,0 +1,57 @@
+-- The definitions on worked examples, by computing.
+use Rattle.std.proofs.Common.{◌≡◌, ℕ, zero, suc, ◌+◌, ◌%◌, List, [], ◌∷◌, ◌++◌, true, false, Some, None, refl}
+use Rattle.std.specs.Prelude.{replicate, length, nat_le}
+use Rattle.g704_framing.specs.Least.{least}
+use Rattle.g704_framing.specs.Alignment.{alignments_from, loss}
+use Rattle.g704_align.specs.Search.{search, is_fas, is_nfas}
+use Rattle.g704_align.specs.Loss.{is_wrong}
+use Rattle.g704_crc4.specs.Remainder.{remainder_of, sent_bits}
+use Rattle.g704_crc4.specs.Submultiframes.{each_at, submultiframe}
+use Rattle.g704_crc4.specs.Receiving.{si_of, remainder_in}
+use Rattle.g704_crc4.specs.Searching.{has_signal, begins_multiframe}
+use Rattle.g704_crc4.specs.Aligning.{since_start, aligned_octets, searched_octets, multiframe_in, count_in}
+
+-- Octets that count up from this one.
+ramp : ℕ → ℕ → List ℕ
+ramp first zero = []
+ramp first (suc count) = first ∷ ramp (first + 1) count
+
+-- The check bits of a submultiframe of the octets 0 to 255, by long division outside of this tree.
+ramp_remainder : remainder_in (ramp 0 256) 0 ≡ record { c1 = false; c2 = false; c3 = true; c4 = true }
+unfolding remainder_in remainder_of sent_bits submultiframe each_at ramp
+ramp_remainder = refl
+
+-- A frame without the frame alignment signal, with this Si bit, behind one with it.
+two_frames : ℕ → List ℕ
+two_frames si = 27 ∷ (replicate 31 0 ++ si ∷ replicate 31 0)
+
+-- A multiframe with the signal, both E bits zero.
+one_multiframe : List ℕ
+one_multiframe =
+    two_frames 64 ++ two_frames 64 ++ two_frames 192 ++ two_frames 64
+    ++ two_frames 192 ++ two_frames 192 ++ two_frames 64 ++ two_frames 64
+
+-- Frame alignment, and then three double frames of no multiframe before two multiframes.
+signal_twice : List ℕ
+signal_twice = two_frames 64 ++ two_frames 64 ++ two_frames 64 ++ two_frames 64 ++ one_multiframe ++ one_multiframe
+
+-- The octet behind the one that confirms alignment is the first that has a time slot.
+slot_known : (length (aligned_octets (5 ∷ two_frames 64 ++ 27 ∷ [])) ≡ 0)
+    × (length (aligned_octets (5 ∷ two_frames 64 ++ 27 ∷ 1 ∷ [])) ≡ 66)
+unfolding since_start alignments_from loss least search is_fas is_nfas is_wrong two_frames
+slot_known = (refl, refl)
+
+-- The first multiframe begins at the fourth double frame, three after the one by which alignment was found.
+multiframe_found : multiframe_in signal_twice ≡ Some 3
+unfolding multiframe_in searched_octets least begins_multiframe has_signal si_of signal_twice two_frames one_multiframe
+multiframe_found = refl
+
+-- One signal is not enough.
+signal_once : multiframe_in (two_frames 64 ++ one_multiframe ++ two_frames 64) ≡ None
+unfolding multiframe_in searched_octets least begins_multiframe has_signal si_of two_frames one_multiframe
+signal_once = refl
+
+-- How many of the four numbers from five on are even.
+counted : count_in (λ number. nat_le (number % 2) 0) 5 4 ≡ 2
+unfolding count_in
+counted = refl

@@ -1,0 +1,168 @@
+-- What a receiver learns by the octets of a frame alignment, before, at and after the end of the 8 ms.
+use Rattle.std.proofs.Common.{◌≡◌, ℕ, ◌+◌, ◌*◌, ◌%◌, ◌<◌, ◌≤◌, true, false, List, [], ◌∷◌, ◌++◌}
+use Rattle.std.proofs.Common.{length, drop, Option, Some, None, refl, sym, ap, ◌∙◌, arith, inl, inr}
+use Rattle.std.proofs.Common.{length-drop}
+use Rattle.std.specs.Prelude.{◌==◌}
+use Rattle.std.proofs.lemmas.Bool.{eq-eqb, ne_eqb, lt-ltb, le-ltb, and_left, cases_lt, false≢true}
+use Rattle.std.proofs.lemmas.List.{length_push, drop_all, take_all}
+use Rattle.g704_framing.proofs.Leasts.{least_equals}
+use Rattle.g704_crc4.specs.declared.receiving.Learned.TheVariants.{Found, Lost}
+use Rattle.g704_crc4.specs.Searching.{begins_multiframe}
+use Rattle.g704_crc4.specs.Aligning.{searched_octets, multiframe_in, octets_from, checked_octets, is_false, is_excessive}
+use Rattle.g704_crc4.specs.Aligning.{is_multiframe_found, has_multiframes, is_given_up, followed, learned_of}
+use Rattle.g704_crc4.proofs.NotFound.{none-past}
+use Rattle.g704_crc4.proofs.Blocks.{not_excessive}
+use Rattle.g704_crc4.proofs.Followings.{multiframe-stays, checked-is, followed-nothing}
+
+-- Up to the end of the 8 ms no octet is checked.
+from-short : (octets : List ℕ) (found : Option ℕ) → length octets ≤ 2112 → octets_from octets found ≡ []
+from-short octets None le = refl
+from-short octets (Some number) le = drop_all (2112 + 64 * (number % 8)) octets (omega arith)
+
+-- One octet later at most one is.
+from-next : (octets : List ℕ) (found : Option ℕ) → length octets ≤ 2113 → length (octets_from octets found) ≤ 1
+from-next octets None le = omega arith
+from-next octets (Some number) le = omega (arith, length-drop (2112 + 64 * (number % 8)) octets)
+
+-- So none is known to be errored.
+pub next-few : (octets : List ℕ) → length octets ≤ 2113 → is_excessive (checked_octets octets) ≡ false
+unfolding checked_octets
+next-few octets le =
+    not_excessive (octets_from octets (multiframe_in octets))
+    (λ whole. omega (arith, from-next octets (multiframe_in octets) le))
+
+-- Up to the end of the 8 ms there are no multiframes.
+short-none : (octets : List ℕ) → length octets ≤ 2112 → has_multiframes octets ≡ false
+unfolding has_multiframes
+short-none octets le = and_left _ _ (le-ltb 2112 (length octets) le)
+
+-- Nothing is learned.
+pub short-learned : (before octets : List ℕ) → length before ≤ 2112 → length octets ≤ 2112
+    → None ≡ learned_of before octets
+unfolding learned_of is_multiframe_found
+short-learned before octets le le' =
+    let other : (length octets == 2113) ≡ false = ne_eqb (length octets) 2113 (omega arith) in
+    rw (other, short-none before le)
+    (followed-nothing octets (checked-is octets (multiframe_in octets) refl ∙ from-short octets (multiframe_in octets) le'))
+
+-- And frame alignment is not given up.
+pub short-kept : (octets : List ℕ) → length octets ≤ 2112 → is_given_up octets ≡ false
+unfolding is_given_up is_false
+short-kept octets le =
+    let other : (length octets == 2113) ≡ false = ne_eqb (length octets) 2113 (omega arith) in
+    rw (other, next-few octets (omega arith)) refl
+
+-- Multiframes that were found stand after the 8 ms.
+stands-after : (octets : List ℕ) (number : ℕ) → multiframe_in octets ≡ Some number → 2112 < length octets
+    → has_multiframes octets ≡ true
+unfolding has_multiframes
+stands-after octets number e lt = rw (lt-ltb 2112 (length octets) lt, e) refl
+
+-- They are lost with frame alignment.
+pub lost-learned : (before : List ℕ) (number : ℕ) → multiframe_in before ≡ Some number → 2112 < length before
+    → Some Lost ≡ learned_of before []
+unfolding learned_of is_multiframe_found
+lost-learned before number e lt =
+    let none : has_multiframes [] ≡ false = short-none [] (omega arith) in
+    rw (stands-after before number e lt, none) refl
+
+-- Once they stand, what is learned is learned of submultiframes.
+pub long-learned : (before : List ℕ) (x number : ℕ) → multiframe_in before ≡ Some number → 2112 < length before
+    → followed (before ++ x ∷ []) ≡ learned_of before (before ++ x ∷ [])
+unfolding learned_of is_multiframe_found
+long-learned before x number e lt =
+    let l = length_push before x in
+    let found = multiframe-stays before x (omega arith) ∙ e in
+    let other : (length (before ++ x ∷ []) == 2113) ≡ false = ne_eqb (length (before ++ x ∷ [])) 2113 (omega arith) in
+    rw (
+      other,
+      stands-after before number e lt,
+      stands-after (before ++ x ∷ []) number found (omega arith),
+    ) refl
+
+-- Frame alignment is given up then with too many errored ones.
+pub long-given_up : (octets : List ℕ) → 2113 < length octets → is_given_up octets ≡ is_excessive (checked_octets octets)
+unfolding is_given_up is_false
+long-given_up octets lt =
+    let other : (length octets == 2113) ≡ false = ne_eqb (length octets) 2113 (omega arith) in
+    rw other refl
+
+-- The octets of 8 ms are those that are searched.
+pub searched-is : (octets searched : List ℕ) → length octets ≡ 2112 → searched ≡ drop 64 octets
+    → searched_octets octets ≡ searched
+unfolding searched_octets
+searched-is octets searched l e =
+    take_all 2048 (drop 64 octets) (omega (arith, length-drop 64 octets)) ∙ sym e
+
+-- The first double frame of them at which a multiframe begins.
+pub found-is : (octets searched : List ℕ) (number : ℕ) → length octets ≡ 2112 → searched ≡ drop 64 octets
+    → begins_multiframe searched (2 * number) ≡ true
+    → ((earlier : ℕ) → earlier < number → begins_multiframe searched (2 * earlier) ≡ false)
+    → multiframe_in octets ≡ Some number
+unfolding multiframe_in
+found-is octets searched number l e begins first =
+    rw (searched-is octets searched l e)
+    (least_equals (λ k. begins_multiframe searched (2 * k)) 32 (Some number) (within, begins, first))
+  where
+    long : length searched ≡ 2048
+    long = ap length e ∙ omega (arith, length-drop 64 octets)
+
+    within : number < 32
+    within = elim (cases_lt number 32) [
+      | inl lt ↦ lt
+      | inr ge ↦ absurd (false≢true (sym (none-past searched number (omega (arith, long))) ∙ begins))
+    ]
+
+-- Or there is none.
+pub none-is : (octets searched : List ℕ) → length octets ≡ 2112 → searched ≡ drop 64 octets
+    → ((number : ℕ) → begins_multiframe searched (2 * number) ≡ false) → multiframe_in octets ≡ None
+unfolding multiframe_in
+none-is octets searched l e none =
+    rw (searched-is octets searched l e)
+    (least_equals (λ k. begins_multiframe searched (2 * k)) 32 None (λ k lt. none k))
+
+-- What is learned with the octet behind the 8 ms, where a multiframe begins in them.
+pub found-learned : (octets : List ℕ) (x number : ℕ) → length octets ≡ 2112 → multiframe_in octets ≡ Some number
+    → Some Found ≡ learned_of octets (octets ++ x ∷ [])
+unfolding learned_of is_multiframe_found
+found-learned octets x number l e =
+    rw (
+      eq-eqb (length (octets ++ x ∷ [])) 2113 (omega (arith, length_push octets x)),
+      multiframe-stays octets x (omega arith),
+      e,
+    ) refl
+
+-- Frame alignment is kept.
+pub found-kept : (octets : List ℕ) (x number : ℕ) → length octets ≡ 2112 → multiframe_in octets ≡ Some number
+    → is_given_up (octets ++ x ∷ []) ≡ false
+unfolding is_given_up is_false
+found-kept octets x number l e =
+    rw (
+      eq-eqb (length (octets ++ x ∷ [])) 2113 (omega (arith, length_push octets x)),
+      multiframe-stays octets x (omega arith),
+      e,
+      next-few (octets ++ x ∷ []) (omega (arith, length_push octets x)),
+    ) refl
+
+-- Where none begins, nothing is learned.
+pub none-learned : (octets : List ℕ) (x : ℕ) → length octets ≡ 2112 → multiframe_in octets ≡ None
+    → None ≡ learned_of octets (octets ++ x ∷ [])
+unfolding learned_of is_multiframe_found
+none-learned octets x l e =
+    let none = multiframe-stays octets x (omega arith) ∙ e in
+    rw (
+      eq-eqb (length (octets ++ x ∷ [])) 2113 (omega (arith, length_push octets x)),
+      none,
+      short-none octets (omega arith),
+    ) (followed-nothing (octets ++ x ∷ []) (checked-is (octets ++ x ∷ []) None none))
+
+-- And frame alignment is given up.
+pub none-given_up : (octets : List ℕ) (x : ℕ) → length octets ≡ 2112 → multiframe_in octets ≡ None
+    → is_given_up (octets ++ x ∷ []) ≡ true
+unfolding is_given_up is_false
+none-given_up octets x l e =
+    rw (
+      eq-eqb (length (octets ++ x ∷ [])) 2113 (omega (arith, length_push octets x)),
+      multiframe-stays octets x (omega arith),
+      e,
+    ) refl

@@ -1,0 +1,77 @@
+-- What a receiver counts of a trunk.
+use Rattle.std.specs.Prelude.{ℕ, ◌+◌, ◌-◌, ◌^◌, Bool, true, false, not, min, if◌then◌else◌, List, [], ◌∷◌, ◌++◌, Option, Some}
+use Rattle.g704_crc4.specs.declared.receiving.Learned.{Learned}
+use Rattle.g704_crc4.specs.declared.receiving.Learned.TheVariants.{Found, Lost, GivenUp, Received}
+use Rattle.g704_crc4.specs.declared.checking.Event.TheVariants.{Block, FarEnd}
+use Rattle.g704_crc4.specs.declared.tallying.Tally.{Tally}
+use Rattle.g704_crc4.specs.Remainder.{bit_number}
+use Rattle.g704_crc4.specs.Aligning.{learned}
+
+-- How many of these octets, after others, tell what passes.
+unfoldable pub times_after : (Option Learned → Bool) → List ℕ → List ℕ → ℕ
+times_after passes before [] = 0
+times_after passes before (octet ∷ octets) =
+    bit_number (passes (learned before octet)) + times_after passes (before ++ octet ∷ []) octets
+
+-- How many octets of a stream do. A count stops at the greatest number.
+abbrev pub times : (Option Learned → Bool) → List ℕ → ℕ
+times passes octets = min (times_after passes [] octets) (2 ^ 64 - 1)
+
+-- A submultiframe was checked.
+abbrev pub tells_block : Option Learned → Bool
+tells_block (Some (Received (Block right))) = true
+tells_block (Some GivenUp) = true
+tells_block _ = false
+
+-- It is errored. So is the one by which frame alignment is given up.
+abbrev pub tells_errored : Option Learned → Bool
+tells_errored (Some (Received (Block right))) = not right
+tells_errored (Some GivenUp) = true
+tells_errored _ = false
+
+-- An E bit reports one that was errored at the far end.
+abbrev pub tells_far_end : Option Learned → Bool
+tells_far_end (Some (Received (FarEnd right))) = not right
+tells_far_end _ = false
+
+-- CRC multiframe alignment is found.
+abbrev pub tells_found : Option Learned → Bool
+tells_found (Some Found) = true
+tells_found _ = false
+
+-- CRC multiframe alignment is lost: with frame alignment, or since that is given up.
+abbrev pub tells_lost : Option Learned → Bool
+tells_lost (Some Lost) = true
+tells_lost (Some GivenUp) = true
+tells_lost _ = false
+
+-- Frame alignment is given up, 915 of a thousand submultiframes being errored.
+abbrev pub tells_given_up : Option Learned → Bool
+tells_given_up (Some GivenUp) = true
+tells_given_up _ = false
+
+-- What is counted of a stream.
+abbrev pub tally_of : List ℕ → Tally
+tally_of octets = record {
+  submultiframes = times tells_block octets;
+  errored = times tells_errored octets;
+  far_end_errored = times tells_far_end octets;
+  found = times tells_found octets;
+  lost = times tells_lost octets;
+  given_up = times tells_given_up octets;
+}
+
+-- A count after what may be one more; it stops at the greatest number.
+abbrev pub counted : ℕ → Bool → ℕ
+counted count more = if more then min (count + 1) (2 ^ 64 - 1) else count
+
+-- What is counted with what is learned with one more octet.
+abbrev pub tally_with : Tally → Option Learned → Tally
+tally_with tally learned = record {
+  submultiframes = counted tally.submultiframes (tells_block learned);
+  errored = counted tally.errored (tells_errored learned);
+  far_end_errored = counted tally.far_end_errored (tells_far_end learned);
+  found = counted tally.found (tells_found learned);
+  lost = counted tally.lost (tells_lost learned);
+  given_up = counted tally.given_up (tells_given_up learned);
+}

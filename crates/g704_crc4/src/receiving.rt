@@ -1,0 +1,245 @@
+//! CRC multiframe alignment of a trunk, and its submultiframes as they are received.
+
+ghost use Rattle.std.specs.Prelude.{◌≡◌, ◌∷◌, ◌++◌, ◌+◌, ◌%◌, ◌<◌, ◌==◌, ℕ, Bool, true, false, List, []};
+ghost use Rattle.std.specs.Prelude.{length, slice_index, nat_le, if◌then◌else◌, Some};
+ghost use Rattle.g704_crc4.specs.declared.receiving.Stage.TheVariants.{Hunting};
+ghost use Rattle.g704_crc4.specs.Aligning.{learned, learned_of, followed, multiframe_in, checked_octets};
+ghost use Rattle.g704_crc4.specs.Aligning.{is_given_up, is_excessive};
+ghost use Rattle.g704_crc4.specs.Tally.{tells_given_up};
+ghost use Rattle.g704_crc4.specs.Receivers.{ReceivesAfter, IsSearched, IsStage, IsFollowed, GoesOn, BeginsAnew};
+
+use crate::checking::{Checker, Event};
+use crate::searching::find_multiframe;
+use g704_align::{Aligner, Place};
+
+// Octets of 8 ms.
+const SEARCHED: u16 = 2048;
+
+// Submultiframes that are counted together, and how many of them are errored if frame alignment is false.
+const TOGETHER: u16 = 1000;
+
+const EXCESS: u16 = 915;
+
+/// What a receiver learns with an octet of a trunk.
+#[derive(Clone, Copy, Debug, PartialEq, Eq)]
+pub enum Learned {
+    /// CRC multiframe alignment is found.
+    Found,
+    /// CRC multiframe alignment is lost, since frame alignment is.
+    Lost,
+    /// A submultiframe is errored, the 915th of a thousand: frame alignment is given up.
+    GivenUp,
+    /// A submultiframe or an E bit has come.
+    Received(Event),
+}
+
+// How far CRC multiframe alignment has come.
+#[derive(Clone, Copy, Debug, PartialEq, Eq)]
+enum Stage {
+    // Frame alignment is looked for.
+    Hunting,
+    // The 8 ms are coming in which CRC multiframe alignment is looked for.
+    Searching { count: u16 },
+    // CRC multiframe alignment stands.
+    Following(Following),
+}
+
+// Submultiframes as they come, in a frame alignment with CRC multiframes.
+#[derive(Clone, Copy, Debug, PartialEq, Eq)]
+struct Following {
+    // Octets before the first that is checked.
+    to_come: u16,
+    checker: Checker,
+    // Submultiframes of the present thousand, and errored ones among them.
+    known: u16,
+    errored: u16,
+}
+
+/// Follows the CRC multiframes of a trunk from its octets alone.
+#[derive(Clone, Copy, Debug, PartialEq, Eq)]
+pub struct Receiver {
+    aligner: Aligner,
+    stage: Stage,
+    // The octets of the 8 ms as they come; before them, the last octet.
+    searched: [u8; 2048],
+}
+
+impl Receiver {
+    /// A receiver that has received nothing.
+    pub fn new() -> Self
+        ensures { ReceivesAfter result [] }
+    {
+        Receiver {
+            aligner: Aligner::new(),
+            stage: Stage::Hunting,
+            searched: [0; 2048],
+        }
+    }
+
+    /// Takes the next octet of the trunk, and returns what is learned with it.
+    pub fn octet(&mut self, octet: u8) -> Option<Learned>
+        ensures reply { (history : List ℕ) → ReceivesAfter self.old history
+            → result ≡ learned history octet }
+        ensures stands { (history : List ℕ) → ReceivesAfter self.old history
+            → ReceivesAfter self.new (history ++ octet ∷ []) }
+    {
+        match self.aligner.octet(octet) {
+            Place::Hunting => self.hunt(octet),
+            Place::Slot { .. } => self.follow(octet),
+        }
+    }
+
+    // Takes an octet that has no time slot.
+    #[inline(never)]
+    fn hunt(&mut self, octet: u8) -> Option<Learned>
+        ensures reply { (part octets : List ℕ) → IsStage self.old.stage self.old.searched part octets
+            → result ≡ learned_of octets [] }
+        ensures stage { self.new.stage ≡ Hunting }
+        ensures last { slice_index self.new.searched 0 ≡ octet }
+        ensures aligner { self.new.aligner ≡ self.old.aligner }
+        ensures room { length self.new.searched ≡ length self.old.searched }
+    {
+        let lost = matches!(self.stage, Stage::Following(_));
+        self.searched[0] = octet;
+        self.stage = Stage::Hunting;
+        if lost { Some(Learned::Lost) } else { None }
+    }
+
+    // Takes an octet that has a time slot.
+    fn follow(&mut self, octet: u8) -> Option<Learned>
+        ensures reply { (part before octets : List ℕ) → IsStage self.old.stage self.old.searched part before
+            → GoesOn part octet before octets → length self.old.searched ≡ 2048
+            → result ≡ learned_of before octets }
+        ensures goes_on { (part before octets : List ℕ) → IsStage self.old.stage self.old.searched part before
+            → GoesOn part octet before octets → length self.old.searched ≡ 2048 → is_given_up octets ≡ false
+            → (self.new.aligner ≡ self.old.aligner)
+            × IsStage self.new.stage self.new.searched (part ++ octet ∷ []) octets }
+        ensures anew { (part before octets : List ℕ) → IsStage self.old.stage self.old.searched part before
+            → GoesOn part octet before octets → length self.old.searched ≡ 2048 → is_given_up octets ≡ true
+            → BeginsAnew self.new }
+        ensures room { length self.new.searched ≡ length self.old.searched }
+    {
+        match &mut self.stage {
+            Stage::Following(following) => {
+                let learned = following.octet(octet);
+                if gives_up(learned) {
+                    self.begin_anew();
+                }
+                learned
+            }
+            Stage::Searching { count } => {
+                let count = *count;
+                self.search(count, octet)
+            }
+            Stage::Hunting => {
+                self.searched[1] = octet;
+                self.stage = Stage::Searching { count: 2 };
+                None
+            }
+        }
+    }
+
+    // Takes an octet of the 8 ms, or the one behind them.
+    #[inline(never)]
+    fn search(&mut self, count: u16, octet: u8) -> Option<Learned>
+        ensures reply { (octets : List ℕ) → IsSearched count self.old.searched octets
+            → length self.old.searched ≡ 2048 → result ≡ learned_of octets (octets ++ octet ∷ []) }
+        ensures goes_on { (part octets : List ℕ) → IsSearched count self.old.searched octets
+            → length self.old.searched ≡ 2048 → is_given_up (octets ++ octet ∷ []) ≡ false → (self.new.aligner ≡ self.old.aligner)
+            × IsStage self.new.stage self.new.searched part (octets ++ octet ∷ []) }
+        ensures anew { (octets : List ℕ) → IsSearched count self.old.searched octets
+            → length self.old.searched ≡ 2048 → is_given_up (octets ++ octet ∷ []) ≡ true
+            → BeginsAnew self.new }
+        ensures room { length self.new.searched ≡ length self.old.searched }
+    {
+        if count < SEARCHED {
+            self.searched[usize::from(count)] = octet;
+            self.stage = Stage::Searching { count: count + 1 };
+            return None;
+        }
+        if let Some(number) = find_multiframe(&self.searched) {
+            self.stage = Stage::Following(Following::begun(number, octet));
+            Some(Learned::Found)
+        } else {
+            self.begin_anew();
+            None
+        }
+    }
+
+    // Looks for another frame alignment.
+    fn begin_anew(&mut self)
+        ensures anew { BeginsAnew self.new }
+        ensures searched { self.new.searched ≡ self.old.searched }
+    {
+        self.aligner = Aligner::new();
+        self.stage = Stage::Hunting;
+    }
+}
+
+// Frame alignment is given up by what is learned.
+fn gives_up(learned: Option<Learned>) -> bool
+    ensures { result ≡ tells_given_up learned }
+{
+    matches!(learned, Some(Learned::GivenUp))
+}
+
+impl Following {
+    // Follows multiframes of which one begins at this double frame of the 8 ms, from the octet behind them on.
+    fn begun(number: usize, octet: u8) -> Self
+        ensures { (octets : List ℕ) → length octets ≡ 2112 → multiframe_in octets ≡ Some number
+            → IsFollowed result (octets ++ octet ∷ []) }
+    {
+        let mut following = Following {
+            to_come: 64 * (number % 8) as u16,
+            checker: Checker::new(),
+            known: 0,
+            errored: 0,
+        };
+        let _ = following.octet(octet);
+        following
+    }
+
+    // Takes the next octet of the frame alignment.
+    fn octet(&mut self, octet: u8) -> Option<Learned>
+        ensures reply { (octets : List ℕ) → IsFollowed self.old octets
+            → result ≡ followed (octets ++ octet ∷ []) }
+        ensures stands { (octets : List ℕ) → IsFollowed self.old octets
+            → is_excessive (checked_octets (octets ++ octet ∷ [])) ≡ false
+            → IsFollowed self.new (octets ++ octet ∷ []) }
+    {
+        if self.to_come > 0 {
+            self.to_come -= 1;
+            return None;
+        }
+        match self.checker.octet(octet) {
+            Some(Event::Block { right }) => {
+                if self.is_excess(right) {
+                    Some(Learned::GivenUp)
+                } else {
+                    Some(Learned::Received(Event::Block { right }))
+                }
+            }
+            Some(Event::FarEnd { right }) => Some(Learned::Received(Event::FarEnd { right })),
+            None => None,
+        }
+    }
+
+    // Counts a submultiframe, and returns whether too many of its thousand are errored.
+    fn is_excess(&mut self, right: bool) -> bool
+        ensures reply { self.old.errored < 915
+            → result ≡ nat_le 915 (if right then self.old.errored else self.old.errored + 1) }
+        ensures known { self.old.known < 1000 → self.new.known ≡ (self.old.known + 1) % 1000 }
+        ensures errored { self.old.errored < 915 → self.new.errored ≡ (if self.new.known == 0 then 0
+            else (if right then self.old.errored else self.old.errored + 1)) }
+        ensures kept { (self.new.to_come ≡ self.old.to_come) × (self.new.checker ≡ self.old.checker) }
+    {
+        let errored = if right {
+            self.errored
+        } else {
+            self.errored.saturating_add(1)
+        };
+        self.known = self.known.wrapping_add(1) % TOGETHER;
+        self.errored = if self.known == 0 { 0 } else { errored };
+        errored >= EXCESS
+    }
+}
