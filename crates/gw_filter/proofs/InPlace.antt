@@ -49,7 +49,8 @@ one_more {Has = Has} {reply = reply} first filter after old now i octet so lt re
       ∙ ap (λ (y : ℕ). done ++ y ∷ drop (suc i) old) all
       ∙ sym (append_assoc done (reply (history ++ take i old) (get_or old i 0) ∷ []) (drop (suc i) old))
       ∙ ap (λ (xs : List ℕ). xs ++ drop (suc i) old)
-      (sym (replies-append reply history (take i old) (get_or old i 0 ∷ [])) ∙ ap (replies_after reply history) (sym next))
+      (sym (replies-append reply history (take i old) (get_or old i 0 ∷ []))
+      ∙ ap (replies_after reply history) (sym next))
       ∙ ap (λ (k : ℕ). replies_after reply history (take k old) ++ drop k old) (sym one);
   stands = λ history s.
       subst (Has after) (append_assoc history (take i old) (get_or now i 0 ∷ [])

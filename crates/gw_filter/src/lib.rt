@@ -5,5 +5,5 @@ mod filters;
 mod through;
 
 pub use filters::{Checked, align_stream, crc4_check_stream, crc4_stream};
-pub use through::{OctetFilter, octets_through};
 pub use g704_crc4::Tally;
+pub use through::{OctetFilter, octets_through};

@@ -1,5 +1,5 @@
 -- How a session ended.
-use Rattle.std.proofs.Common.{◌⊎◌, inl, inr, Result, Ok, Err}
+use Rattle.std.proofs.Common.{Result, Ok, Err}
 use Rattle.std.specs.Prelude.{IfOk, IfErr, MatchResult}
 
 -- what holds of both ends holds of the end

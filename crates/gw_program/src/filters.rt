@@ -5,13 +5,14 @@ ghost use Rattle.gw_records.specs.Streams.{CanBegin};
 ghost use Rattle.gw_program.specs.Filters.{DoesFilter, DoesFilterUntil, HasChecked, HasCheckedUntil};
 
 use crate::report::print_tally;
+use crate::sealed::{StandardInput, StandardOutput};
 use crate::trouble::Trouble;
 use gw_command::Filter;
 use gw_filter::{align_stream, crc4_check_stream, crc4_stream};
 use gw_session::{RunFault, Sink, Source, Totals};
 
-/// Runs a filter from a source to a sink.
-pub fn do_filter<S: Source, K: Sink>(
+/// Runs a filter from standard input to standard output.
+pub fn do_filter<S: Source + StandardInput, K: Sink + StandardOutput>(
     filter: Filter,
     source: &mut S,
     sink: &mut K,
@@ -28,9 +29,10 @@ pub fn do_filter<S: Source, K: Sink>(
     }
 }
 
-/// Checks the CRC-4 multiframes of a trunk from a source to a sink, and prints what was counted.
+/// Checks the CRC-4 multiframes of a trunk from standard input to standard output, and prints what was
+/// counted.
 #[inline(never)]
-pub fn perform_crc4_check<S: Source, K: Sink>(
+pub fn perform_crc4_check<S: Source + StandardInput, K: Sink + StandardOutput>(
     rt: &impl Eprint,
     source: &mut S,
     sink: &mut K,

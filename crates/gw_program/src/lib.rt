@@ -1,4 +1,5 @@
-//! What the program does: jobs on streams, filters of a trunk, sessions of a gateway by a configuration, and what it says of them.
+//! What the program does: jobs on streams, filters of a trunk, sessions of a gateway by a configuration, and
+//! what it says of them.
 #![tactic(auto)]
 
 mod filters;
@@ -7,6 +8,7 @@ mod listing;
 mod performing;
 mod recording;
 mod report;
+mod sealed;
 mod sessions;
 mod setup;
 mod standard;

@@ -10,6 +10,7 @@ ghost use Rattle.gw_program.specs.Performing.{by_session, told_as};
 
 use crate::jobs::do_job;
 use crate::report::passed_over;
+use crate::sealed::{StandardInput, StandardOutput};
 use crate::sessions::{check, replay, serve_through};
 use crate::trouble::Trouble;
 use gw_command::{Job, Session};
@@ -80,9 +81,9 @@ fn tell_passed_over(rt: &impl Eprint, job: &Job, totals: &Totals) {
     }
 }
 
-/// Does a job on a source and a sink, and tells what it passed over.
+/// Does a job from standard input to standard output, and tells what it passed over.
 #[inline(never)]
-pub fn perform_job<S: Source, K: Sink>(
+pub fn perform_job<S: Source + StandardInput, K: Sink + StandardOutput>(
     rt: &HostRuntime,
     job: &Job,
     source: &mut S,
@@ -127,7 +128,7 @@ fn perform_serve<Y: System, S: Source, K: Sink>(
 
 /// Does a session by the configuration of the system's, on its ports and its tape where it serves. What the
 /// system lacked is told, and nothing was read or written then.
-pub fn perform_session<Y: System, S: Source, K: Sink>(
+pub fn perform_session<Y: System, S: Source + StandardInput, K: Sink + StandardOutput>(
     system: &Y,
     alloc: Global,
     session: Session,

@@ -1,15 +1,15 @@
 use Rattle.gw_records.specs.Streams.{at_most}
-use Rattle.std.proofs.Common.{◌≡◌, ◌+◌, ◌≤◌, List, ℕ, length}
+use Rattle.std.proofs.Common.{◌≡◌, ◌+◌, ◌≤◌, length}
 use Rattle.gw_filter.proofs.Stages.{Stage}
 use Rattle.gw_filter.proofs.through.octets_through.Given as goal
 
 -- The replies to all that was read are written.
 abbrev pub invariant-reading : goal.invariant-reading
-invariant-reading g l = (given : List ℕ) × record {
-  stage : Stage g.F.OctetFilter.has_taken g.F.OctetFilter.reply_after (g.S.Source.tells l.initial.source) (g.S.Source.tells l.source)
-      (g.K.Sink.tells l.initial.sink) (g.K.Sink.tells l.sink) l.filter given;
-  counted : l.octets ≡ at_most (length given);
+invariant-reading g l = record {
+  stage : Stage g.F.OctetFilter.has_taken g.F.OctetFilter.reply_after (g.S.Source.tells l.initial.source)
+      (g.S.Source.tells l.source) (g.K.Sink.tells l.initial.sink) (g.K.Sink.tells l.sink) l.filter;
+  counted : l.octets ≡ at_most (length stage.given);
   room : length l.buffer ≡ 32768;
-  turns : l.turn ≤ length given;
+  turns : l.turn ≤ length stage.given;
   calls : (g.S.Source.tells l.source).reads ≡ (g.S.Source.tells l.initial.source).reads + l.turn;
 }

@@ -41,7 +41,8 @@ pub write_packets-requires-in-reading-clause-fit : goal.write_packets-requires-i
 write_packets-requires-in-reading-clause-fit g c =
     let w = c.reading.invariant in
     let e = c.encode_all.ensures in
-    (coded_way _ _ w.stage c.in-Ok.ensures.gives c.in-Ok.ensures.fits (e.words w.stage.given) (e.stands w.stage.given) e.len e.fit).1
+    (coded_way _ _ w.stage c.in-Ok.ensures.gives c.in-Ok.ensures.fits (e.words w.stage.given)
+    (e.stands w.stage.given) e.len e.fit).1
 
 pub returns-in_default-clause-fault : goal.returns-in_default-clause-fault
 returns-in_default-clause-fault g c =
@@ -59,7 +60,8 @@ pub returns-then-n-eq0-clause-ok : goal.returns-then-n-eq0-clause-ok
 returns-then-n-eq0-clause-ok g c =
     let w = c.reading.invariant in
     let came = c.in-Ok.ensures.gives in
-    let all = last_written _ c.words_are_counted.ensures w.stage came (c.fill_last-end.ensures.filled w.stage.given w.stage.sent w.stage.count) in
+    let all = last_written _ c.words_are_counted.ensures w.stage came
+    (c.fill_last-end.ensures.filled w.stage.given w.stage.sent w.stage.count) in
     let wrote = c.in_ok-write_packets.ensures.writes w.stage.count w.at in
     record {
       octets = w.stage.given;
@@ -75,7 +77,8 @@ pub returns-in_err-write_packets-clause-fault : goal.returns-in_err-write_packet
 returns-in_err-write_packets-clause-fault g c =
     let w = c.reading.invariant in
     let came = c.in-Ok.ensures.gives in
-    let all = last_written _ c.words_are_counted.ensures w.stage came (c.fill_last-end.ensures.filled w.stage.given w.stage.sent w.stage.count) in
+    let all = last_written _ c.words_are_counted.ensures w.stage came
+    (c.fill_last-end.ensures.filled w.stage.given w.stage.sent w.stage.count) in
     let broken = c.in_err-write_packets.ensures.writes w.stage.count w.at in
     goes_up _ _ faults.Write c.from_residual.ensures.1 broken.0 (record {
       octets = w.stage.given;
@@ -89,7 +92,8 @@ returns-in_err-left-clause-fault g c =
     let w = c.reading.invariant in
     let came = c.in-Ok.ensures.gives in
     let e = c.encode_all.ensures in
-    let way = coded_way _ _ w.stage came c.in-Ok.ensures.fits (e.words w.stage.given) (e.stands w.stage.given) e.len e.fit in
+    let way = coded_way _ _ w.stage came c.in-Ok.ensures.fits (e.words w.stage.given)
+    (e.stands w.stage.given) e.len e.fit in
     let all = window_begins c.prefixes_come_first.ensures c.words_are_counted.ensures way.0 in
     let broken = c.in_err-left.ensures.writes w.stage.count w.at in
     goes_up _ _ faults.Write c.from_residual-in_err-left.ensures.1 broken.0 (record {
@@ -105,7 +109,8 @@ reading-preserved g c =
     let w = c.reading.invariant in
     let came = c.in-Ok.ensures.gives in
     let e = c.encode_all.ensures in
-    let way = coded_way _ _ w.stage came c.in-Ok.ensures.fits (e.words w.stage.given) (e.stands w.stage.given) e.len e.fit in
+    let way = coded_way _ _ w.stage came c.in-Ok.ensures.fits (e.words w.stage.given)
+    (e.stands w.stage.given) e.len e.fit in
     let long = same_len_mid c.reading.held (c.reading.held + c.in-Ok.n - c.reading.held) c.read_behind.new.buffer
     c.encode_all.new.octets e.len in
     let left = words_left _ c.copy_within.new.self _ _ (omega (arith, long, c.in-Ok.ensures.fits)) way.0 way.1
