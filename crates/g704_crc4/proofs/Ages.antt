@@ -2,7 +2,8 @@
 use Rattle.std.proofs.Common.{◌≡◌, ℕ, suc, ◌+◌, ◌-◌, ◌<◌, ◌≤◌, List, [], ◌∷◌, true, false}
 use Rattle.std.proofs.Common.{Option, Some, None, refl, sym, ap, ◌∙◌, arith, inl, inr}
 use Rattle.std.proofs.lemmas.Option.{same_Some}
-use Rattle.std.proofs.lemmas.Bool.{lt-ltb, le-ltb, lt-leb, le-leb, and_left, and_parts, cases_lt, cases_Bool, false≢true}
+use Rattle.std.proofs.lemmas.Bool.{lt-ltb, le-ltb, lt-leb, le-leb, and_left, and_parts}
+use Rattle.std.proofs.lemmas.Bool.{cases_lt, cases_Bool, false≢true}
 use Rattle.g704_framing.specs.Alignment.{Framing, Alignment, alignments_from, after_search, after_loss, loss}
 use Rattle.g704_framing.specs.Age.{is_before_loss, is_standing, age_in}
 use Rattle.g704_framing.specs.Laws.{IsFraming}

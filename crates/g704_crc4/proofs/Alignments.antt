@@ -67,7 +67,8 @@ module _ (part : List ℕ) (x age : ℕ) (is : age_at (part ++ x ∷ []) (length
   before =
       let lt = begun in
       let next : suc (length part - 1) ≡ length part = omega arith in
-      rw (← ages_are_settled frame_alignment frame_is_framing part (x ∷ []) 65 (length part - 1) (omega arith) (omega arith))
+      rw (← ages_are_settled frame_alignment frame_is_framing part (x ∷ []) 65 (length part - 1)
+      (omega arith) (omega arith))
       (age_before frame_alignment frame_is_framing None (part ++ x ∷ []) 65 (length part - 1) age _ 0 refl (rw next is))
 
   -- The octets of its alignment.
@@ -97,7 +98,8 @@ module _ (part : List ℕ) (x age : ℕ) (is : age_at (part ++ x ∷ []) (length
       let least = before.least in
       elim (cases_lt 65 age) [
         | inl more ↦
-            let some : length (drop (length part - age) part) ≡ age = omega (arith, length-drop (length part - age) part) in
+            let some : length (drop (length part - age) part) ≡ age
+            = omega (arith, length-drop (length part - age) part) in
             record {
               begins = λ none.
                   let zero : 0 ≡ age = ap length (sym none ∙ later more) ∙ some in absurd (omega arith);
@@ -109,7 +111,11 @@ module _ (part : List ℕ) (x age : ℕ) (is : age_at (part ++ x ∷ []) (length
             record {
               begins = λ none. (
                 ap length with_octet
-                    ∙ omega (arith, length_push (drop (length part - age) part) x, length-drop (length part - age) part),
+                    ∙ omega (
+                      arith,
+                      length_push (drop (length part - age) part) x,
+                      length-drop (length part - age) part,
+                    ),
                 lt,
                 ap (drop 64) with_octet ∙ tail (sym e),
               );
@@ -121,7 +127,8 @@ module _ (part : List ℕ) (x age : ℕ) (is : age_at (part ++ x ∷ []) (length
       tail is65 = let w = before.within in let lt = begun in let least = before.least in
           let one : length part - age + 64 ≡ length part - 1 = omega arith in
           let next : suc (length part - 1) ≡ length part = omega arith in
-          drop-append-le 64 (drop (length part - age) part) (x ∷ []) (omega (arith, length-drop (length part - age) part))
+          drop-append-le 64 (drop (length part - age) part) (x ∷ [])
+          (omega (arith, length-drop (length part - age) part))
           ∙ ap (λ xs. xs ++ x ∷ []) (drop-drop 64 (length part - age) part ∙ ap (λ k. drop k part) one
           ∙ drop-cons part (length part - 1) 0 (omega arith)
           ∙ ap (λ xs. get_or part (length part - 1) 0 ∷ xs) (drop_all (suc (length part - 1)) part (omega arith)))
@@ -134,6 +141,7 @@ slot-goes_on part x number fas e =
     let age = some-age (age_at (part ++ x ∷ []) (length part)) number fas (sym e) in goes-on part x age.0 age.1
 
 -- There is an octet before one that goes on.
-pub part-begun : (part : List ℕ) (x : ℕ) (octets : List ℕ) → GoesOn part x (aligned_octets part) octets → 0 < length part
+pub part-begun : (part : List ℕ) (x : ℕ) (octets : List ℕ) → GoesOn part x (aligned_octets part) octets
+    → 0 < length part
 part-begun [] x octets g = (g.begins aligned-nil).1
 part-begun (y ∷ part) x octets g = omega arith

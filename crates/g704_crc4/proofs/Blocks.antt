@@ -73,7 +73,8 @@ pub block-came : (d : List ℕ) (right : Bool) → Some (Block right) ≡ event_
     → (length d % 256 ≡ 0) × (256 < length d) × (right ≡ is_right d (length d / 256 - 2))
 unfolding event_of
 block-came d right e = elim (cases_eq (length d % 256) 0) [
-  | inr ne ↦ absurd (far_end-no_block ((length d - 1) % 512) (si_of d ((length d - 1) / 32)) right (sym (rw (ne_eqb (length d % 256) 0 ne) at e)))
+  | inr ne ↦ absurd (far_end-no_block ((length d - 1) % 512) (si_of d ((length d - 1) / 32)) right
+      (sym (rw (ne_eqb (length d % 256) 0 ne) at e)))
   | inl whole ↦ elim (cases_lt 256 (length d)) [
     | inr ge ↦ let i = rw (eq-eqb (length d % 256) 0 whole, le-ltb 256 (length d) ge) at e in cc
     | inl lt ↦

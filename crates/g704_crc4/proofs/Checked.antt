@@ -1,12 +1,12 @@
 -- A checker and its history, one octet more.
-use Rattle.std.proofs.Common.{◌≡◌, ℕ, ◌+◌, ◌*◌, ◌-◌, ◌/◌, ◌%◌, Bool, true, false, List, [], ◌∷◌}
+use Rattle.std.proofs.Common.{◌≡◌, ℕ, ◌+◌, ◌*◌, ◌-◌, ◌/◌, ◌%◌, Bool, true, false, List, [], ◌∷◌, None, cond}
 use Rattle.std.proofs.Common.{◌++◌, length, refl, sym, ap, ◌∙◌, arith, inl, inr}
-use Rattle.std.specs.Prelude.{◌≢◌, nat_le}
+use Rattle.std.specs.Prelude.{◌≢◌, nat_le, ◌==◌}
 use Rattle.std.proofs.lemmas.Bool.{cases_eq, cases_lt, eq-eqb, ne_eqb, le-leb, lt-leb, lt-ltb, le-ltb}
 use Rattle.std.proofs.lemmas.List.{length_push}
 use Rattle.g704_crc4.specs.declared.remainder.Remainder.{Remainder}
 use Rattle.g704_crc4.specs.declared.checking.Checker.{Checker}
-use Rattle.g704_crc4.specs.Remainder.{no_remainder, after_octet, sent_bits, remainder_of}
+use Rattle.g704_crc4.specs.Remainder.{no_remainder, after_octet, sent_bits, remainder_of, crc_number}
 use Rattle.g704_crc4.specs.Submultiframes.{each_at, submultiframe}
 use Rattle.g704_crc4.specs.Receiving.{si_of, check_bits_in, cleared_at, cleared, remainder_in}
 use Rattle.g704_crc4.specs.Checking.{same, check_bits_with, far_end_event, block_event, is_right, event_of}
@@ -17,7 +17,7 @@ use Rattle.g704_crc4.proofs.Received.{remainder-stays, si-here, first, second, t
 
 -- A checker that has received nothing.
 pub checks-none : ChecksAfter
-    (record { place = 0; before = no_remainder; running = no_remainder; check_bits = no_remainder; begun = false }) []
+    (record { place = 0; before = no_remainder; running = 0; check_bits = no_remainder; begun = false }) []
 unfolding each_at submultiframe remainder_of sent_bits
 checks-none = record {
   place = refl;
@@ -39,16 +39,23 @@ module _ (m : Checker) (h : List ℕ) (x : ℕ) (s : ChecksAfter m h) where
     | inr ge ↦ le-leb 256 (length h) ge ∙ sym (le-leb 256 (length (h ++ x ∷ [])) (omega arith))
   ]
 
+  -- The remainder of the submultiframe with the octet.
+  abbrev with_octet : Remainder
+  with_octet = remainder_of (submultiframe (length h / 256) (cleared (h ++ x ∷ [])))
+
   -- What a checker counts with the next octet is the remainder with that octet.
-  counted-more : (taken : ℕ) (left : Remainder) → taken ≡ cleared_at (length h) x → left ≡ after_octet m.running taken
-      → left ≡ remainder_of (submultiframe (length h / 256) (cleared (h ++ x ∷ [])))
+  pub counted-more : (taken left : ℕ) → taken ≡ cleared_at (length h) x
+      → ((r : Remainder) → m.running ≡ crc_number r → left ≡ crc_number (after_octet r taken))
+      → left ≡ crc_number with_octet
   counted-more taken left is more =
-      more ∙ ap (λ o. after_octet m.running o) is
-      ∙ ap (λ r. after_octet r (cleared_at (length h) x)) s.running ∙ sym (remainder-grows cleared_at h x)
+      more _ s.running
+      ∙ ap (λ o. crc_number (after_octet (remainder_of (submultiframe (length h / 256) (cleared h))) o)) is
+      ∙ ap crc_number (sym (remainder-grows cleared_at h x))
 
   -- An octet within a submultiframe.
-  pub checks-within : (taken place : ℕ) (left bits : Remainder) → taken ≡ cleared_at (length h) x
-      → place ≡ (m.place + 1) % 512 → left ≡ after_octet m.running taken
+  pub checks-within : (taken place left : ℕ) (bits : Remainder) → taken ≡ cleared_at (length h) x
+      → place ≡ (m.place + 1) % 512
+      → ((r : Remainder) → m.running ≡ crc_number r → left ≡ crc_number (after_octet r taken))
       → bits ≡ check_bits_with m.check_bits m.place (nat_le 128 x) → place % 256 ≢ 0
       → ChecksAfter (record { place = place; before = m.before; running = left; check_bits = bits; begun = m.begun })
       (h ++ x ∷ [])
@@ -63,7 +70,7 @@ module _ (m : Checker) (h : List ℕ) (x : ℕ) (s : ChecksAfter m h) where
             s.before (omega (arith, ne, le)) ∙ sym (remainder-stays h x (length h / 256 - 1) (omega (arith, ne, le)))
             ∙ ap (λ n. remainder_in (h ++ x ∷ []) (n - 1)) same;
         running = counted-more taken left is more
-            ∙ ap (λ n. remainder_of (submultiframe n (cleared (h ++ x ∷ [])))) same;
+            ∙ ap (λ n. crc_number (remainder_of (submultiframe n (cleared (h ++ x ∷ []))))) same;
         c1 = λ lt. ap (λ (r : Remainder). r.c1) now ∙ first m h x s
             ∙ ap (λ n. si_of (h ++ x ∷ []) (8 * n)) same;
         c2 = λ lt. ap (λ (r : Remainder). r.c2) now ∙ second m h x s (omega (arith, lt, ne))
@@ -75,25 +82,46 @@ module _ (m : Checker) (h : List ℕ) (x : ℕ) (s : ChecksAfter m h) where
       }
 
   -- The last octet of a submultiframe.
-  pub checks-last : (taken place : ℕ) (left bits : Remainder) → taken ≡ cleared_at (length h) x
-      → place ≡ (m.place + 1) % 512 → left ≡ after_octet m.running taken → place % 256 ≡ 0
-      → ChecksAfter (record { place = place; before = left; running = no_remainder; check_bits = bits; begun = true })
-      (h ++ x ∷ [])
+  pub checks-last : (after : Checker) → after.place ≡ (m.place + 1) % 512 → after.place % 256 ≡ 0
+      → after.before ≡ with_octet → after.running ≡ 0 → after.begun ≡ true → ChecksAfter after (h ++ x ∷ [])
   unfolding remainder_in
-  checks-last taken place left bits is at more e =
+  checks-last after at e left none begun =
       let p = s.place in
       let l = length_push h x in
       let n : length h / 256 ≡ length (h ++ x ∷ []) / 256 - 1 = omega arith in
       record {
         place = omega arith;
-        begun = sym (le-leb 256 (length (h ++ x ∷ [])) (omega arith));
-        before = λ le. counted-more taken left is more ∙ ap (remainder_in (h ++ x ∷ [])) n;
-        running = remainder-none cleared_at (length (h ++ x ∷ []) / 256) (h ++ x ∷ []) (omega arith);
+        begun = begun ∙ sym (le-leb 256 (length (h ++ x ∷ [])) (omega arith));
+        before = λ le. left ∙ ap (remainder_in (h ++ x ∷ [])) n;
+        running = none
+            ∙ ap crc_number (remainder-none cleared_at (length (h ++ x ∷ []) / 256) (h ++ x ∷ []) (omega arith));
         c1 = λ lt. absurd (omega arith);
         c2 = λ lt. absurd (omega arith);
         c3 = λ lt. absurd (omega arith);
         c4 = λ lt. absurd (omega arith);
       }
+
+  -- An octet that is not the first of its frame has no check bit.
+  pub bits-kept : m.place % 32 ≢ 0 → m.check_bits ≡ check_bits_with m.check_bits m.place (nat_le 128 x)
+  bits-kept ne =
+      sym (by-bits _ _ _ _ m.check_bits
+      (other 0 m.check_bits.c1 refl) (other 64 m.check_bits.c2 refl)
+      (other 128 m.check_bits.c3 refl) (other 192 m.check_bits.c4 refl))
+    where
+      other : (at : ℕ) (old : Bool) → at % 32 ≡ 0 → cond (m.place % 256 == at) (nat_le 128 x) old ≡ old
+      other at old e = rw (ne_eqb (m.place % 256) at (λ same. ne (omega (arith, same, e)))) refl
+
+  -- Nor an E bit.
+  pub none-reported : (si : Bool) → m.place % 32 ≢ 0 → None ≡ far_end_event m.place si
+  none-reported si ne =
+      rw (
+        ne_eqb m.place 416 (λ same. ne (omega (arith, same))),
+        ne_eqb m.place 480 (λ same. ne (omega (arith, same))),
+      ) refl
+
+  -- It is taken as it comes.
+  pub taken-whole : m.place % 32 ≢ 0 → x ≡ cleared_at (length h) x
+  taken-whole ne = let p = s.place in rw (ne_eqb (length h % 64) 0 (λ same. ne (omega (arith, same)))) refl
 
   -- The check bits of a submultiframe that ends with the octet.
   bits-are : (length h + 1) % 256 ≡ 0

@@ -11,8 +11,8 @@ use Rattle.g704_crc4.specs.declared.receiving.Following.{Following}
 use Rattle.g704_crc4.specs.declared.receiving.Learned.TheVariants.{GivenUp, Received}
 use Rattle.g704_crc4.specs.Checking.{is_right, event_of}
 use Rattle.g704_crc4.specs.States.{ChecksAfter}
-use Rattle.g704_crc4.specs.Aligning.{searched_octets, multiframe_in, octets_from, checked_octets, known_blocks, errored_in}
-use Rattle.g704_crc4.specs.Aligning.{is_excessive, followed}
+use Rattle.g704_crc4.specs.Aligning.{searched_octets, multiframe_in, octets_from, checked_octets}
+use Rattle.g704_crc4.specs.Aligning.{known_blocks, errored_in, is_excessive, followed}
 use Rattle.g704_crc4.specs.Tally.{tells_given_up}
 use Rattle.g704_crc4.specs.Receivers.{IsFollowed}
 use Rattle.g704_crc4.proofs.Blocks.{errored-stays, errored-more, errored-none, block-came, excessive-is}
@@ -89,7 +89,8 @@ module _ (m : Following) (octets : List ℕ) (x : ℕ) (s : IsFollowed m octets)
 
   -- An octet before the first that is checked.
   pub waits-on : (rest : ℕ) → 0 < m.to_come → rest ≡ m.to_come - 1
-      → IsFollowed (record { to_come = rest; checker = m.checker; known = m.known; errored = m.errored }) (octets ++ x ∷ [])
+      → IsFollowed (record { to_come = rest; checker = m.checker; known = m.known; errored = m.errored })
+      (octets ++ x ∷ [])
   waits-on rest lt e =
       let same = none-before lt ∙ sym (none-yet lt) in
       record {
@@ -171,7 +172,8 @@ module _ (m : Following) (octets : List ℕ) (x : ℕ) (s : IsFollowed m octets)
       let l = length_push d x in
       let rest = came.0 in
       let past = came.1 in
-      excessive-is e (known_blocks d) (cond right m.errored (m.errored + 1)) came.0 came.1 (omega arith) (total right is)
+      excessive-is e (known_blocks d) (cond right m.errored (m.errored + 1)) came.0 came.1 (omega arith)
+      (total right is)
 
   -- An octet with which one is known.
   pub block : (after : Following) (right : Bool) → m.to_come ≡ 0 → after.to_come ≡ 0 → ChecksAfter after.checker e

@@ -90,7 +90,8 @@ part-over before (y ∷ part) x lt kept given_up =
     IsOver-lost parts parts_are_framing before (y ∷ part) x (λ rest. refl) kept (given_up-is (y ∷ part) x ∙ given_up)
 
 -- Or it goes on.
-pub part-kept : (part : List ℕ) (x : ℕ) → ((position : ℕ) → position < length part → parts.is_lost part position ≡ false)
+pub part-kept : (part : List ℕ) (x : ℕ)
+    → ((position : ℕ) → position < length part → parts.is_lost part position ≡ false)
     → is_given_up (aligned_octets (part ++ x ∷ [])) ≡ false
     → (position : ℕ) → position < length (part ++ x ∷ []) → parts.is_lost (part ++ x ∷ []) position ≡ false
 part-kept part x kept up = kept-more parts parts_are_framing part x kept (given_up-is part x ∙ up)

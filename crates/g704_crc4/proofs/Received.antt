@@ -13,7 +13,8 @@ use Rattle.g704_crc4.specs.States.{ChecksAfter}
 use Rattle.g704_crc4.proofs.Submultiframes.{part-stays}
 
 -- The remainder of a whole submultiframe stays the same.
-pub remainder-stays : (h : List ℕ) (x n : ℕ) → 256 * (n + 1) ≤ length h → remainder_in (h ++ x ∷ []) n ≡ remainder_in h n
+pub remainder-stays : (h : List ℕ) (x n : ℕ) → 256 * (n + 1) ≤ length h
+    → remainder_in (h ++ x ∷ []) n ≡ remainder_in h n
 unfolding remainder_in
 remainder-stays h x n le = ap remainder_of (part-stays cleared_at n h (x ∷ []) le)
 

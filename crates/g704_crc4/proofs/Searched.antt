@@ -8,8 +8,9 @@ use Rattle.std.proofs.lemmas.List.{length_push, drop_all, take_all}
 use Rattle.g704_framing.proofs.Leasts.{least_equals}
 use Rattle.g704_crc4.specs.declared.receiving.Learned.TheVariants.{Found, Lost}
 use Rattle.g704_crc4.specs.Searching.{begins_multiframe}
-use Rattle.g704_crc4.specs.Aligning.{searched_octets, multiframe_in, octets_from, checked_octets, is_false, is_excessive}
-use Rattle.g704_crc4.specs.Aligning.{is_multiframe_found, has_multiframes, is_given_up, followed, learned_of}
+use Rattle.g704_crc4.specs.Aligning.{searched_octets, multiframe_in, octets_from, checked_octets}
+use Rattle.g704_crc4.specs.Aligning.{is_false, is_excessive, is_multiframe_found, has_multiframes, is_given_up}
+use Rattle.g704_crc4.specs.Aligning.{followed, learned_of}
 use Rattle.g704_crc4.proofs.NotFound.{none-past}
 use Rattle.g704_crc4.proofs.Blocks.{not_excessive}
 use Rattle.g704_crc4.proofs.Followings.{multiframe-stays, checked-is, followed-nothing}
@@ -43,7 +44,8 @@ unfolding learned_of is_multiframe_found
 short-learned before octets le le' =
     let other : (length octets == 2113) ≡ false = ne_eqb (length octets) 2113 (omega arith) in
     rw (other, short-none before le)
-    (followed-nothing octets (checked-is octets (multiframe_in octets) refl ∙ from-short octets (multiframe_in octets) le'))
+    (followed-nothing octets (checked-is octets (multiframe_in octets) refl
+    ∙ from-short octets (multiframe_in octets) le'))
 
 -- And frame alignment is not given up.
 pub short-kept : (octets : List ℕ) → length octets ≤ 2112 → is_given_up octets ≡ false

@@ -1,8 +1,8 @@
--- CRC multiframe alignment in the octets of a trunk, and what is learned of its submultiframes (ITU-T G.706, 4.1
--- to 4.3).
-use Rattle.std.specs.Prelude.{ℕ, zero, suc, ◌+◌, ◌-◌, ◌*◌, ◌/◌, ◌%◌, Bool, not, ◌&&◌, ◌||◌, ◌==◌, nat_lt, nat_le}
-use Rattle.std.specs.Prelude.{if◌then◌else◌, List, [], ◌∷◌, ◌++◌, length, take, drop, slice_index}
-use Rattle.std.specs.Prelude.{Option, Some, None, option_map, is_none}
+-- CRC multiframe alignment in the octets of a trunk, and what is learned of its submultiframes (ITU-T G.706,
+-- 4.1 to 4.3).
+use Rattle.std.specs.Prelude.{ℕ, zero, suc, ◌+◌, ◌-◌, ◌*◌, ◌/◌, ◌%◌, Bool, not, ◌&&◌, ◌||◌, ◌==◌}
+use Rattle.std.specs.Prelude.{nat_lt, nat_le, if◌then◌else◌, List, [], ◌∷◌, ◌++◌, length, take, drop}
+use Rattle.std.specs.Prelude.{slice_index, Option, Some, None, option_map, is_none}
 use Rattle.g704_framing.specs.Least.{least}
 use Rattle.g704_framing.specs.Alignment.{Framing, alignments_of}
 use Rattle.g704_framing.specs.Age.{age_in}
@@ -34,8 +34,8 @@ aligned_octets octets = since_start frame_alignment 65 octets
 unfoldable pub searched_octets : List ℕ → List ℕ
 searched_octets octets = take 2048 (drop 64 octets)
 
--- The first double frame of these at which a multiframe begins that has its signal twice within the 8 ms, 2 ms
--- or a multiple apart.
+-- The first double frame of these at which a multiframe begins that has its signal twice within the 8 ms, 2
+-- ms or a multiple apart.
 unfoldable pub multiframe_in : List ℕ → Option ℕ
 multiframe_in octets = least (λ number. begins_multiframe (searched_octets octets) (2 * number)) 32
 
@@ -72,7 +72,8 @@ count_in passes from zero = 0
 count_in passes from (suc count) =
     if passes (from + count) then count_in passes from count + 1 else count_in passes from count
 
--- The submultiframes of which it is known whether they are errored: the check bits of each come with the next.
+-- The submultiframes of which it is known whether they are errored: the check bits of each come with the
+-- next.
 abbrev pub known_blocks : List ℕ → ℕ
 known_blocks checked = length checked / 256 - 1
 
@@ -80,8 +81,8 @@ known_blocks checked = length checked / 256 - 1
 unfoldable pub errored_in : List ℕ → ℕ → ℕ → ℕ
 errored_in checked from count = count_in (λ number. not (is_right checked number)) from count
 
--- The submultiframes are taken by the thousand. With the last octet it is known of one more of them whether it
--- is errored, and so many of its thousand are: 915 or more (ITU-T G.706, 4.3.2).
+-- The submultiframes are taken by the thousand. With the last octet it is known of one more of them whether
+-- it is errored, and so many of its thousand are: 915 or more (ITU-T G.706, 4.3.2).
 unfoldable pub is_excessive : List ℕ → Bool
 is_excessive checked =
     (length checked % 256 == 0) && (nat_lt 256 (length checked)
@@ -104,8 +105,8 @@ position_in (octet ∷ octets) zero = Some 0
 position_in (octet ∷ octets) (suc position) = option_map suc (position_in octets position)
 
 -- The parts of a stream in which frame alignment is looked for, found, kept and lost by the frame alignment
--- signal alone: the first begins at the first octet, each further one behind an octet by which frame alignment
--- was given up, which is the last of its part.
+-- signal alone: the first begins at the first octet, each further one behind an octet by which frame
+-- alignment was given up, which is the last of its part.
 abbrev pub parts : Framing
 parts = record {
   search = λ before stream from. position_in stream from;

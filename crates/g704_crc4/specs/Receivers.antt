@@ -9,7 +9,8 @@ use Rattle.g704_crc4.specs.declared.receiving.Stage.TheVariants.{Hunting, Search
 use Rattle.g704_crc4.specs.declared.receiving.Following as followings
 use Rattle.g704_crc4.specs.declared.tallying.TrunkChecker.{TrunkChecker}
 use Rattle.g704_crc4.specs.States.{ChecksAfter}
-use Rattle.g704_crc4.specs.Aligning.{aligned_octets, multiframe_in, checked_octets, known_blocks, errored_in, parts}
+use Rattle.g704_crc4.specs.Aligning.{aligned_octets, multiframe_in, checked_octets, known_blocks}
+use Rattle.g704_crc4.specs.Aligning.{errored_in, parts}
 use Rattle.g704_crc4.specs.Tally.{tally_of}
 
 -- While the 8 ms come: how many of their octets have come, and what they are.
@@ -20,8 +21,8 @@ pub record IsSearched (count : ℕ) (searched octets : List ℕ) : Type 0 where
   pub kept : take count searched ≡ drop 64 octets
 
 -- What is held of a frame alignment with CRC multiframes once the 8 ms have come: how many octets are to come
--- before the first that is checked, the checker, and how many submultiframes of the present thousand are known,
--- and errored.
+-- before the first that is checked, the checker, and how many submultiframes of the present thousand are
+-- known, and errored.
 pub record IsFollowed (following : followings.Following) (octets : List ℕ) : Type 0 where
   pub number : ℕ
   pub found : multiframe_in octets ≡ Some number

@@ -29,7 +29,7 @@ pub record ChecksAfter (checker : Checker) (history : List ℕ) : Type 0 where
   pub place : checker.place ≡ length history % 512
   pub begun : checker.begun ≡ nat_le 256 (length history)
   pub before : 256 ≤ length history → checker.before ≡ remainder_in history (length history / 256 - 1)
-  pub running : checker.running ≡ remainder_of (submultiframe (length history / 256) (cleared history))
+  pub running : checker.running ≡ crc_number (remainder_of (submultiframe (length history / 256) (cleared history)))
   pub c1 : 0 < length history % 256 → checker.check_bits.c1 ≡ si_of history (8 * (length history / 256))
   pub c2 : 64 < length history % 256 → checker.check_bits.c2 ≡ si_of history (8 * (length history / 256) + 2)
   pub c3 : 128 < length history % 256 → checker.check_bits.c3 ≡ si_of history (8 * (length history / 256) + 4)

@@ -1,5 +1,6 @@
 -- What a receiver counts of a trunk.
-use Rattle.std.specs.Prelude.{ℕ, ◌+◌, ◌-◌, ◌^◌, Bool, true, false, not, min, if◌then◌else◌, List, [], ◌∷◌, ◌++◌, Option, Some}
+use Rattle.std.specs.Prelude.{ℕ, ◌+◌, ◌-◌, ◌^◌, Bool, true, false, not, min, if◌then◌else◌}
+use Rattle.std.specs.Prelude.{List, [], ◌∷◌, ◌++◌, Option, Some}
 use Rattle.g704_crc4.specs.declared.receiving.Learned.{Learned}
 use Rattle.g704_crc4.specs.declared.receiving.Learned.TheVariants.{Found, Lost, GivenUp, Received}
 use Rattle.g704_crc4.specs.declared.checking.Event.TheVariants.{Block, FarEnd}

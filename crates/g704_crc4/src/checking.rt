@@ -1,13 +1,15 @@
 //! Check bits as they are received.
 
-ghost use Rattle.std.specs.Prelude.{◌≡◌, ◌+◌, ◌%◌, ◌/◌, ◌<◌, ◌≤◌, ℕ, Bool, if◌then◌else◌, List, Option, [], ◌∷◌, ◌++◌, length};
+ghost use Rattle.std.specs.Prelude.{◌≡◌, ◌+◌, ◌%◌, ◌/◌, ◌<◌, ◌≤◌, ℕ, Bool, if◌then◌else◌, List, Option, [], ◌∷◌, ◌++◌, length, true};
 ghost use Rattle.g704_crc4.specs.Checking.{same, check_bits_with, far_end_event, block_event, event_of};
 ghost use Rattle.g704_crc4.specs.Checking.{counts_of, counts_with, errors_with};
+ghost use Rattle.g704_crc4.specs.declared.remainder.Remainder.{Remainder};
+ghost use Rattle.g704_crc4.specs.Remainder.{crc_number};
 ghost use Rattle.g704_crc4.specs.Receiving.{cleared_at};
 ghost use Rattle.g704_crc4.specs.States.{ChecksAfter};
 
-use crate::remainder::{NO_REMAINDER, Remainder, add};
-use crate::{BIT_1, MULTIFRAME, SUBMULTIFRAME, TWO_FRAMES};
+use crate::remainder::{NO_REMAINDER, Remainder, add, number_after, of_number};
+use crate::{BIT_1, FRAME, MULTIFRAME, SUBMULTIFRAME, TWO_FRAMES};
 
 /// What a receiver learns with an octet.
 #[derive(Clone, Copy, Debug, PartialEq, Eq)]
@@ -49,8 +51,8 @@ pub struct Checker {
     place: u16,
     // The remainder of the submultiframe before.
     before: Remainder,
-    // That of this one so far.
-    running: Remainder,
+    // That of this one so far, as a number.
+    running: u8,
     // The check bits that this one carries, so far.
     check_bits: Remainder,
     // Whether there is a submultiframe before.
@@ -65,7 +67,7 @@ impl Checker {
         Checker {
             place: 0,
             before: NO_REMAINDER,
-            running: NO_REMAINDER,
+            running: 0,
             check_bits: NO_REMAINDER,
             begun: false,
         }
@@ -78,21 +80,47 @@ impl Checker {
         ensures stands { (history : List ℕ) → ChecksAfter self.old history
             → ChecksAfter self.new (history ++ octet ∷ []) }
     {
+        if self.place % FRAME == 0 {
+            return self.first_octet(octet);
+        }
+        self.running = number_after(self.running, octet);
+        self.place = self.place.wrapping_add(1) % MULTIFRAME;
+        if self.place % SUBMULTIFRAME == 0 {
+            return self.end_submultiframe();
+        }
+        None
+    }
+
+    // Takes the first octet of a frame. It is out of line, as what ends a submultiframe is, so that other octets
+    // cost a step of the remainder alone.
+    #[inline(never)]
+    fn first_octet(&mut self, octet: u8) -> Option<Event>
+        ensures reply { (history : List ℕ) → ChecksAfter self.old history → self.old.place % 32 ≡ 0
+            → result ≡ event_of (history ++ octet ∷ []) }
+        ensures stands { (history : List ℕ) → ChecksAfter self.old history → self.old.place % 32 ≡ 0
+            → ChecksAfter self.new (history ++ octet ∷ []) }
+    {
         let place = self.place;
         let si = octet >= BIT_1;
-        let check_bits = check_bits_with(self.check_bits, place, si);
-        let running = self.running.after_octet(cleared(place, octet));
-        self.check_bits = check_bits;
+        self.check_bits = check_bits_with(self.check_bits, place, si);
+        self.running = number_after(self.running, cleared(place, octet));
         self.place = place.wrapping_add(1) % MULTIFRAME;
-        if self.place % SUBMULTIFRAME == 0 {
-            let event = block_event(self.begun, same(check_bits, self.before));
-            self.before = running;
-            self.running = NO_REMAINDER;
-            self.begun = true;
-            return event;
-        }
-        self.running = running;
         far_end_event(place, si)
+    }
+
+    // Ends a submultiframe, all of whose octets have been taken.
+    #[inline(never)]
+    fn end_submultiframe(&mut self) -> Option<Event>
+        ensures reply { result ≡ block_event self.old.begun (same self.old.check_bits self.old.before) }
+        ensures before { (left : Remainder) → self.old.running ≡ crc_number left → self.new.before ≡ left }
+        ensures anew { (self.new.running ≡ 0) × (self.new.begun ≡ true) }
+        ensures kept { (self.new.place ≡ self.old.place) × (self.new.check_bits ≡ self.old.check_bits) }
+    {
+        let event = block_event(self.begun, same(self.check_bits, self.before));
+        self.before = of_number(self.running);
+        self.running = 0;
+        self.begun = true;
+        event
     }
 }
 

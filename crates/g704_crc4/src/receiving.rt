@@ -6,7 +6,8 @@ ghost use Rattle.g704_crc4.specs.declared.receiving.Stage.TheVariants.{Hunting};
 ghost use Rattle.g704_crc4.specs.Aligning.{learned, learned_of, followed, multiframe_in, checked_octets};
 ghost use Rattle.g704_crc4.specs.Aligning.{is_given_up, is_excessive};
 ghost use Rattle.g704_crc4.specs.Tally.{tells_given_up};
-ghost use Rattle.g704_crc4.specs.Receivers.{ReceivesAfter, IsSearched, IsStage, IsFollowed, GoesOn, BeginsAnew};
+ghost use Rattle.g704_crc4.specs.Receivers.{ReceivesAfter, IsSearched, IsStage, IsFollowed};
+ghost use Rattle.g704_crc4.specs.Receivers.{GoesOn, BeginsAnew};
 
 use crate::checking::{Checker, Event};
 use crate::searching::find_multiframe;
@@ -145,7 +146,8 @@ impl Receiver {
         ensures reply { (octets : List ℕ) → IsSearched count self.old.searched octets
             → length self.old.searched ≡ 2048 → result ≡ learned_of octets (octets ++ octet ∷ []) }
         ensures goes_on { (part octets : List ℕ) → IsSearched count self.old.searched octets
-            → length self.old.searched ≡ 2048 → is_given_up (octets ++ octet ∷ []) ≡ false → (self.new.aligner ≡ self.old.aligner)
+            → length self.old.searched ≡ 2048 → is_given_up (octets ++ octet ∷ []) ≡ false
+            → (self.new.aligner ≡ self.old.aligner)
             × IsStage self.new.stage self.new.searched part (octets ++ octet ∷ []) }
         ensures anew { (octets : List ℕ) → IsSearched count self.old.searched octets
             → length self.old.searched ≡ 2048 → is_given_up (octets ++ octet ∷ []) ≡ true
@@ -184,7 +186,8 @@ fn gives_up(learned: Option<Learned>) -> bool
 }
 
 impl Following {
-    // Follows multiframes of which one begins at this double frame of the 8 ms, from the octet behind them on.
+    // Follows multiframes of which one begins at this double frame of the 8 ms, from the octet behind them
+    // on.
     fn begun(number: usize, octet: u8) -> Self
         ensures { (octets : List ℕ) → length octets ≡ 2112 → multiframe_in octets ≡ Some number
             → IsFollowed result (octets ++ octet ∷ []) }

@@ -1,8 +1,9 @@
-//! The remainder of a polynomial by x^4+x+1, bit by bit.
+//! The remainder of a polynomial by x^4+x+1, octet by octet.
 
 ghost use Rattle.std.specs.Prelude.{◌≡◌, ◌≤◌, ◌<◌, ℕ, Bool};
 ghost use Rattle.g704_crc4.specs.declared.remainder.Remainder.{Remainder};
-ghost use Rattle.g704_crc4.specs.Remainder.{add, no_remainder, with_bit, after_octet, bit_at, crc_number};
+ghost use Rattle.g704_crc4.specs.Remainder.{add, after_octet, crc_number};
+ghost use Rattle.g704_crc4.specs.Multiframe.{check_bit};
 
 use crate::table::REMAINDERS;
 
@@ -27,35 +28,6 @@ pub(crate) const NO_REMAINDER: Remainder = Remainder {
     c4: false,
 };
 
-impl Remainder {
-    // The remainder with the bits of an octet more.
-    pub(crate) fn after_octet(self, octet: u8) -> Self
-        ensures { result ≡ after_octet self octet }
-    {
-        self.with_bit(bit_at(octet, 0))
-            .with_bit(bit_at(octet, 1))
-            .with_bit(bit_at(octet, 2))
-            .with_bit(bit_at(octet, 3))
-            .with_bit(bit_at(octet, 4))
-            .with_bit(bit_at(octet, 5))
-            .with_bit(bit_at(octet, 6))
-            .with_bit(bit_at(octet, 7))
-    }
-
-    // The remainder with one bit more, the next one that is sent.
-    fn with_bit(self, bit: bool) -> Self
-        ensures { result ≡ with_bit self bit }
-    {
-        let over = add(self.c1, bit);
-        Remainder {
-            c1: self.c2,
-            c2: self.c3,
-            c3: add(self.c4, over),
-            c4: over,
-        }
-    }
-}
-
 // The remainder with the bits of an octet more, both as numbers.
 pub(crate) fn number_after(left: u8, octet: u8) -> u8
     ensures { (remainder : Remainder) → left ≡ crc_number remainder
@@ -71,9 +43,27 @@ pub(crate) fn add(a: bool, b: bool) -> bool
     if a { !b } else { b }
 }
 
-// A bit of an octet, 0 the first that is sent.
-fn bit_at(octet: u8, bit: u8) -> bool
-    ensures { bit < 8 → result ≡ bit_at octet bit }
+// The remainder of this number.
+pub(crate) fn of_number(number: u8) -> Remainder
+    ensures { (bits : Remainder) → number ≡ crc_number bits → result ≡ bits }
 {
-    (octet >> (7 - bit.min(7))) % 2 == 1
+    Remainder {
+        c1: check_bit(number, 0),
+        c2: check_bit(number, 1),
+        c3: check_bit(number, 2),
+        c4: check_bit(number, 3),
+    }
+}
+
+// Of the check bits of this number the one at a place, 0 for C1.
+pub(crate) fn check_bit(number: u8, place: u16) -> bool
+    ensures { (bits : Remainder) → number ≡ crc_number bits → result ≡ check_bit bits place }
+{
+    match place {
+        0 => number / 8 % 2 == 1,
+        1 => number / 4 % 2 == 1,
+        2 => number / 2 % 2 == 1,
+        3 => number % 2 == 1,
+        _ => false,
+    }
 }

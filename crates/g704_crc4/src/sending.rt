@@ -6,7 +6,7 @@ ghost use Rattle.g704_crc4.specs.Remainder.{no_remainder, crc_number};
 ghost use Rattle.g704_crc4.specs.Multiframe.{check_bit, signal_bit, si_at, with_si, sent_octet};
 ghost use Rattle.g704_crc4.specs.States.{SendsAfter, SendsNext};
 
-use crate::remainder::number_after;
+use crate::remainder::{check_bit, number_after};
 use crate::{BIT_1, FRAME, SUBMULTIFRAME};
 
 /// Puts CRC-4 multiframes into bit 1 of time slot 0 of a stream of octets. The frames begin at the first
@@ -83,19 +83,6 @@ fn si_at(number: u8, frame: u16) -> bool
         check_bit(number, frame / 2 % 4)
     } else {
         signal_bit(frame / 2)
-    }
-}
-
-// Of the check bits of this number the one at a place, 0 for C1.
-fn check_bit(number: u8, place: u16) -> bool
-    ensures { (bits : Remainder) → number ≡ crc_number bits → result ≡ check_bit bits place }
-{
-    match place {
-        0 => number / 8 % 2 == 1,
-        1 => number / 4 % 2 == 1,
-        2 => number / 2 % 2 == 1,
-        3 => number % 2 == 1,
-        _ => false,
     }
 }
 

@@ -12,7 +12,8 @@ abbrev pub same_octet : List ℕ → ℕ → ℕ
 same_octet before octet = octet
 
 -- The source gave octets up to its end. The sink took the same octets, and they were counted.
-pub record ChecksMultiframes (source source' : SourceState) (sink sink' : SinkState) (checked : Checked) : Type 0 where
+pub record ChecksMultiframes (source source' : SourceState) (sink sink' : SinkState) (checked : Checked)
+    : Type 0 where
   pub octets : List ℕ
   pub gives : Gives source source' octets
   pub ended : IsAtEnd source'.to_come
@@ -24,4 +25,5 @@ pub record ChecksMultiframes (source source' : SourceState) (sink sink' : SinkSt
 
 -- How this ends before the end of the source: the sink took the octets that it gave, or a prefix of them.
 abbrev pub ChecksMultiframesUntil : SourceState → SourceState → SinkState → SinkState → RunFault → Type 0
-ChecksMultiframesUntil source source' sink sink' fault = FiltersUntil same_octet source source' sink sink' fault
+ChecksMultiframesUntil source source' sink sink' fault =
+    FiltersUntil same_octet source source' sink sink' fault

@@ -99,8 +99,8 @@ pub fn crc4_stream<S: Source, K: Sink>(source: &mut S, sink: &mut K) -> Result<T
 }
 
 /// Writes the octets of a trunk as they came, and counts what its CRC-4 multiframes tell, as
-/// `g704_crc4::TrunkChecker` finds them. All of them are written before the source is read again. No memory is
-/// taken.
+/// `g704_crc4::TrunkChecker` finds them. All of them are written before the source is read again. No memory
+/// is taken.
 ///
 /// # Errors
 ///

@@ -62,8 +62,8 @@ frame first. To standard output go the same octets with CRC-4 multiframes (ITU-T
 G.704) in bit 1 of time slot 0.
 
 With --check the octets are those of any trunk, from any octet on. They go out
-as they came. At the end standard error tells what their CRC-4 multiframes were:
-submultiframes received and errored, and times that alignment was found and lost.
+as they came. At the end standard error tells how many submultiframes came and
+were errored, and how often CRC multiframe alignment was found and lost.
 
 Example: e1gw crc4 < trunk.raw > crc4.raw";
 

@@ -29,7 +29,8 @@ pub record HasChecked (source source' : SourceState) (sink sink' : SinkState) (t
   pub totals_are : totals ≡ checked.totals
 
 -- Checking ended with this trouble, which tells the fault.
-pub record HasCheckedUntil (source source' : SourceState) (sink sink' : SinkState) (trouble : Trouble) : Type 0 where
+pub record HasCheckedUntil (source source' : SourceState) (sink sink' : SinkState) (trouble : Trouble)
+    : Type 0 where
   pub fault : RunFault
   pub done : ChecksMultiframesUntil source source' sink sink' fault
   pub told_is : trouble ≡ troubles.Session fault

@@ -112,8 +112,8 @@ fn checked(turned: &[(usize, u8)]) -> Tally {
 }
 
 // Frame alignment begins at octet 0 and is found at 64. The 8 ms end before octet 2112, where CRC multiframe
-// alignment is found; multiframes begin every 512 octets, so the first submultiframe that is checked begins at
-// 2560. Six are whole up to octet 4096, and of five the check bits have come.
+// alignment is found; multiframes begin every 512 octets, so the first submultiframe that is checked begins
+// at 2560. Six are whole up to octet 4096, and of five the check bits have come.
 #[test]
 fn trunk_is_checked(rt: HostRuntime) {
     let right = Tally {
@@ -146,9 +146,9 @@ fn multiframes_are_lost_with_alignment(rt: HostRuntime) {
     assert!(rt; checked(&[(3072, 0x04), (3136, 0x04), (3200, 0x04)]) == lost);
 }
 
-// From the second octet of a trunk on slot 5 is found first, at octet 5. It has no multiframes, so alignment is
-// looked for anew behind octet 2117: slot 0 is found at 2176, its 8 ms end before 4288, the first multiframe
-// after that begins at 4608. Of the four submultiframes up to octet 5632 three are known.
+// From the second octet of a trunk on slot 5 is found first, at octet 5. It has no multiframes, so alignment
+// is looked for anew behind octet 2117: slot 0 is found at 2176, its 8 ms end before 4288, the first
+// multiframe after that begins at 4608. Of the four submultiframes up to octet 5632 three are known.
 #[test]
 fn false_alignment_is_given_up(rt: HostRuntime) {
     let mut multiframer = Multiframer::new();

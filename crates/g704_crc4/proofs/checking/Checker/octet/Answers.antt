@@ -1,29 +1,41 @@
-use Rattle.std.proofs.Common.{length, ap, ◌∙◌, arith}
+use Rattle.std.proofs.Common.{◌≡◌, ◌+◌, ◌%◌, ap, ◌∙◌, arith}
+use Rattle.std.specs.Prelude.{nat_le}
 use Rattle.g704_crc4.specs.Checking.{same, block_event}
-use Rattle.g704_crc4.proofs.Checked.{checks-within, checks-last, block-event-is, far-end-event-is}
+use Rattle.g704_crc4.proofs.Checked.{counted-more, checks-within, checks-last, bits-kept, none-reported, taken-whole}
+use Rattle.g704_crc4.proofs.Checked.{block-event-is, far-end-event-is}
 use Rattle.g704_crc4.proofs.checking.Checker.octet.Goals as goal
 
-pub returns-then-self-eq0-clause-reply : goal.returns-then-self-eq0-clause-reply
-returns-then-self-eq0-clause-reply c history s =
+pub returns-then-self-eq0-2-clause-reply : goal.returns-then-self-eq0-2-clause-reply
+returns-then-self-eq0-2-clause-reply c history s =
     let p = s.place in
     let m = c.args.self.now in
-    c.block_event-event.ensures
-    ∙ ap (block_event m.begun) (c.same.ensures ∙ ap (λ w. same w m.before) c.check_bits_with-check_bits.ensures)
-    ∙ block-event-is m history c.args.octet s _ (omega arith) c.if-self-eq0.true
+    c.end_submultiframe.ensures.reply
+    ∙ ap (λ w. block_event m.begun (same w m.before)) (bits-kept m history c.args.octet s c.if-self-eq0.false)
+    ∙ block-event-is m history c.args.octet s _ (omega arith) c.if-self-eq0-2.true
 
-pub returns-then-self-eq0-clause-stands : goal.returns-then-self-eq0-clause-stands
-returns-then-self-eq0-clause-stands c history s =
+pub returns-then-self-eq0-2-clause-stands : goal.returns-then-self-eq0-2-clause-stands
+returns-then-self-eq0-2-clause-stands c history s =
     let p = s.place in
-    checks-last c.args.self.now history c.args.octet s _ _ _ _ (c.cleared.ensures (length history) s.place)
-    (omega arith) c.after_octet-running.ensures c.if-self-eq0.true
+    let m = c.args.self.now in
+    let kept = c.end_submultiframe.ensures.kept in
+    let anew = c.end_submultiframe.ensures.anew in
+    let left = counted-more m history c.args.octet s c.args.octet _
+    (taken-whole m history c.args.octet s c.if-self-eq0.false) c.number_after-self.ensures in
+    checks-last m history c.args.octet s c.end_submultiframe.new.self (omega (arith, kept.0))
+    (ap (λ n. n % 256) kept.0 ∙ c.if-self-eq0-2.true) (c.end_submultiframe.ensures.before _ left) anew.0 anew.1
 
 pub returns-clause-reply : goal.returns-clause-reply
 returns-clause-reply c history s =
     let p = s.place in
-    c.far_end_event.ensures ∙ far-end-event-is c.args.self.now history c.args.octet s _ (omega arith) c.if-self-eq0.false
+    let m = c.args.self.now in
+    let next : (m.place + 1) % 65536 % 512 ≡ (m.place + 1) % 512 = omega arith in
+    none-reported m history c.args.octet s (nat_le 128 c.args.octet) c.if-self-eq0.false
+    ∙ far-end-event-is m history c.args.octet s ((m.place + 1) % 65536 % 512) next c.if-self-eq0-2.false
 
 pub returns-clause-stands : goal.returns-clause-stands
 returns-clause-stands c history s =
     let p = s.place in
-    checks-within c.args.self.now history c.args.octet s _ _ _ _ (c.cleared.ensures (length history) s.place)
-    (omega arith) c.after_octet-running.ensures c.check_bits_with-check_bits.ensures c.if-self-eq0.false
+    let m = c.args.self.now in
+    checks-within m history c.args.octet s c.args.octet _ _ _
+    (taken-whole m history c.args.octet s c.if-self-eq0.false) (omega arith) c.number_after-self.ensures
+    (bits-kept m history c.args.octet s c.if-self-eq0.false) c.if-self-eq0-2.false

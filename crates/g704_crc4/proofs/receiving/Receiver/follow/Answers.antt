@@ -1,4 +1,5 @@
-use Rattle.std.proofs.Common.{◌≡◌, ◌<◌, ◌++◌, ◌∷◌, [], ℕ, List, length, refl, sym, ap, ◌∙◌, arith, ◌-◌, get_or, slice_set}
+use Rattle.std.proofs.Common.{◌≡◌, ◌<◌, ◌++◌, ◌∷◌, [], ℕ, List, length, refl, sym, ap, ◌∙◌, arith, ◌-◌, get_or}
+use Rattle.std.proofs.Common.{slice_set}
 use Rattle.std.proofs.lemmas.Bool.{false≢true}
 use Rattle.std.proofs.lemmas.List.{length_push, take_more_set}
 use Rattle.std.proofs.Math.Seq.{take-suc}
@@ -20,7 +21,8 @@ returns-then-gives_up-clause-reply c part before octets s g room =
     let stage = rw c.in-Following.is at s in
     let past = stage.0 in
     rw (goes_with part before octets c.args.octet g (omega arith))
-    (c.octet-learned.ensures.reply before stage.1 ∙ long-learned before c.args.octet stage.1.number stage.1.found stage.0)
+    (c.octet-learned.ensures.reply before stage.1
+    ∙ long-learned before c.args.octet stage.1.number stage.1.found stage.0)
 
 pub returns-then-gives_up-clause-goes_on : goal.returns-then-gives_up-clause-goes_on
 returns-then-gives_up-clause-goes_on c part before octets s g room kept =
@@ -29,7 +31,8 @@ returns-then-gives_up-clause-goes_on c part before octets s g room kept =
     let same = goes_with part before octets c.args.octet g (omega arith) in
     absurd (false≢true (sym kept ∙ ap is_given_up same
     ∙ long-given_up (before ++ c.args.octet ∷ []) (omega (arith, length_push before c.args.octet))
-    ∙ sym (tells-excess (before ++ c.args.octet ∷ [])) ∙ ap tells_given_up (sym (c.octet-learned.ensures.reply before stage.1))
+    ∙ sym (tells-excess (before ++ c.args.octet ∷ []))
+    ∙ ap tells_given_up (sym (c.octet-learned.ensures.reply before stage.1))
     ∙ sym c.gives_up.ensures ∙ c.if-gives_up.true))
 
 pub returns-else-gives_up-clause-reply : goal.returns-else-gives_up-clause-reply
@@ -37,14 +40,16 @@ returns-else-gives_up-clause-reply c part before octets s g room =
     let stage = rw c.in-Following.is at s in
     let past = stage.0 in
     rw (goes_with part before octets c.args.octet g (omega arith))
-    (c.octet-learned.ensures.reply before stage.1 ∙ long-learned before c.args.octet stage.1.number stage.1.found stage.0)
+    (c.octet-learned.ensures.reply before stage.1
+    ∙ long-learned before c.args.octet stage.1.number stage.1.found stage.0)
 
 pub returns-else-gives_up-clause-goes_on : goal.returns-else-gives_up-clause-goes_on
 returns-else-gives_up-clause-goes_on c part before octets s g room kept =
     let stage = rw c.in-Following.is at s in
     let past = stage.0 in
     let few = sym (tells-excess (before ++ c.args.octet ∷ []))
-    ∙ ap tells_given_up (sym (c.octet-learned.ensures.reply before stage.1)) ∙ sym c.gives_up.ensures ∙ c.if-gives_up.false in
+    ∙ ap tells_given_up (sym (c.octet-learned.ensures.reply before stage.1))
+    ∙ sym c.gives_up.ensures ∙ c.if-gives_up.false in
     let long : 2112 < length (before ++ c.args.octet ∷ []) = omega (arith, length_push before c.args.octet) in
     rw (goes_with part before octets c.args.octet g (omega arith))
     (refl, (long, c.octet-learned.ensures.stands before stage.1 few))

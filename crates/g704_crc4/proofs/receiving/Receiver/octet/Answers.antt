@@ -22,7 +22,8 @@ returns-in-Hunting-clause-reply c history h =
     let none = aligned-none h.since c.args.octet (sym c.in-Hunting.is ∙ c.octet.ensures.placed h.since f.aligner) in
     c.hunt.ensures.reply h.since (aligned_octets h.since) f.stage
     ∙ ap (learned_of (aligned_octets h.since)) (sym none)
-    ∙ learned-is history h.earlier h.since c.args.octet (ap part_before h.whole ∙ part-is h.earlier h.since h.over f.kept)
+    ∙ learned-is history h.earlier h.since c.args.octet (ap part_before h.whole
+    ∙ part-is h.earlier h.since h.over f.kept)
 
 pub returns-in-Hunting-clause-stands : goal.returns-in-Hunting-clause-stands
 returns-in-Hunting-clause-stands c history h =
@@ -33,7 +34,10 @@ returns-in-Hunting-clause-stands c history h =
     since-more parts _ history h.earlier h.since x h.whole h.over (record {
       aligner = rw c.hunt.ensures.aligner (c.octet.ensures.stands h.since f.aligner);
       room = c.hunt.ensures.room ∙ f.room;
-      stage = rw c.hunt.ensures.stage (none, λ lt. c.hunt.ensures.last ∙ rw last (sym (get_or_push h.since x 0 (length h.since) refl)));
+      stage = rw c.hunt.ensures.stage (
+        none,
+        λ lt. c.hunt.ensures.last ∙ rw last (sym (get_or_push h.since x 0 (length h.since) refl)),
+      );
       kept = part-kept h.since x f.kept (ap is_given_up none ∙ short-kept [] (omega arith));
     })
 
@@ -42,7 +46,8 @@ returns-in-Slot-clause-reply c history h =
     let f = h.fields in
     let on = slot-goes_on h.since c.args.octet _ _ (sym c.in-Slot.is ∙ c.octet.ensures.placed h.since f.aligner) in
     c.follow.ensures.reply h.since (aligned_octets h.since) _ f.stage on f.room
-    ∙ learned-is history h.earlier h.since c.args.octet (ap part_before h.whole ∙ part-is h.earlier h.since h.over f.kept)
+    ∙ learned-is history h.earlier h.since c.args.octet (ap part_before h.whole
+    ∙ part-is h.earlier h.since h.over f.kept)
 
 pub returns-in-Slot-clause-stands : goal.returns-in-Slot-clause-stands
 returns-in-Slot-clause-stands c history h =

@@ -38,8 +38,11 @@ returns-then-count-lt-SEARCHED-clause-reply c octets s room =
     (omega (arith, s.counted, c.if-count-lt-SEARCHED.true, length_push octets c.args.octet))
 
 pub returns-then-count-lt-SEARCHED-clause-goes_on : goal.returns-then-count-lt-SEARCHED-clause-goes_on
-returns-then-count-lt-SEARCHED-clause-goes_on c part octets s room kept =
-    (refl, rw (c.from.ensures) (one_come c.args.count c.args.octet c.args.self.now.searched octets room s c.if-count-lt-SEARCHED.true))
+returns-then-count-lt-SEARCHED-clause-goes_on c part octets s room kept = (
+  refl,
+  rw (c.from.ensures) (one_come c.args.count c.args.octet c.args.self.now.searched octets room s
+      c.if-count-lt-SEARCHED.true),
+)
 
 pub returns-then-count-lt-SEARCHED-clause-anew : goal.returns-then-count-lt-SEARCHED-clause-anew
 returns-then-count-lt-SEARCHED-clause-anew c octets s room given_up =
@@ -48,32 +51,41 @@ returns-then-count-lt-SEARCHED-clause-anew c octets s room given_up =
 
 pub returns-in-Some-clause-reply : goal.returns-in-Some-clause-reply
 returns-in-Some-clause-reply c octets s room =
-    let all = all_come c.args.count c.args.self.now.searched octets room s (omega (arith, c.if-count-lt-SEARCHED.false)) in
+    let all = all_come c.args.count c.args.self.now.searched octets room s
+    (omega (arith, c.if-count-lt-SEARCHED.false)) in
     found-learned octets c.args.octet c.in-Some.number all.0
-    (found-is octets c.args.self.now.searched c.in-Some.number all.0 all.1 c.in-Some.ensures.found c.in-Some.ensures.first)
+    (found-is octets c.args.self.now.searched c.in-Some.number all.0 all.1
+    c.in-Some.ensures.found c.in-Some.ensures.first)
 
 pub returns-in-Some-clause-goes_on : goal.returns-in-Some-clause-goes_on
 returns-in-Some-clause-goes_on c part octets s room kept =
-    let all = all_come c.args.count c.args.self.now.searched octets room s (omega (arith, c.if-count-lt-SEARCHED.false)) in
+    let all = all_come c.args.count c.args.self.now.searched octets room s
+    (omega (arith, c.if-count-lt-SEARCHED.false)) in
     let past : 2112 < length (octets ++ c.args.octet ∷ []) = omega (arith, all.0, length_push octets c.args.octet) in
     let followed = c.begun.ensures octets all.0
-    (found-is octets c.args.self.now.searched c.in-Some.number all.0 all.1 c.in-Some.ensures.found c.in-Some.ensures.first) in
+    (found-is octets c.args.self.now.searched c.in-Some.number all.0 all.1
+    c.in-Some.ensures.found c.in-Some.ensures.first) in
     (refl, (past, followed))
 
 pub returns-in-Some-clause-anew : goal.returns-in-Some-clause-anew
 returns-in-Some-clause-anew c octets s room given_up =
-    let all = all_come c.args.count c.args.self.now.searched octets room s (omega (arith, c.if-count-lt-SEARCHED.false)) in
+    let all = all_come c.args.count c.args.self.now.searched octets room s
+    (omega (arith, c.if-count-lt-SEARCHED.false)) in
     absurd (false≢true (sym (found-kept octets c.args.octet c.in-Some.number all.0
     (found-is octets c.args.self.now.searched c.in-Some.number all.0 all.1
     c.in-Some.ensures.found c.in-Some.ensures.first)) ∙ given_up))
 
 pub returns-in_default-clause-reply : goal.returns-in_default-clause-reply
 returns-in_default-clause-reply c octets s room =
-    let all = all_come c.args.count c.args.self.now.searched octets room s (omega (arith, c.if-count-lt-SEARCHED.false)) in
-    none-learned octets c.args.octet all.0 (none-is octets c.args.self.now.searched all.0 all.1 c.in_default.ensures.none)
+    let all = all_come c.args.count c.args.self.now.searched octets room s
+    (omega (arith, c.if-count-lt-SEARCHED.false)) in
+    none-learned octets c.args.octet all.0 (none-is octets c.args.self.now.searched all.0 all.1
+    c.in_default.ensures.none)
 
 pub returns-in_default-clause-goes_on : goal.returns-in_default-clause-goes_on
 returns-in_default-clause-goes_on c part octets s room kept =
-    let all = all_come c.args.count c.args.self.now.searched octets room s (omega (arith, c.if-count-lt-SEARCHED.false)) in
+    let all = all_come c.args.count c.args.self.now.searched octets room s
+    (omega (arith, c.if-count-lt-SEARCHED.false)) in
     absurd (false≢true (sym kept
-    ∙ none-given_up octets c.args.octet all.0 (none-is octets c.args.self.now.searched all.0 all.1 c.in_default.ensures.none)))
+    ∙ none-given_up octets c.args.octet all.0 (none-is octets c.args.self.now.searched all.0 all.1
+    c.in_default.ensures.none)))
