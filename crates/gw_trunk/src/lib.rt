@@ -2,10 +2,12 @@
 #![tactic(auto)]
 
 mod device;
+mod serving;
 mod sink;
 mod source;
 mod waiting;
 
 pub use device::{DeviceFault, FromDevice, Incoming, Outgoing, Taken, ToDevice};
+pub use serving::serve_trunk;
 pub use sink::TrunkSink;
 pub use source::TrunkSource;
