@@ -11,6 +11,7 @@ mod sessions;
 mod setup;
 mod standard;
 mod trouble;
+mod trunks;
 
 pub use filters::do_filter;
 pub use jobs::do_job;
@@ -21,3 +22,4 @@ pub use sessions::{check, replay, serve_through};
 pub use setup::read_config;
 pub use standard::{Held, hold};
 pub use trouble::{DONE, NO_MEMORY, REFUSED, Trouble};
+pub use trunks::perform_trunk;

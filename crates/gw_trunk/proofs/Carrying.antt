@@ -19,7 +19,8 @@ use Rattle.gw_records.specs.Streams.{AppendsBut}
 use Rattle.gw_records.specs.Outcome.{SessionTo, FailsToWrite}
 use Rattle.gw_records.proofs.Readings.{one_reading, more_keeps}
 use Rattle.gw_session.specs.Answers.{events}
-use Rattle.gw_session.specs.Serve.{Around, ServesThrough, ServesAll, ServesUntil, Served, told, written, events_through}
+use Rattle.gw_session.specs.Serve as session
+use Rattle.gw_session.specs.Serve.{Around, ServesThrough, ServesAll, ServesUntil, Served, written, events_through}
 use Rattle.gw_session.specs.Serve.{served_kinds}
 use Rattle.gw_session.specs.Tape.{TapeState}
 use Rattle.gw_session.specs.World.{State}
@@ -91,7 +92,7 @@ carried-pieces : {s s' : State} {tape tape' : TapeState} {Took : List ℕ → Li
     → sent ≡ bodies (written config [] p.acts)
     → Carries config s'.gateway tape tape' (flat_map same pieces) sent
 carried-pieces config pieces sent p new trunks good is =
-    let all : AllByRecursion (IsGood served_kinds) (map told p.acts) = rw (p.told_are) good in
+    let all : AllByRecursion (IsGood served_kinds) (map session.told p.acts) = rw (p.told_are) good in
     record {
       happened = events_through p.acts;
       stands = (p.follows.goes.hears config [] new).stands;
@@ -114,10 +115,11 @@ pub whole-session : {a a' : Around} {gateway gateway' : Gateway} {ending : Endin
     → SessionTo served_kinds a.source a'.source a.sink a'.sink
     (Served a a' gateway gateway' (λ first. Appends a.sink.taken a'.sink.taken)) ending
     → (ending ≡ endings.End) × Carries config gateway' a.tape a'.tape came went
-whole-session {a = a} {a' = a'} {gateway' = gateway'} {ending = ending} config came given taken went around cut is new s =
+whole-session {a = a} {a' = a'} {gateway' = g} {ending = ending} config came given taken went around cut is new s =
     let octets-are : s.octets ≡ in_records cut.pieces
     = sym (appends-first _ _ given s.octets around.unread around.read s.gives.gave) ∙ cut.given_are in
-    let one = one_reading served_kinds (in_records cut.pieces) s.records (map Record.Trunk cut.pieces) ending endings.End
+    let one = one_reading served_kinds (in_records cut.pieces) s.records (map Record.Trunk cut.pieces) ending
+    endings.End
     (rw octets-are at s.reads) (pieces-read cut.pieces cut.sizes) in
     let taken-is : taken ≡ written config [] s.done.acts
     = appends-first _ _ taken _ around.untaken around.took (s.done.took config [] new) in (
@@ -137,8 +139,8 @@ cut-session config came given taken went around cut is new f =
     let octets-are : f.octets ≡ in_records cut.pieces
     = sym (appends-first _ _ given f.octets around.unread around.read f.gives.gave) ∙ cut.given_are in
     let all = pieces-read cut.pieces cut.sizes in
-    let more = more_keeps served_kinds (flat_map spelled f.records) f.begins.rest f.records (map Record.Trunk cut.pieces)
-    endings.End endings.End (records-read f.records f.begins.good) (rw (← f.begins.whole, octets-are) all) in
+    let more = more_keeps served_kinds (flat_map spelled f.records) f.begins.rest f.records
+    (map Record.Trunk cut.pieces) endings.End endings.End (records-read f.records f.begins.good) (rw (← f.begins.whole, octets-are) all) in
     let first = first-pieces cut.pieces f.records more.0 more.1 in
     let served = f.begun.1 in
     let took = served.took config [] new in

@@ -18,10 +18,6 @@ framed room new front most n fits some len bound =
     rw behind (rw len at (take-append-add front (new ++ post) n))
     ∙ ap (λ (xs : List ℕ). front ++ xs) (take-append-le n new post bound)
 
--- No octet came, and no record was given.
-pub none-cut : (came given : List ℕ) → came ≡ [] → given ≡ [] → InPieces came given
-none-cut came given c g = record { pieces = []; sizes = tt; came_are = c; given_are = g }
-
 -- One more piece is of a size that a record has.
 sizes-more : (pieces : List (List ℕ)) (piece : List ℕ) → AllByRecursion IsPiece pieces → IsPiece piece
     → AllByRecursion IsPiece (pieces ++ piece ∷ [])

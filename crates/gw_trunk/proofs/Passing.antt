@@ -5,7 +5,7 @@ use Rattle.std.proofs.lemmas.Bool.Decides.{nat_tests}
 use Rattle.std.proofs.lemmas.List.{length-take-le, take-take}
 use Rattle.gw_trunk.specs.declared.sink.Place.{Place}
 use Rattle.gw_trunk.specs.declared.sink.Place.TheVariants.{Kind, Circuit, High, Low, Body}
-use Rattle.gw_trunk.specs.Bodies.{HasPassed, Passes, place_next, place_after, passed, part, body_after}
+use Rattle.gw_trunk.specs.Bodies.{HasPassed, StepsOver, place_next, place_after, passed, part_passed, body_after}
 
 -- The place after octets and more is that after the others, from the place after the first.
 pub place-append : (p : Place) (xs ys : List ℕ) → place_after p (xs ++ ys) ≡ place_after (place_after p xs) ys
@@ -19,8 +19,8 @@ pub passed-append : (p : Place) (xs ys : List ℕ)
 unfolding place_after passed
 passed-append p [] ys = refl
 passed-append p (x ∷ xs) ys =
-    ap (λ (zs : List ℕ). part p x ++ zs) (passed-append (place_next p x) xs ys)
-    ∙ sym (append_assoc (part p x) (passed (place_next p x) xs) (passed (place_after (place_next p x) xs) ys))
+    ap (λ (zs : List ℕ). part_passed p x ++ zs) (passed-append (place_next p x) xs ys)
+    ∙ sym (append_assoc (part_passed p x) (passed (place_next p x) xs) (passed (place_after (place_next p x) xs) ys))
 
 -- A body goes on where it was after none of its octets.
 body-begins : (to_trunk : Bool) (more : ℕ) → Body to_trunk more ≡ body_after to_trunk more 0
@@ -53,7 +53,7 @@ passed-body true (suc more) (x ∷ xs) h = ap (λ (ys : List ℕ). x ∷ ys) (pa
 passed-body false (suc more) (x ∷ xs) h = passed-body false more xs (omega (arith, h))
 
 -- Records that were taken, and octets that are taken behind them.
-pub passes-on : (p q : Place) (taken went went' xs : List ℕ) → HasPassed p taken went → Passes p q went went' xs
+pub passes-on : (p q : Place) (taken went went' xs : List ℕ) → HasPassed p taken went → StepsOver p q went went' xs
     → HasPassed q (taken ++ xs) went'
 passes-on p q taken went went' xs has more = record {
   place_is = more.place_is ∙ ap (λ (r : Place). place_after r xs) has.place_is ∙ sym (place-append Kind taken xs);
@@ -68,7 +68,7 @@ none-passed taken went t w = rw (t, w) (record { place_is = refl; went_are = ref
 -- The first of octets passes, which is in no body.
 pub first-passes : (p : Place) (octet : ℕ) (octets went : List ℕ) → 0 < length octets
     → ((d : ℕ) → octet ≡ get_or octets 0 d) → ((to_trunk : Bool) (more : ℕ) → p ≡ Body to_trunk more → ⊥)
-    → Passes p (place_next p octet) went went (take 1 octets)
+    → StepsOver p (place_next p octet) went went (take 1 octets)
 unfolding place_after passed
 first-passes p octet [] went some is out = absurd (omega (arith, some))
 first-passes (Body to_trunk more) octet (x ∷ xs) went some is out = absurd (out to_trunk more refl)
@@ -85,7 +85,7 @@ first-passes (Low t high) octet (x ∷ xs) went some is out =
 pub body-passes : (to_trunk : Bool) (more most n : ℕ) (octets went went' : List ℕ) → most ≤ length octets
     → most ≤ suc more → n ≤ length (take most octets)
     → went' ≡ went ++ cond to_trunk (take n (take most octets)) []
-    → Passes (Body to_trunk more) (body_after to_trunk more n) went went' (take n octets)
+    → StepsOver (Body to_trunk more) (body_after to_trunk more n) went went' (take n octets)
 body-passes to_trunk more most n octets went went' fits few bound e =
     let long : length (take most octets) ≡ most = length-take-le most octets fits in
     let counted : length (take n octets) ≡ n = length-take-le n octets (omega (arith, bound, long)) in

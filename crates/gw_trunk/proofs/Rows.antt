@@ -6,7 +6,8 @@ use Rattle.gw_trunk.specs.Pieces.{in_records}
 
 -- A T record of two octets, an answer to a command of circuit 7, a T record without octets and one that is cut
 -- behind the first of its three octets: what goes to the trunk.
-row_bodies : bodies (0x54 ∷ 0 ∷ 0 ∷ 2 ∷ 0xd5 ∷ 0x2a ∷ 0x52 ∷ 7 ∷ 0 ∷ 2 ∷ 0x43 ∷ 0 ∷ 0x54 ∷ 0 ∷ 0 ∷ 0 ∷ 0x54 ∷ 0 ∷ 0 ∷ 3 ∷ 0x9b ∷ [])
+row_bodies : bodies (0x54 ∷ 0 ∷ 0 ∷ 2 ∷ 0xd5 ∷ 0x2a ∷ 0x52 ∷ 7 ∷ 0 ∷ 2 ∷ 0x43 ∷ 0
+    ∷ 0x54 ∷ 0 ∷ 0 ∷ 0 ∷ 0x54 ∷ 0 ∷ 0 ∷ 3 ∷ 0x9b ∷ [])
     ≡ 0xd5 ∷ 0x2a ∷ 0x9b ∷ []
 unfolding passed place_after
 row_bodies = refl

@@ -9,8 +9,9 @@ use Rattle.gw_switch.specs.Events.{Event, octets}
 use Rattle.gw_switch.specs.Whole.{whole_from}
 use Rattle.gw_records.specs.Records.{IsGood, record_of}
 use Rattle.gw_session.specs.Answers.{octets_in}
-use Rattle.gw_session.specs.Serve.{Act, Turn, told, octet_of, events_in, events_through, events_of_turns, octets_for}
-use Rattle.gw_session.specs.Serve.{given_by, answer_to, written, served_kinds}
+use Rattle.gw_session.specs.Serve as session
+use Rattle.gw_session.specs.Serve.{Act, Turn, octet_of, events_in, events_through, events_of_turns, octets_for}
+use Rattle.gw_session.specs.Serve.{given_by, written, served_kinds}
 use Rattle.gw_session.proofs.Turns.{given_by-append, turns_have_octets}
 use Rattle.gw_trunk.specs.declared.sink.Place.TheVariants.{Kind}
 use Rattle.gw_trunk.specs.Bodies.{passed, place_after, body_place}
@@ -53,10 +54,10 @@ unfolding given_by
 as-many config before ts = one-for-each config before (events_of_turns ts) ∙ turns_have_octets ts
 
 -- What answers an act passes the octets that are sent with it, and the next record begins behind it.
-act-passes : (config : GatewayConfig) (before : List Event) (act : Act) → IsGood served_kinds (told act)
-    → (place_after Kind (answer_to config before act) ≡ Kind)
-    × (passed Kind (answer_to config before act) ≡ octets_for config before (events_in act))
-unfolding place_after passed answer_to given_by
+act-passes : (config : GatewayConfig) (before : List Event) (act : Act) → IsGood served_kinds (session.told act)
+    → (place_after Kind (session.answer_to config before act) ≡ Kind)
+    × (passed Kind (session.answer_to config before act) ≡ octets_for config before (events_in act))
+unfolding place_after passed session.answer_to given_by
 act-passes config before (Act.Trunk ts) good =
     record-passes (octets_for config before (events_of_turns ts))
     (omega (arith, as-many config before ts, good.1, length-map ts octet_of))
@@ -66,7 +67,7 @@ act-passes config before (Act.Codec circuit codec payload_type) good = (refl, re
 
 -- What answers acts passes the octets that are sent with them, and the next record begins behind it.
 pub acts-pass : (config : GatewayConfig) (before : List Event) (acts : List Act)
-    → AllByRecursion (IsGood served_kinds) (map told acts)
+    → AllByRecursion (IsGood served_kinds) (map session.told acts)
     → (place_after Kind (written config before acts) ≡ Kind)
     × (passed Kind (written config before acts) ≡ octets_for config before (events_through acts))
 unfolding place_after passed given_by
@@ -74,7 +75,7 @@ acts-pass config before [] good = (refl, refl)
 acts-pass config before (act ∷ acts) good =
     let one = act-passes config before act good.0 in
     let more = acts-pass config (before ++ events_in act) acts good.1 in (
-      place-append Kind (answer_to config before act) _ ∙ rw (one.0) more.0,
-      passed-append Kind (answer_to config before act) _ ∙ rw (one.0, one.1, more.1)
+      place-append Kind (session.answer_to config before act) _ ∙ rw (one.0) more.0,
+      passed-append Kind (session.answer_to config before act) _ ∙ rw (one.0, one.1, more.1)
           (sym (given_by-append octets_in config before (events_in act) (events_through acts))),
     )

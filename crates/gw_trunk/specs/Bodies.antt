@@ -18,9 +18,9 @@ place_next (Low to_trunk high) octet = body_place to_trunk (high * 256 + octet)
 place_next (Body to_trunk more) octet = body_place to_trunk more
 
 -- what of an octet goes to the trunk: it does in the body of a T record
-abbrev pub part : Place → ℕ → List ℕ
-part (Body true more) octet = octet ∷ []
-part _ octet = []
+abbrev pub part_passed : Place → ℕ → List ℕ
+part_passed (Body true more) octet = octet ∷ []
+part_passed _ octet = []
 
 -- the place after octets
 unfoldable pub place_after : Place → List ℕ → Place
@@ -30,7 +30,7 @@ place_after place (octet ∷ octets) = place_after (place_next place octet) octe
 -- what of octets goes to the trunk
 unfoldable pub passed : Place → List ℕ → List ℕ
 passed place [] = []
-passed place (octet ∷ octets) = part place octet ++ passed (place_next place octet) octets
+passed place (octet ∷ octets) = part_passed place octet ++ passed (place_next place octet) octets
 
 -- the octets in the bodies of the T records among these records, whose last one may be cut
 abbrev pub bodies : List ℕ → List ℕ
@@ -46,6 +46,6 @@ pub record HasPassed (place : Place) (taken went : List ℕ) : Type 0 where
   pub went_are : went ≡ bodies taken
 
 -- octets were taken from one place to another, and what of them goes to the trunk went
-pub record Passes (place place' : Place) (went went' octets : List ℕ) : Type 0 where
+pub record StepsOver (place place' : Place) (went went' octets : List ℕ) : Type 0 where
   pub place_is : place' ≡ place_after place octets
   pub went_are : went' ≡ went ++ passed place octets

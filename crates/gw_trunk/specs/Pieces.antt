@@ -15,7 +15,7 @@ same octets = octets
 abbrev pub in_records : List (List ℕ) → List ℕ
 in_records pieces = flat_map (λ piece. spelled (Record.Trunk piece)) pieces
 
--- What came was cut into pieces, in order, each octet in one of them; and the T records of the pieces were given.
+-- What came was cut into pieces, in order, each octet in one of them, and the T records of these were given.
 pub record InPieces (came given : List ℕ) : Type 0 where
   pub pieces : List (List ℕ)
   pub sizes : AllByRecursion IsPiece pieces
@@ -29,8 +29,7 @@ pub record GivesPiece (came came' given : List ℕ) : Type 0 where
   pub came_is : came' ≡ came ++ piece
   pub given_is : given ≡ spelled (Record.Trunk piece)
 
--- what a read of the source did: it gave one piece's record, or nothing at the end of the device or where that
--- failed
+-- what a read of the source did: it gave the record of one piece; or none, and nothing had come
 abbrev pub ReadsPiece : List ℕ → List ℕ → Result ℕ SourceFault → List ℕ → Type 0
 ReadsPiece came came' r room = MatchResult r
     (λ n. ((n ≡ 0) × (came' ≡ came)) ⊎ GivesPiece came came' (take n room)) (λ _. came' ≡ came)

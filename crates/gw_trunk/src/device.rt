@@ -1,6 +1,6 @@
 //! What the octets of a trunk come from, and what they go to.
 
-ghost use Rattle.std.specs.Prelude.{◌≡◌, ◌<◌, ◌≤◌, ◌++◌, ℕ, List, [], length, take, IfOk, IfSome};
+ghost use Rattle.std.specs.Prelude.{◌≡◌, ◌<◌, ◌≤◌, ◌++◌, ℕ, List, [], length, take, IfOk, IfSome, ⊤};
 ghost use Rattle.gw_trunk.specs.Device.{IsTaken, octets_taken, written_of};
 
 use crate::waiting::Waiting;
@@ -31,11 +31,16 @@ pub trait Incoming {
     /// The octets that have come.
     ghost came: { Self → List ℕ };
 
+    /// Holds of a device if a read told that it has ended. The relation is the type's own: a caller that knows
+    /// nothing of the type has it of such a read alone.
+    ghost has_ended: { Self → Type 0 } = { λ _. ⊤ };
+
     /// Takes octets that have come, to the front of `room`. It never waits for them.
     fn read(&mut self, room: &mut [u8]) -> Result<Taken, DeviceFault>
         requires { 0 < length room.old }
         ensures bound { IfOk result (λ t. IsTaken t (length room.new)) }
-        ensures came { came self.new ≡ came self.old ++ octets_taken result room.new };
+        ensures came { came self.new ≡ came self.old ++ octets_taken result room.new }
+        ensures ended { IfOk result (λ t. t ≡ Taken.Ended → has_ended self.new) };
 
     /// Waits until octets may have come.
     fn wait(&mut self)
@@ -47,7 +52,7 @@ pub trait Outgoing {
     /// The octets that went.
     ghost went: { Self → List ℕ };
 
-    /// Takes octets from the front of `octets`, and returns how many; None where it can take none now. It never
+    /// Takes octets from the front of `octets`, and returns how many; None if it can take none now. It never
     /// waits.
     fn write(&mut self, octets: &[u8]) -> Result<Option<usize>, DeviceFault>
         ensures bound { IfOk result (λ n. IfSome n (λ m. m ≤ length octets.now)) }

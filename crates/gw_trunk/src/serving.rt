@@ -9,7 +9,7 @@ ghost use Rattle.gw_trunk.specs.Serving.{Carried};
 use crate::device::{Incoming, Outgoing};
 use crate::sink::TrunkSink;
 use crate::source::TrunkSource;
-use gw_session::{Ports, RunFault, Tape, Totals, serve_recorded};
+use gw_session::{Ports, RunFault, Sink, Source, Tape, Totals, serve_recorded};
 use gw_switch::Gateway;
 use std::alloc::Global;
 
@@ -20,8 +20,8 @@ use std::alloc::Global;
 /// # Errors
 ///
 /// [`RunFault::Read`] where the device that octets come from fails: all that came is answered.
-/// [`RunFault::Write`] where the other fails. [`RunFault::OutOfMemory`] where memory was refused: nothing comes or
-/// goes.
+/// [`RunFault::Write`] where the other fails. [`RunFault::OutOfMemory`] where memory was refused: nothing
+/// comes or goes.
 pub fn serve_trunk<I: Incoming, O: Outgoing, P: Ports, T: Tape>(
     alloc: Global,
     gateway: &mut Gateway,
@@ -32,6 +32,18 @@ pub fn serve_trunk<I: Incoming, O: Outgoing, P: Ports, T: Tape>(
 ) -> Result<Totals, RunFault>
     requires source { (source.old.failed ≡ 0) × (source.old.reads ≡ 0) × (source.old.log.octets ≡ []) }
     requires sink { (sink.old.failed ≡ 0) × (sink.old.log.octets ≡ []) }
+    ensures ok { IfOk result (ServesAll
+        (around (⟦<TrunkSource<I> as Source>⟧.tells source.old) (⟦<TrunkSink<O> as Sink>⟧.tells sink.old)
+        (P.tells ports.old) (T.tells tape.old))
+        (around (⟦<TrunkSource<I> as Source>⟧.tells source.new) (⟦<TrunkSink<O> as Sink>⟧.tells sink.new)
+        (P.tells ports.new) (T.tells tape.new))
+        gateway.old gateway.new) }
+    ensures fault { IfErr result (ServesUntil
+        (around (⟦<TrunkSource<I> as Source>⟧.tells source.old) (⟦<TrunkSink<O> as Sink>⟧.tells sink.old)
+        (P.tells ports.old) (T.tells tape.old))
+        (around (⟦<TrunkSource<I> as Source>⟧.tells source.new) (⟦<TrunkSink<O> as Sink>⟧.tells sink.new)
+        (P.tells ports.new) (T.tells tape.new))
+        gateway.old gateway.new) }
     ensures carries { (config : GatewayConfig) → Stands config gateway.old []
         → ∥ Carried config gateway.new (T.tells tape.old) (T.tells tape.new) (I.came source.new.incoming)
         (O.went sink.new.outgoing) result ∥₁ }

@@ -1,7 +1,7 @@
 //! The records that answer, whose octets go to a trunk.
 
 ghost use Rattle.std.specs.Prelude.{◌≡◌, ◌≤◌, ◌++◌, [], length, take, IfOk, OnErr, Some, if◌then◌else◌};
-ghost use Rattle.gw_trunk.specs.Bodies.{HasPassed, Passes, place_next, body_place, body_after};
+ghost use Rattle.gw_trunk.specs.Bodies.{HasPassed, StepsOver, place_next, body_place, body_after};
 
 use crate::device::Outgoing;
 use gw_records::{OctetLog, Sink, SinkFault, TRUNK};
@@ -21,7 +21,7 @@ enum Place {
     Body(bool, usize),
 }
 
-/// Takes the records that answer. The bodies of T records go to the trunk, and nothing else does. Where the trunk
+/// Takes the records that answer. The bodies of T records go to the trunk, and nothing else does. If the trunk
 /// takes none now, it waits until it does.
 #[derive(Drop)]
 pub struct TrunkSink<O: Outgoing> {
@@ -67,8 +67,8 @@ fn body_after(to_trunk: bool, more: usize, n: usize) -> Place
     Place::Body(to_trunk, more - n)
 }
 
-// Puts octets out to the trunk, and returns how many went: the first ones. Where it takes none now, it is waited
-// for.
+// Puts octets out to the trunk, and returns how many went: the first ones. It waits for a trunk that takes
+// none now.
 fn put_out<O: Outgoing>(outgoing: &mut O, octets: &[u8]) -> Result<usize, SinkFault>
     ensures bound { IfOk result (λ n. n ≤ length octets.now) }
     ensures went { IfOk result (λ n. O.went outgoing.new ≡ O.went outgoing.old ++ take n octets.now) }
@@ -104,8 +104,8 @@ fn put_body<O: Outgoing>(
 // Takes octets from this place on, and returns how many.
 fn pass<O: Outgoing>(outgoing: &mut O, place: &mut Place, octets: &[u8]) -> Result<usize, SinkFault>
     ensures bound { IfOk result (λ n. n ≤ length octets.now) }
-    ensures passes { IfOk result (λ n. Passes place.old place.new (O.went outgoing.old) (O.went outgoing.new)
-        (take n octets.now)) }
+    ensures passes { IfOk result (λ n. StepsOver place.old place.new
+        (O.went outgoing.old) (O.went outgoing.new) (take n octets.now)) }
     ensures err { OnErr result (O.went outgoing.new ≡ O.went outgoing.old) }
     ensures stays { OnErr result (place.new ≡ place.old) }
 {

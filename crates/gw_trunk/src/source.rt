@@ -11,8 +11,8 @@ use gw_records::{FRONT_LEN, OctetLog, Source, SourceFault, TRUNK};
 // The octets of the trunk that one record has at most.
 const MOST_OCTETS: usize = 2_048;
 
-/// The octets of a trunk as T records. Each read gives one whole record: the octets that have come, 2,048 of them
-/// at most. Where none has come it waits for them.
+/// The octets of a trunk as T records. Each read gives one whole record: the octets that have come, 2,048 of
+/// them at most. If none has come it waits for them.
 #[derive(Drop)]
 pub struct TrunkSource<I: Incoming> {
     incoming: I,
@@ -36,6 +36,7 @@ fn front_of(len: usize) -> [u8; 4]
 fn next_record<I: Incoming>(incoming: &mut I, room: &mut [u8]) -> Result<usize, SourceFault>
     ensures bound { IfOk result (λ n. n ≤ length room.new) }
     ensures reads { ReadsPiece (I.came incoming.old) (I.came incoming.new) result room.new }
+    ensures ended { IfOk result (λ n. n ≡ 0 → I.has_ended incoming.new) }
 {
     let most = room.len().min(FRONT_LEN + MOST_OCTETS);
     if most <= FRONT_LEN {
@@ -74,7 +75,12 @@ impl<I: Incoming> TrunkSource<I> {
 }
 
 impl<I: Incoming> Source for TrunkSource<I> {
-    ghost tells = { λ s. record { failures = s.failed; reads = s.reads; given = Some s.log.octets; to_come = None } };
+    ghost tells = { λ s. record {
+      failures = s.failed;
+      reads = s.reads;
+      given = Some s.log.octets;
+      to_come = None;
+    } };
 
     fn read(&mut self, buf: &mut [u8]) -> Result<usize, SourceFault> {
         match next_record(&mut self.incoming, buf) {

@@ -5,6 +5,8 @@ use Rattle.gw_trunk.proofs.serving.serve_trunk.Goals as goal
 
 pub returns : goal.returns
 returns g c = record {
+  ok = c.serve_recorded.ensures.ok;
+  fault = c.serve_recorded.ensures.fault;
   carries = λ config new. ∥∥₁_map c.serve_recorded.new.source.pieces (λ cut.
       carried _ _ config c.serve_recorded.result _ _ _ _
       (record { unread = ap Some c.requires.source.2; read = refl; untaken = ap Some c.requires.sink.1; took = refl })

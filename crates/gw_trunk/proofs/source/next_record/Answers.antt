@@ -17,7 +17,10 @@ returns-in-Ok-Octets-clause-reads g c =
     let whole = framed c.loop-turn.room room front c.min-most.result n most some (ap length head) bound.1 in
     inr (record {
       piece = take n room;
-      size = (omega (arith, counted, bound), omega (arith, counted, bound, c.loop-turn.invariant.few, c.read.auto.room));
+      size = (
+        omega (arith, counted, bound),
+        omega (arith, counted, bound, c.loop-turn.invariant.few, c.read.auto.room),
+      );
       came_is = came ∙ ap (λ (xs : List ℕ). xs ++ take n room) c.loop-turn.invariant.came;
       given_is = whole ∙ rw (head, counted) refl;
     })
