@@ -17,13 +17,13 @@ _e1gw_options() {
     crc4) echo '--check --totals --help' ;;
     encode | decode) echo '--law --codec --payload --ptime --ssrc --sequence --timestamp --totals --help' ;;
     replay | check) echo '--config --totals --help' ;;
-    serve) echo '--config --record --record-over --senders --totals --help' ;;
+    serve | trunk) echo '--config --record --record-over --senders --totals --help' ;;
     '') echo '--help --version' ;;
   esac
 }
 
 _e1gw() {
-  local subcommands='encode decode align crc4 replay check serve help'
+  local subcommands='encode decode align crc4 replay check serve trunk help'
   local cur=${COMP_WORDS[COMP_CWORD]} prev=${COMP_WORDS[COMP_CWORD - 1]} subcommand=''
   [ "$COMP_CWORD" -lt 2 ] || subcommand=${COMP_WORDS[1]}
   # readline makes a word of the sign in --law=mu

@@ -6,7 +6,7 @@ import sys
 import tempfile
 
 TOP, PROGRAM = sys.argv[1:3]
-SUBCOMMANDS = ['encode', 'decode', 'align', 'crc4', 'replay', 'check', 'serve']
+SUBCOMMANDS = ['encode', 'decode', 'align', 'crc4', 'replay', 'check', 'serve', 'trunk']
 STREAMS = ['encode', 'decode']
 SPEECH = bytes(range(256)) * 3
 

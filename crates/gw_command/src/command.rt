@@ -6,7 +6,7 @@ ghost use Rattle.clap.specs.Words.{found_of, rows_of, subcommand_rows_of};
 ghost use Rattle.gw_speech.specs.declared.spec.StreamSpec.{StreamSpec};
 ghost use Rattle.gw_command.specs.Command.{law_name, codec_name, job_name, job_spec, usual_payload};
 ghost use Rattle.gw_command.specs.Command.{IsStream, IsJob, IsSession, session_name};
-ghost use Rattle.gw_command.specs.Command.{IsFilter, filter_name, IsRequest, text_in};
+ghost use Rattle.gw_command.specs.Command.{IsFilter, filter_name, IsTrunk, IsRequest, text_in};
 ghost use Rattle.gw_command.specs.declared.command.Filter.{Filter};
 ghost use Rattle.gw_command.specs.declared.command.Job.{Job};
 ghost use Rattle.gw_command.specs.declared.command.Request.{Request};
@@ -31,6 +31,8 @@ pub enum Request {
     Session(Session),
     /// A filter of a trunk.
     Filter(Filter),
+    /// A trunk in service.
+    Trunk,
 }
 
 /// A job on a stream of speech.
@@ -199,6 +201,18 @@ fn filter_of(matches: &ArgMatches<'_>) -> Option<Filter>
     filter_named(name)
 }
 
+// Whether the matches ask for a trunk in service.
+fn trunk_of(matches: &ArgMatches<'_>) -> Option<()>
+    ensures found { IfSome result (λ _. IsTrunk (subcommand_rows_of matches.now)) }
+    ensures none { IfNone result (¬ IsTrunk (subcommand_rows_of matches.now)) }
+{
+    let (name, _) = matches.subcommand()?;
+    match name {
+        "trunk" => Some(()),
+        _ => None,
+    }
+}
+
 /// What the matches ask for.
 pub fn request_of(matches: &ArgMatches<'_>) -> Option<Request>
     ensures found { IfSome result (IsRequest (subcommand_rows_of matches.now)) }
@@ -210,6 +224,9 @@ pub fn request_of(matches: &ArgMatches<'_>) -> Option<Request>
     }
     if let Some(filter) = filter_of(matches) {
         return Some(Request::Filter(filter));
+    }
+    if trunk_of(matches).is_some() {
+        return Some(Request::Trunk);
     }
     let job = job_of(matches)?;
     Some(Request::Job(job))
@@ -263,7 +280,7 @@ pub fn asks_check(matches: &ArgMatches<'_>) -> bool
 /// Whether a recording may be written over an old file.
 pub fn records_over(matches: &ArgMatches<'_>) -> bool {
     match matches.subcommand() {
-        Some(("serve", options)) => options.get_flag("record-over"),
+        Some(("serve" | "trunk", options)) => options.get_flag("record-over"),
         _ => false,
     }
 }

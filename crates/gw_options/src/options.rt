@@ -48,6 +48,14 @@ Datagrams come and go over UDP, on the ports of the configuration.
 
 Example: e1gw serve --config trunk.toml < trunk.rec > answers.rec";
 
+const TRUNK_HELP: &str = "\
+From standard input come the octets of the trunk, from a device, a socket or a
+pipe. To standard output go the octets of a gateway, one for each octet, as soon
+as it has come. Datagrams come and go over UDP, on the ports of the
+configuration.
+
+Example: e1gw trunk --config trunk.toml < /dev/trunk > /dev/trunk";
+
 const ALIGN_HELP: &str = "\
 From standard input comes a trunk of 2048 kbit/s as octets whose bits stand at
 any offset. To standard output go the octets of its time slots, one for each
@@ -130,7 +138,7 @@ const OF_SERVE: &[Opt] = &[
     Opt::Senders,
 ];
 
-const SUBCOMMANDS: [Subcommand; 7] = [
+const SUBCOMMANDS: [Subcommand; 8] = [
     Subcommand {
         name: "encode",
         about: "Octets of speech to records of RTP datagrams",
@@ -159,6 +167,12 @@ const SUBCOMMANDS: [Subcommand; 7] = [
         name: "serve",
         about: "Records of a gateway, datagrams over UDP",
         after_help: SERVE_HELP,
+        options: OF_SERVE,
+    },
+    Subcommand {
+        name: "trunk",
+        about: "Octets of a trunk, answered by octets, datagrams over UDP",
+        after_help: TRUNK_HELP,
         options: OF_SERVE,
     },
     Subcommand {

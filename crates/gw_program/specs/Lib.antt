@@ -6,3 +6,4 @@ pub mod Performing
 pub mod Report
 pub mod Setup
 pub mod Filters
+pub mod Trunks

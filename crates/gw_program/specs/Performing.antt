@@ -22,7 +22,7 @@ pub record Ended (ends : Result Totals RunFault → Type 0) (told : Result Total
   pub told_is : told ≡ told_as end
 
 -- a trouble is told for a reason, and nothing was read or written
-pub record NotBegun (source source' : SourceState) (sink sink' : SinkState) (Why : Trouble → Type 0)
+pub record NotBegun {S K : Type 0} (source source' : S) (sink sink' : K) (Why : Trouble → Type 0)
     (told : Result Totals Trouble) : Type 0 where
   pub trouble : Trouble
   pub why : Why trouble

@@ -1,6 +1,6 @@
--- What a failed call comes to, and the status of the program at each trouble: 1 at a fault of a session or a
--- socket other than want of memory, 2 where the command line, the file or the configuration is refused, 3 for
--- want of memory.
+-- What a failed call comes to, and the status of the program at each trouble: 1 at a fault of a session, a
+-- socket or a trunk other than want of memory, 2 where the command line, the file or the configuration is
+-- refused, 3 for want of memory.
 use Rattle.std.specs.Prelude.{ℕ}
 use Rattle.std.specs.declared.io.ErrorKind as kinds
 use Rattle.std.specs.declared.io.ErrorKind.TheVariants as errors
@@ -30,6 +30,7 @@ config_status (configs.Refused kind place) = 2
 abbrev pub trouble_status : Trouble → ℕ
 trouble_status (troubles.Session fault) = fault_status fault
 trouble_status (troubles.Socket circuit) = 1
+trouble_status troubles.Trunk = 1
 trouble_status troubles.NotText = 2
 trouble_status troubles.Nothing = 2
 trouble_status troubles.File = 2

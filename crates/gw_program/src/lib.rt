@@ -13,6 +13,7 @@ mod sessions;
 mod setup;
 mod standard;
 mod trouble;
+mod trunks;
 
 pub use filters::{do_filter, perform_crc4_check};
 pub use jobs::do_job;
@@ -23,3 +24,4 @@ pub use sessions::{check, replay, serve_through};
 pub use setup::read_config;
 pub use standard::{Held, hold};
 pub use trouble::{DONE, NO_MEMORY, REFUSED, Trouble};
+pub use trunks::perform_trunk;

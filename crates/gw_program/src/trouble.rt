@@ -29,6 +29,9 @@ pub enum Trouble {
     /// The socket of the circuit of this number can't be opened.
     #[error("socket {0}")]
     Socket(u8),
+    /// The streams of a trunk can't be waited for.
+    #[error("cannot wait for the trunk")]
+    Trunk,
     /// The command line is not text.
     #[error("error: the command line is not text")]
     NotText,
@@ -63,8 +66,8 @@ impl Trouble {
         }
     }
 
-    /// The status of the program: 1 at a fault of a session or a socket, 2 where the command line, the file
-    /// or the configuration is refused, and 3 for want of memory.
+    /// The status of the program: 1 at a fault of a session, a socket or a trunk, 2 where the command line, the
+    /// file or the configuration is refused, and 3 for want of memory.
     pub fn status(&self) -> u8
         ensures { result ≡ trouble_status self.now }
     {
@@ -72,7 +75,7 @@ impl Trouble {
             Trouble::Session(RunFault::OutOfMemory)
             | Trouble::Config(ConfigFault::OutOfMemory)
             | Trouble::OutOfMemory => NO_MEMORY,
-            Trouble::Session(_) | Trouble::Socket(_) => FAULT,
+            Trouble::Session(_) | Trouble::Socket(_) | Trouble::Trunk => FAULT,
             Trouble::NotText
             | Trouble::Nothing
             | Trouble::File

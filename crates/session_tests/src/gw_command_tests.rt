@@ -119,6 +119,7 @@ fn subcommands_are_named(rt: HostRuntime) -> Result<(), Fail> {
         ("e1gw align", Request::Filter(Filter::Align)),
         ("e1gw crc4 --totals", Request::Filter(Filter::Crc4)),
         ("e1gw crc4 --check", Request::Filter(Filter::Crc4)),
+        ("e1gw trunk --config serve", Request::Trunk),
         (
             "e1gw check --config align",
             Request::Session(Session::Check),

@@ -1,0 +1,5 @@
+pub mod Passing
+pub mod Cutting
+pub mod Written
+pub mod Carrying
+mod Rows

@@ -1,0 +1,11 @@
+use Rattle.std.proofs.Common.{◌≡◌, ◌≤◌, ◌<◌, length}
+use Rattle.gw_trunk.proofs.source.next_record.Given as goal
+
+-- Nothing came so far, and the room is as long as it was.
+abbrev pub invariant-loop-turn : goal.invariant-loop-turn
+invariant-loop-turn g l = record {
+  came : g.I.Incoming.came l.incoming ≡ g.I.Incoming.came l.initial.incoming;
+  most : l.most ≤ length l.room;
+  some : 4 < l.most;
+  few : l.most ≤ 2052;
+}

@@ -1,0 +1,51 @@
+-- What of the records that answer goes to the trunk (module `sink`).
+use Rattle.std.specs.Prelude.{◌≡◌, ◌==◌, ◌+◌, ◌*◌, ◌-◌, if◌then◌else◌, ◌++◌, ℕ, zero, suc, Bool, true}
+use Rattle.std.specs.Prelude.{nat_lt, List, [], ◌∷◌}
+use Rattle.gw_trunk.specs.declared.sink.Place.{Place}
+use Rattle.gw_trunk.specs.declared.sink.Place.TheVariants.{Kind, Circuit, High, Low, Body}
+
+-- a body of so many octets begins, or where it has none the next record
+abbrev pub body_place : Bool → ℕ → Place
+body_place to_trunk zero = Kind
+body_place to_trunk (suc more) = Body to_trunk more
+
+-- the place after an octet: a record is a kind, a circuit, the two octets of a length, and a body as long
+abbrev pub place_next : Place → ℕ → Place
+place_next Kind octet = Circuit (octet == 0x54)
+place_next (Circuit to_trunk) octet = High to_trunk
+place_next (High to_trunk) octet = Low to_trunk octet
+place_next (Low to_trunk high) octet = body_place to_trunk (high * 256 + octet)
+place_next (Body to_trunk more) octet = body_place to_trunk more
+
+-- what of an octet goes to the trunk: it does in the body of a T record
+abbrev pub part_passed : Place → ℕ → List ℕ
+part_passed (Body true more) octet = octet ∷ []
+part_passed _ octet = []
+
+-- the place after octets
+unfoldable pub place_after : Place → List ℕ → Place
+place_after place [] = place
+place_after place (octet ∷ octets) = place_after (place_next place octet) octets
+
+-- what of octets goes to the trunk
+unfoldable pub passed : Place → List ℕ → List ℕ
+passed place [] = []
+passed place (octet ∷ octets) = part_passed place octet ++ passed (place_next place octet) octets
+
+-- the octets in the bodies of the T records among these records, whose last one may be cut
+abbrev pub bodies : List ℕ → List ℕ
+bodies octets = passed Kind octets
+
+-- where a body goes on after so many octets of it
+abbrev pub body_after : Bool → ℕ → ℕ → Place
+body_after to_trunk more n = if nat_lt more n then Kind else Body to_trunk (more - n)
+
+-- records were taken up to this place, and the bodies of the T records among them went
+pub record HasPassed (place : Place) (taken went : List ℕ) : Type 0 where
+  pub place_is : place ≡ place_after Kind taken
+  pub went_are : went ≡ bodies taken
+
+-- octets were taken from one place to another, and what of them goes to the trunk went
+pub record StepsOver (place place' : Place) (went went' octets : List ℕ) : Type 0 where
+  pub place_is : place' ≡ place_after place octets
+  pub went_are : went' ≡ went ++ passed place octets

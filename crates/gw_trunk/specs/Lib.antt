@@ -1,0 +1,4 @@
+pub mod Device
+pub mod Pieces
+pub mod Bodies
+pub mod Serving

@@ -1,0 +1,150 @@
+//! What the octets of a trunk come from, and what they go to.
+
+ghost use Rattle.std.specs.Prelude.{◌≡◌, ◌<◌, ◌≤◌, ◌++◌, ℕ, List, [], length, take, IfOk, IfSome, ⊤};
+ghost use Rattle.gw_trunk.specs.Device.{IsTaken, octets_taken, written_of};
+
+use crate::waiting::Waiting;
+use gw_records::OctetLog;
+use mio::Interest;
+use std::io;
+use std::io::{ErrorKind, Read, Write};
+use thiserror::Error;
+
+/// A device failed.
+#[derive(Clone, Copy, Debug, PartialEq, Eq, Error)]
+#[error("a device failed")]
+pub struct DeviceFault;
+
+/// What a read of a device came to.
+#[derive(Clone, Copy, Debug, PartialEq, Eq)]
+pub enum Taken {
+    /// Octets, so many.
+    Octets(usize),
+    /// No octet has come yet.
+    NoneNow,
+    /// No octet will come any more.
+    Ended,
+}
+
+/// What the octets of a trunk come from.
+pub trait Incoming {
+    /// The octets that have come.
+    ghost came: { Self → List ℕ };
+
+    /// Holds of a device if a read told that it has ended. The relation is the type's own: a caller that knows
+    /// nothing of the type has it of such a read alone.
+    ghost has_ended: { Self → Type 0 } = { λ _. ⊤ };
+
+    /// Takes octets that have come, to the front of `room`. It never waits for them.
+    fn read(&mut self, room: &mut [u8]) -> Result<Taken, DeviceFault>
+        requires { 0 < length room.old }
+        ensures bound { IfOk result (λ t. IsTaken t (length room.new)) }
+        ensures came { came self.new ≡ came self.old ++ octets_taken result room.new }
+        ensures ended { IfOk result (λ t. t ≡ Taken.Ended → has_ended self.new) };
+
+    /// Waits until octets may have come.
+    fn wait(&mut self)
+        ensures { came self.new ≡ came self.old };
+}
+
+/// What the octets of a trunk go to.
+pub trait Outgoing {
+    /// The octets that went.
+    ghost went: { Self → List ℕ };
+
+    /// Takes octets from the front of `octets`, and returns how many; None if it can take none now. It never
+    /// waits.
+    fn write(&mut self, octets: &[u8]) -> Result<Option<usize>, DeviceFault>
+        ensures bound { IfOk result (λ n. IfSome n (λ m. m ≤ length octets.now)) }
+        ensures went { went self.new ≡ went self.old ++ written_of result octets.now };
+
+    /// Waits until it may take octets.
+    fn wait(&mut self)
+        ensures { went self.new ≡ went self.old };
+}
+
+/// A reader of std over a descriptor. What came is what the calls of the reader gave.
+#[derive(Drop)]
+pub struct FromDevice<R> {
+    reader: R,
+    waiting: Waiting,
+    log: OctetLog,
+}
+
+/// A writer of std over a descriptor. What went is what the calls of the writer took.
+#[derive(Drop)]
+pub struct ToDevice<W> {
+    writer: W,
+    waiting: Waiting,
+    log: OctetLog,
+}
+
+impl<R: Drop> FromDevice<R> {
+    /// What comes from the reader, whose descriptor this is. The error is the system's.
+    pub fn open(rt: &HostRuntime, reader: R, descriptor: i32) -> io::Result<FromDevice<R>>
+        ensures { IfOk result (λ d. d.log.octets ≡ []) }
+    {
+        Ok(FromDevice {
+            reader,
+            waiting: Waiting::open(rt, descriptor, Interest::READABLE)?,
+            log: OctetLog::new(),
+        })
+    }
+}
+
+impl<W: Drop> ToDevice<W> {
+    /// What goes to the writer, whose descriptor this is. The error is the system's.
+    pub fn open(rt: &HostRuntime, writer: W, descriptor: i32) -> io::Result<ToDevice<W>>
+        ensures { IfOk result (λ d. d.log.octets ≡ []) }
+    {
+        Ok(ToDevice {
+            writer,
+            waiting: Waiting::open(rt, descriptor, Interest::WRITABLE)?,
+            log: OctetLog::new(),
+        })
+    }
+}
+
+// Whether a call is to be made again later.
+fn is_for_later(error: &io::Error) -> bool {
+    matches!(error.kind(), ErrorKind::WouldBlock | ErrorKind::Interrupted)
+}
+
+impl<R: Read> Incoming for FromDevice<R> {
+    ghost came = { λ d. d.log.octets };
+
+    fn read(&mut self, room: &mut [u8]) -> Result<Taken, DeviceFault> {
+        match self.reader.read(room) {
+            Ok(0) => Ok(Taken::Ended),
+            Ok(n) => {
+                self.log.append(room, n);
+                Ok(Taken::Octets(n))
+            }
+            Err(error) if is_for_later(&error) => Ok(Taken::NoneNow),
+            Err(_) => Err(DeviceFault),
+        }
+    }
+
+    fn wait(&mut self) {
+        self.waiting.wait();
+    }
+}
+
+impl<W: Write> Outgoing for ToDevice<W> {
+    ghost went = { λ d. d.log.octets };
+
+    fn write(&mut self, octets: &[u8]) -> Result<Option<usize>, DeviceFault> {
+        match self.writer.write(octets) {
+            Ok(n) => {
+                self.log.append(octets, n);
+                Ok(Some(n))
+            }
+            Err(error) if is_for_later(&error) => Ok(None),
+            Err(_) => Err(DeviceFault),
+        }
+    }
+
+    fn wait(&mut self) {
+        self.waiting.wait();
+    }
+}

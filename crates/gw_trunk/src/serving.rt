@@ -1,0 +1,52 @@
+//! A trunk, served by a gateway.
+
+ghost use Rattle.std.specs.Prelude.{◌≡◌, [], IfOk, IfErr};
+ghost use Rattle.gw_switch.specs.declared.GatewayConfig.{GatewayConfig};
+ghost use Rattle.gw_switch.specs.Standing.{Stands};
+ghost use Rattle.gw_session.specs.Serve.{ServesAll, ServesUntil, around};
+ghost use Rattle.gw_trunk.specs.Serving.{Carried};
+
+use crate::device::{Incoming, Outgoing};
+use crate::sink::TrunkSink;
+use crate::source::TrunkSource;
+use gw_session::{Ports, RunFault, Sink, Source, Tape, Totals, serve_recorded};
+use gw_switch::Gateway;
+use std::alloc::Global;
+
+/// Serves a trunk by a gateway until no octet comes any more: for each octet that comes the one goes that the
+/// gateway sends with it, in their order, and nothing else goes. Datagrams come and go through the ports, and
+/// the tape takes what happens, as in `serve_recorded`.
+///
+/// # Errors
+///
+/// [`RunFault::Read`] where the device that octets come from fails: all that came is answered.
+/// [`RunFault::Write`] where the other fails. [`RunFault::OutOfMemory`] where memory was refused: nothing
+/// comes or goes.
+pub fn serve_trunk<I: Incoming, O: Outgoing, P: Ports, T: Tape>(
+    alloc: Global,
+    gateway: &mut Gateway,
+    ports: &mut P,
+    source: &mut TrunkSource<I>,
+    sink: &mut TrunkSink<O>,
+    tape: &mut T,
+) -> Result<Totals, RunFault>
+    requires source { (source.old.failed ≡ 0) × (source.old.reads ≡ 0) × (source.old.log.octets ≡ []) }
+    requires sink { (sink.old.failed ≡ 0) × (sink.old.log.octets ≡ []) }
+    ensures ok { IfOk result (ServesAll
+        (around (⟦<TrunkSource<I> as Source>⟧.tells source.old) (⟦<TrunkSink<O> as Sink>⟧.tells sink.old)
+        (P.tells ports.old) (T.tells tape.old))
+        (around (⟦<TrunkSource<I> as Source>⟧.tells source.new) (⟦<TrunkSink<O> as Sink>⟧.tells sink.new)
+        (P.tells ports.new) (T.tells tape.new))
+        gateway.old gateway.new) }
+    ensures fault { IfErr result (ServesUntil
+        (around (⟦<TrunkSource<I> as Source>⟧.tells source.old) (⟦<TrunkSink<O> as Sink>⟧.tells sink.old)
+        (P.tells ports.old) (T.tells tape.old))
+        (around (⟦<TrunkSource<I> as Source>⟧.tells source.new) (⟦<TrunkSink<O> as Sink>⟧.tells sink.new)
+        (P.tells ports.new) (T.tells tape.new))
+        gateway.old gateway.new) }
+    ensures carries { (config : GatewayConfig) → Stands config gateway.old []
+        → ∥ Carried config gateway.new (T.tells tape.old) (T.tells tape.new) (I.came source.new.incoming)
+        (O.went sink.new.outgoing) result ∥₁ }
+{
+    serve_recorded(alloc, gateway, ports, source, sink, tape)
+}

@@ -1,0 +1,160 @@
+//! The records that answer, whose octets go to a trunk.
+
+ghost use Rattle.std.specs.Prelude.{◌≡◌, ◌≤◌, ◌++◌, [], length, take, IfOk, OnErr, Some, if◌then◌else◌};
+ghost use Rattle.gw_trunk.specs.Bodies.{HasPassed, StepsOver, place_next, body_place, body_after};
+
+use crate::device::Outgoing;
+use gw_records::{OctetLog, Sink, SinkFault, TRUNK};
+
+/// Where in a record the next octet stands. A place behind the kind says whether the body goes to the trunk.
+#[derive(Clone, Copy, Debug, PartialEq, Eq)]
+enum Place {
+    /// The kind.
+    Kind,
+    /// The circuit.
+    Circuit(bool),
+    /// The high octet of the length.
+    High(bool),
+    /// The low octet of the length, with the high one.
+    Low(bool, u8),
+    /// The body, with the number of the octets that come after this one.
+    Body(bool, usize),
+}
+
+/// Takes the records that answer. The bodies of T records go to the trunk, and nothing else does. If the trunk
+/// takes none now, it waits until it does.
+#[derive(Drop)]
+pub struct TrunkSink<O: Outgoing> {
+    outgoing: O,
+    failed: u64,
+    place: Place,
+    log: OctetLog,
+    ghost passed: { HasPassed place log.octets (O.went outgoing) },
+}
+
+// Where a body of so many octets begins.
+fn body_place(to_trunk: bool, len: usize) -> Place
+    ensures { result ≡ body_place to_trunk len }
+{
+    if len == 0 {
+        return Place::Kind;
+    }
+    Place::Body(to_trunk, len - 1)
+}
+
+// The place after an octet.
+fn place_next(place: Place, octet: u8) -> Place
+    ensures { result ≡ place_next place octet }
+{
+    match place {
+        Place::Kind => Place::Circuit(octet == TRUNK),
+        Place::Circuit(to_trunk) => Place::High(to_trunk),
+        Place::High(to_trunk) => Place::Low(to_trunk, octet),
+        Place::Low(to_trunk, high) => {
+            body_place(to_trunk, usize::from(high) * 256 + usize::from(octet))
+        }
+        Place::Body(to_trunk, more) => body_place(to_trunk, more),
+    }
+}
+
+// Where a body goes on after so many octets of it.
+fn body_after(to_trunk: bool, more: usize, n: usize) -> Place
+    ensures { result ≡ body_after to_trunk more n }
+{
+    if more < n {
+        return Place::Kind;
+    }
+    Place::Body(to_trunk, more - n)
+}
+
+// Puts octets out to the trunk, and returns how many went: the first ones. It waits for a trunk that takes
+// none now.
+fn put_out<O: Outgoing>(outgoing: &mut O, octets: &[u8]) -> Result<usize, SinkFault>
+    ensures bound { IfOk result (λ n. n ≤ length octets.now) }
+    ensures went { IfOk result (λ n. O.went outgoing.new ≡ O.went outgoing.old ++ take n octets.now) }
+    ensures err { OnErr result (O.went outgoing.new ≡ O.went outgoing.old) }
+{
+    for _turn in 0..u64::MAX {
+        match outgoing.write(octets) {
+            Ok(Some(n)) => return Ok(n),
+            Ok(None) => outgoing.wait(),
+            Err(_) => return Err(SinkFault),
+        }
+    }
+    Err(SinkFault)
+}
+
+// Takes octets of a body, and returns how many: those of a T record go to the trunk.
+fn put_body<O: Outgoing>(
+    outgoing: &mut O,
+    to_trunk: bool,
+    octets: &[u8],
+) -> Result<usize, SinkFault>
+    ensures bound { IfOk result (λ n. n ≤ length octets.now) }
+    ensures went { IfOk result (λ n. O.went outgoing.new
+        ≡ O.went outgoing.old ++ (if to_trunk then take n octets.now else [])) }
+    ensures err { OnErr result (O.went outgoing.new ≡ O.went outgoing.old) }
+{
+    if !to_trunk {
+        return Ok(octets.len());
+    }
+    put_out(outgoing, octets)
+}
+
+// Takes octets from this place on, and returns how many.
+fn pass<O: Outgoing>(outgoing: &mut O, place: &mut Place, octets: &[u8]) -> Result<usize, SinkFault>
+    ensures bound { IfOk result (λ n. n ≤ length octets.now) }
+    ensures passes { IfOk result (λ n. StepsOver place.old place.new
+        (O.went outgoing.old) (O.went outgoing.new) (take n octets.now)) }
+    ensures err { OnErr result (O.went outgoing.new ≡ O.went outgoing.old) }
+    ensures stays { OnErr result (place.new ≡ place.old) }
+{
+    let Some(octet) = octets.first() else {
+        return Ok(0);
+    };
+    let Place::Body(to_trunk, more) = *place else {
+        *place = place_next(*place, *octet);
+        return Ok(1);
+    };
+    let most = octets.len().min(more.saturating_add(1));
+    let n = put_body(outgoing, to_trunk, &octets[..most])?;
+    *place = body_after(to_trunk, more, n);
+    Ok(n)
+}
+
+impl<O: Outgoing> TrunkSink<O> {
+    /// What takes the records from now on, with no failure yet.
+    pub fn new(outgoing: O) -> TrunkSink<O>
+        requires { O.went outgoing ≡ [] }
+        ensures outgoing { result.outgoing ≡ outgoing }
+        ensures failed { result.failed ≡ 0 }
+        ensures log { result.log.octets ≡ [] }
+    {
+        TrunkSink {
+            outgoing,
+            failed: 0,
+            place: Place::Kind,
+            log: OctetLog::new(),
+        }
+    }
+}
+
+impl<O: Outgoing> Sink for TrunkSink<O> {
+    ghost tells = { λ s. record { failures = s.failed; taken = Some s.log.octets } };
+
+    fn write(&mut self, octets: &[u8]) -> Result<usize, SinkFault> {
+        match pass(&mut self.outgoing, &mut self.place, octets) {
+            Ok(n) => {
+                self.log.append(octets, n);
+                if n == 0 && !octets.is_empty() {
+                    self.failed = self.failed.saturating_add(1);
+                }
+                Ok(n)
+            }
+            Err(fault) => {
+                self.failed = self.failed.saturating_add(1);
+                Err(fault)
+            }
+        }
+    }
+}

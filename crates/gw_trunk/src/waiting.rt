@@ -1,0 +1,42 @@
+//! What waits for a descriptor.
+
+use mio::unix::SourceFd;
+use mio::{Events, Interest, Poll, Token};
+use std::io;
+
+/// Waits for one descriptor of the system, which the caller keeps open.
+#[derive(Drop)]
+pub struct Waiting {
+    poll: Poll,
+    events: Events,
+    descriptor: i32,
+    interest: Interest,
+}
+
+impl Waiting {
+    /// Waits for a descriptor in the way of `interest`. The error is the system's.
+    pub fn open(rt: &HostRuntime, descriptor: i32, interest: Interest) -> io::Result<Waiting> {
+        let poll = Poll::new(rt)?;
+        let events = Events::with_capacity(rt.alloc(), 1)?;
+        // (A regular file can't be waited for, and never has to be.)
+        let _ = poll
+            .registry()
+            .register(&mut SourceFd(&descriptor), Token(0), interest);
+        Ok(Waiting {
+            poll,
+            events,
+            descriptor,
+            interest,
+        })
+    }
+
+    /// Waits until the descriptor is ready, or a signal comes. (It is registered again each time, so that the
+    /// system reports what came before.)
+    pub fn wait(&mut self) {
+        let registry = self.poll.registry();
+        let source = &mut SourceFd(&self.descriptor);
+        if registry.reregister(source, Token(0), self.interest).is_ok() {
+            let _ = self.poll.poll(&mut self.events, None);
+        }
+    }
+}
