@@ -1,8 +1,9 @@
 -- The laws of places, of the slots of frames.
-use Rattle.std.proofs.Common.{◌≡◌, ℕ, Option, Some, None, refl, arith}
+use Rattle.std.proofs.Common.{◌≡◌, ℕ, Bool, Option, Some, None, refl, arith}
 use Rattle.g704_framing.specs.Laws.{IsRead}
 use Rattle.g704_framing.specs.Places.{IsPlacing, PlacesAreSettled, PlacesAreAlike, OtherPlacesAreNotRead}
 use Rattle.g704_framing.proofs.Placings.{places_are_settled, places_are_alike, other_places_are_not_read}
+use Rattle.g704_align.specs.declared.alignment.Place.TheVariants.{Hunting, Slot}
 use Rattle.g704_align.specs.Loss.{frame_alignment}
 use Rattle.g704_align.specs.Placing.{place_of, number_of, frames}
 use Rattle.g704_align.proofs.Wrongs.{is_third_wrong-alike}
@@ -12,6 +13,16 @@ use Rattle.g704_align.proofs.Searches.{frame_is_framing}
 slot_zero : (age : Option ℕ) → IsRead frame_alignment age → number_of (place_of age) ≡ 0
 slot_zero None read = refl
 slot_zero (Some age) read = read
+
+-- an octet that has no slot has no age in an alignment
+pub no-age : (age : Option ℕ) → place_of age ≡ Hunting → age ≡ None
+no-age None e = refl
+no-age (Some n) e = cc
+
+-- and one that has a slot has an age
+pub some-age : (age : Option ℕ) (number : ℕ) (fas : Bool) → place_of age ≡ Slot number fas → (n : ℕ) × (age ≡ Some n)
+some-age None number fas e = cc
+some-age (Some n) number fas e = (n, refl)
 
 -- the slots of frames are places as the laws need them
 frames_are_placed : IsPlacing frames

@@ -10,7 +10,8 @@ use Rattle.g704_framing.proofs.Ages.{age-early}
 use Rattle.g704_framing.proofs.Settles.{ages_are_settled}
 use Rattle.g704_align.specs.declared.alignment.Place.TheVariants.{Hunting, Slot}
 use Rattle.g704_align.specs.Loss.{frame_alignment}
-use Rattle.g704_align.specs.Placing.{place_of, place}
+use Rattle.g704_align.specs.Placing.{place}
+use Rattle.g704_align.proofs.Callers.{no-age, some-age}
 use Rattle.g704_align.proofs.Searches.{frame_is_framing}
 use Rattle.g704_crc4.specs.Aligning.{octets_since, since_start, aligned_octets}
 use Rattle.g704_crc4.specs.Receivers.{GoesOn}
@@ -25,16 +26,6 @@ by-age : (octets : List ℕ) (position : ℕ) (age : Option ℕ) → length octe
     → age_at octets position ≡ age → aligned_octets octets ≡ octets_since octets age
 unfolding since_start
 by-age octets position age n e = ap (λ k. octets_since octets (age_at octets k)) n ∙ ap (octets_since octets) e
-
--- No place is no age.
-no-age : (age : Option ℕ) → place_of age ≡ Hunting → age ≡ None
-no-age None e = refl
-no-age (Some n) e = cc
-
--- And a place is an age.
-some-age : (age : Option ℕ) (number : ℕ) (fas : Bool) → place_of age ≡ Slot number fas → (n : ℕ) × (age ≡ Some n)
-some-age None number fas e = cc
-some-age (Some n) number fas e = (n, refl)
 
 -- An octet without a time slot is in no frame alignment.
 pub aligned-none : (part : List ℕ) (x : ℕ) → Hunting ≡ place (part ++ x ∷ []) (length part)

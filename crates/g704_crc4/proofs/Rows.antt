@@ -1,15 +1,12 @@
 -- The definitions on worked examples, by computing.
 use Rattle.std.proofs.Common.{◌≡◌, ℕ, zero, suc, ◌+◌, ◌%◌, List, [], ◌∷◌, ◌++◌, true, false, Some, None, refl}
-use Rattle.std.specs.Prelude.{replicate, length, nat_le}
+use Rattle.std.specs.Prelude.{replicate, nat_le}
 use Rattle.g704_framing.specs.Least.{least}
-use Rattle.g704_framing.specs.Alignment.{alignments_from, loss}
-use Rattle.g704_align.specs.Search.{search, is_fas, is_nfas}
-use Rattle.g704_align.specs.Loss.{is_wrong}
 use Rattle.g704_crc4.specs.Remainder.{remainder_of, sent_bits}
 use Rattle.g704_crc4.specs.Submultiframes.{each_at, submultiframe}
 use Rattle.g704_crc4.specs.Receiving.{si_of, remainder_in}
 use Rattle.g704_crc4.specs.Searching.{has_signal, begins_multiframe}
-use Rattle.g704_crc4.specs.Aligning.{since_start, aligned_octets, searched_octets, multiframe_in, count_in}
+use Rattle.g704_crc4.specs.Aligning.{searched_octets, multiframe_in, count_in}
 
 -- Octets that count up from this one.
 ramp : ℕ → ℕ → List ℕ
@@ -34,12 +31,6 @@ one_multiframe =
 -- Frame alignment, and then three double frames of no multiframe before two multiframes.
 signal_twice : List ℕ
 signal_twice = two_frames 64 ++ two_frames 64 ++ two_frames 64 ++ two_frames 64 ++ one_multiframe ++ one_multiframe
-
--- The octet behind the one that confirms alignment is the first that has a time slot.
-slot_known : (length (aligned_octets (5 ∷ two_frames 64 ++ 27 ∷ [])) ≡ 0)
-    × (length (aligned_octets (5 ∷ two_frames 64 ++ 27 ∷ 1 ∷ [])) ≡ 66)
-unfolding since_start alignments_from loss least search is_fas is_nfas is_wrong two_frames
-slot_known = (refl, refl)
 
 -- The first multiframe begins at the fourth double frame, three after the one by which alignment was found.
 multiframe_found : multiframe_in signal_twice ≡ Some 3

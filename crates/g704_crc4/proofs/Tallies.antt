@@ -1,4 +1,4 @@
--- What is counted, one octet more.
+-- What is count_with, one octet more.
 use Rattle.std.proofs.Common.{◌≡◌, ℕ, ◌+◌, ◌-◌, ◌^◌, Bool, true, false, List, [], ◌∷◌, ◌++◌, Option, None, sym, ap, ◌∙◌}
 use Rattle.std.proofs.Common.{arith, append_assoc, append-nil}
 use Rattle.std.specs.Prelude.{min}
@@ -7,7 +7,7 @@ use Rattle.g704_crc4.specs.declared.tallying.Tally.{Tally}
 use Rattle.g704_crc4.specs.Remainder.{bit_number}
 use Rattle.g704_crc4.specs.Aligning.{learned}
 use Rattle.g704_crc4.specs.Tally.{tells_block, tells_errored, tells_far_end, tells_found, tells_lost, tells_given_up}
-use Rattle.g704_crc4.specs.Tally.{times_after, times, counted, tally_with, tally_of}
+use Rattle.g704_crc4.specs.Tally.{times_after, times, count_with, tally_with, tally_of}
 
 -- How many octets tell something, with one octet more.
 times-push : (passes : Option Learned → Bool) (before octets : List ℕ) (x : ℕ)
@@ -25,12 +25,12 @@ times-push passes before (y ∷ octets) x =
 
 -- The same as a count.
 counted-is : (passes : Option Learned → Bool) (history : List ℕ) (x : ℕ)
-    → counted (times passes history) (passes (learned history x)) ≡ times passes (history ++ x ∷ [])
+    → count_with (times passes history) (passes (learned history x)) ≡ times passes (history ++ x ∷ [])
 counted-is passes history x =
     clamped (times_after passes [] history) (passes (learned history x))
     ∙ ap (λ n. min n (2 ^ 64 - 1)) (sym (times-push passes [] history x))
   where
-    clamped : (n : ℕ) (more : Bool) → counted (min n (2 ^ 64 - 1)) more ≡ min (n + bit_number more) (2 ^ 64 - 1)
+    clamped : (n : ℕ) (more : Bool) → count_with (min n (2 ^ 64 - 1)) more ≡ min (n + bit_number more) (2 ^ 64 - 1)
     clamped n true = omega arith
     clamped n false = omega arith
 

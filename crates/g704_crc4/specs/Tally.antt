@@ -63,16 +63,16 @@ tally_of octets = record {
 }
 
 -- A count after what may be one more; it stops at the greatest number.
-abbrev pub counted : ℕ → Bool → ℕ
-counted count more = if more then min (count + 1) (2 ^ 64 - 1) else count
+abbrev pub count_with : ℕ → Bool → ℕ
+count_with count more = if more then min (count + 1) (2 ^ 64 - 1) else count
 
 -- What is counted with what is learned with one more octet.
 abbrev pub tally_with : Tally → Option Learned → Tally
 tally_with tally learned = record {
-  submultiframes = counted tally.submultiframes (tells_block learned);
-  errored = counted tally.errored (tells_errored learned);
-  far_end_errored = counted tally.far_end_errored (tells_far_end learned);
-  found = counted tally.found (tells_found learned);
-  lost = counted tally.lost (tells_lost learned);
-  given_up = counted tally.given_up (tells_given_up learned);
+  submultiframes = count_with tally.submultiframes (tells_block learned);
+  errored = count_with tally.errored (tells_errored learned);
+  far_end_errored = count_with tally.far_end_errored (tells_far_end learned);
+  found = count_with tally.found (tells_found learned);
+  lost = count_with tally.lost (tells_lost learned);
+  given_up = count_with tally.given_up (tells_given_up learned);
 }

@@ -2,7 +2,7 @@
 
 ghost use Rattle.std.specs.Prelude.{◌≡◌, ◌∷◌, ◌++◌, ℕ, List, [], Some};
 ghost use Rattle.g704_crc4.specs.Receivers.{ChecksTrunk};
-ghost use Rattle.g704_crc4.specs.Tally.{tally_of, tally_with, counted};
+ghost use Rattle.g704_crc4.specs.Tally.{tally_of, tally_with, count_with};
 
 use crate::checking::Event;
 use crate::receiving::{Learned, Receiver};
@@ -74,35 +74,35 @@ fn tally_with(tally: Tally, learned: Learned) -> Tally
 {
     match learned {
         Learned::Found => Tally {
-            found: counted(tally.found, true),
+            found: count_with(tally.found, true),
             ..tally
         },
         Learned::Lost => Tally {
-            lost: counted(tally.lost, true),
+            lost: count_with(tally.lost, true),
             ..tally
         },
         Learned::GivenUp => Tally {
-            submultiframes: counted(tally.submultiframes, true),
-            errored: counted(tally.errored, true),
-            lost: counted(tally.lost, true),
-            given_up: counted(tally.given_up, true),
+            submultiframes: count_with(tally.submultiframes, true),
+            errored: count_with(tally.errored, true),
+            lost: count_with(tally.lost, true),
+            given_up: count_with(tally.given_up, true),
             ..tally
         },
         Learned::Received(Event::Block { right }) => Tally {
-            submultiframes: counted(tally.submultiframes, true),
-            errored: counted(tally.errored, !right),
+            submultiframes: count_with(tally.submultiframes, true),
+            errored: count_with(tally.errored, !right),
             ..tally
         },
         Learned::Received(Event::FarEnd { right }) => Tally {
-            far_end_errored: counted(tally.far_end_errored, !right),
+            far_end_errored: count_with(tally.far_end_errored, !right),
             ..tally
         },
     }
 }
 
 // A count after what may be one more.
-fn counted(count: u64, more: bool) -> u64
-    ensures { result ≡ counted count more }
+fn count_with(count: u64, more: bool) -> u64
+    ensures { result ≡ count_with count more }
 {
     if more { count.saturating_add(1) } else { count }
 }
