@@ -18,3 +18,13 @@ fn numbers_as_octets(rt: HostRuntime) -> Result<(), Fail> {
     assert_eq!(rt; octets.read_u8(), None);
     Ok(())
 }
+
+#[test]
+fn octets_as_a_slice(rt: HostRuntime) -> Result<(), Fail> {
+    let mut octets = Octets::new(&[1, 2, 3, 4]);
+    assert!(rt; octets.read_slice(5).is_none());
+    let taken = octets.read_slice(3).ok_or("no octets")?;
+    assert!(rt; taken == [1u8, 2, 3].as_slice());
+    assert_eq!(rt; octets.read_u8(), Some(4));
+    Ok(())
+}

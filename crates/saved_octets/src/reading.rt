@@ -1,6 +1,7 @@
 //! A reader over octets, from the first on.
 
 ghost use Rattle.std.specs.Prelude.{◌≡◌, ◌++◌, ◌∷◌, ◌^◌, ◌<◌, ℕ, Bool, ◌==◌, List, length, IfSome, IfNone, Some, All, flat_map};
+ghost use Rattle.std.specs.Prelude.{option_map};
 ghost use Rattle.saved_octets.specs.Numbers.{flag_octet, two_octets, four_octets};
 
 use byteorder::{BigEndian, ByteOrder};
@@ -73,6 +74,19 @@ impl<'a> Octets<'a> {
         };
         self.left = others;
         Some(BigEndian::read_u32(&[*a, *b, *c, *d]))
+    }
+
+    /// Reads as many octets; None if fewer are left.
+    pub fn read_slice(&mut self, count: usize) -> Option<&'a [u8]>
+        ensures next { (taken rest : List ℕ) → length taken ≡ count → self.old ≡ taken ++ rest
+            → (option_map (λ s. s.now) result ≡ Some taken) × (self.new ≡ rest) }
+        ensures read { IfSome result (λ taken. self.old ≡ taken.now ++ self.new) }
+        ensures len { IfSome result (λ taken. length taken.now ≡ count) }
+        ensures none { IfNone result (self.new ≡ self.old) }
+    {
+        let (taken, others) = self.left.split_at_checked(count)?;
+        self.left = others;
+        Some(taken)
     }
 
     /// Reads as many numbers of 16 bits as there is room for; None if fewer are left.

@@ -38,6 +38,7 @@ impl Playout {
         ensures below { IfSome result (λ done. IsBelow bound self.new) }
         ensures none { (prefill : ℕ) (before : List Call) → Stands self.old prefill before
             → IfNone result (Stands self.new prefill []) }
+        ensures none_below { (any : ℕ) → IfNone result (IsBelow any self.new) }
     {
         let loaded = self.load_parts(bound, octets);
         if loaded.is_none() {

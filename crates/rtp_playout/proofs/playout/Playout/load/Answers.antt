@@ -1,7 +1,7 @@
 use Rattle.std.proofs.Common.{◌≡◌, ℕ, Option, Bool, true, Some, None, is_some, not, false, IfNone, refl, sym, ap, ◌∙◌}
 use Rattle.circular_buffer.specs.Buffer.{buffer}
 use Rattle.rtp_playout.specs.Saved.{saved_playout}
-use Rattle.rtp_playout.proofs.Keeping.{keeps-of, stands-nothing}
+use Rattle.rtp_playout.proofs.Keeping.{keeps-of, stands-nothing, new-below}
 use Rattle.rtp_playout.proofs.Loading.{each-below, same-playout}
 use Rattle.rtp_playout.proofs.playout.Playout.load.Goals as goal
 
@@ -32,6 +32,12 @@ returns-then-is_none-clause-none c = λ prefill before stands.
     (stands-nothing _ prefill c.load_parts-loaded.new.self.window.capacity
     (c.load_parts-loaded.ensures.prefill ∙ mine.prefill_is) (c.load_parts-loaded.ensures.room ∙ mine.room)
     c.empty.ensures refl)
+
+pub returns-then-is_none-clause-none_below : goal.returns-then-is_none-clause-none_below
+returns-then-is_none-clause-none_below c = λ any.
+    if-emptied c.load_parts-loaded.result _ (record {
+      each = new-below any c.empty.new.window c.load_parts-loaded.new.self.window.capacity c.empty.ensures;
+    })
 
 pub returns-else-is_none-clause-loaded : goal.returns-else-is_none-clause-loaded
 unfolding saved_playout

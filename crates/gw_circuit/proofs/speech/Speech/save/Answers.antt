@@ -1,0 +1,11 @@
+use Rattle.gw_circuit.specs.Saved.{saved_coding, saved_packet, saved_speech}
+use Rattle.rtp_playout.specs.Saved.{saved_playout}
+use Rattle.gw_circuit.proofs.Loading.{append-three}
+use Rattle.gw_circuit.proofs.speech.Speech.save.Goals as goal
+
+pub returns-clause-octets : goal.returns-clause-octets
+unfolding saved_speech
+returns-clause-octets c =
+    let s = c.args.self.now in
+    append-three c.save.result _ (saved_coding s.kind s.payload_type s.codec) (saved_packet s.packet.items)
+    (saved_playout s.playout) _ _ _ c.in_ok-save_coding.ensures.octets c.in_ok-save_packet.ensures c.save.ensures.octets
