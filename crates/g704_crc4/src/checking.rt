@@ -33,7 +33,7 @@ pub struct Counts {
     pub blocks: u64,
     /// Errored ones among them.
     pub errored: u64,
-    /// E bits by which the far end far_end_event of one that was not right there.
+    /// E bits by which the far end reports a submultiframe that was not right there.
     pub far_end_errored: u64,
 }
 

@@ -1,4 +1,4 @@
--- The octets of a saved predictor. SEZ and SE are not among them: they are made anew of the others.
+-- The octets of a saved predictor. SEZ and SE are not among them: they are computed from the others.
 use Rattle.std.specs.Prelude.{ℕ, ◌≡◌, ◌≤◌, List, [], ◌∷◌, ◌++◌, length, map, flat_map, All, FitsSigned}
 use Rattle.std.specs.Int.{cast_unsigned, w16}
 use Rattle.saved_octets.specs.Numbers.{flag_octet, two_octets}

@@ -1,4 +1,4 @@
--- The octets of a saved adaptation. Y is not among them: it is made anew of the others.
+-- The octets of a saved adaptation. Y is not among them: it is computed from the others.
 use Rattle.std.specs.Prelude.{ℕ, ℤ, pos, ◌≤ℤ◌, List, [], ◌∷◌, ◌++◌, unsigned_abs}
 use Rattle.saved_octets.specs.Numbers.{flag_octet, two_octets, four_octets}
 use Rattle.g726_tone.specs.Adaptation.{Adaptation}

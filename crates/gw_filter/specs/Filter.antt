@@ -8,7 +8,7 @@ use Rattle.gw_records.specs.declared.outcome.RunFault.TheVariants.{Read, Write}
 use Rattle.gw_records.specs.Streams.{SourceState, SinkState, Gives, GivesUp, Breaks, at_most}
 use Rattle.gw_records.specs.Outcome.{nothing_counted}
 
--- The totals of so many octets.
+-- The totals where so many octets were read.
 abbrev pub filter_totals : ℕ → Totals
 filter_totals count = record nothing_counted { octets = at_most count }
 

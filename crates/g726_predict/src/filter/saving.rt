@@ -61,7 +61,7 @@ impl Filter {
         ]
     }
 
-    // The variables that have these numbers; None if one that stands for a word is none.
+    // The variables that have these numbers; None if a number that stands for a word is that of no word.
     fn of_numbers(numbers: [u16; 16], pk1: bool, pk2: bool) -> Option<Filter>
         ensures loaded { (s : Prediction) → PredictionFits s → numbers ≡ saved_numbers s → pk1 ≡ s.pk1
             → pk2 ≡ s.pk2 → result ≡ Some s }
