@@ -124,7 +124,13 @@ fn trunk_is_checked(rt: HostRuntime) {
     assert!(rt; checked(&[]) == right);
     // a bit of the second submultiframe; then the first E bit of the multiframe that begins at 3072, which is
     // itself a bit error
-    assert!(rt; checked(&[(3000, 0x10)]) == Tally { errored: 1, ..right });
+    assert!(rt;
+        checked(&[(3000, 0x10)])
+            == Tally {
+                errored: 1,
+                ..right
+            }
+    );
     let at_both_ends = Tally {
         errored: 1,
         far_end_errored: 1,
