@@ -1,0 +1,5 @@
+use Rattle.gw_session.proofs.Cutting.{cut_anywhere}
+use Rattle.gw_session.proofs.laws.cut_anywhere.Goals as goal
+
+pub returns : goal.returns
+returns c = cut_anywhere

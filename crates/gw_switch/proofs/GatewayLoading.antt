@@ -1,0 +1,53 @@
+-- A gateway as octets, and back.
+use Rattle.std.proofs.Common.{◌≡◌, ◌++◌, ◌+◌, ◌-◌, ◌<◌, ◌≤◌, ℕ, List, length, arith, sym, subst, append_assoc, slice_index_or}
+use Rattle.gw_switch.specs.declared.GatewayConfig.{GatewayConfig}
+use Rattle.gw_switch.specs.declared.circuits.Channel.{Channel}
+use Rattle.gw_switch.specs.declared.gateway.Gateway.{Gateway}
+use Rattle.gw_switch.specs.declared.trunk.Trunk.{Trunk}
+use Rattle.gw_switch.specs.Events.{Event, octets, view}
+use Rattle.gw_switch.specs.Whole.{spare_config}
+use Rattle.gw_switch.specs.Trunk.{HasHeard}
+use Rattle.gw_switch.specs.Standing.{Stands, CircuitsStand}
+use Rattle.gw_switch.specs.Saved.{saved_gateway, saved_trunk, saved_circuits, GatewayFits, IsSame, AreAlike}
+
+-- the octets of a gateway begin with those of its trunk
+pub gateway-octets : (g : Gateway) (all rest : List ℕ) → all ≡ saved_gateway g ++ rest
+    → all ≡ saved_trunk g.trunk ++ (saved_circuits g.circuits.channels.items ++ rest)
+unfolding saved_gateway
+gateway-octets g all rest e = rw append_assoc at e
+
+-- a gateway with the same trunk and the same circuits has the same history
+pub same-stands : (config : GatewayConfig) (g other : Gateway) (events : List Event) → g.trunk ≡ other.trunk
+    → g.circuits.channels.items ≡ other.circuits.channels.items → Stands config other events
+    → IsSame g other × Stands config g events
+unfolding Stands
+same-stands config g other events trunk circuits stands = (
+  record { trunk = trunk; circuits = circuits },
+  record {
+    trunk = subst (λ (t : Trunk). HasHeard t (octets events)) (sym trunk) stands.trunk;
+    circuits = subst (λ (cs : List Channel). CircuitsStand config cs events) (sym circuits) stands.circuits;
+  },
+)
+
+-- the circuits of two gateways of one configuration have the same laws and configurations
+pub are-alike : (config : GatewayConfig) (mine saved : Gateway) (before events : List Event) → Stands config mine before
+    → Stands config saved events → GatewayFits saved
+    → AreAlike mine.circuits.channels.items saved.circuits.channels.items
+unfolding Stands
+are-alike config mine saved before events ours theirs fits = record {
+  many = omega (arith, mine.circuits.thirty, mine.circuits.channels.ok.0, saved.circuits.thirty, saved.circuits.channels.ok.0);
+  each = λ i d e less.
+      let last : i + 1 ≤ 30 = omega (arith, mine.circuits.thirty, mine.circuits.channels.ok.0) in
+      let there : i < length saved.circuits.channels.items =
+      omega (arith, saved.circuits.thirty, saved.circuits.channels.ok.0) in
+      let number : i + 1 - 1 ≡ i = omega arith in
+      record {
+        law = config.law;
+        config = slice_index_or config.circuits i spare_config;
+        items = view (i + 1) events;
+        before = view (i + 1) before;
+        theirs = rw number at (theirs.circuits (i + 1) (omega arith) last e);
+        ours = rw number at (ours.circuits (i + 1) (omega arith) last d);
+        fits = fits.circuits i e there;
+      };
+}

@@ -1,0 +1,167 @@
+-- Slots and nibbles as octets, and back.
+use Rattle.std.proofs.Common.{◌≡◌, ◌++◌, ◌∷◌, [], ◌<◌, ◌≤◌, ◌+◌, ℕ, List, length, All, flat_map, take, refl, arith}
+use Rattle.std.proofs.Common.{sym, ap, subst, ◌∙◌, append_assoc, slice_set, slice_index_or, Option, Some, None, IfSome}
+use Rattle.std.proofs.lemmas.Grind.{take-set_at, take_at_read}
+use Rattle.std.proofs.lemmas.List.{take_all, length-take-le}
+use Rattle.std.proofs.lemmas.List.Elements.{All-push}
+use Rattle.gw_switch.specs.declared.trunk.Trunk.{Trunk}
+use Rattle.gw_switch.specs.declared.trunk.signalling.Signalling.{Signalling}
+use Rattle.gw_switch.specs.declared.trunk.saving.RemoteAlarms.{RemoteAlarms}
+use Rattle.gw_switch.specs.Saved.{saved_slot, saved_nibble, saved_slots, saved_nibbles, saved_alarms, IsNibble}
+use Rattle.gw_switch.specs.Saved.{saved_signalling, saved_trunk}
+use Rattle.g704_align.specs.Saved.{saved_aligner}
+use Rattle.g704_cas.specs.Saved.{saved_mf_aligner}
+use Rattle.saved_octets.specs.Numbers.{two_octets}
+use Rattle.saved_octets.proofs.Items.{Tells, saved-push, next-item, all-read}
+
+-- the octets of a slot, and of what is behind it, tell both
+pub slot-tells : Tells (λ slot. Unit {0}) saved_slot
+slot-tells None None r s p q e = (refl, cc)
+slot-tells None (Some w) r s p q e = absurd cc
+slot-tells (Some v) None r s p q e = absurd cc
+slot-tells (Some v) (Some w) r s p q e = let octet : v ≡ w = cc in (ap (λ (n : ℕ). Some n) octet, cc)
+
+-- the octet of a nibble, and what is behind it, tell both
+pub nibble-tells : Tells IsNibble saved_nibble
+nibble-tells None None r s p q e = (refl, cc)
+nibble-tells None (Some w) r s p q e = let same : 16 ≡ w = cc in absurd (omega arith)
+nibble-tells (Some v) None r s p q e = let same : v ≡ 16 = cc in absurd (omega arith)
+nibble-tells (Some v) (Some w) r s p q e = let nibble : v ≡ w = cc in (ap (λ (n : ℕ). Some n) nibble, cc)
+
+-- one item more of an array is read
+pub one-read : {A : Type 0} (octets : A → List ℕ) (xs : List A) (i : ℕ) (x : A) (all now left : List ℕ)
+    → all ≡ flat_map octets (take i xs) ++ now → now ≡ octets x ++ left → i < length xs
+    → all ≡ flat_map octets (take (i + 1) (slice_set xs i x)) ++ left
+one-read {A = A} octets xs i x all now left e f less =
+    let with_it : take (i + 1) (slice_set xs i x) ≡ take i xs ++ x ∷ [] =
+    take-set_at xs i (i + 1) x refl (omega arith) in
+    e ∙ ap (λ (os : List ℕ). flat_map octets (take i xs) ++ os) f
+    ∙ sym (append_assoc (flat_map octets (take i xs)) (octets x) left)
+    ∙ ap (λ (os : List ℕ). os ++ left)
+    (sym (saved-push octets (take i xs) x) ∙ ap (λ (ys : List A). flat_map octets ys) (sym with_it))
+
+-- what holds of the items that were read holds with one more
+pub one-more : {A : Type 0} (P : A → Type 0) (xs : List A) (i : ℕ) (x : A) → All P (take i xs) → P x → i < length xs
+    → All P (take (i + 1) (slice_set xs i x))
+one-more {A = A} P xs i x each p less =
+    let with_it : take (i + 1) (slice_set xs i x) ≡ take i xs ++ x ∷ [] =
+    take-set_at xs i (i + 1) x refl (omega arith) in
+    subst (λ (ys : List A). All P ys) (sym with_it) (All-push P (take i xs) x each p)
+
+-- the first items and the next one
+pub push-next : {A : Type 0} (xs : List A) (i : ℕ) (x d : A) → x ≡ slice_index_or xs i d → i < length xs
+    → take i xs ++ x ∷ [] ≡ take (i + 1) xs
+push-next {A = A} xs i x d is less =
+    ap (λ (y : A). take i xs ++ y ∷ []) is ∙ sym (take_at_read xs i d (omega arith)).1
+
+-- one item more is saved
+pub one-saved : {A : Type 0} (octets : A → List ℕ) (xs : List A) (i : ℕ) (x d : A) (old now new : List ℕ)
+    → now ≡ old ++ flat_map octets (take i xs) → new ≡ now ++ octets x → x ≡ slice_index_or xs i d → i < length xs
+    → new ≡ old ++ flat_map octets (take (i + 1) xs)
+one-saved {A = A} octets xs i x d old now new e f is less =
+    let saved = flat_map octets (take i xs) in
+    f ∙ ap (λ (os : List ℕ). os ++ octets x) e ∙ append_assoc old saved (octets x)
+    ∙ ap (λ (os : List ℕ). old ++ os) (sym (saved-push octets (take i xs) x))
+    ∙ ap (λ (ys : List A). old ++ flat_map octets ys) (push-next xs i x d is less)
+
+-- what holds of the items that were saved holds with one more
+pub one-fits : {A : Type 0} (P : A → Type 0) (xs : List A) (i : ℕ) (x d : A) → All P (take i xs)
+    → P x → x ≡ slice_index_or xs i d → i < length xs → All P (take (i + 1) xs)
+one-fits {A = A} P xs i x d each p is less =
+    subst (λ (ys : List A). All P ys) (push-next xs i x d is less) (All-push P (take i xs) x each p)
+
+-- where items are left to be read, the octets that are left begin with one of them
+pub one-left : {A : Type 0} (P : A → Type 0) (octets : A → List ℕ) (xs saved : List A) (i : ℕ) (all now rest : List ℕ)
+    → Tells P octets → All P (take i xs) → All P saved → all ≡ flat_map octets (take i xs) ++ now
+    → all ≡ flat_map octets saved ++ rest → length saved ≡ length xs → i < length xs
+    → (y : A) × (others : List A) × P y × (now ≡ octets y ++ (flat_map octets others ++ rest))
+one-left P octets xs saved i all now rest tells each those e f size less =
+    let many : length (take i xs) ≡ i = length-take-le i xs (omega arith) in
+    next-item P octets (take i xs) saved now rest tells each those (sym e ∙ f) (omega arith)
+
+-- where none is left, they are those that were saved
+pub none-left : {A : Type 0} (P : A → Type 0) (octets : A → List ℕ) (xs saved : List A) (i : ℕ) (all now rest : List ℕ)
+    → Tells P octets → All P (take i xs) → All P saved → all ≡ flat_map octets (take i xs) ++ now
+    → all ≡ flat_map octets saved ++ rest → length saved ≡ length xs → length xs ≤ i
+    → (xs ≡ saved) × (now ≡ rest)
+none-left P octets xs saved i all now rest tells each those e f size over =
+    let whole = take_all i xs over in
+    all-read P octets xs saved now rest tells (rw whole at each) those (sym (rw whole at e) ∙ f) (sym size)
+
+-- two parts, and what is behind them
+pub two-parts : (a b all rest : List ℕ) → all ≡ (a ++ b) ++ rest → all ≡ a ++ (b ++ rest)
+two-parts a b all rest e = e ∙ append_assoc a b rest
+
+-- three parts, and what is behind them
+pub three-parts : (a b c all rest : List ℕ) → all ≡ (a ++ b ++ c) ++ rest → all ≡ a ++ (b ++ (c ++ rest))
+three-parts a b c all rest e = e ∙ append_assoc (a ++ b) c rest ∙ append_assoc a b (c ++ rest)
+
+-- three parts are read one after the other
+pub read-three : (a b c all one two rest : List ℕ) → all ≡ a ++ one → one ≡ b ++ two → two ≡ c ++ rest
+    → all ≡ (a ++ b ++ c) ++ rest
+read-three a b c all one two rest e f g =
+    e ∙ ap (λ (os : List ℕ). a ++ os) (f ∙ ap (λ (os : List ℕ). b ++ os) g)
+    ∙ sym (append_assoc (a ++ b) c rest ∙ append_assoc a b (c ++ rest))
+
+-- the octets of what is received in the slots 0 and 16, and what is behind them
+pub signalling-octets : (s : Signalling) (all rest : List ℕ) → all ≡ saved_signalling s ++ rest
+    → all ≡ saved_mf_aligner s.multiframe
+    ++ (saved_nibbles s.nibbles ++ (saved_alarms s.remote_frame s.remote_multiframe ++ rest))
+unfolding saved_signalling
+signalling-octets s all rest e =
+    three-parts (saved_mf_aligner s.multiframe) (saved_nibbles s.nibbles)
+    (saved_alarms s.remote_frame s.remote_multiframe) all rest e
+
+-- signalling by its parts
+pub same-signalling : (one other : Signalling) (alarms : RemoteAlarms) → Some one.multiframe ≡ Some other.multiframe
+    → one.nibbles ≡ other.nibbles
+    → Some alarms ≡ Some (record { frame = other.remote_frame; multiframe = other.remote_multiframe })
+    → one.remote_frame ≡ alarms.frame → one.remote_multiframe ≡ alarms.multiframe → one ≡ other
+same-signalling one other alarms multiframe nibbles told frame multi =
+    let both : alarms ≡ record { frame = other.remote_frame; multiframe = other.remote_multiframe } = cc told in
+    let first : one.remote_frame ≡ other.remote_frame = frame ∙ ap (λ (a : RemoteAlarms). a.frame) both in
+    let second : one.remote_multiframe ≡ other.remote_multiframe = multi ∙ ap (λ (a : RemoteAlarms). a.multiframe) both in
+    let aligner : one.multiframe ≡ other.multiframe = cc multiframe in
+    λ i. record {
+      multiframe = aligner i;
+      nibbles = nibbles i;
+      remote_frame = first i;
+      remote_multiframe = second i;
+    }
+
+-- the octets of a trunk, and what is behind them
+pub trunk-octets : (t : Trunk) (all rest : List ℕ) → all ≡ saved_trunk t ++ rest
+    → all ≡ saved_aligner t.aligner
+    ++ (two_octets t.position ++ (saved_slots t.octets ++ (saved_signalling t.signalling ++ rest)))
+unfolding saved_trunk
+trunk-octets t all rest e =
+    let tail = saved_slots t.octets ++ (saved_signalling t.signalling ++ rest) in
+    three-parts (saved_aligner t.aligner ++ two_octets t.position) (saved_slots t.octets)
+    (saved_signalling t.signalling) all rest e
+    ∙ append_assoc (saved_aligner t.aligner) (two_octets t.position) tail
+
+-- a trunk by its parts
+pub same-trunk : (one other : Trunk) → Some one.aligner ≡ Some other.aligner → Some one.position ≡ Some other.position
+    → one.octets ≡ other.octets → one.signalling ≡ other.signalling → one ≡ other
+same-trunk one other aligner position octets signalling =
+    let aligned : one.aligner ≡ other.aligner = cc aligner in
+    let counted : one.position ≡ other.position = cc position in
+    λ i. record {
+      aligner = aligned i;
+      octets = octets i;
+      signalling = signalling i;
+      position = counted i;
+    }
+
+-- the parts of a trunk are read one after the other
+pub trunk-read : (t : Trunk) (all one two three rest : List ℕ) → all ≡ saved_aligner t.aligner ++ one
+    → one ≡ two_octets t.position ++ two → two ≡ saved_slots t.octets ++ three
+    → (result : Option (Unit {0})) → IfSome result (λ done. three ≡ saved_signalling t.signalling ++ rest)
+    → IfSome result (λ done. all ≡ saved_trunk t ++ rest)
+unfolding saved_trunk
+trunk-read t all one two three rest a p o None s = tt
+trunk-read t all one two three rest a p o (Some done) s =
+    read-three (saved_aligner t.aligner ++ two_octets t.position) (saved_slots t.octets) (saved_signalling t.signalling)
+    all two three rest
+    (a ∙ ap (λ (os : List ℕ). saved_aligner t.aligner ++ os) p
+    ∙ sym (append_assoc (saved_aligner t.aligner) (two_octets t.position) two)) o s

@@ -1,0 +1,9 @@
+use Rattle.std.proofs.Common.{◌≡◌, ◌++◌, take, All}
+use Rattle.gw_switch.specs.Saved.{saved_circuits, ChannelFits}
+use Rattle.gw_switch.proofs.circuits.Circuits.save.Given as goal
+
+abbrev pub invariant-loop-channel : goal.invariant-loop-channel
+invariant-loop-channel l = record {
+  octets : l.out.items ≡ l.initial.out.items ++ saved_circuits (take l.channel-index l.self.channels.items);
+  fits : All ChannelFits (take l.channel-index l.self.channels.items);
+}

@@ -1,0 +1,7 @@
+use Rattle.std.proofs.Common.{◌≡◌, ◌++◌, take}
+use Rattle.gw_switch.specs.Saved.{saved_slots}
+use Rattle.gw_switch.proofs.trunk.saving.save_slots.Given as goal
+
+abbrev pub invariant-loop-slot : goal.invariant-loop-slot
+invariant-loop-slot l =
+    l.out.items ≡ l.initial.out.items ++ saved_slots (take l.slot-index l.slots)
