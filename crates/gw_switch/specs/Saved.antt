@@ -9,6 +9,9 @@ use Rattle.gw_circuit.specs.declared.config.CircuitConfig.{CircuitConfig}
 use Rattle.gw_circuit.specs.Items.{Item}
 use Rattle.gw_circuit.specs.Saved.{saved_circuit, CircuitFits}
 use Rattle.gw_circuit.specs.Standing.{Stands}
+use Rattle.gw_switch.specs.declared.GatewayConfig.{GatewayConfig}
+use Rattle.gw_switch.specs.Events.{Event}
+use Rattle.gw_switch.specs.Standing as gateway
 use Rattle.gw_switch.specs.declared.circuits.Channel.{Channel}
 use Rattle.gw_switch.specs.declared.gateway.Gateway.{Gateway}
 use Rattle.gw_switch.specs.declared.trunk.Trunk.{Trunk}
@@ -77,6 +80,11 @@ pub record GatewayFits (g : Gateway) : Type 0 where
 pub record IsSame (g other : Gateway) : Type 0 where
   pub trunk : g.trunk ≡ other.trunk
   pub circuits : g.circuits.channels.items ≡ other.circuits.channels.items
+
+-- a gateway in the state of another one has its history
+abbrev pub SameStatesHaveOneHistory : Type 0
+SameStatesHaveOneHistory = (config : GatewayConfig) (g other : Gateway) (events : List Event) → IsSame g other
+    → gateway.Stands config other events → gateway.Stands config g events
 
 -- A saved circuit has the law and the configuration of the one that reads it.
 pub record IsAlike (mine saved : Channel) : Type 0 where
