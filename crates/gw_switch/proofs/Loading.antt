@@ -13,6 +13,7 @@ use Rattle.g704_align.specs.Saved.{saved_aligner}
 use Rattle.g704_cas.specs.Saved.{saved_mf_aligner}
 use Rattle.saved_octets.specs.Numbers.{two_octets}
 use Rattle.saved_octets.proofs.Items.{Tells, saved-push, next-item, all-read}
+use Rattle.gw_circuit.proofs.Loading.{three-parts, read-three}
 
 -- the octets of a slot, and of what is behind it, tell both
 pub slot-tells : Tells (λ slot. Unit {0}) saved_slot
@@ -88,29 +89,14 @@ none-left P octets xs saved i all now rest tells each those e f size over =
     let whole = take_all i xs over in
     all-read P octets xs saved now rest tells (rw whole at each) those (sym (rw whole at e) ∙ f) (sym size)
 
--- two parts, and what is behind them
-pub two-parts : (a b all rest : List ℕ) → all ≡ (a ++ b) ++ rest → all ≡ a ++ (b ++ rest)
-two-parts a b all rest e = e ∙ append_assoc a b rest
-
--- three parts, and what is behind them
-pub three-parts : (a b c all rest : List ℕ) → all ≡ (a ++ b ++ c) ++ rest → all ≡ a ++ (b ++ (c ++ rest))
-three-parts a b c all rest e = e ∙ append_assoc (a ++ b) c rest ∙ append_assoc a b (c ++ rest)
-
--- three parts are read one after the other
-pub read-three : (a b c all one two rest : List ℕ) → all ≡ a ++ one → one ≡ b ++ two → two ≡ c ++ rest
-    → all ≡ (a ++ b ++ c) ++ rest
-read-three a b c all one two rest e f g =
-    e ∙ ap (λ (os : List ℕ). a ++ os) (f ∙ ap (λ (os : List ℕ). b ++ os) g)
-    ∙ sym (append_assoc (a ++ b) c rest ∙ append_assoc a b (c ++ rest))
-
 -- the octets of what is received in the slots 0 and 16, and what is behind them
 pub signalling-octets : (s : Signalling) (all rest : List ℕ) → all ≡ saved_signalling s ++ rest
     → all ≡ saved_mf_aligner s.multiframe
     ++ (saved_nibbles s.nibbles ++ (saved_alarms s.remote_frame s.remote_multiframe ++ rest))
 unfolding saved_signalling
 signalling-octets s all rest e =
-    three-parts (saved_mf_aligner s.multiframe) (saved_nibbles s.nibbles)
-    (saved_alarms s.remote_frame s.remote_multiframe) all rest e
+    e ∙ three-parts (saved_mf_aligner s.multiframe) (saved_nibbles s.nibbles)
+    (saved_alarms s.remote_frame s.remote_multiframe) rest
 
 -- signalling by its parts
 pub same-signalling : (one other : Signalling) (alarms : RemoteAlarms) → Some one.multiframe ≡ Some other.multiframe
@@ -136,8 +122,9 @@ pub trunk-octets : (t : Trunk) (all rest : List ℕ) → all ≡ saved_trunk t +
 unfolding saved_trunk
 trunk-octets t all rest e =
     let tail = saved_slots t.octets ++ (saved_signalling t.signalling ++ rest) in
-    three-parts (saved_aligner t.aligner ++ two_octets t.position) (saved_slots t.octets)
-    (saved_signalling t.signalling) all rest e
+    e
+    ∙ three-parts (saved_aligner t.aligner ++ two_octets t.position) (saved_slots t.octets)
+    (saved_signalling t.signalling) rest
     ∙ append_assoc (saved_aligner t.aligner) (two_octets t.position) tail
 
 -- a trunk by its parts

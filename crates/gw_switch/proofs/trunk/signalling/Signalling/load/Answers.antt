@@ -1,6 +1,7 @@
 use Rattle.std.proofs.Common.{◌++◌, refl}
 use Rattle.gw_switch.specs.Saved.{saved_signalling, saved_nibbles, saved_alarms}
-use Rattle.gw_switch.proofs.Loading.{signalling-octets, same-signalling, read-three}
+use Rattle.gw_circuit.proofs.Loading.{read-three}
+use Rattle.gw_switch.proofs.Loading.{signalling-octets, same-signalling}
 use Rattle.gw_switch.proofs.trunk.signalling.Signalling.load.Goals as goal
 
 pub returns-in_err-self-clause-loaded : goal.returns-in_err-self-clause-loaded
