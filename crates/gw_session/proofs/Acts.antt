@@ -32,21 +32,23 @@ acts_put : (spells : Spells) (w w' : World) (o : Output) (out : List ℕ) {r : R
     × (first ++ out ≡ w.output.waiting ++ written_for spells config before on.act))
     → o.sink.failures ≡ w.output.sink.failures
     → Puts o.sink w'.output.sink w'.output.waiting (o.waiting ++ out) result → Acts spells w w' r result
-acts_put spells w w' o out (Ok u) on first kept puts = record {
-  acts = on;
-  passes = λ config before h.
-      let f = first config before h in
-      Passes-same _ _ _ _ _ f.2 (Passes-join _ _ _ _ _ _ _ f.1 puts.0);
-  no_failure = puts.1 ∙ kept;
-}
+acts_put spells w w' o out (Ok u) on first kept puts = (
+  record {
+    acts = on;
+    took = λ config before h.
+        let f = first config before h in
+        Passes-same _ _ _ _ _ f.2 (Passes-join _ _ _ _ _ _ _ f.1 puts.0);
+  },
+  puts.1 ∙ kept,
+)
 acts_put spells w w' o out (Err e) on first kept puts = (
   puts.0,
+  omega (arith, kept, puts.1.counted),
   inl (record {
     acts = on;
     took = λ config before h.
         let f = first config before h in
         AppendsPrefix-same _ _ _ _ f.2 (AppendsPrefix-behind _ _ _ _ _ _ f.1 puts.1.took);
-    failed = omega (arith, kept, puts.1.counted);
   }),
 )
 

@@ -17,9 +17,9 @@ use Rattle.gw_session.specs.Outlet.{Spells}
 use Rattle.gw_records.specs.Ports.{Waiting, PortsState, IfKnown, Grows, TakesOut, KeepsSends, KeepsReceives}
 use Rattle.gw_records.specs.Ports.{counted}
 use Rattle.gw_session.specs.Serve.{Act, Turn, told, octet_of, turns_of, events_in, events_of_turns, answer_to}
-use Rattle.gw_session.specs.Serve.{Goes, Follows, Trades, Stop, StopsSo, as_call, receives_of, send_of}
+use Rattle.gw_session.specs.Serve.{Goes, SessionTrace, Trades, Stop, StopsSo, as_call, receives_of, send_of}
 use Rattle.gw_session.specs.Serve.{of_circuit, coming, first_four, behind_four, LeavesOut, packets_for}
-use Rattle.gw_session.specs.Serve.{octets_for, dropped_for, turns, events_through, but_last}
+use Rattle.gw_session.specs.Serve.{octets_for, dropped_for}
 use Rattle.gw_session.specs.Tape.{TapeState, Recorded, RecordedBut}
 use Rattle.gw_session.specs.World.{State, Output, World}
 
@@ -156,7 +156,7 @@ pub record Exchanges (spells : Spells) (s s' : State) (o o' : Output) (octets se
 
 -- A write of what a packet puts failed when the gateway had heard the first octets, and a prefix of what
 -- waited and of what their packets put was taken.
-pub record StopsAt (spells : Spells) (s s' : State) (o o' : Output) (octets : List ℕ) : Type 0 where
+pub record StopsAt (spells : Spells) (s s' : State) (o : Output) (sink' : SinkState) (octets : List ℕ) : Type 0 where
   pub turns : List Turn
   pub rest : List ℕ
   pub split : octets ≡ map octet_of turns ++ rest
@@ -164,9 +164,9 @@ pub record StopsAt (spells : Spells) (s s' : State) (o o' : Output) (octets : Li
   pub stands : (config : GatewayConfig) (before : List Event) → Stands config s.gateway before
       → Stands config s'.gateway (before ++ events_of_turns turns)
   pub took : (config : GatewayConfig) (before : List Event) → Stands config s.gateway before
-      → AppendsPrefix o.sink.taken o'.sink.taken
+      → AppendsPrefix o.sink.taken sink'.taken
       (o.waiting ++ spelled_for spells config before (events_of_turns turns))
-  pub failed : o.sink.failures < o'.sink.failures
+  pub failed : o.sink.failures < sink'.failures
   pub packet : ℕ × List ℕ
   pub some : 0 < length (spells packet)
 
@@ -176,7 +176,7 @@ abbrev pub ExchangingAll : {T : Type 0} → Spells → World → World → List 
 ExchangingAll spells w w' octets answer answer' result = MatchResult result
     (λ _. (sent : List ℕ) × (x : Exchanges spells w.state w'.state w.output w'.output octets sent)
     × (answer' ≡ answer ++ sent) × Recorded w.tape w'.tape (events_of_turns x.turns))
-    (λ e. (e ≡ Write) × StopsAt spells w.state w'.state w.output w'.output octets)
+    (λ e. (e ≡ Write) × StopsAt spells w.state w'.state w.output w'.output.sink octets)
 
 -- datagrams came so far, with no failed receive
 pub record Receiving (s s' : State) (circuit : ℕ) (came : List (List ℕ)) : Type 0 where
@@ -198,70 +198,38 @@ pub record ActsOn (s s' : State) (tape tape' : TapeState) (r : Record) : Type 0 
   pub octets : s'.totals.octets ≡ counted s.totals.octets (length (turns_of act))
   pub recorded : Recorded tape tape' (events_in act)
 
--- .. and all that is put for it passes
-pub record Finishes (spells : Spells) (w w' : World) (r : Record) : Type 0 where
-  pub acts : ActsOn w.state w'.state w.tape w'.tape r
-  pub passes : (config : GatewayConfig) (before : List Event) → Stands config w.state.gateway before
-      → Passes w.output.sink.taken w'.output.sink.taken w'.output.waiting
-      (w.output.waiting ++ written_for spells config before acts.act)
-  pub no_failure : w'.output.sink.failures ≡ w.output.sink.failures
-
--- .. or a write failed when it was done, and a prefix of that was taken
-pub record Unwritten (spells : Spells) (w w' : World) (r : Record) : Type 0 where
+-- .. and this is known of what waited and of all that is put for it
+pub record ActTrace (spells : Spells) (w w' : World) (r : Record) (Took : List ℕ → Type 0) : Type 0 where
   pub acts : ActsOn w.state w'.state w.tape w'.tape r
   pub took : (config : GatewayConfig) (before : List Event) → Stands config w.state.gateway before
-      → AppendsPrefix w.output.sink.taken w'.output.sink.taken
-      (w.output.waiting ++ written_for spells config before acts.act)
-  pub failed : w.output.sink.failures < w'.output.sink.failures
+      → Took (w.output.waiting ++ written_for spells config before acts.act)
 
--- .. or when the first octets of a trunk record were heard
-pub record Cut (spells : Spells) (w w' : World) (r : Record) : Type 0 where
-  pub octets : List ℕ
-  pub is_trunk : r ≡ Record.Trunk octets
-  pub stops : StopsAt spells w.state w'.state w.output w'.output octets
-
--- a record was acted on, or a write failed in it
+-- A record was acted on; or a write failed in it, when it was done or when the first octets of a trunk record
+-- were heard.
 abbrev pub Acts : Spells → World → World → Record → Result (Unit {0}) RunFault → Type 0
 Acts spells w w' r result = MatchResult result
-    (λ _. Finishes spells w w' r)
-    (λ e. (e ≡ Write) × (Unwritten spells w w' r ⊎ Cut spells w w' r))
+    (λ _. ActTrace spells w w' r (Passes w.output.sink.taken w'.output.sink.taken w'.output.waiting)
+    × (w'.output.sink.failures ≡ w.output.sink.failures))
+    (λ e. (e ≡ Write) × (w.output.sink.failures < w'.output.sink.failures)
+    × (ActTrace spells w w' r (AppendsPrefix w.output.sink.taken w'.output.sink.taken)
+    ⊎ ((octets : List ℕ) × (r ≡ Record.Trunk octets)
+    × StopsAt spells w.state w'.state w.output w'.output.sink octets)))
 
--- the ports and the gateway went through the acts of records, which were recorded, and this is known of what
--- is put for all but the last, and of all that is put
-pub record Through (spells : Spells) (s s' : State) (tape tape' : TapeState) (Took : List ℕ → List ℕ → Type 0)
-    (records : List Record) : Type 0 where
-  pub acts : List Act
-  pub told_are : map told acts ≡ records
-  pub follows : Follows s s' tape tape' acts
-  pub took : (config : GatewayConfig) (before : List Event) → Stands config s.gateway before
-      → Took (written_by spells config before (but_last acts)) (written_by spells config before acts)
-
--- .. but for the last record, which was cut: of that, the first turns
-pub record CutThrough (late : ℕ) (spells : Spells) (s s' : State) (sink sink' : SinkState)
-    (begun : List Record) : Type 0 where
+-- a session but for the last record, in which a write failed when its first octets were heard, and when this many
+-- octets waited at most before it
+pub record CutTrace (late : ℕ) (spells : Spells) (w w' : World) (begun : List Record) : Type 0 where
   pub records : List Record
   pub octets : List ℕ
   pub all : begun ≡ records ++ Record.Trunk octets ∷ []
-  pub acts : List Act
-  pub told_are : map told acts ≡ records
-  pub between : State
-  pub goes : Goes s between (turns acts) (events_through acts)
-  pub turns : List Turn
-  pub rest : List ℕ
-  pub split : octets ≡ map octet_of turns ++ rest
-  pub trades : Trades between.ports s'.ports turns
-  pub stands : (config : GatewayConfig) (before : List Event) → Stands config s.gateway before
-      → Stands config s'.gateway (before ++ (events_through acts ++ events_of_turns turns))
-  pub took : (config : GatewayConfig) (before : List Event) → Stands config s.gateway before
-      → AppendsBut late sink.taken sink'.taken (written_by spells config before acts)
-      (written_by spells config before acts
-      ++ spelled_for spells config (before ++ events_through acts) (events_of_turns turns))
-  pub packet : ℕ × List ℕ
-  pub some : 0 < length (spells packet)
+  pub between : World
+  pub trace : SessionTrace (written_by spells) w.state between.state w.tape between.tape
+      (λ first. Passes w.output.sink.taken between.output.sink.taken between.output.waiting) records
+  pub few : length between.output.waiting ≤ late
+  pub stops : StopsAt spells between.state w'.state between.output w'.output.sink octets
 
--- so much was done of records in which a write failed, when so many octets waited at most
-abbrev pub Begun : ℕ → Spells → World → (Totals → World) → List Record → Type 0
-Begun late spells w end records = (totals : Totals) × (((0 < length records)
-    × Through spells w.state (end totals).state w.tape (end totals).tape
+-- a session up to a write that failed, when this many octets waited at most
+abbrev pub TraceToWriteError : ℕ → Spells → World → (Totals → World) → List Record → Type 0
+TraceToWriteError late spells w end records = (totals : Totals) × (((0 < length records)
+    × SessionTrace (written_by spells) w.state (end totals).state w.tape (end totals).tape
     (AppendsBut late w.output.sink.taken (end totals).output.sink.taken) records)
-    ⊎ CutThrough late spells w.state (end totals).state w.output.sink (end totals).output.sink records)
+    ⊎ CutTrace late spells w (end totals) records)
