@@ -1,24 +1,18 @@
 -- Acts one after another.
-use Rattle.std.proofs.Common.{◌≡◌, ◌⊎◌, inl, inr, ◌+◌, ◌-◌, ◌<◌, ◌≤◌, ℕ, zero, suc, Option, List, [], ◌∷◌, ◌++◌, length}
-use Rattle.std.proofs.Common.{take, drop, refl, ap, ◌∙◌, append_assoc, append-nil, length-append, arith}
-use Rattle.std.specs.Io.KnownBytes.{Appends}
-use Rattle.std.proofs.lemmas.List.{map_push, drop-take, flat_map_more}
-use Rattle.gw_switch.specs.declared.GatewayConfig.{GatewayConfig}
-use Rattle.gw_switch.specs.Events.{Event, octets}
-use Rattle.gw_switch.specs.Standing.{Stands}
+use Rattle.gw_session.proofs.Common.{◌≡◌, ◌⊎◌, inl, inr, ◌+◌, ◌-◌, ◌<◌, ◌≤◌, ℕ, zero, suc, Option, List, [], ◌∷◌, ◌++◌}
+use Rattle.gw_session.proofs.Common.{length, take, drop, refl, ap, ◌∙◌, append_assoc, append-nil, length-append, arith}
+use Rattle.gw_session.proofs.Common.{Appends, map_push, flat_map_more, GatewayConfig, Event, octets, Stands, Kinds}
+use Rattle.gw_session.proofs.Common.{Record, IsGood, record_at, SinkState, Passes, Breaks, AppendsBut, AppendsPrefix}
+use Rattle.gw_session.proofs.Common.{Passes-appended, Passes-empty, Passes-join, Appends-join, AppendsBut-behind}
+use Rattle.gw_session.proofs.Common.{all_kinds, Spells, Act, told, turns_of, turns, events_in, events_through, Follows}
+use Rattle.gw_session.proofs.Common.{but_last, SessionTrace, written_for, written_by, ActsOn, StopsAt, CutTrace}
+use Rattle.gw_session.proofs.Common.{TapeState, State, Output}
+use Rattle.std.proofs.lemmas.List.{drop-take}
 use Rattle.gw_records.specs.declared.records.First.{First}
-use Rattle.gw_records.specs.declared.records.Kinds.{Kinds}
-use Rattle.gw_records.specs.Records.{Record, IsGood, named, record_at}
-use Rattle.gw_records.specs.Streams.{SinkState, Passes, Breaks, AppendsBut, AppendsPrefix}
-use Rattle.gw_records.proofs.Writes.{Passes-start, Passes-appended, Passes-empty, Passes-join, Appends-join}
-use Rattle.gw_records.proofs.Writes.{AppendsBut-behind}
-use Rattle.gw_session.specs.Running.{all_kinds}
-use Rattle.gw_session.specs.Outlet.{Spells}
-use Rattle.gw_session.specs.Serve.{Act, told, turns_of, turns, events_in, events_through, Follows, but_last, SessionTrace}
-use Rattle.gw_session.specs.Exchange.{written_for, written_by, ActsOn, ActTrace, StopsAt, CutTrace}
-use Rattle.gw_session.specs.Tape.{TapeState}
-use Rattle.gw_session.specs.World.{State, Output}
-use Rattle.gw_session.proofs.Turns.{Goes-none, Goes-join, counted-more, octets-append, turns_have_octets}
+use Rattle.gw_records.specs.Records.{named}
+use Rattle.gw_records.proofs.Writes.{Passes-start}
+use Rattle.gw_session.specs.Exchange.{ActTrace}
+use Rattle.gw_session.proofs.Turns.{TurnTrace-none, TurnTrace-join, counted-more, octets-append, turns_have_octets}
 use Rattle.gw_session.proofs.Taping.{recorded_none, recorded_join}
 
 -- the record that stands first, by its body in what is held
@@ -53,7 +47,7 @@ follows_more : {s s' s'' : State} {x y z : TapeState} {acts : List Act} {r : Rec
     → (q : ActsOn s' s'' y z r) → Follows s s'' x z (acts ++ q.act ∷ [])
 follows_more {s = s} {acts = acts} p q = record {
   goes = rw (← flat_map_more turns_of [] acts q.act, ← flat_map_more events_in [] acts q.act)
-      (Goes-join _ _ _ _ _ _ _ (acts_octets acts) p.goes q.goes);
+      (TurnTrace-join _ _ _ _ _ _ _ (acts_octets acts) p.goes q.goes);
   records = rw (length-append acts (q.act ∷ []))
       (counted-more s.totals.records _ _ (length acts) 1 p.records q.records);
   trunk_octets = rw (← flat_map_more turns_of [] acts q.act, length-append (turns acts) (turns_of q.act))
@@ -116,7 +110,7 @@ pub through_none : (spells : Spells) {s : State} {tape : TapeState} {o : Option 
 through_none spells none = record {
   acts = [];
   told_are = refl;
-  follows = record { goes = Goes-none _; records = refl; trunk_octets = refl; recorded = recorded_none _ };
+  follows = record { goes = TurnTrace-none _; records = refl; trunk_octets = refl; recorded = recorded_none _ };
   took = λ config before at. Passes-start _ _ none;
 }
 
@@ -126,7 +120,8 @@ module _ (spells : Spells) {s s' : State} {x y : TapeState} {records : List Reco
     -- what is known of what was put
     through_as : {Took More : List ℕ → List ℕ → Type 0}
         → ((first xs : List ℕ) → length first ≤ length xs → Took first xs → More first xs)
-        → SessionTrace (written_by spells) s s' x y Took records → SessionTrace (written_by spells) s s' x y More records
+        → SessionTrace (written_by spells) s s' x y Took records
+        → SessionTrace (written_by spells) s s' x y More records
     through_as f p = record {
       acts = p.acts;
       told_are = p.told_are;
@@ -151,7 +146,8 @@ module _ (spells : Spells) {s s' : State} {x y : TapeState} {records : List Reco
 
     -- .. or a write of what waits failed
     pub waiting_failed : (late : ℕ) {o : Option (List ℕ)} {b c : SinkState} {w : List ℕ} → length w ≤ late
-        → SessionTrace (written_by spells) s s' x y (λ first xs. Passes o b.taken w xs) records → 0 < length records → Breaks b c w
+        → SessionTrace (written_by spells) s s' x y (λ first xs. Passes o b.taken w xs) records
+        → 0 < length records → Breaks b c w
         → (0 < length records) × SessionTrace (written_by spells) s s' x y (AppendsBut late o c.taken) records
     waiting_failed late {o} {b} {c} {w} few p some breaks =
         (some, through_as (λ first xs less took. waiting_cut late o b c w first xs few less took breaks) p)

@@ -1,15 +1,10 @@
 -- Sessions whose packets put nothing in front of the answers.
-use Rattle.std.proofs.Common.{◌≡◌, inl, inr, ℕ, List, [], ◌∷◌, ◌++◌, flat_map, refl, arith}
-use Rattle.gw_switch.specs.declared.GatewayConfig.{GatewayConfig}
-use Rattle.gw_switch.specs.Events.{Event}
-use Rattle.gw_records.specs.declared.outcome.Totals.{Totals}
-use Rattle.gw_records.specs.Records.{Record}
-use Rattle.gw_records.specs.Streams.{SinkState, AppendsBut}
+use Rattle.gw_session.proofs.Common.{◌≡◌, inl, inr, ℕ, List, [], ◌∷◌, ◌++◌, flat_map, refl, arith, GatewayConfig, Event}
+use Rattle.gw_session.proofs.Common.{Totals, Record, SinkState, AppendsBut, Act, events_in, packets_for, written}
+use Rattle.gw_session.proofs.Common.{but_last, SessionTrace, spelled_for, written_for, written_by, TraceToWriteError}
+use Rattle.gw_session.proofs.Common.{TapeState, State}
 use Rattle.gw_session.specs.Outlet.{silent}
-use Rattle.gw_session.specs.Serve.{Act, events_in, packets_for, written, but_last, SessionTrace}
-use Rattle.gw_session.specs.Exchange.{spelled_for, written_for, written_by, TraceToWriteError}
-use Rattle.gw_session.specs.Tape.{TapeState}
-use Rattle.gw_session.specs.World.{State, output_of}
+use Rattle.gw_session.specs.World.{output_of}
 
 -- packets that put nothing give no octets
 nothing_put : (ps : List (ℕ × List ℕ)) → flat_map silent ps ≡ []

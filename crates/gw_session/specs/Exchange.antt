@@ -1,23 +1,17 @@
 -- What the parts of a session do, for the private functions of modules `exchange`, `act` and `attend`.
-use Rattle.std.specs.Prelude.{◌≡◌, ◌⊎◌, ◌<◌, ◌≤◌, ◌++◌, ℕ, List, [], ◌∷◌, length, map, drop, Option, Bool}
-use Rattle.std.specs.Prelude.{true, false, Some, Result, MatchResult}
-use Rattle.std.specs.List.{flat_map}
-use Rattle.gw_switch.specs.declared.GatewayConfig.{GatewayConfig}
-use Rattle.gw_switch.specs.declared.gateway.Gateway.{Gateway}
-use Rattle.gw_switch.specs.Events.{Event, octets}
-use Rattle.gw_switch.specs.Standing.{Stands}
-use Rattle.gw_switch.specs.Whole.{reply_to, octet_reply, next_circuit}
-use Rattle.gw_records.specs.declared.outcome.Totals.{Totals}
-use Rattle.gw_records.specs.declared.outcome.RunFault.{RunFault}
+use Rattle.gw_session.specs.Prelude.{◌≡◌, ◌⊎◌, ◌<◌, ◌≤◌, ◌++◌, ℕ, List, [], ◌∷◌, length, map, drop, Option}
+use Rattle.gw_session.specs.Prelude.{Bool, true, false, Some, Result, MatchResult, flat_map, GatewayConfig}
+use Rattle.gw_session.specs.Prelude.{Gateway, Event, octets, Stands, next_circuit, Totals, RunFault, Record}
+use Rattle.gw_session.specs.Prelude.{SinkState, AppendsPrefix, AppendsBut, Waiting, PortsState, IfKnown}
+use Rattle.gw_session.specs.Prelude.{Grows, counted}
+use Rattle.gw_switch.specs.Whole.{reply_to, octet_reply}
 use Rattle.gw_records.specs.declared.outcome.RunFault.TheVariants.{Write}
-use Rattle.gw_records.specs.Records.{Record}
-use Rattle.gw_records.specs.Streams.{SinkState, AppendsPrefix, AppendsBut, Passes, Breaks}
+use Rattle.gw_records.specs.Streams.{Passes, Breaks}
 use Rattle.gw_session.specs.Answers.{code_of, packet_in}
 use Rattle.gw_session.specs.Outlet.{Spells}
-use Rattle.gw_records.specs.Ports.{Waiting, PortsState, IfKnown, Grows, TakesOut, KeepsSends, KeepsReceives}
-use Rattle.gw_records.specs.Ports.{counted}
+use Rattle.gw_records.specs.Ports.{TakesOut, KeepsSends, KeepsReceives}
 use Rattle.gw_session.specs.Serve.{Act, Turn, told, octet_of, turns_of, events_in, events_of_turns, answer_to}
-use Rattle.gw_session.specs.Serve.{Goes, SessionTrace, Trades, Stop, StopsSo, as_call, receives_of, send_of}
+use Rattle.gw_session.specs.Serve.{TurnTrace, SessionTrace, PortTrace, Stop, StopsSo, as_call, receives_of, send_of}
 use Rattle.gw_session.specs.Serve.{of_circuit, coming, first_four, behind_four, LeavesOut, packets_for}
 use Rattle.gw_session.specs.Serve.{octets_for, dropped_for}
 use Rattle.gw_session.specs.Tape.{TapeState, Recorded, RecordedBut}
@@ -114,7 +108,7 @@ pub record SendsPacket (ports ports' : PortsState) (totals totals' : Totals) (pa
 
 -- the gateway heard an octet and sends this one, the packet that it sends with it went to the outlet, and
 -- what that puts passes
-pub record SendsBack (spells : Spells) (s s' : State) (o o' : Output) (octet sent : ℕ) : Type 0 where
+pub record OctetTrace (spells : Spells) (s s' : State) (o o' : Output) (octet sent : ℕ) : Type 0 where
   pub packet : Option (ℕ × List ℕ)
   pub sends : SendsPacket s.ports s'.ports s.totals s'.totals packet
   pub hears : (config : GatewayConfig) (before : List Event) → Stands config s.gateway before
@@ -125,7 +119,7 @@ pub record SendsBack (spells : Spells) (s s' : State) (o o' : Output) (octet sen
   pub no_failure : o'.sink.failures ≡ o.sink.failures
 
 -- the gateway heard an octet, and a write of what its packet puts failed
-pub record Misses (spells : Spells) (s s' : State) (o o' : Output) (octet : ℕ) : Type 0 where
+pub record PacketWriteError (spells : Spells) (s s' : State) (o o' : Output) (octet : ℕ) : Type 0 where
   pub packet : ℕ × List ℕ
   pub some : 0 < length (spells packet)
   pub kept : s'.ports ≡ s.ports
@@ -136,8 +130,8 @@ pub record Misses (spells : Spells) (s s' : State) (o o' : Output) (octet : ℕ)
 
 abbrev pub Hearing : Spells → State → State → Output → Output → ℕ → Result ℕ RunFault → Type 0
 Hearing spells s s' o o' octet result = MatchResult result
-    (λ sent. SendsBack spells s s' o o' octet sent)
-    (λ e. (e ≡ Write) × Misses spells s s' o o' octet)
+    (λ sent. OctetTrace spells s s' o o' octet sent)
+    (λ e. (e ≡ Write) × PacketWriteError spells s s' o o' octet)
 
 -- The gateway heard octets, each after the datagrams that came before it, these were sent, and what the
 -- packets put passes.
@@ -145,7 +139,7 @@ pub record Exchanges (spells : Spells) (s s' : State) (o o' : Output) (octets se
   pub turns : List Turn
   pub heard : map octet_of turns ≡ octets
   pub lengths : length sent ≡ length octets
-  pub goes : Goes s s' turns (events_of_turns turns)
+  pub goes : TurnTrace s s' turns (events_of_turns turns)
   pub kept : KeepsRecords s.totals s'.totals
   pub sent_are : (config : GatewayConfig) (before : List Event) → Stands config s.gateway before
       → octets_for config before (events_of_turns turns) ≡ sent
@@ -156,11 +150,12 @@ pub record Exchanges (spells : Spells) (s s' : State) (o o' : Output) (octets se
 
 -- A write of what a packet puts failed when the gateway had heard the first octets, and a prefix of what
 -- waited and of what their packets put was taken.
-pub record StopsAt (spells : Spells) (s s' : State) (o : Output) (sink' : SinkState) (octets : List ℕ) : Type 0 where
+pub record StopsAt (spells : Spells) (s s' : State) (o : Output) (sink' : SinkState) (octets : List ℕ)
+    : Type 0 where
   pub turns : List Turn
   pub rest : List ℕ
   pub split : octets ≡ map octet_of turns ++ rest
-  pub trades : Trades s.ports s'.ports turns
+  pub trades : PortTrace s.ports s'.ports turns
   pub stands : (config : GatewayConfig) (before : List Event) → Stands config s.gateway before
       → Stands config s'.gateway (before ++ events_of_turns turns)
   pub took : (config : GatewayConfig) (before : List Event) → Stands config s.gateway before
@@ -193,7 +188,7 @@ pub record Receiving (s s' : State) (circuit : ℕ) (came : List (List ℕ)) : T
 pub record ActsOn (s s' : State) (tape tape' : TapeState) (r : Record) : Type 0 where
   pub act : Act
   pub told_is : told act ≡ r
-  pub goes : Goes s s' (turns_of act) (events_in act)
+  pub goes : TurnTrace s s' (turns_of act) (events_in act)
   pub records : s'.totals.records ≡ counted s.totals.records 1
   pub octets : s'.totals.octets ≡ counted s.totals.octets (length (turns_of act))
   pub recorded : Recorded tape tape' (events_in act)
@@ -215,8 +210,8 @@ Acts spells w w' r result = MatchResult result
     ⊎ ((octets : List ℕ) × (r ≡ Record.Trunk octets)
     × StopsAt spells w.state w'.state w.output w'.output.sink octets)))
 
--- a session but for the last record, in which a write failed when its first octets were heard, and when this many
--- octets waited at most before it
+-- A session but for the last record, in which a write failed when its first octets were received; at most this
+-- many octets waited before it.
 pub record CutTrace (late : ℕ) (spells : Spells) (w w' : World) (begun : List Record) : Type 0 where
   pub records : List Record
   pub octets : List ℕ

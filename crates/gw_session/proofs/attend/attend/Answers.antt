@@ -1,6 +1,5 @@
-use Rattle.std.proofs.Common.{inl, ◌++◌, [], ◌∷◌, length, ap, ◌∙◌, refl, length-append, arith}
+use Rattle.gw_session.proofs.Common.{inl, ◌++◌, [], ◌∷◌, length, ap, ◌∙◌, refl, length-append, arith, record_at}
 use Rattle.gw_records.specs.declared.outcome.RunFault.TheVariants as faults
-use Rattle.gw_records.specs.Records.{record_at}
 use Rattle.gw_records.specs.Reader.{held}
 use Rattle.gw_records.proofs.Sessions.{goes_up, starts, first_held, record_taken, stops_in, stops_behind}
 use Rattle.gw_records.proofs.Sessions.{reads_more, ended, gives_up, ends_so}

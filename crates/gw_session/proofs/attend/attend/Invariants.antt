@@ -1,13 +1,7 @@
-use Rattle.std.proofs.Common.{◌≡◌, ◌≤◌, List, ℕ, length}
-use Rattle.std.specs.Prelude.{vec_len}
+use Rattle.gw_session.proofs.Common.{◌≡◌, ◌≤◌, List, ℕ, length, vec_len, Record, Passes, written_by, most_waiting}
+use Rattle.gw_session.proofs.Common.{SessionTrace, nothing_counted, state_of}
 use Rattle.gw_records.specs.Reader.{work_left}
-use Rattle.gw_records.specs.Records.{Record}
-use Rattle.gw_records.specs.Streams.{Passes}
 use Rattle.gw_records.proofs.Sessions.{Stage}
-use Rattle.gw_session.specs.Exchange.{written_by, most_waiting}
-use Rattle.gw_session.specs.Serve.{SessionTrace}
-use Rattle.gw_records.specs.Outcome.{nothing_counted}
-use Rattle.gw_session.specs.World.{state_of}
 use Rattle.gw_session.proofs.attend.attend.Given as goal
 
 abbrev pub invariant-attending : goal.invariant-attending
