@@ -57,6 +57,14 @@ class Words(unittest.TestCase):
               'use Rattle.low.proofs.Lemmas.{twice}\n\n-- more\nrow : (n : ℕ) → n ≡ n\nrow n = twice n\n')
         self.assertNotIn('crates/low/proofs/Lemmas.antt:8: twice', self.found()[:-1])
 
+    def test_a_lemma_that_is_passed_on_is_used_where_it_is_read(self) -> None:
+        place = 'crates/low/proofs/Lemmas.antt:8: twice'
+        write(self.top, 'crates/high/proofs/Common.antt', 'unfoldable pub use Rattle.low.proofs.Lemmas.{twice}\n')
+        self.assertEqual(self.found(), [place, place])
+        write(self.top, 'crates/high/proofs/More.antt',
+              'use Rattle.high.proofs.Common.{twice}\n\n-- more\nrow : (n : ℕ) → n ≡ n\nrow n = twice n\n')
+        self.assertNotIn(place, self.found()[:-1])
+
     def test_a_twin(self) -> None:
         write(self.top, 'crates/high/proofs/More.antt',
               '-- the same of another number\nrow : (m : ℕ) → total m ≡ m\nrow m = refl\n')

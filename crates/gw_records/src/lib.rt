@@ -11,7 +11,7 @@ mod records;
 mod streams;
 mod writing;
 
-pub use log::{AtStart, CallLog, OctetLog};
+pub use log::{AtStart, Log};
 pub use octets::{codec_of, command_of, octet_of_codec, octet_of_command};
 pub use outcome::{NO_TOTALS, RunFault, Totals, answer};
 pub use ports::{PortFault, Ports};

@@ -1,7 +1,7 @@
 //! Octets that passed and calls of ports, as proofs see them. Nothing of it is there when the program runs.
 ghost use Rattle.std.specs.Prelude.{◌≡◌, ℕ, List, [], ◌∷◌, ◌++◌, take};
 ghost use Rattle.std.specs.Borrow.{ftrue};
-ghost use Rattle.gw_records.specs.Ports.{PortCall, call_of, receive_call, send_call};
+ghost use Rattle.gw_records.specs.Ports.{PortCall, calls_of, receive_call, send_call};
 
 use crate::ports::PortFault;
 use g704_cas::CircuitNo;
@@ -18,53 +18,44 @@ const TOOK: u8 = 3;
 
 const SEND_FAILED: u8 = 4;
 
-/// The octets that passed, one after another. It takes no memory, and its functions do nothing.
+// Octets that passed without a call.
+const NO_CALL: u8 = 5;
+
+/// Octets that passed, one after another, and those calls of ports with which they passed. It takes no memory,
+/// and its functions do nothing.
 #[derive(Drop)]
-pub struct OctetLog {
+pub struct Log {
     pub ghost octets: { List ℕ },
-}
-
-impl Model for OctetLog {
-    ghost also_owns = { λ _. ftrue };
-}
-
-impl OctetLog {
-    /// The log before any octet.
-    pub fn new() -> OctetLog
-        ensures { result.octets ≡ [] }
-    {
-        OctetLog {}
-    }
-
-    /// Appends the first octets of these, as many as `_len` says.
-    pub fn append(&mut self, _octets: &[u8], _len: usize)
-        ensures { self.new.octets ≡ self.old.octets ++ take _len _octets.now }
-    {}
-}
-
-/// Calls of ports, one after another, each with what came of it. It takes no memory, and its functions do
-/// nothing.
-#[derive(Drop)]
-pub struct CallLog {
     pub ghost calls: { List PortCall },
 }
 
-impl Model for CallLog {
+impl Model for Log {
     ghost also_owns = { λ _. ftrue };
 }
 
-impl CallLog {
-    /// The log before any call.
-    pub fn new() -> CallLog
-        ensures { result.calls ≡ [] }
+impl Log {
+    /// The log before any octet and any call.
+    pub fn new() -> Log
+        ensures { result ≡ record { octets = []; calls = [] } }
     {
-        CallLog {}
+        Log {}
     }
 
-    // Appends a call of this kind, for a circuit, with the first octets of these, as many as `_len` says.
-    fn append(&mut self, _kind: u8, _circuit: u8, _octets: &[u8], _len: usize)
-        ensures { self.new.calls ≡ self.old.calls ++ call_of _kind _circuit (take _len _octets.now) ∷ [] }
+    // Appends the first octets of these, as many as `_len` says, and the call of this kind for a circuit.
+    fn add(&mut self, _kind: u8, _circuit: u8, _octets: &[u8], _len: usize)
+        ensures { self.new ≡ record {
+          octets = self.old.octets ++ take _len _octets.now;
+          calls = self.old.calls ++ calls_of _kind _circuit (take _len _octets.now);
+        } }
     {}
+
+    /// Appends the first octets of these, as many as `len` says, with no call.
+    #[inline]
+    pub fn append(&mut self, octets: &[u8], len: usize)
+        ensures { self.new.octets ≡ self.old.octets ++ take len octets.now }
+    {
+        self.add(NO_CALL, 0, octets, len);
+    }
 
     /// Appends a receive for a circuit, by its result and the room then.
     #[inline]
@@ -77,9 +68,9 @@ impl CallLog {
         ensures { self.new.calls ≡ self.old.calls ++ receive_call circuit received.now room.now ∷ [] }
     {
         match received {
-            Ok(Some(len)) => self.append(GAVE, circuit.get(), room, *len),
-            Ok(None) => self.append(FOUND_NONE, circuit.get(), room, 0),
-            Err(_) => self.append(RECEIVE_FAILED, circuit.get(), room, 0),
+            Ok(Some(len)) => self.add(GAVE, circuit.get(), room, *len),
+            Ok(None) => self.add(FOUND_NONE, circuit.get(), room, 0),
+            Err(_) => self.add(RECEIVE_FAILED, circuit.get(), room, 0),
         }
     }
 
@@ -89,8 +80,8 @@ impl CallLog {
         ensures { self.new.calls ≡ self.old.calls ++ send_call circuit datagram.now sent.now ∷ [] }
     {
         match sent {
-            Ok(()) => self.append(TOOK, circuit.get(), datagram, datagram.len()),
-            Err(_) => self.append(SEND_FAILED, circuit.get(), datagram, datagram.len()),
+            Ok(()) => self.add(TOOK, circuit.get(), datagram, datagram.len()),
+            Err(_) => self.add(SEND_FAILED, circuit.get(), datagram, datagram.len()),
         }
     }
 }

@@ -4,7 +4,7 @@ ghost use Rattle.std.specs.Io.KnownBytes.{ReadConsumes, WriteAppends};
 ghost use Rattle.gw_records.specs.Streams.{SourceState, SinkState, CountsRead, CountsTurn, CountsWrite};
 ghost use Rattle.gw_records.specs.Streams.{or_none};
 
-use crate::log::{AtStart, OctetLog};
+use crate::log::{AtStart, Log};
 use std::io::{Read, Write};
 use thiserror::Error;
 
@@ -54,19 +54,19 @@ pub struct FromRead<R> {
     reader: R,
     failed: u64,
     reads: u64,
-    log: OctetLog,
+    log: Log,
 }
 
 impl<R: Read> FromRead<R> {
     /// The source of what the reader gives, with no read yet.
     pub fn new(reader: R) -> Self
-        ensures { result ≡ record { reader = reader; failed = 0; reads = 0; log = record { octets = [] } } }
+        ensures { result ≡ record { reader = reader; failed = 0; reads = 0; log = record { octets = []; calls = [] } } }
     {
         FromRead {
             reader,
             failed: 0,
             reads: 0,
-            log: OctetLog::new(),
+            log: Log::new(),
         }
     }
 }
@@ -103,7 +103,7 @@ pub struct ToWrite<W: Write> {
     writer: W,
     failed: u64,
     start: AtStart<W>,
-    log: OctetLog,
+    log: Log,
     ghost holds: { (before : List ℕ) → W.contents start.value ≡ Some before
         → W.contents writer ≡ Some (before ++ log.octets) },
 }
@@ -121,7 +121,7 @@ impl<W: Write> ToWrite<W> {
             writer,
             failed: 0,
             start,
-            log: OctetLog::new(),
+            log: Log::new(),
         }
     }
 }

@@ -1,28 +1,17 @@
 -- Records that are acted on.
-use Rattle.std.proofs.Common.{◌≡◌, inl, ◌+◌, ◌-◌, ◌^◌, ◌<◌, ℕ, min, List, [], ◌∷◌, ◌++◌, length, Result, Ok, Err}
-use Rattle.std.proofs.Common.{refl, sym, ap, ◌∙◌, append_assoc, arith}
-use Rattle.std.proofs.lemmas.List.{length-map}
-use Rattle.byteorder.specs.Endian.{big_bytes}
-use Rattle.gw_switch.specs.declared.GatewayConfig.{GatewayConfig}
-use Rattle.gw_switch.specs.declared.gateway.Gateway.{Gateway}
-use Rattle.gw_switch.specs.Events.{Event}
-use Rattle.gw_switch.specs.Standing.{Stands}
-use Rattle.gw_switch.specs.Whole.{reply_to}
-use Rattle.gw_records.specs.declared.outcome.Totals.{Totals}
-use Rattle.gw_records.specs.declared.outcome.RunFault.{RunFault}
-use Rattle.gw_records.specs.Records.{Record}
-use Rattle.gw_records.specs.Streams.{Passes, Puts, at_most}
-use Rattle.gw_records.proofs.Writes.{Appends-none, Passes-same, Passes-join, AppendsPrefix-same, AppendsPrefix-behind}
-use Rattle.gw_session.specs.Outlet.{Spells}
-use Rattle.gw_records.specs.Ports.{counted}
-use Rattle.gw_session.specs.Answers.{Written, written_out, code_of}
-use Rattle.gw_session.specs.Serve.{Act, told, turns_of, events_in, events_of_turns, octet_of, answer_to}
-use Rattle.gw_session.specs.Serve.{packets_for, sent_with_octets, dropped_for}
-use Rattle.gw_session.specs.Exchange.{Takes, spelled_for, written_for, Exchanges, ActsOn, Acts}
-use Rattle.gw_session.specs.Tape.{TapeState, Recorded}
-use Rattle.gw_session.specs.World.{Output, World, state_of}
+use Rattle.gw_session.proofs.Common.{◌≡◌, inl, ◌+◌, ◌-◌, ◌^◌, ◌<◌, ℕ, min, List, [], ◌∷◌, ◌++◌, length, Result, Ok, Err}
+use Rattle.gw_session.proofs.Common.{refl, sym, ap, ◌∙◌, append_assoc, arith, length-map, big_bytes, GatewayConfig}
+use Rattle.gw_session.proofs.Common.{Gateway, Event, Stands, reply_to, Totals, RunFault, Record, Passes, at_most}
+use Rattle.gw_session.proofs.Common.{Appends-none, Passes-join, AppendsPrefix-behind, Spells, counted, Written}
+use Rattle.gw_session.proofs.Common.{written_out, code_of, Act, told, turns_of, events_in, events_of_turns, octet_of}
+use Rattle.gw_session.proofs.Common.{answer_to, packets_for, dropped_for, Takes, spelled_for, written_for, Exchanges}
+use Rattle.gw_session.proofs.Common.{ActsOn, TapeState, Recorded, Output, World, state_of}
+use Rattle.gw_records.specs.Streams.{Puts}
+use Rattle.gw_records.proofs.Writes.{Passes-same, AppendsPrefix-same}
+use Rattle.gw_session.specs.Serve.{sent_with_octets}
+use Rattle.gw_session.specs.Exchange.{Acts}
 use Rattle.gw_session.specs.declared.tape.OnTape.{OnTape}
-use Rattle.gw_session.proofs.Turns.{Trades-none, counted_is}
+use Rattle.gw_session.proofs.Turns.{PortTrace-none, counted_is}
 
 -- an act was done, and behind what passes the rest of all that is put for it was put, or a write failed
 acts_put : (spells : Spells) (w w' : World) (o : Output) (out : List ℕ) {r : Record}
@@ -32,21 +21,23 @@ acts_put : (spells : Spells) (w w' : World) (o : Output) (out : List ℕ) {r : R
     × (first ++ out ≡ w.output.waiting ++ written_for spells config before on.act))
     → o.sink.failures ≡ w.output.sink.failures
     → Puts o.sink w'.output.sink w'.output.waiting (o.waiting ++ out) result → Acts spells w w' r result
-acts_put spells w w' o out (Ok u) on first kept puts = record {
-  acts = on;
-  passes = λ config before h.
-      let f = first config before h in
-      Passes-same _ _ _ _ _ f.2 (Passes-join _ _ _ _ _ _ _ f.1 puts.0);
-  no_failure = puts.1 ∙ kept;
-}
+acts_put spells w w' o out (Ok u) on first kept puts = (
+  record {
+    acts = on;
+    took = λ config before h.
+        let f = first config before h in
+        Passes-same _ _ _ _ _ f.2 (Passes-join _ _ _ _ _ _ _ f.1 puts.0);
+  },
+  puts.1 ∙ kept,
+)
 acts_put spells w w' o out (Err e) on first kept puts = (
   puts.0,
+  omega (arith, kept, puts.1.counted),
   inl (record {
     acts = on;
     took = λ config before h.
         let f = first config before h in
         AppendsPrefix-same _ _ _ _ f.2 (AppendsPrefix-behind _ _ _ _ _ _ f.1 puts.1.took);
-    failed = omega (arith, kept, puts.1.counted);
   }),
 )
 
@@ -106,14 +97,14 @@ pub one_acts : (act : Act) (event : Event) (u : Totals) (spells : Spells) (w : W
     (w.output.waiting ++ written_out (Written.Answered on_tape.circuit on_tape.kind code)) result
     → Recorded w.tape tape (events_in act)
     → Acts spells w (record { state = state_of w.state.ports g t; tape = tape; output = o }) (told act) result
-unfolding Trades-none written_for spelled_for
+unfolding PortTrace-none written_for spelled_for
 one_acts act event u spells w g t tape o result none one packets places answer takes taped others counts dropped puts
     recorded =
     acts_put _ w (record { state = state_of w.state.ports g t; tape = tape; output = o }) w.output _ result (record {
       act = act;
       told_is = refl;
       goes = rw (none, one) (record {
-        trades = Trades-none _;
+        trades = PortTrace-none _;
         datagrams = rw (counts, others);
         faults = rw (counts, others);
         hears = λ config before h. record {

@@ -1,18 +1,11 @@
 -- Records of the same events answer as the acts did.
-use Rattle.std.proofs.Common.{◌≡◌, ℕ, List, [], ◌∷◌, ◌++◌, refl, sym, ap, ◌∙◌, append_assoc, append-nil}
-use Rattle.std.specs.Prelude.{map}
-use Rattle.std.specs.List.{flat_map}
-use Rattle.std.proofs.lemmas.List.Concat.{flat_map-append}
-use Rattle.gw_switch.specs.declared.GatewayConfig.{GatewayConfig}
-use Rattle.gw_switch.specs.Events.{Event}
-use Rattle.gw_switch.specs.Whole.{Reply, reply_to, whole_from}
-use Rattle.gw_records.specs.Records.{Record}
+use Rattle.gw_session.proofs.Common.{◌≡◌, ℕ, List, [], ◌∷◌, ◌++◌, refl, sym, ap, ◌∙◌, append_assoc, append-nil, map}
+use Rattle.gw_session.proofs.Common.{flat_map, flat_map-append, GatewayConfig, Event, Reply, reply_to, whole_from}
+use Rattle.gw_session.proofs.Common.{Record, Written, written_out, answers, trunk_in, datagrams_in, code_of, octets_in}
+use Rattle.gw_session.proofs.Common.{packets_in, Act, Turn, events_through, events_in, events_of_turns, coming}
+use Rattle.gw_session.proofs.Common.{arrivals, answer_to, octets_for, packets_for, given_by, written, all_answers}
 use Rattle.gw_session.specs.Answers as records_of
-use Rattle.gw_session.specs.Answers.{Written, written_out, answers, trunk_in, datagrams_in, code_of, octets_in}
-use Rattle.gw_session.specs.Answers.{packets_in}
-use Rattle.gw_session.specs.Serve.{Act, Turn, events_through, events_in, events_of_turns, coming, arrivals, answer_to}
-use Rattle.gw_session.specs.Serve.{octets_for, packets_for, given_by, written}
-use Rattle.gw_session.specs.RecordingLaws.{answers_to, all_answers, command_in, RecordingsAnswerAlike}
+use Rattle.gw_session.specs.RecordingLaws.{answers_to, command_in, RecordingsAnswerAlike}
 use Rattle.gw_session.proofs.Cutting.{Splits, given_by-splits, trunk_has, trunk_is, datagrams_are, all_of}
 
 -- what answers acts, by what answers each

@@ -1,24 +1,18 @@
 -- Acts one after another.
-use Rattle.std.proofs.Common.{◌≡◌, ◌⊎◌, inl, inr, ◌+◌, ◌-◌, ◌<◌, ◌≤◌, ℕ, zero, suc, Option, List, [], ◌∷◌, ◌++◌, length}
-use Rattle.std.proofs.Common.{take, drop, refl, ap, ◌∙◌, append_assoc, append-nil, length-append, arith}
-use Rattle.std.specs.Io.KnownBytes.{Appends}
-use Rattle.std.proofs.lemmas.List.{map_push, drop-take, flat_map_more}
-use Rattle.gw_switch.specs.declared.GatewayConfig.{GatewayConfig}
-use Rattle.gw_switch.specs.Events.{Event, octets}
-use Rattle.gw_switch.specs.Standing.{Stands}
+use Rattle.gw_session.proofs.Common.{◌≡◌, ◌⊎◌, inl, inr, ◌+◌, ◌-◌, ◌<◌, ◌≤◌, ℕ, zero, suc, Option, List, [], ◌∷◌, ◌++◌}
+use Rattle.gw_session.proofs.Common.{length, take, drop, refl, ap, ◌∙◌, append_assoc, append-nil, length-append, arith}
+use Rattle.gw_session.proofs.Common.{Appends, map_push, flat_map_more, GatewayConfig, Event, octets, Stands, Kinds}
+use Rattle.gw_session.proofs.Common.{Record, IsGood, record_at, SinkState, Passes, Breaks, AppendsBut, AppendsPrefix}
+use Rattle.gw_session.proofs.Common.{Passes-appended, Passes-empty, Passes-join, Appends-join, AppendsBut-behind}
+use Rattle.gw_session.proofs.Common.{all_kinds, Spells, Act, told, turns_of, turns, events_in, events_through, Follows}
+use Rattle.gw_session.proofs.Common.{but_last, SessionTrace, written_for, written_by, ActsOn, StopsAt, CutTrace}
+use Rattle.gw_session.proofs.Common.{TapeState, State, Output}
+use Rattle.std.proofs.lemmas.List.{drop-take}
 use Rattle.gw_records.specs.declared.records.First.{First}
-use Rattle.gw_records.specs.declared.records.Kinds.{Kinds}
-use Rattle.gw_records.specs.Records.{Record, IsGood, named, record_at}
-use Rattle.gw_records.specs.Streams.{SinkState, Passes, Breaks, AppendsBut}
-use Rattle.gw_records.proofs.Writes.{Passes-start, Passes-appended, Passes-empty, Passes-join, Appends-join}
-use Rattle.gw_records.proofs.Writes.{AppendsBut-behind}
-use Rattle.gw_session.specs.Running.{all_kinds}
-use Rattle.gw_session.specs.Outlet.{Spells}
-use Rattle.gw_session.specs.Serve.{Act, told, turns_of, turns, events_in, events_through, Follows, but_last}
-use Rattle.gw_session.specs.Exchange.{written_for, written_by, ActsOn, Finishes, Unwritten, Cut, Through, CutThrough}
-use Rattle.gw_session.specs.Tape.{TapeState}
-use Rattle.gw_session.specs.World.{State, Output}
-use Rattle.gw_session.proofs.Turns.{Goes-none, Goes-join, counted-more, octets-append, turns_have_octets}
+use Rattle.gw_records.specs.Records.{named}
+use Rattle.gw_records.proofs.Writes.{Passes-start}
+use Rattle.gw_session.specs.Exchange.{ActTrace}
+use Rattle.gw_session.proofs.Turns.{TurnTrace-none, TurnTrace-join, counted-more, octets-append, turns_have_octets}
 use Rattle.gw_session.proofs.Taping.{recorded_none, recorded_join}
 
 -- the record that stands first, by its body in what is held
@@ -53,7 +47,7 @@ follows_more : {s s' s'' : State} {x y z : TapeState} {acts : List Act} {r : Rec
     → (q : ActsOn s' s'' y z r) → Follows s s'' x z (acts ++ q.act ∷ [])
 follows_more {s = s} {acts = acts} p q = record {
   goes = rw (← flat_map_more turns_of [] acts q.act, ← flat_map_more events_in [] acts q.act)
-      (Goes-join _ _ _ _ _ _ _ (acts_octets acts) p.goes q.goes);
+      (TurnTrace-join _ _ _ _ _ _ _ (acts_octets acts) p.goes q.goes);
   records = rw (length-append acts (q.act ∷ []))
       (counted-more s.totals.records _ _ (length acts) 1 p.records q.records);
   trunk_octets = rw (← flat_map_more turns_of [] acts q.act, length-append (turns acts) (turns_of q.act))
@@ -111,22 +105,23 @@ waiting_cut late o s s' w first xs few less took breaks = record {
 }
 
 -- before the first record
-pub through_none : {spells : Spells} {s : State} {tape : TapeState} {o : Option (List ℕ)} {w : List ℕ}
-    → w ≡ [] → Through spells s s tape tape (λ first xs. Passes o o w xs) []
-through_none none = record {
+pub through_none : (spells : Spells) {s : State} {tape : TapeState} {o : Option (List ℕ)} {w : List ℕ}
+    → w ≡ [] → SessionTrace (written_by spells) s s tape tape (λ first xs. Passes o o w xs) []
+through_none spells none = record {
   acts = [];
   told_are = refl;
-  follows = record { goes = Goes-none _; records = refl; trunk_octets = refl; recorded = recorded_none _ };
+  follows = record { goes = TurnTrace-none _; records = refl; trunk_octets = refl; recorded = recorded_none _ };
   took = λ config before at. Passes-start _ _ none;
 }
 
 -- records that were gone through
-module _ {spells : Spells} {s s' : State} {x y : TapeState} {records : List Record}
+module _ (spells : Spells) {s s' : State} {x y : TapeState} {records : List Record}
   where
     -- what is known of what was put
     through_as : {Took More : List ℕ → List ℕ → Type 0}
         → ((first xs : List ℕ) → length first ≤ length xs → Took first xs → More first xs)
-        → Through spells s s' x y Took records → Through spells s s' x y More records
+        → SessionTrace (written_by spells) s s' x y Took records
+        → SessionTrace (written_by spells) s s' x y More records
     through_as f p = record {
       acts = p.acts;
       told_are = p.told_are;
@@ -138,32 +133,33 @@ module _ {spells : Spells} {s s' : State} {x y : TapeState} {records : List Reco
 
     -- all of it was taken
     pub through_all : {o p : Option (List ℕ)} {w : List ℕ} (q : Option (List ℕ))
-        → Through spells s s' x y (λ first xs. Passes o p w xs) records → Appends p q w
-        → Through spells s s' x y (λ first. Appends o q) records
+        → SessionTrace (written_by spells) s s' x y (λ first xs. Passes o p w xs) records → Appends p q w
+        → SessionTrace (written_by spells) s s' x y (λ first. Appends o q) records
     through_all q h wrote = through_as (λ first xs less took. Passes-appended _ _ _ _ _ took wrote) h
 
     -- when what waits is written nothing waits, and the rest is as it was
     pub through_on : {o p q : Option (List ℕ)} {w w' : List ℕ}
-        → Through spells s s' x y (λ first xs. Passes o p w xs) records → Appends p q w → w' ≡ []
-        → Through spells s s' x y (λ first xs. Passes o q w' xs) records
+        → SessionTrace (written_by spells) s s' x y (λ first xs. Passes o p w xs) records → Appends p q w → w' ≡ []
+        → SessionTrace (written_by spells) s s' x y (λ first xs. Passes o q w' xs) records
     through_on h wrote none =
         through_as (λ first xs less took. Passes-empty _ _ _ none (Passes-appended _ _ _ _ _ took wrote)) h
 
     -- .. or a write of what waits failed
     pub waiting_failed : (late : ℕ) {o : Option (List ℕ)} {b c : SinkState} {w : List ℕ} → length w ≤ late
-        → Through spells s s' x y (λ first xs. Passes o b.taken w xs) records → 0 < length records → Breaks b c w
-        → (0 < length records) × Through spells s s' x y (AppendsBut late o c.taken) records
+        → SessionTrace (written_by spells) s s' x y (λ first xs. Passes o b.taken w xs) records
+        → 0 < length records → Breaks b c w
+        → (0 < length records) × SessionTrace (written_by spells) s s' x y (AppendsBut late o c.taken) records
     waiting_failed late {o} {b} {c} {w} few p some breaks =
         (some, through_as (λ first xs less took. waiting_cut late o b c w first xs few less took breaks) p)
 
     -- .. and then one more
     module _ {s'' : State} {z : TapeState} {r : Record} where
       -- one record more, for which this is put
-      through_more : {Took More : List ℕ → List ℕ → Type 0} → Through spells s s' x y Took records
+      through_more : {Took More : List ℕ → List ℕ → Type 0} → SessionTrace (written_by spells) s s' x y Took records
           → (q : ActsOn s' s'' y z r)
           → ((config : GatewayConfig) (now : List Event) → Stands config s'.gateway now → (first xs : List ℕ)
           → Took first xs → More xs (xs ++ written_for spells config now q.act))
-          → Through spells s s'' x z More (records ++ r ∷ [])
+          → SessionTrace (written_by spells) s s'' x z More (records ++ r ∷ [])
       through_more p q more = record {
         acts = p.acts ++ q.act ∷ [];
         told_are = rw (map_push told p.acts q.act, p.told_are, q.told_is);
@@ -176,54 +172,38 @@ module _ {spells : Spells} {s s' : State} {x y : TapeState} {records : List Reco
 
       -- records that were gone through, and then one more whose answer passes
       pub through_done : {o : Option (List ℕ)} {a b : Output}
-          → Through spells s s' x y (λ first xs. Passes o a.sink.taken a.waiting xs) records
-          → Finishes spells (record { state = s'; tape = y; output = a })
-          (record { state = s''; tape = z; output = b }) r
-          → Through spells s s'' x z (λ first xs. Passes o b.sink.taken b.waiting xs) (records ++ r ∷ [])
+          → SessionTrace (written_by spells) s s' x y (λ first xs. Passes o a.sink.taken a.waiting xs) records
+          → ActTrace spells (record { state = s'; tape = y; output = a })
+          (record { state = s''; tape = z; output = b }) r (Passes a.sink.taken b.sink.taken b.waiting)
+          → SessionTrace (written_by spells) s s'' x z (λ first xs. Passes o b.sink.taken b.waiting xs)
+          (records ++ r ∷ [])
       through_done p q = through_more p q.acts
-          (λ config now at first xs took. Passes-join _ _ _ _ _ _ _ took (q.passes config now at))
+          (λ config now at first xs took. Passes-join _ _ _ _ _ _ _ took (q.took config now at))
 
       -- a write failed in it, when it was done or when its first octets were heard
       pub act_failed : (late : ℕ) {o : SinkState} {a b : Output} → length a.waiting ≤ late
-          → Through spells s s' x y (λ first xs. Passes o.taken a.sink.taken a.waiting xs) records
-          → Unwritten spells (record { state = s'; tape = y; output = a })
-          (record { state = s''; tape = z; output = b }) r
-          ⊎ Cut spells (record { state = s'; tape = y; output = a })
-          (record { state = s''; tape = z; output = b }) r
-          → (a.sink.failures < b.sink.failures) × (((0 < length (records ++ r ∷ []))
-          × Through spells s s'' x z (AppendsBut late o.taken b.sink.taken) (records ++ r ∷ []))
-          ⊎ CutThrough late spells s s'' o b.sink (records ++ r ∷ []))
-      act_failed late few p (inl q) = (
-        q.failed,
-        inl (
-          omega (arith, length-append records (r ∷ [])),
-          through_more p q.acts
-              (λ config now at first xs took. AppendsBut-behind late _ _ _ _ _ _ few took (q.took config now at)),
-        ),
+          → SessionTrace (written_by spells) s s' x y (λ first xs. Passes o.taken a.sink.taken a.waiting xs) records
+          → ActTrace spells (record { state = s'; tape = y; output = a })
+          (record { state = s''; tape = z; output = b }) r (AppendsPrefix a.sink.taken b.sink.taken)
+          ⊎ ((octets : List ℕ) × (r ≡ Record.Trunk octets) × StopsAt spells s' s'' a b.sink octets)
+          → {w w' : List ℕ} → ((0 < length (records ++ r ∷ []))
+          × SessionTrace (written_by spells) s s'' x z (AppendsBut late o.taken b.sink.taken) (records ++ r ∷ []))
+          ⊎ CutTrace late spells (record { state = s; tape = x; output = record { sink = o; waiting = w } })
+          (record { state = s''; tape = z; output = record { sink = b.sink; waiting = w' } }) (records ++ r ∷ [])
+      act_failed late few p (inl q) = inl (
+        omega (arith, length-append records (r ∷ [])),
+        through_more p q.acts
+            (λ config now at first xs took. AppendsBut-behind late _ _ _ _ _ _ few took (q.took config now at)),
       )
-      act_failed late few p (inr q) =
-          let k = q.stops in (
-            k.failed,
-            inr (record {
-              records = records;
-              octets = q.octets;
-              all = rw q.is_trunk;
-              acts = p.acts;
-              told_are = p.told_are;
-              between = s';
-              goes = p.follows.goes;
-              turns = k.turns;
-              rest = k.rest;
-              split = k.split;
-              trades = k.trades;
-              stands = λ config before at. rw append_assoc at (k.stands config (before ++ events_through p.acts)
-                  ((p.follows.goes.hears config before at).stands));
-              took = λ config before at. AppendsBut-behind late _ _ _ _ _ _ few (p.took config before at)
-                  (k.took config (before ++ events_through p.acts) ((p.follows.goes.hears config before at).stands));
-              packet = k.packet;
-              some = k.some;
-            }),
-          )
+      act_failed late {a = a} few p (inr q) = inr (record {
+        records = records;
+        octets = q.0;
+        all = rw (q.1);
+        between = record { state = s'; tape = y; output = a };
+        trace = p;
+        few = few;
+        stops = q.2;
+      })
 
 -- where some octets wait there are some records
 pub some_records : (records waiting : ℕ) → (records ≡ 0 → waiting ≡ 0) → 0 < waiting → 0 < records

@@ -1,34 +1,25 @@
 -- Sessions in which datagrams come as records alone, and packets go out as records.
-use Rattle.std.proofs.Common.{◌≡◌, inl, inr, ◌<◌, ◌==◌, cond, ℕ, true, false, Option, None, Some, List, [], ◌∷◌, ◌++◌}
-use Rattle.std.proofs.Common.{length, take, drop, map, flat_map, count_by, refl, sym, ap, ◌∙◌, append_assoc, append-nil}
-use Rattle.std.proofs.Common.{length-append, take_all, take_at, arith}
-use Rattle.std.specs.List.{AllByRecursion}
-use Rattle.std.specs.Io.KnownBytes.{Appends}
-use Rattle.std.proofs.lemmas.List.{map-append, map_push, length-map, flat_map_more}
-use Rattle.std.proofs.lemmas.List.Concat.{flat_map-append}
-use Rattle.gw_switch.specs.declared.GatewayConfig.{GatewayConfig}
-use Rattle.gw_switch.specs.declared.gateway.Gateway.{Gateway}
-use Rattle.gw_switch.specs.Events.{Event}
-use Rattle.gw_switch.specs.Standing.{Stands}
-use Rattle.gw_switch.specs.Whole.{Reply, whole_from}
-use Rattle.gw_records.specs.declared.outcome.Totals.{Totals}
-use Rattle.gw_records.specs.Records.{Record, record_of}
-use Rattle.gw_records.specs.Streams.{SinkState, AppendsBut, at_most}
-use Rattle.gw_records.specs.Outcome.{nothing_counted}
-use Rattle.gw_records.specs.Ports.{Waiting, counted}
+use Rattle.gw_session.proofs.Common.{◌≡◌, inl, inr, ◌<◌, ◌==◌, cond, ℕ, true, false, Option, None, Some, List, [], ◌∷◌}
+use Rattle.gw_session.proofs.Common.{◌++◌, length, take, drop, map, flat_map, refl, sym, ap, ◌∙◌, append_assoc}
+use Rattle.gw_session.proofs.Common.{append-nil, length-append, arith, AllByRecursion, Appends, map-append, map_push}
+use Rattle.gw_session.proofs.Common.{length-map, flat_map_more, flat_map-append, GatewayConfig, Gateway, Event, Stands}
+use Rattle.gw_session.proofs.Common.{Reply, whole_from, Totals, Record, SinkState, AppendsBut, at_most, nothing_counted}
+use Rattle.gw_session.proofs.Common.{Waiting, counted, AppendsBut-behind, Written, written_out, packets_in, as_record}
+use Rattle.gw_session.proofs.Common.{answers, events_of, events, render, replies_to, is_refusal, Act, Turn, told}
+use Rattle.gw_session.proofs.Common.{octet_of, turns_of, turns, events_in, events_through, events_of_turns, of_circuit}
+use Rattle.gw_session.proofs.Common.{arrivals, behind_four, FirstFour, PortTrace, Follows, given_by, octets_for}
+use Rattle.gw_session.proofs.Common.{dropped_for, answer_to, but_last, SessionTrace, TapeState, State, state_of}
+use Rattle.gw_session.proofs.Common.{world_of, spelled_for, written_for, written_by, CutTrace, TraceToWriteError}
+use Rattle.std.proofs.Common.{count_by}
+use Rattle.std.proofs.Common.{take_all, take_at}
+use Rattle.gw_records.specs.Records.{record_of}
 use Rattle.gw_records.proofs.Writes.{AppendsBut-same, AppendsBut-more}
 use Rattle.gw_records.proofs.Sessions.{five}
-use Rattle.gw_session.specs.Answers.{Written, written_out, packets_in, as_record, answers, events_of, events, render}
-use Rattle.gw_session.specs.Running.{replies_to, trunk_octets, is_refusal, run_totals, RunsThrough, AreFirst}
+use Rattle.gw_session.specs.Running.{trunk_octets, run_totals, RunsThrough, AreFirst}
 use Rattle.gw_session.specs.Running.{RunsUntilWrite}
 use Rattle.gw_session.specs.Outlet.{in_record, no_ports}
-use Rattle.gw_session.specs.Serve.{Act, Turn, told, octet_of, turns_of, turns, events_in, events_through}
-use Rattle.gw_session.specs.Serve.{events_of_turns, of_circuit, arrivals, first_four, behind_four, FirstFour, Trades}
-use Rattle.gw_session.specs.Serve.{Follows, given_by, octets_for, dropped_for, answer_to, but_last}
-use Rattle.gw_session.specs.Tape.{TapeState}
-use Rattle.gw_session.specs.World.{State, state_of, world_of}
-use Rattle.gw_session.specs.Exchange.{spelled_for, written_for, written_by, Through, CutThrough, Begun}
-use Rattle.gw_session.proofs.Turns.{Trades-join, LeavesOut-all, counted_is}
+use Rattle.gw_session.specs.Serve.{first_four}
+use Rattle.gw_session.proofs.Turns.{PortTrace-join, LeavesOut-all, counted_is}
 use Rattle.gw_session.proofs.Attending.{but_last_more}
 use Rattle.gw_session.proofs.Cutting.{answered_first}
 use Rattle.gw_session.proofs.Exchanging.{spelled_for-append}
@@ -55,7 +46,7 @@ none_came v w (t ∷ ts) e h =
     (none.0, none_came (behind_four v t.circuit) w ts none.1 h.1)
 
 -- where nothing waits nothing comes
-plain_trades : (ts : List Turn) → Trades no_ports no_ports ts → Plain ts
+plain_trades : (ts : List Turn) → PortTrace no_ports no_ports ts → Plain ts
 plain_trades ts p =
     none_came _ _ ts (λ c. refl) (p.firsts (unmoved 0 p.failed_receives (omega arith) (sym p.receives)))
 
@@ -178,7 +169,8 @@ plain_totals {acts = acts} d plain config before at =
 
 -- a session went through records
 pub runs : {g g' : Gateway} {x y : TapeState} {s s' : SinkState} (t : Totals) (records : List Record)
-    → Through in_record (at_records g nothing_counted) (at_records g' t) x y (λ first. Appends s.taken s'.taken) records
+    → SessionTrace (written_by in_record) (at_records g nothing_counted) (at_records g' t) x y
+    (λ first. Appends s.taken s'.taken) records
     → RunsThrough g g' s s' t records
 runs t records p =
     let plain = plain_trades (turns p.acts) p.follows.goes.trades in
@@ -203,7 +195,8 @@ last_of (x ∷ y ∷ xs) h = let l = last_of (y ∷ xs) (omega arith) in (x ∷ 
 -- .. and a write failed when it had acted on the last one
 whole_until : {g g' : Gateway} {x y : TapeState} {s s' : SinkState} {t : Totals} (records : List Record)
     → 0 < length records
-    → Through in_record (at_records g nothing_counted) (at_records g' t) x y (AppendsBut 65536 s.taken s'.taken) records
+    → SessionTrace (written_by in_record) (at_records g nothing_counted) (at_records g' t) x y
+    (AppendsBut 65536 s.taken s'.taken) records
     → RunsUntilWrite g g' s s' records
 whole_until records some p =
     let l = last_of p.acts (omega (arith, some, ap length p.told_are, length-map p.acts told)) in
@@ -247,29 +240,37 @@ cut_written config before acts heard rest p q =
     )
 
 -- .. or the first octets of it
-cut_until : {g g' : Gateway} {t : Totals} {s s' : SinkState} (begun : List Record)
-    → CutThrough 65536 in_record (at_records g nothing_counted) (at_records g' t) s s' begun
+cut_until : {g g' : Gateway} {x y : TapeState} {t : Totals} {s s' : SinkState} (begun : List Record)
+    → CutTrace 65536 in_record (world_of no_ports g nothing_counted x s []) (world_of no_ports g' t y s' []) begun
     → RunsUntilWrite g g' s s' begun
 cut_until begun p =
-    let joined = Trades-join no_ports p.between.ports no_ports (turns p.acts) p.turns p.goes.trades p.trades in
-    let plain = plain_parts (turns p.acts) p.turns (plain_trades (turns p.acts ++ p.turns) joined) in
-    let heard = map octet_of p.turns in
+    let k = p.trace in
+    let z = p.stops in
+    let joined = PortTrace-join no_ports p.between.state.ports no_ports (turns k.acts) z.turns k.follows.goes.trades
+    z.trades in
+    let plain = plain_parts (turns k.acts) z.turns (plain_trades (turns k.acts ++ z.turns) joined) in
+    let heard = map octet_of z.turns in
+    let later = λ (config : GatewayConfig) (before : List Event) (at : Stands config _ before).
+    (k.follows.goes.hears config before at).stands in
     record {
       records = p.records;
       last = Record.Trunk p.octets;
       all = p.all;
       acted = map Event.Octet heard;
-      first = (length heard, ap (map Event.Octet) (rw (p.split, take_at heard p.rest (length heard) refl)));
+      first = (length heard, ap (map Event.Octet) (rw (z.split, take_at heard z.rest (length heard) refl)));
       stands = λ config before at.
-          rw (acts_events p.acts plain.0, p.told_are, turns_events p.turns plain.1) at (p.stands config before at);
+          rw (acts_events k.acts plain.0, k.told_are, turns_events z.turns plain.1, append_assoc) at
+          (z.stands config (before ++ events_through k.acts) (later config before at));
       took = λ config before at.
-          let w = cut_written config before p.acts p.turns p.rest plain.0 plain.1 in
-          rw (p.all, ← p.told_are, p.split) (AppendsBut-same (all_written config before p.acts plain.0) w.1
-          (AppendsBut-more w.0 (p.took config before at)));
+          let w = cut_written config before k.acts z.turns z.rest plain.0 plain.1 in
+          let cut = AppendsBut-behind 65536 _ _ _ _ _ _ p.few (k.took config before at)
+          (z.took config (before ++ events_through k.acts) (later config before at)) in
+          rw (p.all, ← k.told_are, z.split)
+          (AppendsBut-same (all_written config before k.acts plain.0) w.1 (AppendsBut-more w.0 cut));
     }
 
 -- where a write failed, the records begun ran up to that write
 pub runs_until : {g g' : Gateway} {x y : TapeState} {s s' : SinkState} (records : List Record)
-    → Begun 65536 in_record (world_of no_ports g nothing_counted x s [])
+    → TraceToWriteError 65536 in_record (world_of no_ports g nothing_counted x s [])
     (λ totals. world_of no_ports g' totals y s' []) records → RunsUntilWrite g g' s s' records
 runs_until records w = elim w.1 [ inl p ↦ whole_until records p.0 p.1 | inr p ↦ cut_until records p ]

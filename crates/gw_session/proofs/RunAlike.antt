@@ -1,25 +1,15 @@
 -- A session that was recorded and a run over what was recorded are alike.
-use Rattle.std.proofs.Common.{◌≡◌, ◌<◌, ℕ, List, [], ◌++◌, refl, sym, ◌∙◌, append-nil, arith}
-use Rattle.std.specs.Prelude.{Option, Result, Ok, Err, MatchResult}
-use Rattle.std.specs.Io.KnownBytes.{Appends}
+use Rattle.gw_session.proofs.Common.{◌≡◌, ◌<◌, ℕ, List, [], ◌++◌, refl, sym, ◌∙◌, append-nil, arith, Option, Result, Ok}
+use Rattle.gw_session.proofs.Common.{Err, Appends, GatewayConfig, Gateway, Event, Stands, Totals, RunFault, Record}
+use Rattle.gw_session.proofs.Common.{AppendsPrefix, AppendsBut, Grows, counted, events, answered, replies_to, Act}
+use Rattle.gw_session.proofs.Common.{events_through, packets_for, given_by, written, but_last, LeavesOut, Recorded}
+use Rattle.gw_session.proofs.Common.{all_answers}
+use Rattle.std.specs.Prelude.{MatchResult}
 use Rattle.std.proofs.KnownBytes.{Appends-nil}
-use Rattle.gw_switch.specs.declared.GatewayConfig.{GatewayConfig}
-use Rattle.gw_switch.specs.declared.gateway.Gateway.{Gateway}
-use Rattle.gw_switch.specs.Events.{Event}
-use Rattle.gw_switch.specs.Standing.{Stands}
-use Rattle.gw_records.specs.declared.outcome.Totals.{Totals}
-use Rattle.gw_records.specs.declared.outcome.RunFault.{RunFault}
 use Rattle.gw_records.specs.declared.outcome.RunFault.TheVariants as faults
 use Rattle.gw_records.specs.declared.records.Ending.TheVariants as endings
-use Rattle.gw_records.specs.Records.{Record}
-use Rattle.gw_records.specs.Streams.{AppendsPrefix, AppendsBut}
-use Rattle.gw_records.specs.Ports.{Grows, counted}
-use Rattle.gw_session.specs.Answers.{events, answered}
-use Rattle.gw_session.specs.Running.{replies_to}
-use Rattle.gw_session.specs.Serve.{Act, events_through, packets_for, given_by, written, but_last, LeavesOut}
 use Rattle.gw_session.specs.Serve.{Around, Served, ServesAll, ServesUntil}
-use Rattle.gw_session.specs.Tape.{Recorded}
-use Rattle.gw_session.specs.RecordingLaws.{RecordedSessionsRunAlike, all_answers}
+use Rattle.gw_session.specs.RecordingLaws.{RecordedSessionsRunAlike}
 use Rattle.gw_session.proofs.ReadBack.{read_back}
 use Rattle.gw_session.proofs.AnsweredAlike.{answer_alike}
 use Rattle.gw_session.proofs.Taping.{recorded_none}

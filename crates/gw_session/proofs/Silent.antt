@@ -1,15 +1,10 @@
 -- Sessions whose packets put nothing in front of the answers.
-use Rattle.std.proofs.Common.{◌≡◌, inl, inr, ℕ, List, [], ◌∷◌, ◌++◌, flat_map, refl, arith}
-use Rattle.gw_switch.specs.declared.GatewayConfig.{GatewayConfig}
-use Rattle.gw_switch.specs.Events.{Event}
-use Rattle.gw_records.specs.declared.outcome.Totals.{Totals}
-use Rattle.gw_records.specs.Records.{Record}
-use Rattle.gw_records.specs.Streams.{SinkState, AppendsBut}
+use Rattle.gw_session.proofs.Common.{◌≡◌, inl, inr, ℕ, List, [], ◌∷◌, ◌++◌, flat_map, refl, arith, GatewayConfig, Event}
+use Rattle.gw_session.proofs.Common.{Totals, Record, SinkState, AppendsBut, Act, events_in, packets_for, written}
+use Rattle.gw_session.proofs.Common.{but_last, SessionTrace, spelled_for, written_for, written_by, TraceToWriteError}
+use Rattle.gw_session.proofs.Common.{TapeState, State}
 use Rattle.gw_session.specs.Outlet.{silent}
-use Rattle.gw_session.specs.Serve.{Act, events_in, packets_for, written, but_last, ServesThrough}
-use Rattle.gw_session.specs.Exchange.{spelled_for, written_for, written_by, Through, Begun}
-use Rattle.gw_session.specs.Tape.{TapeState}
-use Rattle.gw_session.specs.World.{State, output_of}
+use Rattle.gw_session.specs.World.{output_of}
 
 -- packets that put nothing give no octets
 nothing_put : (ps : List (ℕ × List ℕ)) → flat_map silent ps ≡ []
@@ -26,7 +21,7 @@ answers_alone config before (act ∷ acts) =
 
 -- records were served
 pub serves : {s s' : State} {x y : TapeState} {Took : List ℕ → List ℕ → Type 0} (records : List Record)
-    → Through silent s s' x y Took records → ServesThrough s s' x y Took records
+    → SessionTrace (written_by silent) s s' x y Took records → SessionTrace written s s' x y Took records
 serves records p = record {
   acts = p.acts;
   told_are = p.told_are;
@@ -38,13 +33,13 @@ serves records p = record {
 
 -- .. up to the one in which a write failed
 pub serves_until : {s : State} {end : Totals → State} {x y : TapeState} {a b : SinkState} (records : List Record)
-    → Begun 0 silent (record { state = s; tape = x; output = output_of a [] })
+    → TraceToWriteError 0 silent (record { state = s; tape = x; output = output_of a [] })
     (λ totals. record { state = end totals; tape = y; output = output_of b [] }) records
-    → (totals : Totals) × ServesThrough s (end totals) x y (AppendsBut 0 a.taken b.taken) records
+    → (totals : Totals) × SessionTrace written s (end totals) x y (AppendsBut 0 a.taken b.taken) records
 serves_until records p = (
   p.0,
   elim p.1 [
     | inl done ↦ serves records done.1
-    | inr cut ↦ absurd (omega (arith, cut.some))
+    | inr cut ↦ absurd (omega (arith, cut.stops.some))
   ],
 )

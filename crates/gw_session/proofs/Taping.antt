@@ -1,21 +1,14 @@
 -- Events recorded one after another.
-use Rattle.std.proofs.Common.{◌≡◌, ◌^◌, ◌<◌, ◌≤◌, ℕ, Bool, true, false, inl, inr, Some, Result, Ok, Err, List}
-use Rattle.std.proofs.Common.{[], ◌∷◌, ◌++◌, length, drop, map, OnOk, IfErr, is_err, refl, sym, ap, ◌∙◌}
-use Rattle.std.proofs.Common.{append_assoc, append-nil, arith}
-use Rattle.std.specs.Io.KnownBytes.{Appends}
-use Rattle.std.proofs.lemmas.List.{map-append, drop_all}
-use Rattle.std.proofs.lemmas.List.Concat.{flat_map-append}
+use Rattle.gw_session.proofs.Common.{◌≡◌, ◌^◌, ◌<◌, ◌≤◌, ℕ, Bool, true, false, inl, inr, Some, Result, Ok, Err, List}
+use Rattle.gw_session.proofs.Common.{[], ◌∷◌, ◌++◌, length, drop, map, IfErr, refl, sym, ap, ◌∙◌, append_assoc}
+use Rattle.gw_session.proofs.Common.{append-nil, arith, Appends, map-append, drop_all, flat_map-append, Event, Record}
+use Rattle.gw_session.proofs.Common.{IsGood, spelled, RunFault, SinkState, AppendsPrefix, Breaks, Appends-none}
+use Rattle.gw_session.proofs.Common.{Appends-join, events, events_of, all_kinds, Turn, of_circuit, arrivals, coming}
+use Rattle.gw_session.proofs.Common.{events_of_turns, RecordsBehind, TapeState, Recorded, RecordedBut}
+use Rattle.std.proofs.Common.{OnOk, is_err}
 use Rattle.std.proofs.lemmas.List.Elements.{Contains-append_left, Contains-append_right, Contains-push}
-use Rattle.gw_switch.specs.Events.{Event}
-use Rattle.gw_records.specs.Records.{Record, IsGood, spelled}
-use Rattle.gw_records.specs.declared.outcome.RunFault.{RunFault}
-use Rattle.gw_records.specs.Streams.{SinkState, AppendsPrefix, Breaks}
-use Rattle.gw_records.proofs.Writes.{Appends-none, Appends-join, AppendsPrefix-join}
-use Rattle.gw_session.specs.Answers.{events, events_of}
-use Rattle.gw_session.specs.Running.{all_kinds}
-use Rattle.gw_session.specs.Serve.{Turn, of_circuit, arrivals, coming, events_of_turns}
-use Rattle.gw_session.specs.Exchange.{RecordsBehind}
-use Rattle.gw_session.specs.Tape.{TapeState, Recorded, RecordedBut, HasEnded, HasLong}
+use Rattle.gw_records.proofs.Writes.{AppendsPrefix-join}
+use Rattle.gw_session.specs.Tape.{HasEnded, HasLong}
 use Rattle.gw_session.proofs.Receiving.{of_more}
 use Rattle.gw_session.proofs.Turns.{All-join}
 

@@ -1,25 +1,19 @@
 -- What the parts of a session do, for the private functions of modules `exchange`, `act` and `attend`.
-use Rattle.std.specs.Prelude.{◌≡◌, ◌⊎◌, ◌<◌, ◌≤◌, ◌++◌, ℕ, List, [], ◌∷◌, length, map, drop, Option, Bool}
-use Rattle.std.specs.Prelude.{true, false, Some, Result, MatchResult}
-use Rattle.std.specs.List.{flat_map}
-use Rattle.gw_switch.specs.declared.GatewayConfig.{GatewayConfig}
-use Rattle.gw_switch.specs.declared.gateway.Gateway.{Gateway}
-use Rattle.gw_switch.specs.Events.{Event, octets}
-use Rattle.gw_switch.specs.Standing.{Stands}
-use Rattle.gw_switch.specs.Whole.{reply_to, octet_reply, next_circuit}
-use Rattle.gw_records.specs.declared.outcome.Totals.{Totals}
-use Rattle.gw_records.specs.declared.outcome.RunFault.{RunFault}
+use Rattle.gw_session.specs.Prelude.{◌≡◌, ◌⊎◌, ◌<◌, ◌≤◌, ◌++◌, ℕ, List, [], ◌∷◌, length, map, drop, Option}
+use Rattle.gw_session.specs.Prelude.{Bool, true, false, Some, Result, MatchResult, flat_map, GatewayConfig}
+use Rattle.gw_session.specs.Prelude.{Gateway, Event, octets, Stands, next_circuit, Totals, RunFault, Record}
+use Rattle.gw_session.specs.Prelude.{SinkState, AppendsPrefix, AppendsBut, Waiting, PortsState, IfKnown}
+use Rattle.gw_session.specs.Prelude.{Grows, counted}
+use Rattle.gw_switch.specs.Whole.{reply_to, octet_reply}
 use Rattle.gw_records.specs.declared.outcome.RunFault.TheVariants.{Write}
-use Rattle.gw_records.specs.Records.{Record}
-use Rattle.gw_records.specs.Streams.{SinkState, AppendsPrefix, AppendsBut, Passes, Breaks}
+use Rattle.gw_records.specs.Streams.{Passes, Breaks}
 use Rattle.gw_session.specs.Answers.{code_of, packet_in}
 use Rattle.gw_session.specs.Outlet.{Spells}
-use Rattle.gw_records.specs.Ports.{Waiting, PortsState, IfKnown, Grows, TakesOut, KeepsSends, KeepsReceives}
-use Rattle.gw_records.specs.Ports.{counted}
+use Rattle.gw_records.specs.Ports.{TakesOut, KeepsSends, KeepsReceives}
 use Rattle.gw_session.specs.Serve.{Act, Turn, told, octet_of, turns_of, events_in, events_of_turns, answer_to}
-use Rattle.gw_session.specs.Serve.{Goes, Follows, Trades, Stop, StopsSo, as_call, receives_of, send_of}
+use Rattle.gw_session.specs.Serve.{TurnTrace, SessionTrace, PortTrace, Stop, StopsSo, as_call, receives_of, send_of}
 use Rattle.gw_session.specs.Serve.{of_circuit, coming, first_four, behind_four, LeavesOut, packets_for}
-use Rattle.gw_session.specs.Serve.{octets_for, dropped_for, turns, events_through, but_last}
+use Rattle.gw_session.specs.Serve.{octets_for, dropped_for}
 use Rattle.gw_session.specs.Tape.{TapeState, Recorded, RecordedBut}
 use Rattle.gw_session.specs.World.{State, Output, World}
 
@@ -114,7 +108,7 @@ pub record SendsPacket (ports ports' : PortsState) (totals totals' : Totals) (pa
 
 -- the gateway heard an octet and sends this one, the packet that it sends with it went to the outlet, and
 -- what that puts passes
-pub record SendsBack (spells : Spells) (s s' : State) (o o' : Output) (octet sent : ℕ) : Type 0 where
+pub record OctetTrace (spells : Spells) (s s' : State) (o o' : Output) (octet sent : ℕ) : Type 0 where
   pub packet : Option (ℕ × List ℕ)
   pub sends : SendsPacket s.ports s'.ports s.totals s'.totals packet
   pub hears : (config : GatewayConfig) (before : List Event) → Stands config s.gateway before
@@ -125,7 +119,7 @@ pub record SendsBack (spells : Spells) (s s' : State) (o o' : Output) (octet sen
   pub no_failure : o'.sink.failures ≡ o.sink.failures
 
 -- the gateway heard an octet, and a write of what its packet puts failed
-pub record Misses (spells : Spells) (s s' : State) (o o' : Output) (octet : ℕ) : Type 0 where
+pub record PacketWriteError (spells : Spells) (s s' : State) (o o' : Output) (octet : ℕ) : Type 0 where
   pub packet : ℕ × List ℕ
   pub some : 0 < length (spells packet)
   pub kept : s'.ports ≡ s.ports
@@ -136,8 +130,8 @@ pub record Misses (spells : Spells) (s s' : State) (o o' : Output) (octet : ℕ)
 
 abbrev pub Hearing : Spells → State → State → Output → Output → ℕ → Result ℕ RunFault → Type 0
 Hearing spells s s' o o' octet result = MatchResult result
-    (λ sent. SendsBack spells s s' o o' octet sent)
-    (λ e. (e ≡ Write) × Misses spells s s' o o' octet)
+    (λ sent. OctetTrace spells s s' o o' octet sent)
+    (λ e. (e ≡ Write) × PacketWriteError spells s s' o o' octet)
 
 -- The gateway heard octets, each after the datagrams that came before it, these were sent, and what the
 -- packets put passes.
@@ -145,7 +139,7 @@ pub record Exchanges (spells : Spells) (s s' : State) (o o' : Output) (octets se
   pub turns : List Turn
   pub heard : map octet_of turns ≡ octets
   pub lengths : length sent ≡ length octets
-  pub goes : Goes s s' turns (events_of_turns turns)
+  pub goes : TurnTrace s s' turns (events_of_turns turns)
   pub kept : KeepsRecords s.totals s'.totals
   pub sent_are : (config : GatewayConfig) (before : List Event) → Stands config s.gateway before
       → octets_for config before (events_of_turns turns) ≡ sent
@@ -156,17 +150,18 @@ pub record Exchanges (spells : Spells) (s s' : State) (o o' : Output) (octets se
 
 -- A write of what a packet puts failed when the gateway had heard the first octets, and a prefix of what
 -- waited and of what their packets put was taken.
-pub record StopsAt (spells : Spells) (s s' : State) (o o' : Output) (octets : List ℕ) : Type 0 where
+pub record StopsAt (spells : Spells) (s s' : State) (o : Output) (sink' : SinkState) (octets : List ℕ)
+    : Type 0 where
   pub turns : List Turn
   pub rest : List ℕ
   pub split : octets ≡ map octet_of turns ++ rest
-  pub trades : Trades s.ports s'.ports turns
+  pub trades : PortTrace s.ports s'.ports turns
   pub stands : (config : GatewayConfig) (before : List Event) → Stands config s.gateway before
       → Stands config s'.gateway (before ++ events_of_turns turns)
   pub took : (config : GatewayConfig) (before : List Event) → Stands config s.gateway before
-      → AppendsPrefix o.sink.taken o'.sink.taken
+      → AppendsPrefix o.sink.taken sink'.taken
       (o.waiting ++ spelled_for spells config before (events_of_turns turns))
-  pub failed : o.sink.failures < o'.sink.failures
+  pub failed : o.sink.failures < sink'.failures
   pub packet : ℕ × List ℕ
   pub some : 0 < length (spells packet)
 
@@ -176,7 +171,7 @@ abbrev pub ExchangingAll : {T : Type 0} → Spells → World → World → List 
 ExchangingAll spells w w' octets answer answer' result = MatchResult result
     (λ _. (sent : List ℕ) × (x : Exchanges spells w.state w'.state w.output w'.output octets sent)
     × (answer' ≡ answer ++ sent) × Recorded w.tape w'.tape (events_of_turns x.turns))
-    (λ e. (e ≡ Write) × StopsAt spells w.state w'.state w.output w'.output octets)
+    (λ e. (e ≡ Write) × StopsAt spells w.state w'.state w.output w'.output.sink octets)
 
 -- datagrams came so far, with no failed receive
 pub record Receiving (s s' : State) (circuit : ℕ) (came : List (List ℕ)) : Type 0 where
@@ -193,75 +188,43 @@ pub record Receiving (s s' : State) (circuit : ℕ) (came : List (List ℕ)) : T
 pub record ActsOn (s s' : State) (tape tape' : TapeState) (r : Record) : Type 0 where
   pub act : Act
   pub told_is : told act ≡ r
-  pub goes : Goes s s' (turns_of act) (events_in act)
+  pub goes : TurnTrace s s' (turns_of act) (events_in act)
   pub records : s'.totals.records ≡ counted s.totals.records 1
   pub octets : s'.totals.octets ≡ counted s.totals.octets (length (turns_of act))
   pub recorded : Recorded tape tape' (events_in act)
 
--- .. and all that is put for it passes
-pub record Finishes (spells : Spells) (w w' : World) (r : Record) : Type 0 where
-  pub acts : ActsOn w.state w'.state w.tape w'.tape r
-  pub passes : (config : GatewayConfig) (before : List Event) → Stands config w.state.gateway before
-      → Passes w.output.sink.taken w'.output.sink.taken w'.output.waiting
-      (w.output.waiting ++ written_for spells config before acts.act)
-  pub no_failure : w'.output.sink.failures ≡ w.output.sink.failures
-
--- .. or a write failed when it was done, and a prefix of that was taken
-pub record Unwritten (spells : Spells) (w w' : World) (r : Record) : Type 0 where
+-- .. and this is known of what waited and of all that is put for it
+pub record ActTrace (spells : Spells) (w w' : World) (r : Record) (Took : List ℕ → Type 0) : Type 0 where
   pub acts : ActsOn w.state w'.state w.tape w'.tape r
   pub took : (config : GatewayConfig) (before : List Event) → Stands config w.state.gateway before
-      → AppendsPrefix w.output.sink.taken w'.output.sink.taken
-      (w.output.waiting ++ written_for spells config before acts.act)
-  pub failed : w.output.sink.failures < w'.output.sink.failures
+      → Took (w.output.waiting ++ written_for spells config before acts.act)
 
--- .. or when the first octets of a trunk record were heard
-pub record Cut (spells : Spells) (w w' : World) (r : Record) : Type 0 where
-  pub octets : List ℕ
-  pub is_trunk : r ≡ Record.Trunk octets
-  pub stops : StopsAt spells w.state w'.state w.output w'.output octets
-
--- a record was acted on, or a write failed in it
+-- A record was acted on; or a write failed in it, when it was done or when the first octets of a trunk record
+-- were heard.
 abbrev pub Acts : Spells → World → World → Record → Result (Unit {0}) RunFault → Type 0
 Acts spells w w' r result = MatchResult result
-    (λ _. Finishes spells w w' r)
-    (λ e. (e ≡ Write) × (Unwritten spells w w' r ⊎ Cut spells w w' r))
+    (λ _. ActTrace spells w w' r (Passes w.output.sink.taken w'.output.sink.taken w'.output.waiting)
+    × (w'.output.sink.failures ≡ w.output.sink.failures))
+    (λ e. (e ≡ Write) × (w.output.sink.failures < w'.output.sink.failures)
+    × (ActTrace spells w w' r (AppendsPrefix w.output.sink.taken w'.output.sink.taken)
+    ⊎ ((octets : List ℕ) × (r ≡ Record.Trunk octets)
+    × StopsAt spells w.state w'.state w.output w'.output.sink octets)))
 
--- the ports and the gateway went through the acts of records, which were recorded, and this is known of what
--- is put for all but the last, and of all that is put
-pub record Through (spells : Spells) (s s' : State) (tape tape' : TapeState) (Took : List ℕ → List ℕ → Type 0)
-    (records : List Record) : Type 0 where
-  pub acts : List Act
-  pub told_are : map told acts ≡ records
-  pub follows : Follows s s' tape tape' acts
-  pub took : (config : GatewayConfig) (before : List Event) → Stands config s.gateway before
-      → Took (written_by spells config before (but_last acts)) (written_by spells config before acts)
-
--- .. but for the last record, which was cut: of that, the first turns
-pub record CutThrough (late : ℕ) (spells : Spells) (s s' : State) (sink sink' : SinkState)
-    (begun : List Record) : Type 0 where
+-- A session but for the last record, in which a write failed when its first octets were received; at most this
+-- many octets waited before it.
+pub record CutTrace (late : ℕ) (spells : Spells) (w w' : World) (begun : List Record) : Type 0 where
   pub records : List Record
   pub octets : List ℕ
   pub all : begun ≡ records ++ Record.Trunk octets ∷ []
-  pub acts : List Act
-  pub told_are : map told acts ≡ records
-  pub between : State
-  pub goes : Goes s between (turns acts) (events_through acts)
-  pub turns : List Turn
-  pub rest : List ℕ
-  pub split : octets ≡ map octet_of turns ++ rest
-  pub trades : Trades between.ports s'.ports turns
-  pub stands : (config : GatewayConfig) (before : List Event) → Stands config s.gateway before
-      → Stands config s'.gateway (before ++ (events_through acts ++ events_of_turns turns))
-  pub took : (config : GatewayConfig) (before : List Event) → Stands config s.gateway before
-      → AppendsBut late sink.taken sink'.taken (written_by spells config before acts)
-      (written_by spells config before acts
-      ++ spelled_for spells config (before ++ events_through acts) (events_of_turns turns))
-  pub packet : ℕ × List ℕ
-  pub some : 0 < length (spells packet)
+  pub between : World
+  pub trace : SessionTrace (written_by spells) w.state between.state w.tape between.tape
+      (λ first. Passes w.output.sink.taken between.output.sink.taken between.output.waiting) records
+  pub few : length between.output.waiting ≤ late
+  pub stops : StopsAt spells between.state w'.state between.output w'.output.sink octets
 
--- so much was done of records in which a write failed, when so many octets waited at most
-abbrev pub Begun : ℕ → Spells → World → (Totals → World) → List Record → Type 0
-Begun late spells w end records = (totals : Totals) × (((0 < length records)
-    × Through spells w.state (end totals).state w.tape (end totals).tape
+-- a session up to a write that failed, when this many octets waited at most
+abbrev pub TraceToWriteError : ℕ → Spells → World → (Totals → World) → List Record → Type 0
+TraceToWriteError late spells w end records = (totals : Totals) × (((0 < length records)
+    × SessionTrace (written_by spells) w.state (end totals).state w.tape (end totals).tape
     (AppendsBut late w.output.sink.taken (end totals).output.sink.taken) records)
-    ⊎ CutThrough late spells w.state (end totals).state w.output.sink (end totals).output.sink records)
+    ⊎ CutTrace late spells w (end totals) records)

@@ -4,6 +4,7 @@ pub use Rattle.gw_records.specs.Outcome
 pub use Rattle.gw_records.specs.Ports
 pub use Rattle.gw_speech.specs.Encode
 pub use Rattle.gw_speech.specs.Decode
+pub mod Prelude
 pub mod Laws
 pub mod Answers
 pub mod Running

@@ -1,20 +1,11 @@
 -- Laws of recordings.
-use Rattle.std.specs.Prelude.{◌≡◌, ◌==◌, ◌++◌, if◌then◌else◌, ℕ, false, List, [], ◌∷◌, Some}
-use Rattle.std.specs.Prelude.{Result, MatchResult}
-use Rattle.std.specs.List.{flat_map}
-use Rattle.std.specs.Io.KnownBytes.{Appends}
-use Rattle.gw_switch.specs.declared.GatewayConfig.{GatewayConfig}
-use Rattle.gw_switch.specs.declared.gateway.Gateway.{Gateway}
-use Rattle.gw_switch.specs.Standing.{Stands}
-use Rattle.gw_records.specs.declared.outcome.Totals.{Totals}
-use Rattle.gw_records.specs.declared.outcome.RunFault.{RunFault}
-use Rattle.gw_records.specs.Streams.{SourceState, SinkState, AppendsPrefix}
-use Rattle.gw_records.specs.Ports.{Grows, counted}
-use Rattle.gw_switch.specs.Events.{Event}
-use Rattle.gw_switch.specs.Whole.{whole_from}
+use Rattle.gw_session.specs.Prelude.{◌≡◌, ◌==◌, ◌++◌, if◌then◌else◌, ℕ, false, List, [], ◌∷◌, Some, Result}
+use Rattle.gw_session.specs.Prelude.{MatchResult, flat_map, Appends, GatewayConfig, Gateway, Stands, Totals}
+use Rattle.gw_session.specs.Prelude.{RunFault, SourceState, SinkState, AppendsPrefix, Grows, counted, Event}
+use Rattle.gw_session.specs.Prelude.{whole_from, Record}
 use Rattle.gw_records.specs.declared.records.Ending.{Ending}
 use Rattle.gw_records.specs.declared.records.Ending.TheVariants as endings
-use Rattle.gw_records.specs.Records.{Record, Reads}
+use Rattle.gw_records.specs.Records.{Reads}
 use Rattle.gw_session.specs.Answers.{Written, written_out, answers, answered, trunk_in, datagrams_in}
 use Rattle.gw_session.specs.Answers as records_of
 use Rattle.gw_session.specs.Running.{all_kinds, replies_to, RunsAll}

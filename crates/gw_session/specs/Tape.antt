@@ -1,13 +1,11 @@
 -- What tapes tell of themselves, and how events are recorded on them.
-use Rattle.std.specs.Prelude.{◌≡◌, ◌⊎◌, ◌^◌, ◌<◌, ◌≤◌, ◌++◌, Bool, true, false, List, [], ℕ, Option, None}
-use Rattle.std.specs.Prelude.{Some, length, map, Contains}
-use Rattle.std.specs.List.{flat_map, AllByRecursion}
-use Rattle.std.specs.Io.KnownBytes.{Appends}
-use Rattle.gw_switch.specs.Events.{Event}
+use Rattle.gw_session.specs.Prelude.{◌≡◌, ◌⊎◌, ◌^◌, ◌<◌, ◌≤◌, ◌++◌, Bool, true, false, List, [], ℕ, Option}
+use Rattle.gw_session.specs.Prelude.{None, Some, length, map, flat_map, AllByRecursion, Appends, Event}
+use Rattle.gw_session.specs.Prelude.{Record, IsGood, AppendsPrefix}
+use Rattle.std.specs.Prelude.{Contains}
 use Rattle.gw_records.specs.declared.records.Head.{Head}
 use Rattle.gw_records.specs.declared.records.Head.TheVariants as heads
-use Rattle.gw_records.specs.Records.{Record, IsGood, spelled}
-use Rattle.gw_records.specs.Streams.{AppendsPrefix}
+use Rattle.gw_records.specs.Records.{spelled}
 use Rattle.gw_session.specs.Answers.{events}
 use Rattle.gw_session.specs.declared.tape.OnTape.{OnTape}
 use Rattle.gw_session.specs.Running.{all_kinds}

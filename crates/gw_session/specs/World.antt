@@ -1,9 +1,5 @@
 -- What a session changes.
-use Rattle.std.specs.Prelude.{List, ℕ}
-use Rattle.gw_switch.specs.declared.gateway.Gateway.{Gateway}
-use Rattle.gw_records.specs.declared.outcome.Totals.{Totals}
-use Rattle.gw_records.specs.Streams.{SinkState}
-use Rattle.gw_records.specs.Ports.{PortsState}
+use Rattle.gw_session.specs.Prelude.{List, ℕ, Gateway, Totals, SinkState, PortsState}
 use Rattle.gw_session.specs.Tape.{TapeState}
 
 -- Where a session stands: what its ports tell, its gateway, and what is counted.

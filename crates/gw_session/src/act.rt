@@ -98,7 +98,7 @@ impl Session {
     ghost use Rattle.gw_session.specs.Exchange.{Acts, most_waiting};
     ghost use Rattle.gw_session.specs.World.{world_of};
 
-    // Hears the octets of a trunk record, and puts the record that answers it.
+    // Gives the octets of a trunk record to the gateway, and puts the record that answers it.
     fn act_on_trunk<O: Outlet, K: Sink, T: Tape>(
         &mut self,
         gateway: &mut Gateway,

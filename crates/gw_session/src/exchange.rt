@@ -98,7 +98,7 @@ impl Session {
         Ok(())
     }
 
-    // Hears an octet, sends the packet that goes with it, and returns the octet to send.
+    // Gives an octet to the gateway, sends the packet that goes with it, and returns the octet to send.
     #[inline]
     fn hear<O: Outlet, K: Sink>(
         &mut self,
@@ -169,9 +169,9 @@ impl Session {
         }
     }
 
-    /// Hears octets, each after the datagrams that wait at the circuit whose slot is sent with it, and puts
-    /// the octets to send behind those of the answer. All are recorded: the octets are cut where datagrams
-    /// came.
+    /// Gives octets to the gateway, each after the datagrams that wait at the circuit whose slot is sent with
+    /// it, and puts the octets to send behind those of the answer. All are recorded: the octets are cut where
+    /// datagrams came.
     pub fn exchange_all<O: Outlet, K: Sink, T: Tape>(
         &mut self,
         gateway: &mut Gateway,

@@ -20,7 +20,7 @@ use Rattle.gw_records.specs.Outcome.{SessionTo, FailsToWrite}
 use Rattle.gw_records.proofs.Readings.{one_reading, more_keeps}
 use Rattle.gw_session.specs.Answers.{events}
 use Rattle.gw_session.specs.Serve as session
-use Rattle.gw_session.specs.Serve.{Around, ServesThrough, ServesAll, ServesUntil, Served, written, events_through}
+use Rattle.gw_session.specs.Serve.{Around, SessionTrace, ServesAll, ServesUntil, Served, written, events_through}
 use Rattle.gw_session.specs.Serve.{served_kinds}
 use Rattle.gw_session.specs.Tape.{TapeState}
 use Rattle.gw_session.specs.World.{State}
@@ -87,7 +87,7 @@ appends-first old new all more e f p = rw (e, f) at p
 -- T records of pieces were served by a gateway to which nothing had happened.
 carried-pieces : {s s' : State} {tape tape' : TapeState} {Took : List ℕ → List ℕ → Type 0} {records : List Record}
     (config : GatewayConfig) (pieces : List (List ℕ)) (sent : List ℕ)
-    → (p : ServesThrough s s' tape tape' Took records) → Stands config s.gateway []
+    → (p : SessionTrace written s s' tape tape' Took records) → Stands config s.gateway []
     → records ≡ map Record.Trunk pieces → AllByRecursion (IsGood served_kinds) records
     → sent ≡ bodies (written config [] p.acts)
     → Carries config s'.gateway tape tape' (flat_map same pieces) sent

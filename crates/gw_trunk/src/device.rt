@@ -4,7 +4,7 @@ ghost use Rattle.std.specs.Prelude.{◌≡◌, ◌<◌, ◌≤◌, ◌++◌, ℕ
 ghost use Rattle.gw_trunk.specs.Device.{IsTaken, octets_taken, written_of};
 
 use crate::waiting::Waiting;
-use gw_records::OctetLog;
+use gw_records::Log;
 use mio::Interest;
 use std::io;
 use std::io::{ErrorKind, Read, Write};
@@ -68,7 +68,7 @@ pub trait Outgoing {
 pub struct FromDevice<R> {
     reader: R,
     waiting: Waiting,
-    log: OctetLog,
+    log: Log,
 }
 
 /// A writer of std over a descriptor. What went is what the calls of the writer took.
@@ -76,7 +76,7 @@ pub struct FromDevice<R> {
 pub struct ToDevice<W> {
     writer: W,
     waiting: Waiting,
-    log: OctetLog,
+    log: Log,
 }
 
 impl<R: Drop> FromDevice<R> {
@@ -87,7 +87,7 @@ impl<R: Drop> FromDevice<R> {
         Ok(FromDevice {
             reader,
             waiting: Waiting::open(rt, descriptor, Interest::READABLE)?,
-            log: OctetLog::new(),
+            log: Log::new(),
         })
     }
 }
@@ -100,7 +100,7 @@ impl<W: Drop> ToDevice<W> {
         Ok(ToDevice {
             writer,
             waiting: Waiting::open(rt, descriptor, Interest::WRITABLE)?,
-            log: OctetLog::new(),
+            log: Log::new(),
         })
     }
 }

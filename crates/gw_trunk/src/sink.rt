@@ -4,7 +4,7 @@ ghost use Rattle.std.specs.Prelude.{◌≡◌, ◌≤◌, ◌++◌, [], length, 
 ghost use Rattle.gw_trunk.specs.Bodies.{HasPassed, StepsOver, place_next, body_place, body_after};
 
 use crate::device::Outgoing;
-use gw_records::{OctetLog, Sink, SinkFault, TRUNK};
+use gw_records::{Log, Sink, SinkFault, TRUNK};
 
 /// Where in a record the next octet stands. A place behind the kind says whether the body goes to the trunk.
 #[derive(Clone, Copy, Debug, PartialEq, Eq)]
@@ -28,7 +28,7 @@ pub struct TrunkSink<O: Outgoing> {
     outgoing: O,
     failed: u64,
     place: Place,
-    log: OctetLog,
+    log: Log,
     ghost passed: { HasPassed place log.octets (O.went outgoing) },
 }
 
@@ -134,7 +134,7 @@ impl<O: Outgoing> TrunkSink<O> {
             outgoing,
             failed: 0,
             place: Place::Kind,
-            log: OctetLog::new(),
+            log: Log::new(),
         }
     }
 }

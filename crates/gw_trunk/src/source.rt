@@ -6,7 +6,7 @@ ghost use Rattle.gw_trunk.specs.Pieces.{InPieces, ReadsPiece};
 
 use crate::device::{Incoming, Taken};
 use byteorder::{BigEndian, ByteOrder};
-use gw_records::{FRONT_LEN, OctetLog, Source, SourceFault, TRUNK};
+use gw_records::{FRONT_LEN, Log, Source, SourceFault, TRUNK};
 
 // The octets of the trunk that one record has at most.
 const MOST_OCTETS: usize = 2_048;
@@ -18,7 +18,7 @@ pub struct TrunkSource<I: Incoming> {
     incoming: I,
     failed: u64,
     reads: u64,
-    log: OctetLog,
+    log: Log,
     ghost pieces: { ∥ InPieces (I.came incoming) log.octets ∥₁ },
 }
 
@@ -69,7 +69,7 @@ impl<I: Incoming> TrunkSource<I> {
             incoming,
             failed: 0,
             reads: 0,
-            log: OctetLog::new(),
+            log: Log::new(),
         }
     }
 }

@@ -14,7 +14,7 @@ use crate::senders::Senders;
 use crate::socket::Socket;
 use g704_cas::CircuitNo;
 use gw_config::Port;
-use gw_records::{AtStart, CallLog, PortFault, Ports};
+use gw_records::{AtStart, Log, PortFault, Ports};
 use std::alloc::Global;
 use std::io::{Error, ErrorKind};
 use std::net::{IpAddr, Net, SocketAddr};
@@ -51,7 +51,7 @@ pub struct UdpPorts<S: Socket> {
     receive_failed: u64,
     send_failed: u64,
     pub(crate) opened: AtStart<Vec<Option<Endpoint<S>>>>,
-    pub(crate) log: CallLog,
+    pub(crate) log: Log,
     ghost thirty: { vec_len endpoints ≡ 30 },
     ghost bound: { ∥ AreBound S.is_bound opened.value.items ∥₁ },
     ghost called: { ∥ HasCalled S.receives S.sends log.calls opened.value.items endpoints.items ∥₁ },
@@ -270,7 +270,7 @@ impl<S: Socket> UdpPorts<S> {
             receive_failed: 0,
             send_failed: 0,
             opened,
-            log: CallLog::new(),
+            log: Log::new(),
         })
     }
 }

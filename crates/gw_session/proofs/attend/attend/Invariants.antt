@@ -1,19 +1,14 @@
-use Rattle.std.proofs.Common.{◌≡◌, ◌≤◌, List, ℕ, length}
-use Rattle.std.specs.Prelude.{vec_len}
+use Rattle.gw_session.proofs.Common.{◌≡◌, ◌≤◌, List, ℕ, length, vec_len, Record, Passes, written_by, most_waiting}
+use Rattle.gw_session.proofs.Common.{SessionTrace, nothing_counted, state_of}
 use Rattle.gw_records.specs.Reader.{work_left}
-use Rattle.gw_records.specs.Records.{Record}
-use Rattle.gw_records.specs.Streams.{Passes}
 use Rattle.gw_records.proofs.Sessions.{Stage}
-use Rattle.gw_session.specs.Exchange.{Through, most_waiting}
-use Rattle.gw_records.specs.Outcome.{nothing_counted}
-use Rattle.gw_session.specs.World.{state_of}
 use Rattle.gw_session.proofs.attend.attend.Given as goal
 
 abbrev pub invariant-attending : goal.invariant-attending
 invariant-attending g l = (octets : List ℕ) × (records : List Record) × record {
   stage : Stage l.kinds (g.S.Source.tells l.initial.source) (g.S.Source.tells l.source)
       (g.K.Sink.tells l.initial.sink) (g.K.Sink.tells l.sink) l.reader octets records;
-  through : Through g.O.Outlet.spells
+  through : SessionTrace (written_by g.O.Outlet.spells)
       (state_of (g.O.Outlet.tells l.initial.outlet) l.initial.gateway nothing_counted)
       (state_of (g.O.Outlet.tells l.outlet) l.gateway l.session.totals)
       (g.T.Tape.tells l.initial.tape) (g.T.Tape.tells l.tape)

@@ -1,8 +1,4 @@
-use Rattle.std.proofs.Common.{ap, ◌∙◌}
-use Rattle.std.specs.Prelude.{Result}
-use Rattle.gw_circuit.specs.declared.Dropped.{Dropped}
-use Rattle.gw_switch.specs.Whole.{Reply}
-use Rattle.gw_session.specs.Answers.{code_of}
+use Rattle.gw_session.proofs.Common.{ap, ◌∙◌, Result, Dropped, Reply, code_of}
 use Rattle.gw_session.proofs.Turns.{dropped_given}
 use Rattle.gw_session.proofs.exchange.give.Goals as goal
 

@@ -1,10 +1,7 @@
-use Rattle.std.proofs.Common.{refl}
-use Rattle.gw_switch.specs.Events.{Event}
+use Rattle.gw_session.proofs.Common.{refl, Event, Takes, Act, answer_to, given_by, dropped_for}
 use Rattle.gw_records.specs.Octets.{octet_of_command, octet_of_codec}
 use Rattle.gw_records.proofs.Again.{command_again, codec_again}
-use Rattle.gw_session.specs.Exchange.{Takes}
 use Rattle.gw_session.specs.Tape.{kind_and_circuit}
-use Rattle.gw_session.specs.Serve.{Act, answer_to, given_by, dropped_for}
 use Rattle.gw_session.proofs.Acts.{one_acts}
 use Rattle.gw_session.proofs.exchange.Session.act.Goals as goal
 

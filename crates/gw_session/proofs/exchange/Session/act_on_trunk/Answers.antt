@@ -1,6 +1,4 @@
-use Rattle.std.proofs.Common.{◌≡◌, ◌^◌, ◌<◌, ◌∷◌, length, arith}
-use Rattle.std.proofs.lemmas.Grind.{common_steps}
-use Rattle.byteorder.specs.Endian.{big_bytes}
+use Rattle.gw_session.proofs.Common.{◌≡◌, ◌^◌, ◌<◌, ◌∷◌, length, arith, common_steps, big_bytes}
 use Rattle.gw_session.proofs.Acts.{trunk_acts}
 use Rattle.gw_session.proofs.exchange.Session.act_on_trunk.Goals as goal
 

@@ -1,8 +1,7 @@
-use Rattle.std.proofs.Common.{◌≡◌, ◌+◌, ◌<◌, ◌++◌, ◌∷◌, [], ap, sym, refl, ◌∙◌, ℕ, List, length, take, drop}
-use Rattle.std.proofs.Common.{get_or, length-append, take-append-drop, arith}
-use Rattle.std.proofs.lemmas.List.{length-take, take_rest, take_more}
-use Rattle.std.proofs.lemmas.Result.{err_from_is_err_and}
-use Rattle.std.specs.Prelude.{vec_len}
+use Rattle.gw_session.proofs.Common.{◌≡◌, ◌+◌, ◌<◌, ◌++◌, ◌∷◌, [], ap, sym, refl, ◌∙◌, ℕ, List, length, take, drop}
+use Rattle.gw_session.proofs.Common.{get_or, length-append, arith, length-take, take_rest, take_more}
+use Rattle.gw_session.proofs.Common.{err_from_is_err_and, vec_len}
+use Rattle.std.proofs.Common.{take-append-drop}
 use Rattle.gw_session.specs.declared.exchange.Session.{Session}
 use Rattle.gw_session.proofs.PacketsSent.{exchange_is, stops_once}
 use Rattle.gw_session.proofs.Exchanging.{heard_none, heard_more, heard_all, stops_after}

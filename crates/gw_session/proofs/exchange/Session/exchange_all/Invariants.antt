@@ -1,6 +1,4 @@
-use Rattle.std.proofs.Common.{◌≡◌}
-use Rattle.std.specs.Prelude.{vec_len}
-use Rattle.gw_session.specs.World.{world_of}
+use Rattle.gw_session.proofs.Common.{◌≡◌, vec_len, world_of}
 use Rattle.gw_session.proofs.Exchanging.{HeardSo}
 use Rattle.gw_session.proofs.exchange.Session.exchange_all.Given as goal
 

@@ -1,7 +1,5 @@
-use Rattle.std.proofs.Common.{sym, ap, refl, append-nil}
-use Rattle.std.proofs.lemmas.Result.{err_from_is_err_and}
-use Rattle.gw_switch.specs.Whole.{Sending, sending_in}
-use Rattle.gw_records.proofs.Writes.{Passes-none}
+use Rattle.gw_session.proofs.Common.{sym, ap, refl, append-nil, err_from_is_err_and, Sending, Passes-none}
+use Rattle.gw_switch.specs.Whole.{sending_in}
 use Rattle.gw_session.proofs.PacketsSent.{sends_none}
 use Rattle.gw_session.proofs.exchange.Session.hear.Goals as goal
 

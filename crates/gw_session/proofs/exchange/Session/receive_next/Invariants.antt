@@ -1,8 +1,5 @@
-use Rattle.std.proofs.Common.{◌≡◌, ℕ, List, length, Some}
-use Rattle.std.specs.Prelude.{vec_len}
-use Rattle.gw_session.specs.Serve.{of_circuit, coming}
-use Rattle.gw_session.specs.Exchange.{Receiving, RecordsBehind}
-use Rattle.gw_session.specs.World.{state_of}
+use Rattle.gw_session.proofs.Common.{◌≡◌, ℕ, List, length, Some, vec_len, of_circuit, coming, Receiving, RecordsBehind}
+use Rattle.gw_session.proofs.Common.{state_of}
 use Rattle.gw_session.proofs.exchange.Session.receive_next.Given as goal
 
 abbrev pub invariant-receiving : goal.invariant-receiving

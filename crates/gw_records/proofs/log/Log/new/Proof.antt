@@ -1,4 +1,4 @@
--- `new` makes the empty struct, with the octets that its clause names. Only a proof by hand can set ghost data.
+-- `new` makes the empty struct, with the octets and calls that its clause names. Only a proof by hand can set ghost data.
 use mathlib.Core.Path.{refl}
 use mathlib.Core.List.{[], ◌∷◌}
 use seplogic.Ra.Ura.{Ura}
@@ -21,11 +21,11 @@ use denote.Triple.Entry.{on_entry, alive}
 use denote.Triple.Spec.{Meets, triple_of}
 use denote.Triple.Table.{entered}
 use denote.Triple.Walked.{says, Stays, walk_of, Walks, ends_at, walked, walk_Meets}
-use Rattle.gw_records.specs.contracts.log.OctetLog.new.Key.{name as key}
-use Rattle.gw_records.specs.contracts.log.OctetLog.new as f
-use Rattle.gw_records.proofs.log.OctetLog.new.Statement as stated
-use Rattle.gw_records.proofs.log.OctetLog.new.Code as code
-use Rattle.gw_records.specs.contracts.log.OctetLog as made
+use Rattle.gw_records.specs.contracts.log.Log.new.Key.{name as key}
+use Rattle.gw_records.specs.contracts.log.Log.new as f
+use Rattle.gw_records.proofs.log.Log.new.Statement as stated
+use Rattle.gw_records.proofs.log.Log.new.Code as code
+use Rattle.gw_records.specs.contracts.log.Log as made
 
 abbrev stayed : Stays (f.ended).signature.params (f.ended).kept
 stayed = tt
@@ -41,8 +41,8 @@ module _ {M : Type 1} {𝓤 : Ura M} (𝓛 : Logic 𝓤) (mem : Memory → SProp
       qed 𝓛 (raw (alive 𝓛 f.signature tt tt) ∷ ‵ (owns [] tt tt) ∷ []) ∵ enter ! C Λ code.function [] _ $
       alloc_all ! (λ l. pass_all ! refl tt $ sets ! (agg ! (no_more !)) refl (tt, tt) $
       returns ! (look_at ! 0 refl) $ free_all ! refl $
-      suffices ! _ (ends_at 𝓛 f.ended stayed (f.clauses 𝓛 mem run) bound (vstruct vnil) (record { octets = [] }) tt tt) $
-      says ! refl $ pure_i ! (made.the_row.own_val (record { octets = [] }) (vstruct vnil ∷ [])) ((λ vss. (tt, tt)), tt) ((tt, (refl, tt)), tt) $
+      suffices ! _ (ends_at 𝓛 f.ended stayed (f.clauses 𝓛 mem run) bound (vstruct vnil) (record { octets = []; calls = [] }) tt tt) $
+      says ! refl $ pure_i ! (made.the_row.own_val (record { octets = []; calls = [] }) (vstruct vnil ∷ [])) ((λ vss. (tt, tt)), tt) ((tt, (refl, tt)), tt) $
       move ! (1 ∷ 2 ∷ 0 ∷ []) $ done !)
 
   walks : Walks 𝓛 f.ended stayed (WpFn 𝓤 H C Λ code.function) (f.clauses 𝓛 mem run)

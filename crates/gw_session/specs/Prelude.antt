@@ -1,0 +1,18 @@
+-- The names that most modules of this crate cite, passed on from one place. Declares nothing.
+pub use Rattle.std.specs.Io.KnownBytes.{Appends}
+pub use Rattle.std.specs.List.{AllByRecursion}
+pub use Rattle.std.specs.Prelude.{◌≡◌, ◌∷◌, ◌++◌, ℕ, Bool, true, false, List, [], length, take, map, flat_map}
+pub use Rattle.std.specs.Prelude.{count_by, Err, ◌⊎◌, ◌<◌, ◌≤◌, drop, Option, Some, Result, MatchResult, ◌==◌}
+pub use Rattle.std.specs.Prelude.{if◌then◌else◌, ◌+◌, None, ◌^◌}
+pub use Rattle.gw_records.specs.Outcome.{nothing_counted, EndsAll, EndsUntil, OrNoMemory}
+pub use Rattle.gw_records.specs.Ports.{Waiting, PortsState, IfKnown, Grows, counted, PortCall}
+pub use Rattle.gw_records.specs.Records.{Record, record_of, IsGood}
+pub use Rattle.gw_records.specs.Streams.{SourceState, SinkState, AppendsBut, at_most, AppendsPrefix}
+pub use Rattle.gw_records.specs.declared.outcome.RunFault.{RunFault}
+pub use Rattle.gw_records.specs.declared.outcome.Totals.{Totals}
+pub use Rattle.gw_records.specs.declared.records.Kinds.{Kinds}
+pub use Rattle.gw_switch.specs.Events.{Event, octets}
+unfoldable pub use Rattle.gw_switch.specs.Standing.{Stands}
+pub use Rattle.gw_switch.specs.Whole.{Reply, whole_from, next_circuit}
+pub use Rattle.gw_switch.specs.declared.GatewayConfig.{GatewayConfig}
+pub use Rattle.gw_switch.specs.declared.gateway.Gateway.{Gateway}
