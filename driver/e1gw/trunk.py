@@ -20,12 +20,12 @@ import sys
 from typing import Callable, NoReturn
 
 from . import satop
-from .aligned import align
 from .clear import Clear, Place
 from .control import DoorTaken
 from .driver import Driver
 from .explain import config_words
 from .faults import Parser, number, options_words, words_of_fault
+from .filtered import align
 from .gateway import ConfigRefused, check_config
 from .guards import OnLoss, on_loss_of
 from .keep import seconds_of
