@@ -268,6 +268,8 @@ class Driver:
                     self._pause()
                     if not self.loop.watches(trunk.writer()):
                         self.loop.watch(trunk.writer(), WRITE, lambda _: self._writable())
+        elif self.options.crc4:
+            self.options.crc4.sent += len(octets)
         self.lines.trunk(octets, record.body)
         spent = time.monotonic() - began
         if spent > self._slowest[-1]:
@@ -483,6 +485,7 @@ class Driver:
             'time': round(time.time(), 3), 'uptime': round(time.monotonic() - self.began, 3),
             'trunk_up': self.trunk is not None, 'transport': self.trunk.status() if self.trunk else {},
             'slowest_turn': round(max(self._slowest), 6), 'clock': self.clock.status(),
+            'crc4': self.options.crc4.status() if self.options.crc4 else None,
             'counted': self.counts.answered_place, 'stale': self.counts.stale(), 'ended': dict(self.ended),
             'renewed': self.renewed,
             'commands': [{'command': name, 'answer': answer, 'count': n}

@@ -6,13 +6,21 @@ from typing import Callable
 from .lines import Event
 
 WARNED = frozenset(('lost', 'gap', 'ahead', 'stalled', 'ended', 'trunk lost', 'cleared', 'slots'))
-NOTICED = frozenset(('aligned', 'alarm', 'remote alarm', 'flows', 'rate', 'renewed', 'satop', 'trunk'))
+NOTICED = frozenset(('aligned', 'alarm', 'remote alarm', 'flows', 'rate', 'renewed', 'satop', 'trunk',
+                      'crc4'))
 
 # The alarms of ITU-T G.704, G.706 and G.732, by what has no alignment: at this end, and as the other one tells.
 LOSSES = {'frame': 'loss of frame alignment (LFA)', 'multiframe': 'loss of multiframe alignment'}
 REMOTE = {'frame': 'RAI (bit A)', 'multiframe': 'distant multiframe alarm (bit y)'}
 _SLOTS = {'lost': 'slot 16 lost: both directions silent', 'found': 'slot 16 found again, speech goes on',
           'moved': 'slots moved by {}: slot 16 found again, speech goes on'}
+# CRC-4 (ITU-T G.704, 2.3.3; G.706, 4.2 and 4.3).
+_CRC4 = {'none': 'no CRC multiframe alignment', 'found': 'CRC multiframe alignment found',
+         'lost': 'CRC multiframe alignment lost',
+         'lost and found': 'CRC multiframe alignment lost and found again{times}',
+         'given up': 'false frame alignment: 915 of 1000 submultiframes errored{times}',
+         'errored': 'CRC-4 errors{over}: {count} of {of} submultiframes',
+         'far end errored': 'CRC-4 errors reported by the other end (E bits){over}: {count} of {of} submultiframes'}
 _WORDS: dict[str, Callable[[Event], str]] = {
     'state': lambda e: f'{e["circuit"]}: {e["state"]}, was {e["was"]}',
     'alarm': lambda e: f'alarm{_over(e)}: {LOSSES[e["what"]]}',
@@ -32,6 +40,7 @@ _WORDS: dict[str, Callable[[Event], str]] = {
     'slots': lambda e: _SLOTS[e['what']].format(e.get('by')),
     'trunk': lambda e: f'trunk open: {e.get("trunk", "")}',
     'trunk lost': lambda e: f'trunk lost: {e["why"]}',
+    'crc4': lambda e: _CRC4[e['what']].format(over=_over(e), times=_more_than_once(e), **e),
     'satop': lambda e: f'satop: {e["what"]}{"" if e.get("on", True) else " over"}{_why(e)}',
 }
 
@@ -42,6 +51,10 @@ def _over(event: Event) -> str:
 
 def _circuits(event: Event) -> str:
     return ', '.join(map(str, event['circuits']))
+
+
+def _more_than_once(event: Event) -> str:
+    return f', {event["count"]} times' if event.get('count', 1) > 1 else ''
 
 
 def _why(event: Event) -> str:

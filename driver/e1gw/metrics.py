@@ -34,8 +34,8 @@ def family(name: str, kind: str, about: str, samples: Samples, common: str = '')
 def exposition(status: Status, trunk: str = '') -> str:
     """All metrics of a trunk, which `trunk` names."""
     common = f'trunk="{_escaped(trunk)}"' if trunk else ''
-    families = [*_of_trunk(status), *_of_lines(status), *_of_packets(status), *_of_datagrams(status),
-                *_of_driver(status)]
+    families = [*_of_trunk(status), *crc4_families(status), *_of_lines(status), *_of_packets(status),
+                *_of_datagrams(status), *_of_driver(status)]
     return ''.join(family(*each, common) for each in families)
 
 
@@ -65,6 +65,26 @@ def _of_trunk(status: Status) -> list[Family]:
                if isinstance(n, (int, float)) and not isinstance(n, bool)]
     found.append(('e1gw_transport', 'untyped', 'What the transport of the trunk tells of itself.', numbers))
     return found
+
+
+def crc4_families(status: Status) -> list[Family]:
+    crc4 = status.get('crc4')
+    if crc4 is None:
+        return []
+    return [
+        ('e1gw_crc4_aligned', 'gauge', '1 if CRC multiframe alignment stood at the last count.',
+         [({}, int(crc4['aligned']))] if crc4['aligned'] is not None else []),
+        ('e1gw_crc4_submultiframes_total', 'counter', 'Submultiframes whose CRC-4 was checked.',
+         [({}, crc4['submultiframes'])]),
+        ('e1gw_crc4_errored_total', 'counter', 'Errored submultiframes that this end received, and those that the '
+         'other end reports by E bits.',
+         [({'end': 'this'}, crc4['errored']), ({'end': 'other'}, crc4['far_end_errored'])]),
+        ('e1gw_crc4_alignments_total', 'counter', 'How often CRC multiframe alignment was found.',
+         [({}, crc4['multiframes_found'])]),
+        ('e1gw_crc4_alignment_losses_total', 'counter', 'How often CRC multiframe alignment was lost.',
+         [({}, crc4['multiframes_lost'])]),
+        ('e1gw_crc4_given_up_total', 'counter', 'Losses of alignment for 915 of 1000 errored submultiframes (G.706, '
+         '4.3.2).', [({}, crc4['given_up'])])]
 
 
 def _of_lines(status: Status) -> list[Family]:
@@ -162,10 +182,22 @@ def _head(status: Status) -> list[str]:
         'alignment lost: ' + ', '.join(f'{what} {n}' for what, n in status['losses'].items())
         + f'; stalls {clock["stalls"]}, slips {clock["gaps"]} ({clock["gap_seconds"]:.1f} s){rate}; slowest turn '
         f'{status["slowest_turn"] * 1000:.1f} ms']
+    lines += _crc4_line(status)
     lines += [f'ended: {what}: {why}' for what, why in status['ended'].items() if why is not None]
     if status['stale']:
         lines.append('the counts of packets are not those of now')
     return lines
+
+
+def _crc4_line(status: Status) -> list[str]:
+    """The line of CRC-4, if it is on."""
+    crc4 = status.get('crc4')
+    if crc4 is None:
+        return []
+    stands = {True: 'multiframe alignment', False: 'no multiframe alignment', None: 'not counted yet'}[crc4['aligned']]
+    given_up = f', of it {crc4["given_up"]} for 915 errored of 1000' if crc4['given_up'] else ''
+    return [f'CRC-4: {stands}, lost {crc4["multiframes_lost"]}{given_up}; errored {crc4["errored"]} of '
+            f'{crc4["submultiframes"]} submultiframes, the other end reports {crc4["far_end_errored"]}']
 
 
 def _row(row: Mapping[str, Any]) -> str:

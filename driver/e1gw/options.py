@@ -4,6 +4,7 @@ from __future__ import annotations
 from dataclasses import dataclass, field
 from typing import Callable
 
+from .crc4 import Crc4
 from .guards import OnLoss
 from .trunks import Trunk
 
@@ -36,3 +37,4 @@ class Options:
     on_loss: OnLoss = OnLoss()
     counts: bool = True
     picture: float | None = None
+    crc4: Crc4 | None = None

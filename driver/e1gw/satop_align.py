@@ -11,7 +11,7 @@ import select
 import time
 from typing import Callable
 
-from .aligned import MOST_INSIDE, Process, end_words
+from .filters import MOST_INSIDE, Filter
 from .satop_bits import BitAligner
 
 IN_TIME = 0.005             # seconds that octets are waited for
@@ -35,7 +35,7 @@ class SlotAligner:
         self.stood_in = self.renewed = self.differing = 0
         self._program, self._missing = program, missing
         self._history = bytearray()             # what came last
-        self._process: Process | None = None
+        self._process: Filter | None = None
         self._poll = select.poll()
         self._gave = self._begun = float('-inf')    # when all that was due was there, or some came; when it was begun
         self._is_missing = False
@@ -89,14 +89,14 @@ class SlotAligner:
         self._gave = self._begun = now
         assert self._program
         try:
-            self._process = Process(self._program)
+            self._process = Filter(self._program, 'align')
         except OSError as fault:
             return self._tell(f'e1gw align cannot be started: {fault}')
         self._poll = select.poll()
         self._poll.register(self._process.of, select.POLLIN)
         self._process.give(bytes(self._history))
 
-    def _is_in_step(self, process: Process, now: float) -> bool:
+    def _is_in_step(self, process: Filter, now: float) -> bool:
         """Throws away what has come out, for which others stood in; whether that was all."""
         process.send()
         while process.inside and self._taken(process, process.inside):
@@ -109,17 +109,17 @@ class SlotAligner:
         self._tell(None)
         return True
 
-    def _in_time(self, process: Process, count: int, until: float) -> bytes:
+    def _in_time(self, process: Filter, count: int, until: float) -> bytes:
         """So many octets, or those that come until then."""
         out = b''
         while len(out) < count and self._poll.poll(max(0.0, until - time.monotonic()) * 1000):
             out += self._taken(process, count - len(out))
         return out
 
-    def _taken(self, process: Process, most: int) -> bytes:
+    def _taken(self, process: Filter, most: int) -> bytes:
         octets = process.take(most)
         if octets is None:
-            raise Gone(end_words(process.ended(IN_TIME)))
+            raise Gone(process.end_words(IN_TIME))
         return octets
 
     def _tell(self, why: str | None) -> None:

@@ -20,12 +20,13 @@ import sys
 from typing import Callable, NoReturn
 
 from . import satop
-from .aligned import align
 from .clear import Clear, Place
 from .control import DoorTaken
+from .crc4 import Crc4, with_crc4
 from .driver import Driver
 from .explain import config_words
 from .faults import Parser, number, options_words, words_of_fault
+from .filtered import align
 from .gateway import ConfigRefused, check_config
 from .guards import OnLoss, on_loss_of
 from .keep import seconds_of
@@ -65,6 +66,8 @@ def trunk_of(asked: argparse.Namespace) -> Callable[..., Trunk]:
         raise Usage('a trunk is --in and --out, or --unix, or --tcp, or --satop')
     if asked.align and (asked.satop or asked.clear):
         raise Usage('--align is for all 32 slots of a device or a socket; --satop aligns in any case')
+    if asked.crc4 and asked.clear:
+        raise Usage('--crc4 is for all 32 slots; the device of --clear sends slot 0 itself, and CRC-4 in it')
     if asked.satop:
         return _satop_of(asked)
     if asked.unix:
@@ -124,6 +127,8 @@ def _add_trunk(words: argparse._ArgumentGroup) -> None:
     words.add_argument('--clear', action='store_true', help='the device gives time slots 1 to 31 alone')
     words.add_argument('--align', action='store_true',
                        help='octets of the trunk may begin at any bit; e1gw align runs between it and the gateway')
+    words.add_argument('--crc4', action='store_true',
+                       help='CRC-4: e1gw crc4 sends it and e1gw crc4 --check counts it, between trunk and gateway')
     words.add_argument('--pace', type=number(0, 20), default=4, metavar='MS',
                        help='a trunk that flows is read each so many milliseconds, 0 to 20; 0 reads it when octets '
                        'come; not with --satop [default: 4]')
@@ -183,13 +188,16 @@ def options_of(words: list[str]) -> Options:
         opens = functools.partial(align, opens, program)
     if asked.satop:
         opens = functools.partial(opens, program)
+    crc4 = Crc4() if asked.crc4 else None
+    if crc4:
+        opens = functools.partial(with_crc4, opens, program, crc4)
     return Options(
         config=asked.config, program=program, name=name, open_trunk=opens,
         most=asked.most or (2048 if asked.pace and not asked.satop else 256), pace=asked.pace / 1000,
         serve=_serve_words(asked), reopen=asked.reopen, watch=asked.watch, top=asked.top, control=asked.control,
         control_mode=asked.control_mode, control_group=asked.control_group, http=http, metrics=asked.metrics,
         json=asked.json, session=asked.session, calls=asked.calls, keep=keep, gap=asked.gap / 1000, dark=asked.dark,
-        on_loss=on_loss, counts=asked.counts, picture=asked.picture)
+        on_loss=on_loss, counts=asked.counts, picture=asked.picture, crc4=crc4)
 
 
 def _serve_words(asked: argparse.Namespace) -> list[str]:

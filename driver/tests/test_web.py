@@ -14,7 +14,8 @@ import urllib.request
 from . import support
 from .test_driver import FOUR, aligned, call, child
 from .world import SECONDS, World, config_of
-from e1gw.metrics import family
+from e1gw.crc4 import Crc4
+from e1gw.metrics import exposition, family
 
 SAMPLE = re.compile(r'([a-z_0-9]+)(\{(?:[a-z_]+="(?:[^"\\]|\\.)*",?)*\})? (-?[0-9.e+-]+)')
 
@@ -114,8 +115,8 @@ class Pages(unittest.TestCase):
         for name in ('alerts.yml', 'dashboard.json'):
             with open(f'{support.TOP}/package/{name}', encoding='utf-8') as file:
                 named |= set(re.findall(r'\be1gw_\w+', file.read()))
-        metrics = self.get('/metrics')
-        declared = set(re.findall(r'^# TYPE (\w+)', metrics, re.M)) | {'e1gw_trunk_rate_ppm'}
+        with_crc4 = exposition(self.world.status() | {'crc4': Crc4().status()})
+        declared = set(re.findall(r'^# TYPE (\w+)', self.get('/metrics') + with_crc4, re.M)) | {'e1gw_trunk_rate_ppm'}
         self.assertLessEqual(named, declared)
 
     def test_a_file_of_metrics(self) -> None:

@@ -30,7 +30,7 @@ PATIENCE = 10
 ENDS = {'west': '127.0.0.1:21211,127.0.0.1:21212', 'east': '127.0.0.1:21212,127.0.0.1:21211'}
 # A driver that stands still for a moment, on a busy machine, sends nothing; the buffer of the one that gives the clock
 # has to bear that.
-OPTIONS = {'west': ['--satop-clock', 'own', '--satop-jitter', '64'], 'east': []}
+OPTIONS = {'west': ['--crc4', '--satop-clock', 'own', '--satop-jitter', '64'], 'east': ['--crc4']}
 PHONES = {'west': (21203, 21201), 'east': (21207, 21205)}
 
 
@@ -155,7 +155,14 @@ def call(west: Gateway, east: Gateway, phones: list[Phone]) -> bool:
         told = end.status()['transport']
         print(f'{end.name}: {told["received"]} packets received, {told["sent"]} sent, {told["lost"]} lost, bit offset '
               f'{told["offset"]}')
-    return min(same) >= GOOD * PACKETS
+    return min(same) >= GOOD * PACKETS and all([has_crc4(end) for end in (west, east)])
+
+
+def has_crc4(end: Gateway) -> bool:
+    """Whether an end has found the CRC multiframes of the other one; tells what it has counted."""
+    crc4 = end.status()['crc4']
+    print(f'{end.name}: CRC-4: {crc4["errored"]} of {crc4["submultiframes"]} submultiframes errored')
+    return crc4['multiframes_found'] > 0
 
 
 def main() -> int:

@@ -17,7 +17,8 @@ from .test_driver import FOUR, aligned, call
 from .test_satop_bits import expected, late
 from .world import LAUNCHER, SECONDS, World, aligner_of, config_of
 from e1gw import session
-from e1gw.aligned import MOST_INSIDE, Aligned, align
+from e1gw.filtered import Received, align
+from e1gw.filters import MOST_INSIDE
 from e1gw.trunk import Usage, options_of
 from e1gw.trunks import Stream, Trunk, open_files
 
@@ -41,7 +42,7 @@ class Through(unittest.TestCase):
     def setUp(self) -> None:
         support.program()
 
-    def opened(self, kind: type[Stream] = Stream, program: str = '') -> tuple[Aligned, socket.socket]:
+    def opened(self, kind: type[Stream] = Stream, program: str = '') -> tuple[Received, socket.socket]:
         """A trunk, and its far end."""
         ours, theirs = socket.socketpair()
         self.addCleanup(theirs.close)
@@ -49,7 +50,7 @@ class Through(unittest.TestCase):
         file = ours.detach()
         trunk = align(lambda: kind(file, file, 'pair'), program or support.program())
         self.addCleanup(trunk.close)
-        assert isinstance(trunk, Aligned)
+        assert isinstance(trunk, Received)
         return trunk, theirs
 
     def octets(self, trunk: Trunk, count: int, most: int = 256) -> bytes:

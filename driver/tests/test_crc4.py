@@ -1,0 +1,459 @@
+"""CRC-4 in the driver: an exchange that demands it finds it in what is sent, and what it sends is counted.
+
+The exchange's CRC-4 is made here bit by bit from ITU-T G.704 (2.3.3) and G.706 (4.1 and 4.2), and shares nothing with
+the program. All goes in lock step."""
+from __future__ import annotations
+
+import os
+import random
+import select
+import signal
+import socket
+import subprocess
+import sys
+import tempfile
+import time
+import unittest
+from unittest import mock
+
+from . import support
+from .test_driver import FOUR, aligned, call
+from .world import LAUNCHER, SECONDS, World, config_of
+from e1gw import crc4, filtered, metrics
+from e1gw.crc4 import Crc4, counts_of, with_crc4
+from e1gw.events import words_of
+from e1gw.trunk import Usage, options_of
+from e1gw.trunks import Stream
+
+FRAME, HALF, MULTIFRAME = 32, 256, 512      # octets; half a multiframe is a submultiframe
+SECOND = 500                                # multiframes
+SIGNAL = (0, 0, 1, 0, 1, 1)                 # in frames 1, 3, .., 11 (G.704, table 5B)
+MS_8 = 64 * FRAME
+FAS = 0x1B                                  # without its first bit
+
+
+def remainder(block: bytes) -> int:
+    """The remainder of x^4 times these bits, divided modulo 2 by x^4 + x + 1: a long division."""
+    rest = int.from_bytes(block, 'big') << 4
+    while rest.bit_length() > 4:
+        rest ^= 0b10011 << rest.bit_length() - 5
+    return rest
+
+
+def with_bit(octet: int, bit: int) -> int:
+    """The octet with this bit as its first."""
+    return octet & 0x7F | bit << 7
+
+
+class Sender:
+    """What an exchange sends, with CRC-4 multiframes."""
+
+    def __init__(self) -> None:
+        self._last = 0              # the remainder of the submultiframe before
+        self.errored_at: set[int] = set()       # submultiframes, counted from 0, that are sent with a bit turned
+        self.far_at: set[int] = set()           # those in whose multiframes an E bit is 0
+        self.number = 0
+
+    def multiframe(self, octets: bytes) -> bytes:
+        return self._submultiframe(octets[:HALF], 0) + self._submultiframe(octets[HALF:], 1)
+
+    def _submultiframe(self, octets: bytes, half: int) -> bytes:
+        e_bit = int(self.number not in self.far_at)
+        firsts = (*SIGNAL, e_bit if half else 1, 1)[4 * half:4 * half + 4]
+        block = bytearray(octets)
+        for at, bit in enumerate(firsts):
+            block[(2 * at + 1) * FRAME] = with_bit(block[(2 * at + 1) * FRAME], bit)
+            block[2 * at * FRAME] = with_bit(block[2 * at * FRAME], 0)
+        check, self._last = self._last, remainder(block)
+        for at in range(4):
+            block[2 * at * FRAME] = with_bit(block[2 * at * FRAME], check >> 3 - at & 1)
+        if self.number in self.errored_at:
+            block[100] ^= 0x10
+        self.number += 1
+        return bytes(block)
+
+
+def frame_alignment(octets: bytes, at: int = 0) -> int:
+    """Where the first signal of a frame alignment is (G.706, 4.1.2)."""
+    while not (octets[at] & 0x7F == FAS and octets[at + FRAME] & 0x40 and octets[at + 2 * FRAME] & 0x7F == FAS):
+        at += 1
+    return at
+
+
+def multiframe_in(octets: bytes, at: int) -> int | None:
+    """Where a CRC multiframe begins of which the signal stands twice in the 8 ms from this alignment on (G.706, 4.2):
+    2 ms apart, or a multiple of it."""
+    firsts = [octets[n + FRAME] >> 7 for n in range(at, at + MS_8, 2 * FRAME)]
+    for phase in range(8):
+        found = [n for n in range(phase, len(firsts) - 5, 8) if tuple(firsts[n:n + 6]) == SIGNAL]
+        if len(found) >= 2:
+            return at + found[0] * 2 * FRAME
+    return None
+
+
+def checked(octets: bytes, at: int) -> list[bool]:
+    """Of each whole submultiframe from here on whose check bits have come: whether they are its remainder."""
+    found = []
+    for start in range(at, len(octets) - 2 * HALF + 1, HALF):
+        block, behind = bytearray(octets[start:start + HALF]), octets[start + HALF:start + 2 * HALF]
+        for n in range(0, HALF, 2 * FRAME):
+            block[n] = with_bit(block[n], 0)
+        bits = [behind[n] >> 7 for n in range(0, HALF, 2 * FRAME)]
+        found.append(remainder(block) == int(''.join(map(str, bits)), 2))
+    return found
+
+
+def of_children(parent: int, *words: str) -> list[int]:
+    """The processes that a process has started with these words behind the program's name."""
+    found = []
+    for name in filter(str.isdecimal, os.listdir('/proc')):
+        try:
+            with open(f'/proc/{name}/stat', encoding='ascii') as stat, open(f'/proc/{name}/cmdline', 'rb') as line:
+                is_child = int(stat.read().rpartition(')')[2].split()[1]) == parent
+                if is_child and line.read().split(b'\0')[1:-1] == [word.encode() for word in words]:
+                    found.append(int(name))
+        except (OSError, ValueError):
+            pass
+    return found
+
+
+class Demanding(World):
+    """A driver with --crc4, whose exchange sends CRC-4."""
+
+    def __init__(self, config: str, *options: str) -> None:
+        self.sender = Sender()
+        super().__init__(config, '--crc4', *options)
+
+    def give(self, octets: bytes) -> bytes:
+        return super().give(self.sender.multiframe(octets) if len(octets) == MULTIFRAME else octets)
+
+    def alignment_of(self, heard: bytes) -> int:
+        """Where the exchange finds CRC multiframes in what it hears, in the 8 ms behind frame alignment."""
+        found = multiframe_in(heard, frame_alignment(heard))
+        assert found is not None, 'no CRC multiframe in 8 ms'
+        return found
+
+
+class Exchanges(unittest.TestCase):
+    """The exchange's own CRC-4."""
+
+    def test_long_division(self) -> None:
+        # x^4 * 1 = x + 1, x^4 * x = x^2 + x; and a sum has the sum of remainders.
+        self.assertEqual([remainder(bytes([n])) for n in (1, 2, 3)], [0b0011, 0b0110, 0b0101])
+
+    def test_what_it_sends_is_found_right(self) -> None:
+        sender, exchange = Sender(), support.Exchange()
+        sent = b''.join(sender.multiframe(exchange.multiframe()) for _ in range(20))
+        at = multiframe_in(sent, frame_alignment(sent, 7))
+        assert at is not None
+        self.assertEqual((at % MULTIFRAME, set(checked(sent, at))), (0, {True}))
+        turned = bytearray(sent)
+        turned[at + 3 * HALF + 77] ^= 2
+        self.assertEqual(checked(bytes(turned), at).index(False), 3)
+        self.assertEqual(checked(bytes(turned), at).count(False), 1)
+
+
+class Service(unittest.TestCase):
+    def setUp(self) -> None:
+        support.program()
+
+    def world(self, *options: str) -> Demanding:
+        world = Demanding(config_of(FOUR), *options)
+        self.addCleanup(world.__exit__)
+        return world
+
+    def test_what_is_sent(self) -> None:
+        """The exchange finds CRC multiframes in 8 ms, and no errored submultiframe in two seconds."""
+        world = self.world()
+        world.step(2 * SECOND)
+        at = world.alignment_of(bytes(world.heard))
+        found = checked(bytes(world.heard), at)
+        self.assertEqual(found.count(False), 0)
+        self.assertGreaterEqual(len(found), 4 * SECOND - 4)
+
+    def test_a_call(self) -> None:
+        """Two circuits joined over RTP: speech passes octet for octet, and every submultiframe is right."""
+        world = aligned(self.world())
+        call(world, 1)
+        call(world, 2)
+        speech = random.Random(4).randbytes(800)
+        begun = len(world.exchange.heard[2])
+        world.exchange.speech[1] = bytearray(speech)
+        world.step(100)
+        self.assertIn(speech, bytes(world.exchange.heard[2][begun:]))
+        self.assertEqual(checked(bytes(world.heard), world.alignment_of(bytes(world.heard))).count(False), 0)
+
+    def test_one_in_a_thousand(self) -> None:
+        """Errored submultiframes, and E bits of 0, are counted one by one; alignment is found once over all checks."""
+        world, submultiframes = self.world('--reopen'), 12_000
+        world.sender.errored_at = set(range(500, submultiframes, 1000))
+        world.sender.far_at = set(range(301, submultiframes, 2000))
+        world.step(submultiframes // 2)
+        counts = self.ended(world)
+        self.assertEqual((counts['errored'], counts['far_end_errored']), (12, 6))
+        self.assertEqual((counts['multiframes_found'], counts['multiframes_lost'], counts['given_up']), (1, 0, 0))
+        # Each of three checks passes by 8 ms and what is missing of two multiframes.
+        self.assertTrue(submultiframes - 3 * 16 < counts['submultiframes'] < submultiframes, counts)
+        self.assertEqual(counts['checked'], submultiframes * HALF)
+        status, said = world.quit()
+        self.assertEqual(status, 0)
+        for line in ('CRC multiframe alignment found', 'CRC-4 errors: 1 of ',
+                     'CRC-4 errors reported by the other end (E bits): 1 of '):
+            self.assertEqual(said.count(line), 1, said)
+
+    def ended(self, world: Demanding) -> dict[str, int]:
+        """The counts up to the end of a trunk; another one is opened then."""
+        with world.new_door() as door:
+            world.line.close()
+            world.take(door)
+        world.until(lambda: bool(world.told()['trunk_up']))
+        counts: dict[str, int] = world.told()['crc4']
+        return counts
+
+    def test_a_trunk_that_comes_again_inside_a_frame(self) -> None:
+        """Its CRC-4 goes on with the gateway's frames: no octet of another slot is touched, and all is right."""
+        world = aligned(self.world('--reopen'))
+        world.give(b'\xD5' * 77)
+        self.ended(world)
+        begun = len(world.heard)
+        world.give(b'\xD5' * (MULTIFRAME - 77))
+        world.step(100)
+        heard = bytes(world.heard[begun:])
+        at = world.alignment_of(heard)
+        self.assertEqual((begun + at) % MULTIFRAME, 0)
+        self.assertEqual(checked(heard, at).count(False), 0)
+        self.assertEqual(set(heard[(5 - begun) % FRAME::FRAME]), {0xD5})
+
+    def test_an_exchange_without_it(self) -> None:
+        with World(config_of(FOUR), '--crc4') as world:
+            world.step(SECOND)
+            world.until(lambda: world.told()['crc4']['aligned'] is not None)
+            self.assertIn('CRC-4: no multiframe alignment, lost 0; errored 0 of 0 submultiframes', world.ask('status'))
+            self.assertEqual(world.quit()[1].count('no CRC multiframe alignment'), 1)
+
+    def test_behind_align(self) -> None:
+        with LateDemanding(config_of(FOUR), '--align') as world:
+            aligned(world)
+            call(world, 1)
+            world.step(SECOND)
+            world.until(lambda: world.told()['crc4']['aligned'] is not None)
+            status = world.status()
+            self.assertTrue(status['crc4']['aligned'])
+            self.assertEqual((status['crc4']['errored'], status['crc4']['multiframes_found']), (0, 1))
+            self.assertEqual({status['transport'][name] for name in ('aligning', 'crc4_checking', 'crc4_sending')}, {0})
+            self.assertEqual(checked(bytes(world.heard), world.alignment_of(bytes(world.heard))).count(False), 0)
+
+    def test_it_ends_with_each_filter(self) -> None:
+        for words, said in ((('crc4',), 'the trunk cannot be (read|written): e1gw crc4 ended by signal 9'),
+                            (('crc4', '--check'), 'the trunk cannot be read: e1gw crc4 --check ended by signal 9')):
+            with self.subTest(words), Demanding(config_of(FOUR)) as world:
+                aligned(world)
+                os.kill(of_children(world.process.pid, *words)[0], signal.SIGKILL)
+                try:
+                    world.step(2)
+                except (EOFError, ConnectionError, BrokenPipeError):
+                    pass
+                status, lines = world.wait()
+                self.assertEqual(status, 1)
+                self.assertRegex(lines, said)
+
+    def test_it_comes_again(self) -> None:
+        world = aligned(self.world('--reopen'))
+        call(world, 1)
+        with world.new_door() as door:
+            os.kill(of_children(world.process.pid, 'crc4')[0], signal.SIGKILL)
+            try:
+                world.step()
+            except (EOFError, ConnectionError, BrokenPipeError):
+                pass
+            world.line.close()
+            world.take(door)
+        world.exchange = support.Exchange()
+        world.exchange.pairs[1] = 1
+        begun = len(world.heard)
+        world.step(100)
+        heard = bytes(world.heard[begun:])
+        self.assertEqual(checked(heard, world.alignment_of(heard)).count(False), 0)
+        self.assertEqual((world.status()['trunk_up'], world.state(1)), (True, 'answered'))
+
+    def test_a_file_from_end_to_end(self) -> None:
+        """What is written is what `e1gw crc4` makes of what a driver without --crc4 writes, up to the last octet."""
+        with tempfile.TemporaryDirectory() as folder:
+            toml, reads = (os.path.join(folder, name) for name in ('trunk.toml', 'in'))
+            exchange = support.Exchange()
+            with open(toml, 'w', encoding='utf-8') as config, open(reads, 'wb') as file:
+                config.write(config_of(FOUR))
+                file.write(b''.join(exchange.multiframe() for _ in range(300)) + bytes(33))
+            out = []
+            for words in ([], ['--crc4']):
+                writes = os.path.join(folder, f'out{len(words)}')
+                subprocess.run([sys.executable, '-B', LAUNCHER, '--program', support.program(), '--config', toml,
+                                '--in', reads, '--out', writes, *words], stdin=subprocess.DEVNULL, check=True,
+                               stderr=subprocess.DEVNULL, timeout=SECONDS)
+                with open(writes, 'rb') as file:
+                    out.append(file.read())
+            self.assertEqual(out[1], support.run('crc4', given=out[0]))
+
+
+class LateDemanding(Demanding):
+    """Its exchange is heard three bits late."""
+
+    last = 0xFF
+
+    def give(self, octets: bytes) -> bytes:
+        octets = self.sender.multiframe(octets)
+        bits = int.from_bytes(bytes([self.last]) + octets, 'big') >> 3
+        self.last = octets[-1]
+        return World.give(self, (bits & (1 << 8 * len(octets)) - 1).to_bytes(len(octets), 'big'))
+
+
+class Checks(unittest.TestCase):
+    """One check after another, each over some thousand octets."""
+
+    def setUp(self) -> None:
+        support.program()
+        for name, octets in (('SEARCHED', 6_000), ('CHECKED', 20_000), ('SHORT', 5_000)):
+            patch = mock.patch.object(crc4, name, octets)
+            patch.start()
+            self.addCleanup(patch.stop)
+        ours, self.theirs = socket.socketpair()
+        self.addCleanup(self.theirs.close)
+        self.theirs.settimeout(SECONDS)
+        file = ours.detach()
+        self.crc4 = Crc4()
+        self.told: list[str] = []
+        self.trunk = with_crc4(lambda: Stream(file, file, 'pair'), support.program(), self.crc4)
+        self.trunk.tell = lambda event: self.told.append(words_of(event))
+
+    def through(self, octets: bytes, most: int = 700) -> bytes:
+        """What the driver reads if the far end sends these."""
+        poll = select.poll()
+        poll.register(self.trunk.fileno(), select.POLLIN)
+        out = b''
+        for at in range(0, len(octets), most):
+            self.theirs.sendall(octets[at:at + most])
+            while len(out) < min(at + most, len(octets)):
+                self.assertTrue(poll.poll(SECONDS * 1000))
+                out += self.trunk.read(256)
+        return out
+
+    def test_octets_are_as_they_came(self) -> None:
+        given = random.Random(5).randbytes(200_000)
+        self.assertEqual(self.through(given), given)
+        self.trunk.close()
+        self.assertEqual((self.crc4.checked, self.crc4.counts), (len(given), dict.fromkeys(crc4.COUNTS, 0)))
+        self.assertEqual(self.told, ['no CRC multiframe alignment'])
+
+    def test_none_can_be_started(self) -> None:
+        given = random.Random(6).randbytes(50_000)
+        with mock.patch.object(crc4, '_check_of', side_effect=OSError('no process')) as tried:
+            self.assertEqual(self.through(given), given)
+        self.assertIn(tried.call_count, range(2, 9))
+        self.assertEqual(self.crc4.checked, 0)
+        self.assertEqual(self.through(given), given)
+        self.trunk.close()
+        self.assertEqual(self.crc4.checked, 2 * len(given))
+
+    def test_errors_begin_and_end(self) -> None:
+        sender, exchange = Sender(), support.Exchange()
+        sender.errored_at = {60, 70, 200}
+        given = b''.join(sender.multiframe(exchange.multiframe()) for _ in range(250))
+        self.assertEqual(self.through(given), given)
+        self.trunk.close()
+        counts = self.crc4.counts
+        self.assertEqual((counts['errored'], counts['multiframes_found'], counts['multiframes_lost']), (3, 1, 0))
+        self.assertEqual([line.partition(' of ')[0] for line in self.told],
+                         ['CRC multiframe alignment found', 'CRC-4 errors: 2', 'CRC-4 errors over: 2',
+                          'CRC-4 errors: 1', 'CRC-4 errors over: 1'])
+
+    def test_lost_for_good(self) -> None:
+        sender, exchange = Sender(), support.Exchange()
+        self.through(b''.join(sender.multiframe(exchange.multiframe()) for _ in range(60)))
+        self.through(b'\xD5' * 60_000)
+        self.trunk.close()
+        self.assertEqual(self.told, ['CRC multiframe alignment found', 'CRC multiframe alignment lost'])
+        self.assertEqual((self.crc4.counts['multiframes_found'], self.crc4.counts['multiframes_lost']), (1, 1))
+
+    def test_one_that_stands_still_holds_nobody(self) -> None:
+        child = of_children(os.getpid(), 'crc4')[0]
+        os.kill(child, signal.SIGSTOP)
+        began = time.monotonic()
+        for _ in range(100):
+            self.trunk.write(bytes(256))
+        self.assertLess(time.monotonic() - began, 5)
+        self.assertEqual(self.trunk.status()['crc4_sending'], 25_600)
+        with mock.patch.object(filtered, 'MOST_WAITING', 30_000), self.assertRaisesRegex(OSError, 'crc4 takes nothing'):
+            self.trunk.write(bytes(10_000))
+        os.kill(child, signal.SIGCONT)
+        self.trunk.close()
+        out = b''
+        while (piece := self.theirs.recv(65_536)):
+            out += piece
+        self.assertEqual(len(out), 35_600)
+
+
+class Counts(unittest.TestCase):
+    def counts(self, *numbers: int) -> dict[str, int]:
+        return dict(zip(crc4.COUNTS, numbers))
+
+    def test_what_a_check_prints(self) -> None:
+        text = 'submultiframes 19\nerrored 1\nfar_end_errored 2\nmultiframes_found 3\nmultiframes_lost 4\ngiven_up 5\n'
+        self.assertEqual(counts_of(text), self.counts(19, 1, 2, 3, 4, 5))
+        self.assertEqual(counts_of('fault 5 Read\n' + text), self.counts(19, 1, 2, 3, 4, 5))
+        for other in ('', text[20:], text.replace('19', 'x'), 'fault 5 Read\n'):
+            self.assertIsNone(counts_of(other))
+
+    def test_what_is_told(self) -> None:
+        """Each state once, over checks one after another."""
+        rows = (
+            ((0, 0, 0, 0, 0, 0), 256_000, ['no CRC multiframe alignment'], (0, 0)),
+            ((0, 0, 0, 0, 0, 0), 256_000, [], (0, 0)),
+            ((988, 0, 0, 1, 0, 0), 256_000, ['CRC multiframe alignment found'], (1, 0)),
+            ((9988, 3, 0, 1, 0, 0), 2_560_000, ['CRC-4 errors: 3 of 9988 submultiframes'], (1, 0)),
+            ((9988, 4, 2, 1, 0, 0), 2_560_000,
+             ['CRC-4 errors reported by the other end (E bits): 2 of 9988 submultiframes'], (1, 0)),
+            ((9988, 0, 0, 1, 0, 0), 2_560_000, ['CRC-4 errors over: 7 of 29964 submultiframes',
+             'CRC-4 errors reported by the other end (E bits) over: 2 of 19976 submultiframes'], (1, 0)),
+            ((9000, 0, 0, 3, 2, 0), 2_560_000, ['CRC multiframe alignment lost and found again, 2 times'], (3, 2)),
+            ((0, 0, 0, 0, 0, 0), 1_000, [], (3, 2)),
+            ((0, 0, 0, 0, 0, 0), 2_560_000, ['CRC multiframe alignment lost'], (3, 3)),
+            ((900, 0, 0, 2, 1, 0), 256_000,
+             ['CRC multiframe alignment found', 'CRC multiframe alignment lost and found again'], (5, 4)),
+            ((0, 0, 0, 0, 0, 0), 256_000, ['CRC multiframe alignment lost'], (5, 5)),
+            ((915, 915, 0, 1, 1, 1), 256_000, ['false frame alignment: 915 of 1000 submultiframes errored',
+             'CRC-4 errors: 915 of 915 submultiframes'], (6, 6)))
+        known, octets = Crc4(), 0
+        for numbers, count, told, alignments in rows:
+            octets += count
+            self.assertEqual([words_of(event) for event in known.add(self.counts(*numbers), count)], told, numbers)
+            self.assertEqual((known.counts['multiframes_found'], known.counts['multiframes_lost']), alignments)
+        self.assertEqual(known.checked, octets)
+
+    def test_metrics(self) -> None:
+        known, status = Crc4(), {'crc4': None}
+        self.assertEqual(metrics.crc4_families(status), [])
+        status['crc4'] = known.status()
+        text = ''.join(metrics.family(*each) for each in metrics.crc4_families(status))
+        self.assertNotRegex(text, r'(?m)^e1gw_crc4_aligned')        # nothing is known yet
+        known.add(self.counts(9988, 3, 2, 1, 0, 0), 2_560_000)
+        status['crc4'] = known.status()
+        text = ''.join(metrics.family(*each) for each in metrics.crc4_families(status))
+        self.assertEqual([line for line in text.splitlines() if not line.startswith('#')], [
+            'e1gw_crc4_aligned 1', 'e1gw_crc4_submultiframes_total 9988', 'e1gw_crc4_errored_total{end="this"} 3',
+            'e1gw_crc4_errored_total{end="other"} 2', 'e1gw_crc4_alignments_total 1',
+            'e1gw_crc4_alignment_losses_total 0', 'e1gw_crc4_given_up_total 0'])
+
+    def test_what_it_is_not_for(self) -> None:
+        with self.assertRaisesRegex(Usage, '--crc4'):
+            options_of(['--config', 'trunk.toml', '--crc4', '--unix', 'card', '--clear'])
+
+    def test_no_program(self) -> None:
+        reads, writes = os.pipe()
+        self.addCleanup(os.close, writes)
+        with self.assertRaises(FileNotFoundError):
+            with_crc4(lambda: Stream(reads, reads, 'pipe'), '/nowhere/e1gw', Crc4())
+        self.assertRaises(OSError, os.fstat, reads)
+
+
+if __name__ == '__main__':
+    unittest.main()
