@@ -12,7 +12,12 @@ CSS = '''
 body{font:14px/1.45 system-ui,"DejaVu Sans",sans-serif;margin:0 auto;padding:16px 22px;max-width:1340px;
 background:var(--bg);color:var(--ink)}
 h1{font-size:20px;margin:0 0 2px}h2{font-size:16px;margin:24px 0 4px}p{margin:4px 0}
-.note,figcaption{color:var(--soft)}.wide{overflow-x:auto}svg{display:block;width:100%;min-width:760px}
+.note,figcaption{color:var(--soft)}
+.wide{overflow-x:auto;background:linear-gradient(90deg,var(--bg) 40%,transparent) 0 0/40px 100% no-repeat local,
+linear-gradient(270deg,var(--bg) 40%,transparent) 100% 0/40px 100% no-repeat local,
+linear-gradient(90deg,var(--line),transparent) 0 0/9px 100% no-repeat scroll,
+linear-gradient(270deg,var(--line),transparent) 100% 0/9px 100% no-repeat scroll}
+svg{display:block;width:100%;min-width:760px}
 ul.found{list-style:none;padding:0;margin:6px 0}
 .found li{background:var(--card);border-left:4px solid var(--line);margin:3px 0;padding:3px 10px;font-size:13px;
 overflow-wrap:anywhere}
@@ -48,7 +53,7 @@ th{font-weight:600;color:var(--soft)}td.n{text-align:right}summary{cursor:pointe
 @page{size:A4;margin:8mm}
 body{padding:0;margin:0;max-width:none;width:1140px;print-color-adjust:exact;-webkit-print-color-adjust:exact}
 .screen,details,.many .hint{display:none}h2{margin:8px 0 2px}.two{display:grid;grid-template-columns:1fr 1fr;gap:0 12px}
-svg{min-width:0}.wide{overflow:visible}.found li{padding:1px 8px;margin:2px 0;font-size:12px}}
+svg{min-width:0}.wide{overflow:visible;background:none}.found li{padding:1px 8px;margin:2px 0;font-size:12px}}
 '''
 
 # The hatchings, which every drawing of the page uses.
