@@ -95,8 +95,9 @@ class Ring:
         self._finish()
         if self._front and self._zstd:
             threading.Thread(target=_compress, args=(self._zstd, f'{self._front}{RECORDS}'), daemon=True).start()
-        self._about = {'config': os.path.abspath(self.config), 'config_sha256': self._sum, 'time': round(time.time(), 3),
-                       'place': place, 'begins': 'start' if self._began is None else 'middle'}
+        self._about = {'config': os.path.abspath(self.config), 'config_sha256': self._sum,
+                       'time': round(time.time(), 3), 'place': place,
+                       'begins': 'start' if self._began is None else 'middle'}
         stamp = time.strftime('%Y%m%dT%H%M%SZ', time.gmtime())
         self._file, self._front = _open_fresh(os.path.join(self.folder, f'{self.name}-{stamp}'))
         self._own.append(self._front)

@@ -36,7 +36,8 @@ text{fill:var(--ink);font-size:11.5px}.tick{font-size:10.5px;fill:var(--soft)}.b
 .h-slant{fill:url(#slant)}.h-cross{fill:url(#cross)}.h-bars{fill:url(#bars)}.h-dots{fill:url(#dots)}
 .hatch{stroke:var(--bg);stroke-width:1.3;fill:none}.dot{fill:var(--bg)}
 .d-sent{fill:var(--sent)}.d-admitted{fill:var(--admitted)}.d-refused{fill:var(--refused)}
-.c-done{fill:var(--ink)}.c-again{fill:none;stroke:var(--soft);stroke-width:1.4}.c-refused{stroke:var(--refused);stroke-width:2;fill:none}
+.c-done{fill:var(--ink)}.c-again{fill:none;stroke:var(--soft);stroke-width:1.4}
+.c-refused{stroke:var(--refused);stroke-width:2;fill:none}
 .p-admitted{stroke:var(--admitted);stroke-width:1.8;fill:none}.p-box{fill:var(--admitted)}
 .p-refused,.p-strip{fill:var(--refused)}
 .nothing{stroke:var(--refused);stroke-width:2;stroke-dasharray:5 4;fill:none}.astray{stroke-width:3.4}
