@@ -32,6 +32,14 @@ def path_of(word: str) -> str:
     return f'{SOCKETS}/{word}/control'
 
 
+def unit_words(path: str, fault: OSError) -> str:
+    """What to look at if no trunk listens where one of a unit would."""
+    folder, name = os.path.split(os.path.dirname(path))
+    if folder != SOCKETS or not isinstance(fault, (FileNotFoundError, ConnectionRefusedError)):
+        return ''
+    return f' (systemctl status e1gw-trunk@{name}; e1gw-ctl alone lists the trunks)'
+
+
 def circuits_of(word: str) -> list[str]:
     """The circuits of 1-4,7; what is no such list is one word, which the trunk refuses."""
     found: list[str] = []
@@ -136,6 +144,7 @@ def main() -> None:
         print('e1gw-ctl: the trunk has ended', file=sys.stderr)
         status = 1
     except OSError as fault:
-        print(f'e1gw-ctl: {path_of(asked.path or "")}: {fault.strerror}', file=sys.stderr)
+        path = path_of(asked.path or '')
+        print(f'e1gw-ctl: {path}: {fault.strerror}{unit_words(path, fault)}', file=sys.stderr)
         status = 2
     sys.exit(status)

@@ -435,8 +435,17 @@ class Driver:
             return self.tell({'event': 'rate', 'ppm': round(finding.value, 1)})
         seconds = round(finding.value, 3)
         self.tell({'event': finding.what, 'seconds': seconds})
+        if finding.what == 'gap':
+            self._note_slip(self.lines.place, seconds)
         if finding.what in ('gap', 'ahead'):
             self.restarts.want(self._open_circuits(), f'{finding.what} of {seconds} s')
+
+    def _note_slip(self, place: int, seconds: float) -> None:
+        """Octets of the trunk were lost: what is kept and what is drawn do not show it by themselves."""
+        if self._ring:
+            self._ring.slips.append((place, seconds))
+        if self.pictures:
+            self.pictures.slipped(place, seconds)
 
     def _look_at_dark(self, now: float) -> None:
         if self.dark_words() is None:

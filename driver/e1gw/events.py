@@ -5,9 +5,9 @@ from typing import Callable
 
 from .lines import Event
 
-WARNED = frozenset(('lost', 'gap', 'ahead', 'stalled', 'ended', 'trunk lost', 'cleared', 'slots'))
-NOTICED = frozenset(('aligned', 'alarm', 'remote alarm', 'flows', 'rate', 'renewed', 'satop', 'trunk',
-                      'crc4'))
+# What the journal has. An alarm of this end says that alignment was lost, and its end that it was found.
+WARNED = frozenset(('gap', 'ahead', 'stalled', 'ended', 'trunk lost', 'cleared', 'slots'))
+NOTICED = frozenset(('alarm', 'remote alarm', 'flows', 'rate', 'renewed', 'satop', 'trunk', 'crc4'))
 
 # The alarms of ITU-T G.704, G.706 and G.732, by what has no alignment: at this end, and as the other one tells.
 LOSSES = {'frame': 'loss of frame alignment (LFA)', 'multiframe': 'loss of multiframe alignment'}

@@ -12,6 +12,7 @@ import threading
 import time
 from collections import deque
 from dataclasses import dataclass, field
+from typing import Any
 
 from .outlets import write_all
 
@@ -19,7 +20,9 @@ UNITS = {'s': 1, 'm': 60, 'h': 3600, 'd': 86400}
 FILES = 12                  # into so many files the time that is kept is cut
 MOST_EARLIER = 3 * FILES    # files of earlier runs
 RECORDS = '.e1gw'
+MOST_SLIPS = 1000           # that are noted beside a file
 NEW = os.O_WRONLY | os.O_CREAT | os.O_EXCL | os.O_CLOEXEC
+FRESH = os.O_WRONLY | os.O_CREAT | os.O_TRUNC | os.O_CLOEXEC
 
 
 def seconds_of(text: str) -> int:
@@ -41,7 +44,8 @@ class Ring:
     """A session in files of a twelfth of the time that is kept, in a folder; the oldest are taken away.
 
     A file is NAME-TIME.e1gw, and beside it NAME-TIME.json says the sum of the configuration, the time, the place on the
-    trunk, and whether the file begins where the session began or in the middle of it. Nothing here trusts the clock of
+    trunk, whether the file begins where the session began or in the middle of it, and where octets of the trunk were
+    lost: each slip's place and seconds, which the octets themselves do not show. Nothing here trusts the clock of
     the day: it may be set at any time, and tells no more than a name."""
 
     folder: str
@@ -55,6 +59,8 @@ class Ring:
     _own: deque[str] = field(default_factory=deque)         # files of this ring, the one that is written behind them
     _earlier: deque[str] = field(default_factory=deque)     # those of rings before it
     places: deque[int] = field(default_factory=deque)   # of each piece that is to be written, where it begins
+    slips: deque[tuple[int, float]] = field(default_factory=deque)      # that are to be noted: place, seconds
+    _about: dict[str, Any] = field(default_factory=dict)
 
     def open(self) -> None:
         """Makes the folder, and looks at what is in it."""
@@ -70,18 +76,33 @@ class Ring:
         if time.monotonic() >= self._due:
             self._next(place)
         write_all(self._file, octets)
+        if self.slips:
+            self._note_slips()
+
+    def _note_slips(self) -> None:
+        """Notes slips beside the file, at once: a reader sees what was noted before, or all of it."""
+        noted = self._about.setdefault('slips', [])
+        while self.slips:
+            slip = self.slips.popleft()
+            if len(noted) < MOST_SLIPS:
+                noted.append(slip)
+        part = f'{self._front}.json.part'
+        with open(os.open(part, FRESH, 0o640), 'w', encoding='utf-8') as file:
+            file.write(json.dumps(self._about) + '\n')
+        os.rename(part, f'{self._front}.json')
 
     def _next(self, place: int) -> None:
         self._finish()
         if self._front and self._zstd:
             threading.Thread(target=_compress, args=(self._zstd, f'{self._front}{RECORDS}'), daemon=True).start()
-        about = {'config': os.path.abspath(self.config), 'config_sha256': self._sum, 'time': round(time.time(), 3),
-                 'place': place, 'begins': 'start' if self._began is None else 'middle'}
+        self._about = {'config': os.path.abspath(self.config), 'config_sha256': self._sum,
+                       'time': round(time.time(), 3), 'place': place,
+                       'begins': 'start' if self._began is None else 'middle'}
         stamp = time.strftime('%Y%m%dT%H%M%SZ', time.gmtime())
         self._file, self._front = _open_fresh(os.path.join(self.folder, f'{self.name}-{stamp}'))
         self._own.append(self._front)
         with open(os.open(f'{self._front}.json', NEW, 0o640), 'w', encoding='utf-8') as file:
-            file.write(json.dumps(about) + '\n')
+            file.write(json.dumps(self._about) + '\n')
         now = time.monotonic()
         self._began = now if self._began is None else self._began
         self._due = now + self._each
@@ -127,7 +148,7 @@ def _open_fresh(front: str) -> tuple[int, str]:
 
 def _drop(front: str) -> None:
     """Takes a file away, and what says what it is behind it. (What is compressed has to find its part gone first.)"""
-    for ending in (f'{RECORDS}.part', f'{RECORDS}.zst', RECORDS, '.json'):
+    for ending in (f'{RECORDS}.part', f'{RECORDS}.zst', RECORDS, '.json.part', '.json'):
         try:
             os.unlink(f'{front}{ending}')
         except FileNotFoundError:

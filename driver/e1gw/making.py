@@ -125,6 +125,9 @@ def write_all(asked: argparse.Namespace, plan: Plan) -> None:
 
 # ---- what is checked ----
 
+EXAMPLE = 'example.toml'
+
+
 def doors_of(table: dict[str, Any]) -> dict[tuple[str, int], int]:
     """The address and port of each circuit that has one."""
     host = table.get('host', '127.0.0.1')
@@ -133,12 +136,15 @@ def doors_of(table: dict[str, Any]) -> dict[tuple[str, int], int]:
 
 
 def check_files(paths: list[str]) -> bool:
-    """Prints what is wrong with each, and ports that two of them have; returns whether nothing is."""
+    """Prints what is wrong with each, and ports that two of them have; returns whether nothing is. Ports of the
+    package's example.toml are free, since no unit has that name."""
     good, taken = True, dict[tuple[str, int], str]()
     for path in paths:
         if why := config_words(path):
             print(why)
             good = False
+            continue
+        if os.path.basename(path) == EXAMPLE and len(paths) > 1:
             continue
         for (host, port), circuit in doors_of(check(read_octets(path))).items():
             before = taken.setdefault((host, port), f'{path}, circuit {circuit}')

@@ -16,7 +16,8 @@ from .session import PIECE
 if TYPE_CHECKING:
     from .picture.live import Live
 
-HEAD = struct.Struct('>cI')         # before what goes there: T recording, A answers of its replay
+HEAD = struct.Struct('>cI')         # before what goes there: T recording, A answers of its replay, S a slip
+SLIP = struct.Struct('>Qd')         # its place on the trunk, and its seconds
 LENGTH = struct.Struct('>I')        # before a page
 MOST_WAITING = 8 << 20              # octets on the way there, before it is given up
 PATIENCE = 5.0                      # seconds in which a page has to be taken
@@ -47,6 +48,10 @@ class Pictures:
     def answered(self, octets: bytes) -> None:
         """Octets of what its replay answers."""
         self._give(b'A', octets)
+
+    def slipped(self, place: int, seconds: float) -> None:
+        """Octets of the trunk were lost."""
+        self._give(b'S', SLIP.pack(place, seconds))
 
     def _give(self, what: bytes, octets: bytes) -> None:
         if not self.has_ended:
@@ -82,9 +87,15 @@ class _Given:
             if len(self._held) - at < HEAD.size + length:
                 break
             body = bytes(self._held[at + HEAD.size:at + HEAD.size + length])
-            (self._live.taped if what == b'T' else self._live.answered)(body)
+            self._pass_on(what, body)
             at += HEAD.size + length
         del self._held[:at]
+
+    def _pass_on(self, what: bytes, body: bytes) -> None:
+        if what == b'S':
+            self._live.slipped(*SLIP.unpack(body))
+        else:
+            (self._live.taped if what == b'T' else self._live.answered)(body)
 
 
 def _serve(words: list[str]) -> None:

@@ -25,6 +25,17 @@ class Words(unittest.TestCase):
             self.assertEqual(ctl.each_circuit(command), each)
 
 
+    def test_a_trunk_that_is_not_in_service(self) -> None:
+        said, here = io.StringIO(), '/run/e1gw/no-such-trunk/control: No such file or directory'
+        with mock.patch.object(sys, 'argv', ['e1gw-ctl', 'no-such-trunk', 'status']), \
+                contextlib.redirect_stderr(said), self.assertRaises(SystemExit) as ended:
+            ctl.main()
+        self.assertEqual(ended.exception.code, 2)
+        self.assertEqual(said.getvalue(), f'e1gw-ctl: {here} (systemctl status e1gw-trunk@no-such-trunk; '
+                         'e1gw-ctl alone lists the trunks)\n')
+        self.assertEqual(ctl.unit_words('./west.control', FileNotFoundError()), '')
+
+
 class Machine(unittest.TestCase):
     """Two trunks, west in service and east that does not answer, and a unit that is not in service."""
 

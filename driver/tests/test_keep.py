@@ -105,6 +105,31 @@ class Rings(support.Folder):
             self.play(1, first=run)
         self.assertEqual(self.kept(), list(range(99 - keep.MOST_EARLIER, 100)))
 
+    def test_slips_are_noted_beside_their_file(self) -> None:
+        ring = keep.Ring(self.ring, 'west', self.config, KEPT)
+        ring.open()
+        ring._zstd = None
+        for second in range(3 * EACH):
+            if second in (1, 2, 7):
+                ring.slips.append((second, 0.25))
+            ring.places.append(second)
+            ring.write(b'%d\n' % second)
+            self.passed += 1
+            self.day += 1
+        ring.slips.extend([(99, 0.1)] * 2 * keep.MOST_SLIPS)
+        ring.places.append(99)
+        ring.write(b'99\n')
+        ring.close()
+        noted = []
+        for name in self.files('.json'):
+            with open(os.path.join(self.ring, name), encoding='utf-8') as file:
+                noted.append(json.load(file).get('slips', []))
+        self.assertEqual(noted[:3], [[[1, 0.25], [2, 0.25]], [[7, 0.25]], []])
+        self.assertEqual(len(noted[3]), keep.MOST_SLIPS)
+        self.assertEqual(self.files('.part'), [])
+        self.assertEqual({stat.S_IMODE(os.stat(os.path.join(self.ring, name)).st_mode)
+                          for name in self.files('.json')}, {0o640})
+
     def test_other_files_are_left_alone(self) -> None:
         os.mkdir(self.ring)
         others = ['we.st', 'east-20260101T000000Z.e1gw', 'we.st-2-20260101T000000Z.e1gw', 'wexst-20260101T000000Z.json']

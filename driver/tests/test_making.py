@@ -70,6 +70,12 @@ class Made(support.Folder):
         self.assertEqual((status, said), (2, 'rack2.toml, circuit 1: 127.0.0.1:24060 is also the port of rack1.toml, '
                                           'circuit 30\n'))
 
+    def test_the_example_of_the_package_has_no_port(self) -> None:
+        self.made('--write', 'rack1')
+        self.made('--write', 'example')
+        self.assertEqual(self.made('--check', 'example.toml', 'rack1.toml')[:2],
+                         (0, '2 configurations have no fault\n'))
+
     def test_what_is_refused(self) -> None:
         self.made('--write', 'old')
         with open(self.path('bad.toml'), 'w', encoding='utf-8') as file:

@@ -111,8 +111,10 @@ class Storms(unittest.TestCase):
                 events = [json.loads(line) for line in file]
         lost = [event for event in events if event['event'] == 'lost' and event['what'] == 'frame']
         self.assertEqual((status, len(lost)), (0, 15))
-        self.assertLessEqual(said.count(' alignment lost'), 20)
-        self.assertIn('lost: .. and ', said)
+        # one line for a loss, and not one for the alarm and one for the alignment
+        self.assertNotIn('alignment lost', said)
+        self.assertLessEqual(said.count('alarm: loss of '), 20)
+        self.assertIn('alarm: .. and ', said)
 
 
 if __name__ == '__main__':

@@ -6,6 +6,7 @@ import html.parser
 import io
 import os
 import random
+import re
 import unittest
 
 from .support import program, run
@@ -20,8 +21,8 @@ from e1gw.picture.following import Follower
 from e1gw.picture.page import MOST as MOST_OCTETS
 from e1gw.picture.page import draw, numbers
 from e1gw.picture.reading import read
-from e1gw.picture.svg import Scale, clock, duration, runs
-from e1gw.session import OCTETS_A_SECOND, Kind, records_in, trunk_record
+from e1gw.picture.svg import Scale, apart, clock, duration, runs
+from e1gw.session import OCTETS_A_SECOND, Codec, Kind, codec_record, records_in, spell, trunk_record
 
 # The columns of `e1gw check`: number, role, state, pairs sent and recognised, sent, admitted, refused, codec, type.
 NUMBER, STATE, SENT, ADMITTED, REFUSED = 0, 2, 5, 6, 7
@@ -305,6 +306,40 @@ class Drawn(unittest.TestCase):
         self.assertIn('0 sent, 0 received, 40 discarded', words)
         self.assertIn('127.0.0.1:24106', words)
 
+    def test_what_a_line_carries_is_marked(self) -> None:
+        for name, words, kind in (('silent-peer', 'silence', 'silent'), ('silent-slot', 'slot: silence', 'silent'),
+                                  ('other-codec', 'other length', 'unlike')):
+            with self.subTest(name):
+                made = TROUBLES[name]()
+                text = page(b''.join(made.given()), answered(list(made.given()), [0] * 273), config_of(made))
+                self.checked(text)
+                self.assertIn(f'<title>circuit 3: {words}</title>', text)
+                self.assertEqual(len(re.findall(f'<path [^>]*class="{kind}"', text)), 2)
+
+    def test_a_codec_given_again_is_no_other_command(self) -> None:
+        session = Made(1.0, {3: {'prefill': 320}})
+        records = [codec_record(3, codec, payload) for codec, payload in
+                   ((Codec.G711, 8), (Codec.G726_32, 96), (Codec.G726_32, 96))]
+        whole = b''.join([*session.given(), *records])
+        text = page(whole, answered(list(session.given()), []) + b''.join(
+            spell(Kind.ANSWER, 3, bytes([Kind.CODEC, 0])) for _ in records), config_of(session))
+        self.assertEqual(text.count('jitter buffer resynchronised</td>'), 1)
+        self.assertIn('codec g726-32 96', text)
+        # two again, one change; each is one mark, and one more of each is in the key
+        self.assertEqual((text.count('class="c-again"'), text.count('class="c-done"')), (2, 2))
+
+    def test_calls_of_before(self) -> None:
+        facts = Facts(last=OCTETS_A_SECOND)
+        facts.rows[3].state(0, 'answered')
+        facts.turn(10 * OCTETS_A_SECOND)
+        self.assertIn('0 calls, 0 answered, 1 connected before', self.checked(draw(facts, 'x')))
+
+    def test_slips_of_a_live_page(self) -> None:
+        live = Live({}, 60)
+        live.slipped(100, 0.3)
+        words = self.checked(live.page())
+        self.assertIn('the driver noted 1 slip, first at', words)
+
     def test_words_are_escaped(self) -> None:
         text = draw(Facts(), '<b>&"')
         self.assertNotIn('<b>&"', text)
@@ -337,6 +372,7 @@ class Drawn(unittest.TestCase):
     def test_small_things(self) -> None:
         self.assertEqual(numbers([1, 2, 3, 4, 7, 9, 10]), '1 to 4, 7, 9, 10')
         self.assertEqual(runs([1, 2, 4, 9], 2), [(1, 4), (9, 9)])
+        self.assertEqual(apart([1, 2, 11, 12, 30], 10), [1, 11, 30])
         self.assertEqual(clock(59.9996, 3), '00:01:00.000')
         ticks = Scale(0, 60 * OCTETS_A_SECOND, None).ticks()
         self.assertEqual([words for _, words in ticks], [f'{10 * n} s' for n in range(7)])

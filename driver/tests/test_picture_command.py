@@ -129,6 +129,22 @@ class Run(Drawn):
         self.assertIn('begins in the middle', page)
         self.assertIn('begins in the middle', said)
 
+    def test_slips_that_the_driver_noted(self) -> None:
+        config, given, answers = self.small()
+        front = given.removesuffix('.rec')
+        about = {'config': config, 'time': BEGIN, 'place': 1000, 'begins': 'start'}
+        self.write('given.json', json.dumps(about))
+        page, _ = self.drawn('--answers', answers, given)
+        self.assertIn('>slips</text>', page)
+        self.assertNotIn('the driver noted', page)
+        self.write('given.json', json.dumps(about | {'slips': [[129000, 0.25], [257000, 0.5]]}))
+        page, _ = self.drawn('--answers', answers, given)
+        self.assertIn('the driver noted 2 slips, first at 22:13:20.500: 0.750 s of the trunk were lost', page)
+        self.assertIn('22:13:21.000: 0.500 s were lost', page)
+        os.unlink(f'{front}.json')
+        page, _ = self.drawn('--config', config, '--answers', answers, given)
+        self.assertNotIn('>slips</text>', page)
+
     def test_kept_in_several_files(self) -> None:
         config, given, answers = self.small()
         folder = os.path.join(self.folder, 'ring')
@@ -242,6 +258,16 @@ class WithProgram(Drawn):
                 entries = [re.sub('<.*?>', '', entry) for entry in re.findall('<li.*?</li>', page, re.S)]
                 wanted = who + words.replace("'", '&#x27;')
                 self.assertTrue(any(entry.startswith(wanted) for entry in entries), (wanted, entries))
+
+
+    def test_no_two_pictures_of_the_documents_are_the_same(self) -> None:
+        folder = os.path.join(TOP, 'docs', 'pictures')
+        drawn: dict[str, str] = {}
+        for name in sorted(os.listdir(folder)):
+            if name.endswith('.svg'):
+                with open(os.path.join(folder, name), encoding='utf-8') as file:
+                    self.assertEqual(drawn.setdefault(file.read(), name), name)
+        self.assertEqual(len(drawn), len(TROUBLES) - 1 + len(CAPTURED))
 
 
 class Captured(Drawn):

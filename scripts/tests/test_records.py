@@ -89,6 +89,15 @@ class Circuits(unittest.TestCase):
             '666D7420 12000000 0600 0100 401F0000 401F0000 0100 0800 0000') + b'fact\4\0\0\0\xC8\0\0\0data\xC8\0\0\0')
         self.assertEqual(wave[58:], self.SPEECH)
 
+    def test_octets_of_a_trunk_at_once(self) -> None:
+        octets = trunk(200, 3, self.SPEECH)
+        turned = bytes(int(f'{octet:08b}'[::-1], 2) for octet in octets)
+        wave = self.heard(3, octets)
+        self.assertEqual(ran('--from-raw', '--circuit', '3', given=octets).stdout, wave)
+        self.assertEqual(ran('--from-raw', '--reverse', '--circuit', '3', given=turned).stdout, wave)
+        for words in (('--from-raw', '--to-raw'), ('--reverse',), ('--to-raw', '--circuit', '3')):
+            self.assertEqual(ran(*words).returncode, 2, words)
+
     def test_circuit_16_is_slot_17(self) -> None:
         self.assertEqual(self.heard(16, trunk(200, 17, self.SPEECH), '--law', 'mu')[20:22], b'\7\0')
         self.assertEqual(self.heard(16, trunk(200, 17, self.SPEECH))[58:], self.SPEECH)

@@ -29,6 +29,7 @@ class Kept:
     config: str | None = None
     begin: float | None = None          # seconds since 1970
     middle: bool = False                # it does not begin where the gateway did
+    slips: list[tuple[int, float]] | None = None        # place from its begin, and seconds; None where nobody noted
 
 
 def kept(path: str) -> Kept:
@@ -64,6 +65,9 @@ def _told(session: Kept) -> Kept:
     session.config = about.get('config')
     session.begin = about.get('time')
     session.middle = about.get('begins') == 'middle'
+    if 'place' in about:
+        session.slips = [(place - about['place'], seconds) for file in session.files
+                         for place, seconds in beside(file).get('slips', ())]
     return session
 
 

@@ -1,9 +1,13 @@
 """The drawings: the trunk, the circuits over time, and a circuit's datagrams against its playout."""
 from __future__ import annotations
 
+from collections.abc import Callable
+from dataclasses import dataclass
+from functools import partial
+
 from ..session import DatagramRefusal
-from .facts import NOT_OPEN, OPEN, SECOND, WINDOW, Cell, Facts, Row
-from .svg import LEFT, WIDE, Scale, Sheet, duration, runs
+from .facts import NOT_OPEN, OPEN, SECOND, WINDOW, Answer, Cell, Command, Facts, Row
+from .svg import LEFT, WIDE, Scale, Sheet, apart, duration, runs
 
 ROW = 30                    # of the circuits
 NOTHING = 2 * SECOND        # for which nothing comes in the middle of a call until it is drawn
@@ -13,16 +17,32 @@ MOST_SPANS = 220            # of a line
 MEANS = {'idle': 'idle', 'seized': 'seized', 'acked': 'acknowledged', 'answered': 'answered',
          'clearedback': 'hung up by the called', 'releasing': 'releasing', 'blocked': 'blocked', 'fault': 'fault',
          'unknown': 'not known'}
-ALARMS = (('here', 'frame', 'no frame alignment'), ('here', 'multiframe', 'no multiframe'),
-          ('there', 'frame', 'far end: no frames'), ('there', 'multiframe', 'far end: no multifr.'))
+# The alarms of ITU-T G.704, G.706 and G.732, as the journal has them.
+ALARMS = (('here', 'frame', 'LFA'), ('here', 'multiframe', 'no multiframe'),
+          ('there', 'frame', 'RAI (bit A)'), ('there', 'multiframe', 'far multiframe (y)'))
 # Height and top of the bar of each state, besides its colour and hatching.
 SHAPES = {'idle': (3, 4), 'seized': (7, 2), 'acked': (11, 0), 'answered': (11, 0), 'clearedback': (11, 0),
           'releasing': (7, 2), 'blocked': (11, 0), 'fault': (11, 0), 'unknown': (1, 5)}
 HATCHED = {'seized': 'dots', 'clearedback': 'bars', 'releasing': 'dots', 'blocked': 'slant', 'fault': 'cross'}
 Pixels = dict[int, Cell]
-# What reads like another law or order, by the way, in a word.
 WORDS = {'sent': 'sent', 'admitted': 'received', 'refused': 'discarded'}
+# What reads like another law or order, and what is silent, by the way, in a word.
 LIKE = {'came': 'other law', 'slot': 'slot: other law', 'order': 'AAL2 packing'}
+SILENT = {'came': 'silence', 'slot': 'slot: silence'}
+UNEVEN = 'other length'     # packets whose samples are not what their timestamps go on by
+
+
+@dataclass(frozen=True)
+class Odd:
+    """What stands out of what a circuit carries: a word for it, whether it is on the line of what is sent, how a mark
+    looks, and in which columns it is."""
+    words: str
+    upper: bool
+    kind: str
+    is_in: Callable[[Cell], bool]
+
+    def columns(self, seen: Pixels) -> list[int]:
+        return sorted(x for x, cell in seen.items() if self.is_in(cell))
 
 
 def name_of(code: int) -> str:
@@ -39,16 +59,25 @@ def refusals(cell: Cell) -> str:
     return ', '.join(f'{seen[0]} {name_of(code)}' for code, seen in ordered)
 
 
-def unlike(cell: Cell) -> list[str]:
-    """The ways in which a circuit reads like another law, or another order of words."""
-    return [way for way in LIKE if way in cell.heard and cell.heard[way].is_other()]
+def odds(whole: Cell) -> list[Odd]:
+    """What reads like another law or order, carries silence alone, or has packets of another length."""
+    def is_other(way: str, cell: Cell) -> bool:
+        return way in cell.heard and cell.heard[way].other > 0
+
+    def is_silent(way: str, cell: Cell) -> bool:
+        return way in cell.heard and cell.heard[way].silent > 0
+    found = [Odd(words, way == 'slot', 'unlike', partial(is_other, way)) for way, words in LIKE.items()
+             if way in whole.heard and whole.heard[way].is_other()]
+    found += [Odd(words, way == 'slot', 'silent', partial(is_silent, way)) for way, words in SILENT.items()
+              if way in whole.heard and whole.heard[way].is_silence()]
+    return found + ([Odd(UNEVEN, False, 'unlike', lambda cell: cell.uneven > 0)] if whole.is_uneven() else [])
 
 
 def trunk(facts: Facts, scale: Scale) -> str:
     """The alarms of both ends over time."""
     rows = [(facts.alarms[where, what], name) for where, what, name in ALARMS if facts.alarms]
     rows.append((facts.ones, 'AIS'))
-    sheet = Sheet(20 + 16 * len(rows), 'The alarms of the trunk over time')
+    sheet = Sheet(20 + 16 * (len(rows) + (facts.slips is not None)), 'The alarms of the trunk over time')
     sheet.grid(scale, 16, sheet.height - 2)
     for n, (spans, name) in enumerate(rows):
         y = 20 + 16 * n
@@ -63,7 +92,23 @@ def trunk(facts: Facts, scale: Scale) -> str:
             wide = max(scale.x(last) - scale.x(first), 2.4)
             for kind in ('s-alarm', 'h-cross') if wide > 5 else ('s-alarm',):
                 sheet.box(scale.x(first), y, wide, 10, kind, f'{name}: {scale.span(first, last)}')
+    _slips(sheet, facts, scale, 20 + 16 * len(rows))
     return sheet.drawn()
+
+
+def _slips(sheet: Sheet, facts: Facts, scale: Scale, y: float) -> None:
+    """Where octets of the trunk were lost, if the driver noted that: those of a pixel in one mark."""
+    if facts.slips is None:
+        return
+    sheet.words(LEFT - 8, y + 9, 'slips', 'label', 'end')
+    sheet.box(LEFT, y + 4, WIDE, 2, 's-good')
+    lost: dict[int, list[tuple[int, float]]] = {}
+    for place, seconds in facts.slips:
+        if scale.start <= place <= scale.end:
+            lost.setdefault(int(scale.x(place) / (3 * scale.coarse)), []).append((place, seconds))
+    for each in lost.values():
+        place, whole = each[0][0], sum(seconds for _, seconds in each)
+        sheet.box(scale.x(place) - 1.2, y, 2.4, 10, 's-alarm', f'{scale.words(place)}: {whole:.3f} s were lost')
 
 
 def pixels(row: Row, facts: Facts, scale: Scale) -> Pixels:
@@ -160,8 +205,8 @@ def _gaps(row: Row, facts: Facts, scale: Scale, seen: Pixels) -> list[tuple[floa
 
 
 def _unheard(sheet: Sheet, row: Row, facts: Facts, scale: Scale, seen: Pixels, y: float) -> None:
-    """Dashes in the middle line where nothing comes, and marks on the line that reads like another law or order: the
-    upper one is what the time slot has, the middle one what came."""
+    """Dashes in the middle line where nothing comes, and marks on a line that reads like another law or order, or is
+    silent: the upper one is what the time slot has, the middle one what came."""
     gaps = _gaps(row, facts, scale, seen)
     sheet.path(''.join(f'M{LEFT + first:.0f} {y + 4.5:g}H{LEFT + last:.0f}' for first, last in gaps), 'nothing',
                f'circuit {row.number}: nothing comes, and the path is open')
@@ -169,11 +214,10 @@ def _unheard(sheet: Sheet, row: Row, facts: Facts, scale: Scale, seen: Pixels, y
     whole = Cell()
     for cell in seen.values():
         whole.join(cell)
-    for way in unlike(whole):
-        top = y - 1 if way == 'slot' else y + 2.4
-        marks = runs(sorted(x for x, cell in seen.items() if way in cell.heard and cell.heard[way].other), 5)
-        sheet.path(''.join(f'M{LEFT + first} {top:g}h{last - first + 4}v4.2h-{last - first + 4}z'
-                           for first, last in marks), 'unlike', f'circuit {row.number}: {LIKE[way]}')
+    for odd in odds(whole):
+        top = y - 1 if odd.upper else y + 2.4
+        sheet.path(''.join(f'M{LEFT + x} {top:g}h4v4.2h-4z' for x in apart(odd.columns(seen), 10)), odd.kind,
+                   f'circuit {row.number}: {odd.words}')
 
 
 def _astray(sheet: Sheet, row: Row, scale: Scale, y: float) -> None:
@@ -191,20 +235,28 @@ def _astray(sheet: Sheet, row: Row, scale: Scale, y: float) -> None:
                f'circuit {row.number}: {", ".join(row.wire.answers)}')
 
 
+def told_of(answer: Answer, command: Command) -> str:
+    """What became of a command, in words."""
+    return command.refusal or ('jitter buffer resynchronised' if answer is Answer.AGAIN else 'done')
+
+
 def _commands(sheet: Sheet, row: Row, scale: Scale, y: float) -> None:
-    """A triangle for a command that was done, a cross for one that was refused."""
-    drawn: dict[tuple[int, bool], int] = {}
-    for (_, done), command in row.commands.items():
+    """A triangle for a command that was done, a cross for one that was refused, a ring for a jitter buffer that was
+    resynchronised."""
+    drawn: dict[tuple[int, Answer], int] = {}
+    for (_, answer), command in row.commands.items():
         if not scale.start <= command.place <= scale.end:
             continue
         x = scale.x(command.place)
-        key = int(x / (3 * scale.coarse)), done
+        key = int(x / (3 * scale.coarse)), answer
         drawn[key] = drawn.get(key, 0) + 1
         if drawn[key] > 1:
             continue
         more = f' and {command.more} more' if command.more else ''
-        title = f'{scale.words(command.place)}: {command.words} {row.number}: {command.refusal or "done"}{more}'
-        if done:
+        title = f'{scale.words(command.place)}: {command.words} {row.number}: {told_of(answer, command)}{more}'
+        if answer is Answer.AGAIN:
+            sheet.path(f'M{x - 3:.1f} {y - 2}a3 3 0 1 0 6 0a3 3 0 1 0 -6 0z', 'c-again', title)
+        elif answer is Answer.DONE:
             sheet.path(f'M{x:.1f} {y + 2}l4 -6h-8z', 'c-done', title)
         else:
             sheet.path(f'M{x - 3:.1f} {y - 5}l6 6m0 -6l-6 6', 'c-refused', title)
@@ -224,7 +276,7 @@ class Playout:
         for cell in seen.values():
             whole.join(cell)
         self.whole = whole
-        self.unlike = unlike(whole)
+        self.odds = odds(whole)
         self.others = [code for code in sorted(whole.refused, key=lambda code: -whole.refused[code][0])
                        if code not in (14, 16)]
         most = max(row.prefill, whole.high if whole.admitted else 0) / 8
@@ -239,7 +291,7 @@ class Playout:
 
     def drawn(self) -> str:
         row = self.row
-        marked = 13 * (len(self.others) + len(self.unlike))
+        marked = 13 * (len(self.others) + len(self.odds))
         sheet = Sheet(self.y0 + self.high + 6 + marked, f'Datagrams of circuit {row.number} against the '
                       f'jitter buffer: {self.whole.admitted} received; discarded: {refusals(self.whole) or "none"}')
         self._frame(sheet)
@@ -247,9 +299,9 @@ class Playout:
         self._untimely(sheet)
         for n, code in enumerate(self.others):
             self._strip(sheet, code, self.y0 + self.high + 8 + 13 * n)
-        for n, way in enumerate(self.unlike, len(self.others)):
-            columns = [x for x, cell in self.seen.items() if way in cell.heard and cell.heard[way].other]
-            self._row(sheet, columns, 4, LIKE[way], 'bad', self.y0 + self.high + 8 + 13 * n)
+        for n, odd in enumerate(self.odds, len(self.others)):
+            self._row(sheet, odd.columns(self.seen), 4, odd.words, 'tick' if odd.kind == 'silent' else 'bad',
+                      self.y0 + self.high + 8 + 13 * n, odd.kind)
         self._hover(sheet)
         sheet.words(4, 30, f'circuit {row.number}', 'label strong')
         sheet.words(4, 44, f'prefill {row.prefill / 8:g} ms', 'tick')
@@ -300,13 +352,14 @@ class Playout:
         self._row(sheet, [x for x, cell in self.seen.items() if code in cell.refused], 1.4,
                   f'{self.whole.refused[code][0]} {name_of(code)}', 'tick' if code == NOT_OPEN else 'bad', y)
 
-    def _row(self, sheet: Sheet, columns: list[int], least: float, words: str, kind: str, y: float) -> None:
+    def _row(self, sheet: Sheet, columns: list[int], least: float, words: str, kind: str, y: float,
+             mark: str = 'p-strip') -> None:
         """A row of marks at columns, at least so wide, and its words."""
         sheet.words(LEFT - 6, y + 8, words, kind, 'end')
         sheet.path(f'M{LEFT} {y + 4.5}h{WIDE}', 'grid')
         parts = [f'M{LEFT + first} {y}h{max(last - first + 1, least):g}v9h-{max(last - first + 1, least):g}z'
                  for first, last in runs(sorted(columns), 1)]
-        sheet.path(''.join(parts), 'p-strip')
+        sheet.path(''.join(parts), mark)
 
     def _hover(self, sheet: Sheet) -> None:
         """What each stretch of the drawing has, told where the pointer is."""

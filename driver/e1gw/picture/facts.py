@@ -6,6 +6,7 @@ columns of so many octets are kept.
 """
 from __future__ import annotations
 
+import enum
 import struct
 from collections import Counter
 from collections.abc import Iterator
@@ -41,6 +42,10 @@ class Cell:
 
     def is_empty(self) -> bool:
         return not (self.sent or self.admitted or self.refused or self.counts or self.lost or self.heard)
+
+    def is_uneven(self) -> bool:
+        """Most packets have another number of samples than their timestamps go on by."""
+        return self.uneven > max(20, self.admitted // 2)
 
     def admit(self, margin: int) -> None:
         if not self.admitted:
@@ -136,9 +141,17 @@ class Spans:
                 yield first, last, value
 
 
+class Answer(enum.Enum):
+    """What became of a command. AGAIN is a codec that the circuit has: its jitter buffer was resynchronised, by the
+    driver or by an operator."""
+    REFUSED = enum.auto()
+    DONE = enum.auto()
+    AGAIN = enum.auto()
+
+
 @dataclass
 class Command:
-    """Commands to a circuit in a column, those that were done or those that were refused."""
+    """Commands to a circuit in a column with the same answer."""
     place: int
     words: str
     refusal: str = ''
@@ -191,7 +204,7 @@ class Row:
     states: Spans = field(default_factory=lambda: Spans('fault', RANK))
     cells: dict[int, Cell] = field(default_factory=dict)
     cell: Cell = field(default_factory=Cell)
-    commands: dict[tuple[int, bool], Command] = field(default_factory=dict)
+    commands: dict[tuple[int, Answer], Command] = field(default_factory=dict)
     stream: Stream = field(default_factory=Stream)
     # What was seen in datagrams that came, with the place where it was last seen.
     types: dict[int, int] = field(default_factory=dict)
@@ -281,6 +294,10 @@ class Row:
             if happened:
                 self.cell.counts[name] = self.cell.counts.get(name, 0) + 1
 
+    def state_at(self, place: int) -> str:
+        """The line's state at a place that is not forgotten."""
+        return next((state for first, state in reversed(self.states.items) if first <= place), 'unknown')
+
     def count(self) -> Cell:
         """All that the columns have, in one."""
         whole = Cell()
@@ -303,6 +320,7 @@ class Facts:
         self.alarms = {(where, what): Spans(where == 'here', (True, False))
                        for where in ('here', 'there') for what in ('frame', 'multiframe')}
         self.ones = Spans(False, (True, False))
+        self.slips: list[tuple[int, float]] | None = None       # place and seconds, if the driver noted them
         self.losses: dict[str, list[int]] = {'frame': [], 'multiframe': []}
         self.begin: float | None = None     # the time of place 0, in seconds since 1970, where it is known
         self.told = 'e1gw'                  # who told how datagrams were answered
@@ -344,6 +362,8 @@ class Facts:
                     del seen[value]
         for spans in (*self.alarms.values(), self.ones):
             spans.forget(self.start)
+        if self.slips:
+            self.slips = [(place, seconds) for place, seconds in self.slips if place >= self.start]
         for what, places in self.losses.items():
             self.losses[what] = [place for place in places if place >= self.start]
 
@@ -358,9 +378,9 @@ class Facts:
                 else:
                     cells[column // 2] = cell
             row.cells = cells
-            commands: dict[tuple[int, bool], Command] = {}
-            for (column, done), command in row.commands.items():
-                first = commands.setdefault((column // 2, done), command)
+            commands: dict[tuple[int, Answer], Command] = {}
+            for (column, answer), command in row.commands.items():
+                first = commands.setdefault((column // 2, answer), command)
                 if first is not command:
                     first.more += command.more + 1
             row.commands = commands
@@ -375,9 +395,12 @@ class Facts:
     def command(self, circuit: int, place: int, words: str, refusal: str = '') -> None:
         """A command to a circuit, with the words of its refusal where it was refused."""
         row = self.rows[circuit]
-        first = row.commands.setdefault((place // self.width, not refusal), Command(place, words, refusal, -1))
+        is_codec = words.startswith('codec')
+        again = is_codec and words == f'codec {row.codec} {row.payload}'
+        answer = Answer.REFUSED if refusal else Answer.AGAIN if again else Answer.DONE
+        first = row.commands.setdefault((place // self.width, answer), Command(place, words, refusal, -1))
         first.more += 1
-        if not refusal and words.startswith('codec'):
+        if not refusal and is_codec:
             row.stream = Stream()
 
     def lost(self, what: str, place: int) -> None:

@@ -5,8 +5,9 @@ from collections.abc import Iterator
 from dataclasses import dataclass
 from statistics import median
 
+from ..events import REMOTE
 from ..g711 import NAMES, OTHER
-from .facts import NOT_OPEN, OPEN, SECOND, Cell, Facts, Row
+from .facts import NOT_OPEN, OPEN, SECOND, Answer, Cell, Facts, Row
 from .slopes import Points, Step, points, slope, steps
 from .svg import Scale, duration
 
@@ -163,9 +164,9 @@ def _silent(row: Row, whole: Cell, opened: int) -> Iterator[Finding]:
             ('slot', 'the time slot carries one octet alone, as silence does, and so do the datagrams that are sent',
              'the exchange speaks in another time slot, or not at all; is the circuit the same there?')):
         seen = whole.heard.get(way)
-        if seen and seen.looks > 6 and seen.silent == seen.looks:
+        if seen and seen.is_silence():
             yield Finding(f'silent {way}', row.number, words, hint, False)
-    if whole.uneven > max(20, whole.admitted // 2):
+    if whole.is_uneven():
         count, step = row.mismatch
         yield Finding('words', row.number,
                       f'a packet has {count} samples of {row.codec}, and timestamps go on by {step}',
@@ -233,7 +234,7 @@ def _lines(row: Row, whole: Cell) -> Iterator[Finding]:
                       'signals of the exchange that are not of Q.421, or both ends outgoing')
     if row.states.value == 'blocked':
         yield Finding('blocked', row.number, 'is blocked at the end', 'unblock it here, or at the exchange', False)
-    refused = [command for (_, done), command in row.commands.items() if not done]
+    refused = [command for (_, answer), command in row.commands.items() if answer is Answer.REFUSED]
     if refused:
         words = ', '.join(sorted({f'{command.words}: {command.refusal}' for command in refused}))
         count = sum(command.more + 1 for command in refused)
@@ -272,12 +273,18 @@ def _trunk(facts: Facts) -> Iterator[Finding]:
         elif where == 'here' and what == 'multiframe' and up >= long:
             yield Finding('never', 0, 'no multiframe was ever found in slot 16', 'does the exchange signal by CAS?')
         elif where == 'there' and up:
-            yield Finding(f'far {what}', 0, f'the far end tells for {duration(up)} that it has no {what} alignment',
+            yield Finding(f'far {what}', 0, f'{REMOTE[what]} came for {duration(up)}: the far end has no {what} '
+                          'alignment',
                           'what is sent does not get there whole')
     for what, places in facts.losses.items():
         if places:
             yield Finding(f'lost {what}', 0, f'{what} alignment was lost {times(len(places))}, first at '
                           f'{_moment(facts, places[0])}', 'the device lost or doubled octets, or the line was cut')
+    slips = [(place, seconds) for place, seconds in facts.slips or () if facts.start <= place]
+    if slips:
+        yield Finding('slips', 0, f'the driver noted {len(slips)} slip{"s" * (len(slips) > 1)}, first at '
+                      f'{_moment(facts, slips[0][0])}: {sum(seconds for _, seconds in slips):.3f} s of the trunk were '
+                      'lost', 'the device or this machine stood still: its load, `Nice=`, the device\'s buffers')
     ones = sum(last - first for first, last, on in facts.ones.between(facts.start, facts.place) if on)
     if ones:
         yield Finding('ones', 0, f'AIS (all ones) came for {duration(ones)}',

@@ -21,6 +21,7 @@ class Live:
                  program: str | None = None) -> None:
         self.title = title
         self.facts = Facts(rows_of(config), int(seconds * OCTETS_A_SECOND))
+        self.facts.slips = []
         self.reading = Reading(self.facts, config, program=program)
         self.ended = ''                 # why it goes on no more
         self._waiting: tuple[list[bytes], list[bytes]] = ([], [])
@@ -33,6 +34,11 @@ class Live:
     def answered(self, octets: bytes) -> None:
         """Octets that the replay of the recording has written."""
         self._take(1, octets)
+
+    def slipped(self, place: int, seconds: float) -> None:
+        """Octets of the trunk were lost."""
+        assert self.facts.slips is not None
+        self.facts.slips.append((place, seconds))
 
     def _take(self, which: int, octets: bytes) -> None:
         if not self.ended:

@@ -106,6 +106,7 @@ def port_faults(path: str) -> int:
 def gathered(options: argparse.Namespace, session: Kept, config: str) -> tuple[Facts, str]:
     """What is drawn of a session, and a word on how it ended."""
     facts = Facts(rows_of(read_config(config)), int(options.last * OCTETS_A_SECOND) if options.last else None)
+    facts.slips = session.slips
     octets = given(session)
     facts.begin = options.begin if options.begin is not None else session.begin
     if options.capture:

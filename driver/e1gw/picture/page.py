@@ -124,8 +124,10 @@ class Page:
             first = facts.begin + facts.start / SECOND
             when = time.strftime('%Y-%m-%d %H:%M:%S UTC, ', time.gmtime(first))
         calls, answers = (sum(whole.counts.get(name, 0) for whole in wholes) for name in ('calls', 'answers'))
+        up = sum(row.state_at(facts.start) in OPEN for row in self.rows)
+        before = f', {up} connected before' if up else ''
         parts = [f'{when}{duration(facts.place - facts.start)} of the trunk',
-                 f'{calls} call{"s" * (calls != 1)}, {answers} answered',
+                 f'{calls} call{"s" * (calls != 1)}, {answers} answered{before}',
                  f'packets: {sum(w.sent for w in wholes)} sent, {sum(w.admitted for w in wholes)} received, '
                  f'{refused} discarded{"" if facts.told == "e1gw" else " (" + facts.told + ")"}']
         return ' &middot; '.join(escape(part) for part in parts)
@@ -186,11 +188,11 @@ class Page:
     def commands(self) -> str:
         rows: list[tuple[object, ...]] = []
         for row in self.rows:
-            for command in row.commands.values():
+            for (_, answer), command in row.commands.items():
                 if command.place >= self.facts.start:
                     more = f', and {command.more} more' if command.more else ''
                     rows.append((row.number, self.scale.words(command.place), command.words + more,
-                                 command.refusal or 'done'))
+                                 charts.told_of(answer, command)))
         return table('Commands', ('circuit', 'at', 'command', 'answer'), rows)
 
     def alarms(self) -> str:
@@ -248,7 +250,9 @@ def key(captured: bool) -> str:
     out.append(('<path d="M0 6.5H26" class="nothing"/>', 'open, and nothing comes (middle)'))
     out.append(('<rect y="5.4" width="26" height="2.2" class="d-admitted"/><rect x="4" y="4.4" width="5" height="4.2" '
                 'class="unlike"/><rect x="16" y="4.4" width="5" height="4.2" class="unlike"/>',
-                'reads like another law or order'))
+                'another law, order or length'))
+    out.append(('<rect y="5.4" width="26" height="2.2" class="d-admitted"/><rect x="4" y="4.4" width="5" height="4.2" '
+                'class="silent"/><rect x="16" y="4.4" width="5" height="4.2" class="silent"/>', 'silence'))
     if captured:
         out.append(('<rect y="5" width="26" height="2.2" class="d-sent"/><path d="M0 6.1H26" class="nothing astray"/>',
                     'goes to another address (upper)'))
@@ -256,6 +260,7 @@ def key(captured: bool) -> str:
                     'class="c-refused"/>', 'did not arrive (upper)'))
     out.append(('<path d="M13 11l5 -8h-10z" class="c-done"/>', 'command done'))
     out.append(('<path d="M9 3l8 8m0 -8l-8 8" class="c-refused"/>', 'command refused'))
+    out.append(('<path d="M10 7a3 3 0 1 0 6 0a3 3 0 1 0 -6 0z" class="c-again"/>', 'jitter buffer resynchronised'))
     spans = ''.join(f'<span><svg viewBox="0 0 26 13" aria-hidden="true">{box}</svg>{words}</span>'
                     for box, words in out)
     return f'<div class="key">{spans}</div>'

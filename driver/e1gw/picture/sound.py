@@ -17,6 +17,7 @@ SPEECH = 0.25               # the most of speech that is not foretold: noise is 
 LOUDER = 4.0                # times the power that the clearer reading may have: what is wrong is rarely the softer one
 FLOOR = 1e-6                # the least power beside that of 0 dBm0, -60 dBm0: under it is silence
 OFTEN = 5                   # looks that tell, at least
+SILENT = 7                  # looks that find silence, at least
 MOSTLY = 0.9                # the part of them that has to tell the same
 EACH = OCTETS_A_SECOND * 8 // 25        # octets of the trunk, 320 ms
 EIGHT = 8
@@ -81,6 +82,10 @@ class Heard:
         """A look that tells, or does not."""
         self.own += which > 0
         self.other += which < 0
+
+    def is_silence(self) -> bool:
+        """Whether each look found one octet alone, and they are many."""
+        return self.looks >= SILENT and self.silent == self.looks
 
     def is_other(self) -> bool:
         """Whether it reads like the other one: looks that tell are many, and nearly all the same."""

@@ -12,7 +12,12 @@ CSS = '''
 body{font:14px/1.45 system-ui,"DejaVu Sans",sans-serif;margin:0 auto;padding:16px 22px;max-width:1340px;
 background:var(--bg);color:var(--ink)}
 h1{font-size:20px;margin:0 0 2px}h2{font-size:16px;margin:24px 0 4px}p{margin:4px 0}
-.note,figcaption{color:var(--soft)}.wide{overflow-x:auto}svg{display:block;width:100%;min-width:760px}
+.note,figcaption{color:var(--soft)}
+.wide{overflow-x:auto;background:linear-gradient(90deg,var(--bg) 40%,transparent) 0 0/40px 100% no-repeat local,
+linear-gradient(270deg,var(--bg) 40%,transparent) 100% 0/40px 100% no-repeat local,
+linear-gradient(90deg,var(--line),transparent) 0 0/9px 100% no-repeat scroll,
+linear-gradient(270deg,var(--line),transparent) 100% 0/9px 100% no-repeat scroll}
+svg{display:block;width:100%;min-width:760px}
 ul.found{list-style:none;padding:0;margin:6px 0}
 .found li{background:var(--card);border-left:4px solid var(--line);margin:3px 0;padding:3px 10px;font-size:13px;
 overflow-wrap:anywhere}
@@ -31,11 +36,12 @@ text{fill:var(--ink);font-size:11.5px}.tick{font-size:10.5px;fill:var(--soft)}.b
 .h-slant{fill:url(#slant)}.h-cross{fill:url(#cross)}.h-bars{fill:url(#bars)}.h-dots{fill:url(#dots)}
 .hatch{stroke:var(--bg);stroke-width:1.3;fill:none}.dot{fill:var(--bg)}
 .d-sent{fill:var(--sent)}.d-admitted{fill:var(--admitted)}.d-refused{fill:var(--refused)}
-.c-done{fill:var(--ink)}.c-refused{stroke:var(--refused);stroke-width:2;fill:none}
+.c-done{fill:var(--ink)}.c-again{fill:none;stroke:var(--soft);stroke-width:1.4}
+.c-refused{stroke:var(--refused);stroke-width:2;fill:none}
 .p-admitted{stroke:var(--admitted);stroke-width:1.8;fill:none}.p-box{fill:var(--admitted)}
 .p-refused,.p-strip{fill:var(--refused)}
 .nothing{stroke:var(--refused);stroke-width:2;stroke-dasharray:5 4;fill:none}.astray{stroke-width:3.4}
-.unlike{fill:var(--refused)}
+.unlike{fill:var(--refused)}.silent{fill:var(--bg);stroke:var(--line);stroke-width:1}
 .over{fill:transparent}.over:hover{fill:var(--line);fill-opacity:.18}
 table{border-collapse:collapse;margin:6px 0;font-variant-numeric:tabular-nums}caption{text-align:left;color:var(--soft)}
 td,th{border-bottom:1px solid var(--grid);padding:2px 12px 2px 0;text-align:left;vertical-align:top;white-space:nowrap;
@@ -48,7 +54,7 @@ th{font-weight:600;color:var(--soft)}td.n{text-align:right}summary{cursor:pointe
 @page{size:A4;margin:8mm}
 body{padding:0;margin:0;max-width:none;width:1140px;print-color-adjust:exact;-webkit-print-color-adjust:exact}
 .screen,details,.many .hint{display:none}h2{margin:8px 0 2px}.two{display:grid;grid-template-columns:1fr 1fr;gap:0 12px}
-svg{min-width:0}.wide{overflow:visible}.found li{padding:1px 8px;margin:2px 0;font-size:12px}}
+svg{min-width:0}.wide{overflow:visible;background:none}.found li{padding:1px 8px;margin:2px 0;font-size:12px}}
 '''
 
 # The hatchings, which every drawing of the page uses.

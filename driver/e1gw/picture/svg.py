@@ -123,3 +123,12 @@ def runs(columns: Iterable[int], gap: float) -> list[tuple[int, int]]:
         else:
             out.append((column, column))
     return out
+
+
+def apart(columns: Iterable[int], least: int) -> list[int]:
+    """Columns in ascending order, but for those that are nearer to the one before than this."""
+    out: list[int] = []
+    for column in columns:
+        if not out or column - out[-1] >= least:
+            out.append(column)
+    return out
