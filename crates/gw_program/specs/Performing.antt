@@ -3,7 +3,6 @@ use Rattle.std.specs.Prelude.{◌≡◌, ◌⊎◌, false, [], Option, Some, Non
 use Rattle.gw_config.specs.declared.config.Config.{Config}
 use Rattle.gw_records.specs.declared.outcome.Totals.{Totals}
 use Rattle.gw_records.specs.declared.outcome.RunFault.{RunFault}
-use Rattle.gw_records.specs.Streams.{SourceState, SinkState}
 use Rattle.gw_session.specs.Tape.{TapeState, no_tape}
 use Rattle.gw_command.specs.declared.command.Session.{Session}
 use Rattle.gw_command.specs.declared.command.Session.TheVariants.{Replay, Check, Serve}

@@ -13,25 +13,26 @@ use gw_switch::{Gateway, GatewayConfig};
 use gw_trunk::{Incoming, Outgoing, TrunkSink, TrunkSource, serve_trunk};
 use std::alloc::Global;
 
-// Serves a trunk by a new gateway, whose datagrams come and go through ports, and records on a tape what the
+// Serves a trunk and its clients by a new gateway, whose datagrams come and go through ports, and records on a tape what the
 // gateway takes.
 #[inline(never)]
-fn carry_trunk<I: Incoming, O: Outgoing, P: Ports, T: Tape>(
+fn carry_trunk<I: Incoming, O: Outgoing, A: Outgoing, P: Ports, T: Tape>(
     alloc: Global,
     config: &GatewayConfig,
     ports: &mut P,
     source: &mut TrunkSource<I>,
-    sink: &mut TrunkSink<O>,
+    sink: &mut TrunkSink<O, A>,
     tape: &mut T,
 ) -> Result<Totals, RunFault>
     requires source { (source.old.failed ≡ 0) × (source.old.reads ≡ 0) × (source.old.log.octets ≡ []) }
     requires sink { (sink.old.failed ≡ 0) × (sink.old.log.octets ≡ []) }
     ensures { EndsTrunk (Untouched source.old source.new sink.old sink.new) config.now
-        (around (⟦<TrunkSource<I> as Source>⟧.tells source.old) (⟦<TrunkSink<O> as Sink>⟧.tells sink.old)
+        (around (⟦<TrunkSource<I> as Source>⟧.tells source.old) (⟦<TrunkSink<O, A> as Sink>⟧.tells sink.old)
         (P.tells ports.old) (T.tells tape.old))
-        (around (⟦<TrunkSource<I> as Source>⟧.tells source.new) (⟦<TrunkSink<O> as Sink>⟧.tells sink.new)
+        (around (⟦<TrunkSource<I> as Source>⟧.tells source.new) (⟦<TrunkSink<O, A> as Sink>⟧.tells sink.new)
         (P.tells ports.new) (T.tells tape.new))
-        (I.came source.new.incoming) (O.went sink.new.outgoing) result }
+        (I.came source.new.incoming) (I.asked source.new.incoming)
+        (O.went sink.new.outgoing) (A.went sink.new.answers) result }
 {
     let Ok(mut gateway) = Gateway::open(alloc, config) else {
         return Err(RunFault::OutOfMemory);
@@ -41,12 +42,12 @@ fn carry_trunk<I: Incoming, O: Outgoing, P: Ports, T: Tape>(
 
 // Serves a trunk by a configuration, on ports and a tape of the system's. The tape is begun before the ports
 // are opened.
-fn perform_carry<Y: System, I: Incoming, O: Outgoing>(
+fn perform_carry<Y: System, I: Incoming, O: Outgoing, A: Outgoing>(
     system: &Y,
     alloc: Global,
     config: &Config,
     source: &mut TrunkSource<I>,
-    sink: &mut TrunkSink<O>,
+    sink: &mut TrunkSink<O, A>,
 ) -> Result<Totals, Trouble>
     requires source { (source.old.failed ≡ 0) × (source.old.reads ≡ 0) × (source.old.log.octets ≡ []) }
     requires sink { (sink.old.failed ≡ 0) × (sink.old.log.octets ≡ []) }
@@ -54,11 +55,12 @@ fn perform_carry<Y: System, I: Incoming, O: Outgoing>(
         (LacksTapeOrPorts (Y.lacks_tape system.now) (Y.lacks_ports system.now config.now)) result
         ⊎ HasServed (Y.opens system.now config.now) (Y.begins system.now) (λ ports ports' tape tape'. Ended
         (EndsTrunk (Untouched source.old source.new sink.old sink.new) config.now.gateway
-        (around (⟦<TrunkSource<I> as Source>⟧.tells source.old) (⟦<TrunkSink<O> as Sink>⟧.tells sink.old)
+        (around (⟦<TrunkSource<I> as Source>⟧.tells source.old) (⟦<TrunkSink<O, A> as Sink>⟧.tells sink.old)
         (Y.Ports.tells ports) (Y.Tape.tells tape))
-        (around (⟦<TrunkSource<I> as Source>⟧.tells source.new) (⟦<TrunkSink<O> as Sink>⟧.tells sink.new)
+        (around (⟦<TrunkSource<I> as Source>⟧.tells source.new) (⟦<TrunkSink<O, A> as Sink>⟧.tells sink.new)
         (Y.Ports.tells ports') (Y.Tape.tells tape'))
-        (I.came source.new.incoming) (O.went sink.new.outgoing)) result) }
+        (I.came source.new.incoming) (I.asked source.new.incoming)
+        (O.went sink.new.outgoing) (A.went sink.new.answers)) result) }
 {
     let mut tape = system.begin_tape()?;
     let mut ports = system.open_ports(config)?;
@@ -67,12 +69,12 @@ fn perform_carry<Y: System, I: Incoming, O: Outgoing>(
     ended.map_err(Trouble::Session)
 }
 
-/// Serves a trunk by the configuration of the system's, on its ports and its tape.
-pub fn perform_trunk<Y: System, I: Incoming, O: Outgoing>(
+/// Serves a trunk and its clients by the configuration of the system's, on its ports and its tape.
+pub fn perform_trunk<Y: System, I: Incoming, O: Outgoing, A: Outgoing>(
     system: &Y,
     alloc: Global,
     source: &mut TrunkSource<I>,
-    sink: &mut TrunkSink<O>,
+    sink: &mut TrunkSink<O, A>,
 ) -> Result<Totals, Trouble>
     requires source { (source.old.failed ≡ 0) × (source.old.reads ≡ 0) × (source.old.log.octets ≡ []) }
     requires sink { (sink.old.failed ≡ 0) × (sink.old.log.octets ≡ []) }
@@ -82,11 +84,12 @@ pub fn perform_trunk<Y: System, I: Incoming, O: Outgoing>(
         (LacksTapeOrPorts (Y.lacks_tape system.now) (Y.lacks_ports system.now config)) result
         ⊎ HasServed (Y.opens system.now config) (Y.begins system.now) (λ ports ports' tape tape'. Ended
         (EndsTrunk (Untouched source.old source.new sink.old sink.new) config.gateway
-        (around (⟦<TrunkSource<I> as Source>⟧.tells source.old) (⟦<TrunkSink<O> as Sink>⟧.tells sink.old)
+        (around (⟦<TrunkSource<I> as Source>⟧.tells source.old) (⟦<TrunkSink<O, A> as Sink>⟧.tells sink.old)
         (Y.Ports.tells ports) (Y.Tape.tells tape))
-        (around (⟦<TrunkSource<I> as Source>⟧.tells source.new) (⟦<TrunkSink<O> as Sink>⟧.tells sink.new)
+        (around (⟦<TrunkSource<I> as Source>⟧.tells source.new) (⟦<TrunkSink<O, A> as Sink>⟧.tells sink.new)
         (Y.Ports.tells ports') (Y.Tape.tells tape'))
-        (I.came source.new.incoming) (O.went sink.new.outgoing)) result)) }
+        (I.came source.new.incoming) (I.asked source.new.incoming)
+        (O.went sink.new.outgoing) (A.went sink.new.answers)) result)) }
 {
     let config = system.read_config()?;
     perform_carry(system, alloc, &config, source, sink)

@@ -1,13 +1,12 @@
--- What a trunk carries that is served.
+-- What a trunk and its clients have from a gateway that serves them.
 use Rattle.std.proofs.Common.{◌≡◌, ◌++◌, ◌∷◌, ◌∙◌, ℕ, Option, Some, List, [], map, flat_map}
 use Rattle.std.proofs.Common.{refl, sym, ap, arith, append-nil, Ok, Err, Result, IfOk, IfErr}
 use Rattle.std.specs.List.{AllByRecursion}
 use Rattle.std.specs.Io.KnownBytes.{Appends}
-use Rattle.std.proofs.lemmas.List.{map-append}
 use Rattle.std.proofs.lemmas.List.Concat.{flat_map-append}
 use Rattle.gw_switch.specs.declared.GatewayConfig.{GatewayConfig}
 use Rattle.gw_switch.specs.declared.gateway.Gateway.{Gateway}
-use Rattle.gw_switch.specs.Events.{Event}
+use Rattle.gw_switch.specs.Events.{Event, octets}
 use Rattle.gw_switch.specs.Standing.{Stands}
 use Rattle.gw_records.specs.declared.outcome.Totals.{Totals}
 use Rattle.gw_records.specs.declared.outcome.RunFault.{RunFault}
@@ -18,7 +17,8 @@ use Rattle.gw_records.specs.Records.{Record, Reads, IsGood, spelled, end_of}
 use Rattle.gw_records.specs.Streams.{AppendsBut}
 use Rattle.gw_records.specs.Outcome.{SessionTo, FailsToWrite}
 use Rattle.gw_records.proofs.Readings.{one_reading, more_keeps}
-use Rattle.gw_session.specs.Answers.{events}
+use Rattle.gw_session.specs.Answers.{events, events_of}
+use Rattle.gw_session.specs.ServeLaws.{without_datagrams}
 use Rattle.gw_session.specs.Serve as session
 use Rattle.gw_session.specs.Serve.{Around, SessionTrace, ServesAll, ServesUntil, Served, written, events_through}
 use Rattle.gw_session.specs.Serve.{served_kinds}
@@ -26,22 +26,23 @@ use Rattle.gw_session.specs.Tape.{TapeState}
 use Rattle.gw_session.specs.World.{State}
 use Rattle.gw_session.proofs.ServeLaws.{events_are_told}
 use Rattle.gw_trunk.specs.declared.sink.Place.TheVariants.{Kind}
-use Rattle.gw_trunk.specs.Bodies.{bodies, passed, place_after}
-use Rattle.gw_trunk.specs.Pieces.{InPieces, IsPiece, in_records, same}
-use Rattle.gw_trunk.specs.Serving.{Carries, CarriesUntilWrite, CarriesUntil, Carried}
-use Rattle.gw_trunk.proofs.Passing.{passed-append}
+use Rattle.gw_trunk.specs.Bodies.{bodies, others, passed, answered, place_after}
+use Rattle.gw_trunk.specs.Pieces.{Woven, GivesWoven, IsGiven, trunk_part, client_part, from_clients}
+use Rattle.gw_trunk.specs.Serving.{Carries, CarriesUntilWrite, CarriesUntil, Carried, commands_in}
+use Rattle.gw_trunk.proofs.Passing.{passed-append, answered-append}
 use Rattle.gw_trunk.proofs.Written.{acts-pass}
 
--- The octets of the T records of pieces spell these records.
-spelled-pieces : (pieces : List (List ℕ)) → in_records pieces ≡ flat_map spelled (map Record.Trunk pieces)
-spelled-pieces [] = refl
-spelled-pieces (p ∷ pieces) = ap (λ (xs : List ℕ). spelled (Record.Trunk p) ++ xs) (spelled-pieces pieces)
+-- A record that is given is read in service.
+given-good : (r : Record) → IsGiven r → IsGood served_kinds r
+given-good (Record.Trunk octets) given = (refl, omega (arith, given))
+given-good (Record.Datagram circuit octets) given = cc (given.0)
+given-good (Record.Command circuit command) given = given
+given-good (Record.Codec circuit codec payload_type) given = given
 
--- T records of pieces are good.
-good-pieces : (pieces : List (List ℕ)) → AllByRecursion IsPiece pieces
-    → AllByRecursion (IsGood served_kinds) (map Record.Trunk pieces)
-good-pieces [] sizes = tt
-good-pieces (p ∷ pieces) sizes = ((refl, omega (arith, sizes.0)), good-pieces pieces sizes.1)
+-- .. and all that are given are.
+all-good : (records : List Record) → AllByRecursion IsGiven records → AllByRecursion (IsGood served_kinds) records
+all-good [] given = tt
+all-good (r ∷ records) given = (given-good r given.0, all-good records given.1)
 
 -- Good records are read, and nothing behind them.
 records-read : (records : List Record) → AllByRecursion (IsGood served_kinds) records
@@ -49,55 +50,88 @@ records-read : (records : List Record) → AllByRecursion (IsGood served_kinds) 
 unfolding end_of
 records-read records good = record { rest = []; whole = sym (append-nil _); good = good; ends = refl }
 
--- The T records of pieces are read, and nothing behind them.
-pieces-read : (pieces : List (List ℕ)) → AllByRecursion IsPiece pieces
-    → Reads served_kinds (in_records pieces) (map Record.Trunk pieces) endings.End
-pieces-read pieces sizes =
-    rw (spelled-pieces pieces) (records-read (map Record.Trunk pieces) (good-pieces pieces sizes))
+-- The first of records that are given are given.
+first-given : (records more : List Record) → AllByRecursion IsGiven (records ++ more) → AllByRecursion IsGiven records
+first-given [] more all = tt
+first-given (r ∷ records) more all = (all.0, first-given records more all.1)
 
--- The events of T records are their octets.
-trunk-events : (pieces : List (List ℕ)) → events (map Record.Trunk pieces) ≡ map Event.Octet (flat_map same pieces)
-trunk-events [] = refl
-trunk-events (p ∷ pieces) =
-    ap (λ (es : List Event). map Event.Octet p ++ es) (trunk-events pieces)
-    ∙ sym (map-append Event.Octet p (flat_map same pieces))
+-- The octets of the trunk among octets and events are the first, and then those of the events.
+octets-first : (xs : List ℕ) (es : List Event) → octets (map Event.Octet xs ++ es) ≡ xs ++ octets es
+octets-first [] es = refl
+octets-first (x ∷ xs) es = ap (λ (ys : List ℕ). x ∷ ys) (octets-first xs es)
 
--- Records that stand first among the T records of pieces are those of the first pieces.
-first-pieces : (pieces : List (List ℕ)) (records others : List Record) → map Record.Trunk pieces ≡ records ++ others
-    → (ps : List (List ℕ)) × (qs : List (List ℕ)) × (pieces ≡ ps ++ qs) × (records ≡ map Record.Trunk ps)
-first-pieces pieces [] others e = ([], pieces, refl, refl)
-first-pieces [] (r ∷ records) others e = cc
-first-pieces (p ∷ pieces) (r ∷ records) others e =
-    let one : Record.Trunk p ≡ r = cc in
-    let rest : map Record.Trunk pieces ≡ records ++ others = cc in
-    let more = first-pieces pieces records others rest in
-    let all : p ∷ pieces ≡ p ∷ (more.0 ++ more.1) = ap (λ (xs : List (List ℕ)). p ∷ xs) more.2 in
-    let told_so : r ∷ records ≡ Record.Trunk p ∷ map Record.Trunk more.0 = let f = more.3 in cc in
-    (p ∷ more.0, more.1, all, told_so)
+-- The octets of the trunk in the events of records are the bodies of the T records.
+octets-given : (records : List Record) → octets (events records) ≡ flat_map trunk_part records
+octets-given [] = refl
+octets-given (Record.Trunk xs ∷ records) =
+    octets-first xs (events records) ∙ ap (λ (ys : List ℕ). xs ++ ys) (octets-given records)
+octets-given (Record.Datagram circuit bytes ∷ records) = octets-given records
+octets-given (Record.Command circuit command ∷ records) = octets-given records
+octets-given (Record.Codec circuit codec payload_type ∷ records) = octets-given records
 
--- The octets of pieces and of more are those of the first, and then those of the others.
-pieces-append : (ps qs : List (List ℕ)) → flat_map same (ps ++ qs) ≡ flat_map same ps ++ flat_map same qs
-pieces-append ps qs = flat_map-append same ps qs
+-- The datagrams among events are no octets of the trunk.
+octets-without : (es : List Event) → octets (without_datagrams es) ≡ octets es
+octets-without [] = refl
+octets-without (Event.Octet o ∷ es) = ap (λ (ys : List ℕ). o ∷ ys) (octets-without es)
+octets-without (Event.Datagram circuit bytes ∷ es) = octets-without es
+octets-without (Event.Command circuit command ∷ es) = octets-without es
+octets-without (Event.Codec circuit kind payload_type ∷ es) = octets-without es
+
+-- .. and no commands.
+commands-without : (es : List Event) → commands_in (without_datagrams es) ≡ commands_in es
+commands-without [] = refl
+commands-without (Event.Octet o ∷ es) = commands-without es
+commands-without (Event.Datagram circuit bytes ∷ es) = commands-without es
+commands-without (Event.Command circuit command ∷ es) =
+    ap (λ (xs : List Event). Event.Command circuit command ∷ xs) (commands-without es)
+commands-without (Event.Codec circuit kind payload_type ∷ es) =
+    ap (λ (xs : List Event). Event.Codec circuit kind payload_type ∷ xs) (commands-without es)
+
+-- Octets of the trunk before events are no commands.
+commands-behind : (xs : List ℕ) (es : List Event) → commands_in (map Event.Octet xs ++ es) ≡ commands_in es
+commands-behind [] es = refl
+commands-behind (x ∷ xs) es = commands-behind xs es
+
+-- The commands in the events of records that are given are the events of those of clients.
+commands-given : (records : List Record) → AllByRecursion IsGiven records
+    → commands_in (events records) ≡ events (from_clients records)
+commands-given [] given = refl
+commands-given (Record.Trunk xs ∷ records) given =
+    commands-behind xs (events records) ∙ commands-given records given.1
+commands-given (Record.Datagram circuit bytes ∷ records) given = cc (given.0.0)
+commands-given (Record.Command circuit command ∷ records) given =
+    ap (λ (es : List Event). events_of (Record.Command circuit command) ++ es) (commands-given records given.1)
+commands-given (Record.Codec circuit codec payload_type ∷ records) given =
+    ap (λ (es : List Event). events_of (Record.Codec circuit codec payload_type) ++ es) (commands-given records given.1)
 
 -- What is known of octets that grew from none is all of them.
 appends-first : (old new : Option (List ℕ)) (all more : List ℕ) → old ≡ Some [] → new ≡ Some all
     → Appends old new more → all ≡ more
 appends-first old new all more e f p = rw (e, f) at p
 
--- T records of pieces were served by a gateway to which nothing had happened.
-carried-pieces : {s s' : State} {tape tape' : TapeState} {Took : List ℕ → List ℕ → Type 0} {records : List Record}
-    (config : GatewayConfig) (pieces : List (List ℕ)) (sent : List ℕ)
+-- Records that are given were served by a gateway to which nothing had happened.
+carried-records : {s s' : State} {tape tape' : TapeState} {Took : List ℕ → List ℕ → Type 0} {records : List Record}
+    (config : GatewayConfig) (heard asked sent told : List ℕ)
     → (p : SessionTrace written s s' tape tape' Took records) → Stands config s.gateway []
-    → records ≡ map Record.Trunk pieces → AllByRecursion (IsGood served_kinds) records
-    → sent ≡ bodies (written config [] p.acts)
-    → Carries config s'.gateway tape tape' (flat_map same pieces) sent
-carried-pieces config pieces sent p new trunks good is =
+    → Woven heard asked records → AllByRecursion (IsGood served_kinds) records
+    → sent ≡ bodies (written config [] p.acts) → told ≡ others (written config [] p.acts)
+    → Carries config s'.gateway tape tape' heard asked sent told
+carried-records {records = records} config heard asked sent told p new woven good is tells =
     let all : AllByRecursion (IsGood served_kinds) (map session.told p.acts) = rw (p.told_are) good in
+    let weave : without_datagrams (events_through p.acts) ≡ events records
+    = events_are_told p.acts all ∙ ap events (p.told_are) in
     record {
       happened = events_through p.acts;
       stands = (p.follows.goes.hears config [] new).stands;
-      heard_are = events_are_told p.acts all ∙ ap events (p.told_are ∙ trunks) ∙ trunk-events pieces;
+      records = records;
+      woven = woven;
+      weave_is = weave;
+      heard_are = sym (octets-without (events_through p.acts)) ∙ ap octets weave ∙ octets-given records
+          ∙ sym (woven.came_are);
+      asked_are = sym (commands-without (events_through p.acts)) ∙ ap commands_in weave
+          ∙ commands-given records woven.good;
       sent_are = is ∙ (acts-pass config [] p.acts all).1;
+      told_are = tells ∙ (acts-pass config [] p.acts all).2;
       recorded = p.follows.recorded;
     }
 
@@ -108,95 +142,121 @@ pub record Around-trunk (a a' : Around) (given taken : List ℕ) : Type 0 where
   pub untaken : a.sink.taken ≡ Some []
   pub took : a'.sink.taken ≡ Some taken
 
+-- What came and went around a session of a trunk: what the source gave, and what the sink took, is made of it.
+pub record Trunked (came asked went told given taken : List ℕ) : Type 0 where
+  pub gives : GivesWoven came asked given
+  pub went_are : went ≡ bodies taken
+  pub told_are : told ≡ others taken
+
 -- A session in which no write failed: it came to the end of the records, and carried all.
 pub whole-session : {a a' : Around} {gateway gateway' : Gateway} {ending : Ending} (config : GatewayConfig)
-    (came given taken went : List ℕ) → Around-trunk a a' given taken → InPieces came given → went ≡ bodies taken
-    → Stands config gateway []
+    (came asked went told given taken : List ℕ) → Around-trunk a a' given taken
+    → Trunked came asked went told given taken → Stands config gateway []
     → SessionTo served_kinds a.source a'.source a.sink a'.sink
     (Served a a' gateway gateway' (λ first. Appends a.sink.taken a'.sink.taken)) ending
-    → (ending ≡ endings.End) × Carries config gateway' a.tape a'.tape came went
-whole-session {a = a} {a' = a'} {gateway' = g} {ending = ending} config came given taken went around cut is new s =
-    let octets-are : s.octets ≡ in_records cut.pieces
-    = sym (appends-first _ _ given s.octets around.unread around.read s.gives.gave) ∙ cut.given_are in
-    let one = one_reading served_kinds (in_records cut.pieces) s.records (map Record.Trunk cut.pieces) ending
-    endings.End
-    (rw octets-are at s.reads) (pieces-read cut.pieces cut.sizes) in
+    → (ending ≡ endings.End) × Carries config gateway' a.tape a'.tape came asked went told
+whole-session {a = a} {a' = a'} {gateway' = g} {ending = ending} config came asked went told given taken around t new s =
+    let w = t.gives in
+    let octets-are : s.octets ≡ flat_map spelled w.records
+    = sym (appends-first _ _ given s.octets around.unread around.read s.gives.gave) ∙ w.given_are in
+    let all = records-read w.records (all-good w.records w.woven.good) in
+    let one = one_reading served_kinds (flat_map spelled w.records) s.records w.records ending
+    endings.End (rw octets-are at s.reads) all in
     let taken-is : taken ≡ written config [] s.done.acts
-    = appends-first _ _ taken _ around.untaken around.took (s.done.took config [] new) in (
+    = appends-first _ _ taken _ around.untaken around.took (s.done.took config [] new) in
+    let woven : Woven came asked s.records = rw (one.0) (w.woven) in (
       one.1,
-      rw (cut.came_are)
-          (carried-pieces config cut.pieces went s.done new one.0 s.reads.good (is ∙ ap bodies taken-is)),
+      carried-records config came asked went told s.done new woven s.reads.good
+          (t.went_are ∙ ap bodies taken-is) (t.told_are ∙ ap others taken-is),
     )
 
--- A session in which a write failed: it carried the first pieces, and some of the octets did not go.
+-- A session in which a write failed: it carried the first records, and some of the octets did not go.
 pub cut-session : {a a' : Around} {gateway gateway' : Gateway} (config : GatewayConfig)
-    (came given taken went : List ℕ) → Around-trunk a a' given taken → InPieces came given → went ≡ bodies taken
-    → Stands config gateway []
+    (came asked went told given taken : List ℕ) → Around-trunk a a' given taken
+    → Trunked came asked went told given taken → Stands config gateway []
     → FailsToWrite served_kinds a.source a'.source a.sink a'.sink (λ records. (totals : Totals)
     × Served a a' gateway gateway' (AppendsBut 0 a.sink.taken a'.sink.taken) totals records)
-    → CarriesUntilWrite config gateway' a.tape a'.tape came went
-cut-session config came given taken went around cut is new f =
-    let octets-are : f.octets ≡ in_records cut.pieces
-    = sym (appends-first _ _ given f.octets around.unread around.read f.gives.gave) ∙ cut.given_are in
-    let all = pieces-read cut.pieces cut.sizes in
+    → CarriesUntilWrite config gateway' a.tape a'.tape came asked went told
+cut-session config came asked went told given taken around t new f =
+    let w = t.gives in
+    let octets-are : f.octets ≡ flat_map spelled w.records
+    = sym (appends-first _ _ given f.octets around.unread around.read f.gives.gave) ∙ w.given_are in
+    let all = records-read w.records (all-good w.records w.woven.good) in
     let more = more_keeps served_kinds (flat_map spelled f.records) f.begins.rest f.records
-    (map Record.Trunk cut.pieces) endings.End endings.End (records-read f.records f.begins.good) (rw (← f.begins.whole, octets-are) all) in
-    let first = first-pieces cut.pieces f.records more.0 more.1 in
+    w.records endings.End endings.End (records-read f.records f.begins.good) (rw (← f.begins.whole, octets-are) all) in
+    let behind = more.0 in
+    let parts : w.records ≡ f.records ++ behind = more.1 in
     let served = f.begun.1 in
     let took = served.took config [] new in
     let taken-is : taken ≡ took.written = appends-first _ _ taken _ around.untaken around.took took.appended in
+    let both : written config [] served.acts ≡ taken ++ took.rest
+    = took.whole ∙ ap (λ (xs : List ℕ). xs ++ took.rest) (sym taken-is) in
     let lost = passed (place_after Kind taken) took.rest in
+    let untold = answered (place_after Kind taken) took.rest in
     let sent : went ++ lost ≡ bodies (written config [] served.acts)
-    = rw is (sym (ap bodies (took.whole ∙ ap (λ (xs : List ℕ). xs ++ took.rest) (sym taken-is))
-    ∙ passed-append Kind taken took.rest)) in
+    = rw (t.went_are) (sym (ap bodies both ∙ passed-append Kind taken took.rest)) in
+    let tells : told ++ untold ≡ others (written config [] served.acts)
+    = rw (t.told_are) (sym (ap others both ∙ answered-append Kind taken took.rest)) in
     record {
-      heard = flat_map same first.0;
-      unheard = flat_map same first.1;
-      came_are = cut.came_are ∙ ap (flat_map same) first.2 ∙ pieces-append first.0 first.1;
+      heard = flat_map trunk_part f.records;
+      unheard = flat_map trunk_part behind;
+      came_are = w.woven.came_are ∙ ap (flat_map trunk_part) parts ∙ flat_map-append trunk_part f.records behind;
+      obeyed = flat_map client_part f.records;
+      unobeyed = flat_map client_part behind;
+      asked_are = w.woven.asked_are ∙ ap (flat_map client_part) parts ∙ flat_map-append client_part f.records behind;
       lost = lost;
-      carries = carried-pieces config first.0 (went ++ lost) served new first.3 f.begins.good sent;
+      untold = untold;
+      carries = carried-records config (flat_map trunk_part f.records) (flat_map client_part f.records)
+          (went ++ lost) (told ++ untold) served new
+          (record { good = first-given f.records behind (rw parts at w.woven.good); came_are = refl; asked_are = refl })
+          f.begins.good sent tells;
     }
 
--- T records of no octets are those of no pieces.
-none-given : (came given : List ℕ) → InPieces came given → given ≡ [] → came ≡ []
-none-given came given cut none = no-pieces cut.pieces came cut.came_are (sym cut.given_are ∙ none)
+-- Records that spell no octets are none.
+none-given : (came asked given : List ℕ) → GivesWoven came asked given → given ≡ [] → (came ≡ []) × (asked ≡ [])
+none-given came asked given w none =
+    let e : w.records ≡ [] = no-records w.records (sym w.given_are ∙ none) in
+    (w.woven.came_are ∙ ap (flat_map trunk_part) e, w.woven.asked_are ∙ ap (flat_map client_part) e)
   where
-    no-pieces : (pieces : List (List ℕ)) (xs : List ℕ) → xs ≡ flat_map same pieces → in_records pieces ≡ [] → xs ≡ []
-    no-pieces [] xs e none = e
-    no-pieces (p ∷ pieces) xs e none = cc
+    no-records : (records : List Record) → flat_map spelled records ≡ [] → records ≡ []
+    no-records [] none = refl
+    no-records (Record.Trunk xs ∷ records) none = cc
+    no-records (Record.Datagram circuit xs ∷ records) none = cc
+    no-records (Record.Command circuit command ∷ records) none = cc
+    no-records (Record.Codec circuit codec payload_type ∷ records) none = cc
 
 -- A session of a trunk until a fault.
 until : {a a' : Around} (gateway gateway' : Gateway) (config : GatewayConfig) (fault : RunFault)
-    (came given taken went : List ℕ) → Around-trunk a a' given taken → InPieces came given → went ≡ bodies taken
+    (came asked went told given taken : List ℕ) → Around-trunk a a' given taken → Trunked came asked went told given taken
     → Stands config gateway [] → ServesUntil a a' gateway gateway' fault
-    → CarriesUntil config gateway' a.tape a'.tape came went fault
-unfolding passed place_after
-until gateway gateway' config faults.BadKind came given taken went around cut is new s =
-    let e = (whole-session config came given taken went around cut is new s.0).0 in cc
-until gateway gateway' config faults.BadCircuit came given taken went around cut is new s =
-    let e = (whole-session config came given taken went around cut is new s.0).0 in cc
-until gateway gateway' config faults.BadCommand came given taken went around cut is new s =
-    let e = (whole-session config came given taken went around cut is new s.0).0 in cc
-until gateway gateway' config faults.Truncated came given taken went around cut is new s =
-    let e = (whole-session config came given taken went around cut is new s.0.0).0 in cc
-until gateway gateway' config faults.Read came given taken went around cut is new s =
-    (whole-session config came given taken went around cut is new s.1).1
-until gateway gateway' config faults.Write came given taken went around cut is new s =
-    cut-session config came given taken went around cut is new s
-until {a = a} {a' = a'} gateway gateway' config faults.OutOfMemory came given taken went around cut is new s =
+    → CarriesUntil config gateway' a.tape a'.tape came asked went told fault
+unfolding passed answered place_after
+until gateway gateway' config faults.BadKind came asked went told given taken around t new s =
+    let e = (whole-session config came asked went told given taken around t new s.0).0 in cc
+until gateway gateway' config faults.BadCircuit came asked went told given taken around t new s =
+    let e = (whole-session config came asked went told given taken around t new s.0).0 in cc
+until gateway gateway' config faults.BadCommand came asked went told given taken around t new s =
+    let e = (whole-session config came asked went told given taken around t new s.0).0 in cc
+until gateway gateway' config faults.Truncated came asked went told given taken around t new s =
+    let e = (whole-session config came asked went told given taken around t new s.0.0).0 in cc
+until gateway gateway' config faults.Read came asked went told given taken around t new s =
+    (whole-session config came asked went told given taken around t new s.1).1
+until gateway gateway' config faults.Write came asked went told given taken around t new s =
+    cut-session config came asked went told given taken around t new s
+until {a = a} {a' = a'} gateway gateway' config faults.OutOfMemory came asked went told given taken around t new s =
     let unread : a'.source.given ≡ Some [] = ap (λ (b : Around). b.source.given) s.0 ∙ around.unread in
     let untaken : a'.sink.taken ≡ Some [] = ap (λ (b : Around). b.sink.taken) s.0 ∙ around.untaken in
     let none : given ≡ [] = let e = around.read in cc in
     let nothing : taken ≡ [] = let e = around.took in cc in
-    (none-given came given cut none, is ∙ ap bodies nothing)
+    (let n = none-given came asked given t.gives none in (n.0, n.1, t.went_are ∙ ap bodies nothing, t.told_are ∙ ap others nothing))
 
 -- A session of a trunk, however it ended.
 pub carried : {a a' : Around} (gateway gateway' : Gateway) (config : GatewayConfig) (end : Result Totals RunFault)
-    (came given taken went : List ℕ) → Around-trunk a a' given taken → InPieces came given → went ≡ bodies taken
+    (came asked went told given taken : List ℕ) → Around-trunk a a' given taken → Trunked came asked went told given taken
     → Stands config gateway [] → IfOk end (ServesAll a a' gateway gateway')
     → IfErr end (ServesUntil a a' gateway gateway')
-    → Carried config gateway' a.tape a'.tape came went end
-carried gateway gateway' config (Ok totals) came given taken went around cut is new ok err =
-    (whole-session config came given taken went around cut is new ok.ends.0).1
-carried gateway gateway' config (Err fault) came given taken went around cut is new ok err =
-    until gateway gateway' config fault came given taken went around cut is new err
+    → Carried config gateway' a.tape a'.tape came asked went told end
+carried gateway gateway' config (Ok totals) came asked went told given taken around t new ok err =
+    (whole-session config came asked went told given taken around t new ok.ends.0).1
+carried gateway gateway' config (Err fault) came asked went told given taken around t new ok err =
+    until gateway gateway' config fault came asked went told given taken around t new err

@@ -1,4 +1,4 @@
--- The octets of a trunk, as they are cut into records.
+-- The octets of a trunk and the commands of clients, as they are given in records.
 use Rattle.std.proofs.Common.{◌≡◌, ◌+◌, ◌-◌, ◌<◌, ◌≤◌, ◌++◌, ◌∷◌, ◌∙◌, ℕ, List, [], length, take, drop}
 use Rattle.std.proofs.Common.{refl, ap, arith, append-nil, inl, inr, ◌⊎◌}
 use Rattle.std.proofs.Math.Seq.{take-append-add}
@@ -6,7 +6,8 @@ use Rattle.std.proofs.lemmas.List.{length-take-le, take-append-le, drop_at}
 use borrow.Rule.Slice.PartMut.{put_mid}
 use Rattle.std.proofs.lemmas.List.Concat.{flat_map-append}
 use Rattle.std.specs.List.{AllByRecursion}
-use Rattle.gw_trunk.specs.Pieces.{InPieces, GivesPiece, IsPiece}
+use Rattle.gw_records.specs.Records.{Record}
+use Rattle.gw_trunk.specs.Pieces.{GivesWoven, GivesRecord, GivesNone, IsGiven}
 
 -- Octets were read behind four, where a front was put then: the front is followed by them.
 pub framed : (room new front : List ℕ) (most n : ℕ) → most ≤ length room → 4 < most → length front ≡ 4
@@ -18,25 +19,28 @@ framed room new front most n fits some len bound =
     rw behind (rw len at (take-append-add front (new ++ post) n))
     ∙ ap (λ (xs : List ℕ). front ++ xs) (take-append-le n new post bound)
 
--- One more piece is of a size that a record has.
-sizes-more : (pieces : List (List ℕ)) (piece : List ℕ) → AllByRecursion IsPiece pieces → IsPiece piece
-    → AllByRecursion IsPiece (pieces ++ piece ∷ [])
-sizes-more [] piece all size = (size, tt)
-sizes-more (p ∷ pieces) piece all size = (all.0, sizes-more pieces piece all.1 size)
+-- Records that are given, and one more.
+given-more : (records : List Record) (one : Record) → AllByRecursion IsGiven records → IsGiven one
+    → AllByRecursion IsGiven (records ++ one ∷ [])
+given-more [] one all good = (good, tt)
+given-more (r ∷ records) one all good = (all.0, given-more records one all.1 good)
 
--- One more piece came, and its record was given.
-pub one-more : (came came' given more : List ℕ) → InPieces came given → GivesPiece came came' more
-    → InPieces came' (given ++ more)
-one-more came came' given more cut gives = record {
-  pieces = cut.pieces ++ gives.piece ∷ [];
-  sizes = sizes-more cut.pieces gives.piece cut.sizes gives.size;
-  came_are = gives.came_is ∙ ap (λ (xs : List ℕ). xs ++ gives.piece) cut.came_are
-      ∙ rw (flat_map-append, append-nil) refl;
-  given_are = rw (cut.given_are, gives.given_is, flat_map-append, append-nil) refl;
+-- One more record was given.
+pub one-more : (came came' asked asked' given more : List ℕ) → GivesWoven came asked given
+    → GivesRecord came came' asked asked' more → GivesWoven came' asked' (given ++ more)
+one-more came came' asked asked' given more w gives = record {
+  records = w.records ++ gives.one ∷ [];
+  woven = record {
+    good = given-more w.records gives.one w.woven.good gives.good;
+    came_are = gives.came_is ∙ rw (w.woven.came_are, flat_map-append, append-nil) refl;
+    asked_are = gives.asked_is ∙ rw (w.woven.asked_are, flat_map-append, append-nil) refl;
+  };
+  given_are = rw (w.given_are, gives.given_is, flat_map-append, append-nil) refl;
 }
 
--- What a read did, where it gave octets or none.
-pub read-cut : (came came' given room : List ℕ) (n : ℕ) → InPieces came given
-    → ((n ≡ 0) × (came' ≡ came)) ⊎ GivesPiece came came' (take n room) → InPieces came' (given ++ take n room)
-read-cut came came' given room n cut (inl none) = rw (none.0, none.1, append-nil) cut
-read-cut came came' given room n cut (inr gives) = one-more came came' given (take n room) cut gives
+-- What a read did, where it gave a record or none.
+pub read-cut : (came came' asked asked' given room : List ℕ) (n : ℕ) → GivesWoven came asked given
+    → ((n ≡ 0) × GivesNone came came' asked asked') ⊎ GivesRecord came came' asked asked' (take n room)
+    → GivesWoven came' asked' (given ++ take n room)
+read-cut came came' asked asked' given room n w (inl none) = rw (none.0, none.1.0, none.1.1, append-nil) w
+read-cut came came' asked asked' given room n w (inr gives) = one-more came came' asked asked' given (take n room) w gives

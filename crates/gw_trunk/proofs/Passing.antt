@@ -1,11 +1,12 @@
 -- Octets of records, as they are passed one after another.
 use Rattle.std.proofs.Common.{◌≡◌, ◌<◌, ◌≤◌, ◌++◌, ◌∙◌, ℕ, zero, suc, Bool, true, false, cond, List, [], ◌∷◌}
-use Rattle.std.proofs.Common.{length, take, refl, sym, ap, arith, append-nil, append_assoc, get_or}
+use Rattle.std.proofs.Common.{length, take, refl, sym, ap, arith, append-nil, append_assoc, get_or, slice_index}
 use Rattle.std.proofs.lemmas.Bool.Decides.{nat_tests}
 use Rattle.std.proofs.lemmas.List.{length-take-le, take-take}
 use Rattle.gw_trunk.specs.declared.sink.Place.{Place}
 use Rattle.gw_trunk.specs.declared.sink.Place.TheVariants.{Kind, Circuit, High, Low, Body}
 use Rattle.gw_trunk.specs.Bodies.{HasPassed, StepsOver, place_next, place_after, passed, part_passed, body_after}
+use Rattle.gw_trunk.specs.Bodies.{answered, is_answer}
 
 -- The place after octets and more is that after the others, from the place after the first.
 pub place-append : (p : Place) (xs ys : List ℕ) → place_after p (xs ++ ys) ≡ place_after (place_after p xs) ys
@@ -21,6 +22,16 @@ passed-append p [] ys = refl
 passed-append p (x ∷ xs) ys =
     ap (λ (zs : List ℕ). part_passed p x ++ zs) (passed-append (place_next p x) xs ys)
     ∙ sym (append_assoc (part_passed p x) (passed (place_next p x) xs) (passed (place_after (place_next p x) xs) ys))
+
+-- What of octets and more goes to clients is that of the first, and then that of the others.
+pub answered-append : (p : Place) (xs ys : List ℕ)
+    → answered p (xs ++ ys) ≡ answered p xs ++ answered (place_after p xs) ys
+unfolding place_after answered
+answered-append p [] ys = refl
+answered-append p (x ∷ xs) ys =
+    let first : List ℕ = cond (is_answer p x) (x ∷ []) [] in
+    ap (λ (zs : List ℕ). first ++ zs) (answered-append (place_next p x) xs ys)
+    ∙ sym (append_assoc first (answered (place_next p x) xs) (answered (place_after (place_next p x) xs) ys))
 
 -- A body goes on where it was after none of its octets.
 body-begins : (to_trunk : Bool) (more : ℕ) → Body to_trunk more ≡ body_after to_trunk more 0
@@ -52,41 +63,73 @@ passed-body to_trunk zero (x ∷ y ∷ xs) h = absurd (omega (arith, h))
 passed-body true (suc more) (x ∷ xs) h = ap (λ (ys : List ℕ). x ∷ ys) (passed-body true more xs (omega (arith, h)))
 passed-body false (suc more) (x ∷ xs) h = passed-body false more xs (omega (arith, h))
 
+-- .. and what of them goes to clients.
+pub answered-body : (to_trunk : Bool) (more : ℕ) (xs : List ℕ) → length xs ≤ suc more
+    → answered (Body to_trunk more) xs ≡ cond to_trunk [] xs
+unfolding answered
+answered-body true more [] h = refl
+answered-body false more [] h = refl
+answered-body true zero (x ∷ []) h = refl
+answered-body false zero (x ∷ []) h = refl
+answered-body to_trunk zero (x ∷ y ∷ xs) h = absurd (omega (arith, h))
+answered-body true (suc more) (x ∷ xs) h = answered-body true more xs (omega (arith, h))
+answered-body false (suc more) (x ∷ xs) h =
+    ap (λ (ys : List ℕ). x ∷ ys) (answered-body false more xs (omega (arith, h)))
+
 -- Records that were taken, and octets that are taken behind them.
-pub passes-on : (p q : Place) (taken went went' xs : List ℕ) → HasPassed p taken went → StepsOver p q went went' xs
-    → HasPassed q (taken ++ xs) went'
-passes-on p q taken went went' xs has more = record {
+pub passes-on : (p q : Place) (taken went went' told told' xs : List ℕ) → HasPassed p taken went told
+    → StepsOver p q went went' told told' xs → HasPassed q (taken ++ xs) went' told'
+passes-on p q taken went went' told told' xs has more = record {
   place_is = more.place_is ∙ ap (λ (r : Place). place_after r xs) has.place_is ∙ sym (place-append Kind taken xs);
   went_are = more.went_are ∙ rw (has.went_are, has.place_is, passed-append) refl;
+  told_are = more.told_are ∙ rw (has.told_are, has.place_is, answered-append) refl;
 }
 
 -- Before any record.
-pub none-passed : (taken went : List ℕ) → taken ≡ [] → went ≡ [] → HasPassed Kind taken went
-unfolding place_after passed
-none-passed taken went t w = rw (t, w) (record { place_is = refl; went_are = refl })
+pub none-passed : (taken went told : List ℕ) → taken ≡ [] → went ≡ [] → told ≡ [] → HasPassed Kind taken went told
+unfolding place_after passed answered
+none-passed taken went told t w a = rw (t, w, a) (record { place_is = refl; went_are = refl; told_are = refl })
+
+-- An octet that is in no body: none of it goes to the trunk.
+front-stays : (p : Place) (x : ℕ) → ((to_trunk : Bool) (more : ℕ) → p ≡ Body to_trunk more → ⊥) → part_passed p x ≡ []
+front-stays (Body to_trunk more) x out = absurd (out to_trunk more refl)
+front-stays Kind x out = refl
+front-stays (Circuit t) x out = refl
+front-stays (High t) x out = refl
+front-stays (Low t high) x out = refl
 
 -- The first of octets passes, which is in no body.
-pub first-passes : (p : Place) (octet : ℕ) (octets went : List ℕ) → 0 < length octets
+pub first-passes : (p : Place) (octet n : ℕ) (octets went told told' : List ℕ) → 0 < length octets
     → ((d : ℕ) → octet ≡ get_or octets 0 d) → ((to_trunk : Bool) (more : ℕ) → p ≡ Body to_trunk more → ⊥)
-    → StepsOver p (place_next p octet) went went (take 1 octets)
-unfolding place_after passed
-first-passes p octet [] went some is out = absurd (omega (arith, some))
-first-passes (Body to_trunk more) octet (x ∷ xs) went some is out = absurd (out to_trunk more refl)
-first-passes Kind octet (x ∷ xs) went some is out =
-    record { place_is = ap (place_next Kind) (is 0); went_are = sym (append-nil went) }
-first-passes (Circuit t) octet (x ∷ xs) went some is out =
-    record { place_is = ap (place_next (Circuit t)) (is 0); went_are = sym (append-nil went) }
-first-passes (High t) octet (x ∷ xs) went some is out =
-    record { place_is = ap (place_next (High t)) (is 0); went_are = sym (append-nil went) }
-first-passes (Low t high) octet (x ∷ xs) went some is out =
-    record { place_is = ap (place_next (Low t high)) (is 0); went_are = sym (append-nil went) }
+    → n ≤ 1 → 0 < n → told' ≡ told ++ cond (is_answer p (slice_index octets 0)) (take n octets) []
+    → StepsOver p (place_next p octet) went went told told' (take n octets)
+unfolding place_after passed answered
+first-passes p octet n [] went told told' some is out few one e = absurd (omega (arith, some))
+first-passes p octet zero (x ∷ xs) went told told' some is out few one e = absurd (omega (arith, one))
+first-passes p octet (suc (suc n)) (x ∷ xs) went told told' some is out few one e = absurd (omega (arith, few))
+first-passes p octet (suc zero) (x ∷ xs) went told told' some is out few one e = record {
+  place_is = ap (place_next p) (is 0);
+  went_are = rw (front-stays p x out) (sym (append-nil went));
+  told_are = e ∙ ap (λ (ys : List ℕ). told ++ ys) (sym (append-nil (cond (is_answer p x) (x ∷ []) [])));
+}
+
+-- No octet passes.
+pub none-passes : (p : Place) (n : ℕ) (went told told' octets : List ℕ) (c : Bool) → n ≤ 0
+    → told' ≡ told ++ cond c (take n octets) [] → StepsOver p p went went told told' (take n octets)
+unfolding place_after passed answered
+none-passes p (suc n) went told told' octets c none is = absurd (omega (arith, none))
+none-passes p zero went told told' octets true none is =
+    record { place_is = refl; went_are = sym (append-nil went); told_are = is }
+none-passes p zero went told told' octets false none is =
+    record { place_is = refl; went_are = sym (append-nil went); told_are = is }
 
 -- Octets of a body pass, so many of the first ones, of which there are no more than it has.
-pub body-passes : (to_trunk : Bool) (more most n : ℕ) (octets went went' : List ℕ) → most ≤ length octets
+pub body-passes : (to_trunk : Bool) (more most n : ℕ) (octets went went' told told' : List ℕ) → most ≤ length octets
     → most ≤ suc more → n ≤ length (take most octets)
     → went' ≡ went ++ cond to_trunk (take n (take most octets)) []
-    → StepsOver (Body to_trunk more) (body_after to_trunk more n) went went' (take n octets)
-body-passes to_trunk more most n octets went went' fits few bound e =
+    → told' ≡ told ++ cond to_trunk [] (take n (take most octets))
+    → StepsOver (Body to_trunk more) (body_after to_trunk more n) went went' told told' (take n octets)
+body-passes to_trunk more most n octets went went' told told' fits few bound e f =
     let long : length (take most octets) ≡ most = length-take-le most octets fits in
     let counted : length (take n octets) ≡ n = length-take-le n octets (omega (arith, bound, long)) in
     let within : length (take n octets) ≤ suc more = omega (arith, bound, long) in
@@ -94,4 +137,5 @@ body-passes to_trunk more most n octets went went' fits few bound e =
     record {
       place_is = ap (body_after to_trunk more) (sym counted) ∙ sym (place-body to_trunk more (take n octets) within);
       went_are = e ∙ rw (front, ← passed-body to_trunk more (take n octets) within) refl;
+      told_are = f ∙ rw (front, ← answered-body to_trunk more (take n octets) within) refl;
     }

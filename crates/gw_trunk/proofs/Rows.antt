@@ -1,8 +1,9 @@
 -- Worked rows.
-use Rattle.std.proofs.Common.{◌≡◌, ◌∷◌, [], refl, true}
+use Rattle.std.proofs.Common.{◌≡◌, ◌∷◌, [], refl, true, List, flat_map}
 use Rattle.gw_trunk.specs.declared.sink.Place.TheVariants.{Kind, Body}
-use Rattle.gw_trunk.specs.Bodies.{bodies, passed, place_after}
-use Rattle.gw_trunk.specs.Pieces.{in_records}
+use Rattle.gw_records.specs.Records.{Record, spelled}
+use Rattle.gw_trunk.specs.Bodies.{bodies, others, passed, answered, place_after}
+use Rattle.gw_trunk.specs.Pieces.{trunk_part, client_part}
 
 -- A T record of two octets, an answer to a command of circuit 7, a T record without octets and one that is cut
 -- behind the first of its three octets: what goes to the trunk.
@@ -17,7 +18,24 @@ row_place : place_after Kind (0x52 ∷ 7 ∷ 0 ∷ 2 ∷ 0x43 ∷ 0 ∷ 0x54 ∷
 unfolding place_after
 row_place = refl
 
--- Two pieces of a trunk, and the octets of their records.
-row_pieces : in_records ((0x9b ∷ 0xd5 ∷ []) ∷ (0xdf ∷ []) ∷ [])
-    ≡ 0x54 ∷ 0 ∷ 0 ∷ 2 ∷ 0x9b ∷ 0xd5 ∷ 0x54 ∷ 0 ∷ 0 ∷ 1 ∷ 0xdf ∷ []
-row_pieces = refl
+-- .. and what goes to clients.
+row_others : others (0x54 ∷ 0 ∷ 0 ∷ 2 ∷ 0xd5 ∷ 0x2a ∷ 0x52 ∷ 7 ∷ 0 ∷ 2 ∷ 0x43 ∷ 0
+    ∷ 0x54 ∷ 0 ∷ 0 ∷ 0 ∷ 0x54 ∷ 0 ∷ 0 ∷ 3 ∷ 0x9b ∷ [])
+    ≡ 0x52 ∷ 7 ∷ 0 ∷ 2 ∷ 0x43 ∷ 0 ∷ []
+unfolding answered place_after
+row_others = refl
+
+-- Two pieces of a trunk with the command of a client between them: what came, what was asked, and the octets of
+-- their records.
+abbrev row_woven : List Record
+row_woven = Record.Trunk (0x9b ∷ 0xd5 ∷ []) ∷ Record.Command 7 1 ∷ Record.Trunk (0xdf ∷ []) ∷ []
+
+row_came : flat_map trunk_part row_woven ≡ 0x9b ∷ 0xd5 ∷ 0xdf ∷ []
+row_came = refl
+
+row_asked : flat_map client_part row_woven ≡ 0x43 ∷ 7 ∷ 0 ∷ 1 ∷ 1 ∷ []
+row_asked = refl
+
+row_given : flat_map spelled row_woven
+    ≡ 0x54 ∷ 0 ∷ 0 ∷ 2 ∷ 0x9b ∷ 0xd5 ∷ 0x43 ∷ 7 ∷ 0 ∷ 1 ∷ 1 ∷ 0x54 ∷ 0 ∷ 0 ∷ 1 ∷ 0xdf ∷ []
+row_given = refl

@@ -1,5 +1,5 @@
--- What of the records that answer goes to the trunk (module `sink`).
-use Rattle.std.specs.Prelude.{◌≡◌, ◌==◌, ◌+◌, ◌*◌, ◌-◌, if◌then◌else◌, ◌++◌, ℕ, zero, suc, Bool, true}
+-- What of the records that answer goes to the trunk, and what to clients (module `sink`).
+use Rattle.std.specs.Prelude.{◌≡◌, ◌==◌, ◌+◌, ◌*◌, ◌-◌, if◌then◌else◌, ◌++◌, ℕ, zero, suc, Bool, true, not}
 use Rattle.std.specs.Prelude.{nat_lt, List, [], ◌∷◌}
 use Rattle.gw_trunk.specs.declared.sink.Place.{Place}
 use Rattle.gw_trunk.specs.declared.sink.Place.TheVariants.{Kind, Circuit, High, Low, Body}
@@ -36,16 +36,37 @@ passed place (octet ∷ octets) = part_passed place octet ++ passed (place_next 
 abbrev pub bodies : List ℕ → List ℕ
 bodies octets = passed Kind octets
 
+-- whether an octet is of a record that is no T record: its kind says so
+abbrev pub is_answer : Place → ℕ → Bool
+is_answer Kind octet = not (octet == 0x54)
+is_answer (Circuit to_trunk) octet = not to_trunk
+is_answer (High to_trunk) octet = not to_trunk
+is_answer (Low to_trunk high) octet = not to_trunk
+is_answer (Body to_trunk more) octet = not to_trunk
+
+-- what of octets goes to clients
+unfoldable pub answered : Place → List ℕ → List ℕ
+answered place [] = []
+answered place (octet ∷ octets) =
+    (if is_answer place octet then octet ∷ [] else []) ++ answered (place_next place octet) octets
+
+-- the octets of the records among these that are no T records, whole or cut
+abbrev pub others : List ℕ → List ℕ
+others octets = answered Kind octets
+
 -- where a body goes on after so many octets of it
 abbrev pub body_after : Bool → ℕ → ℕ → Place
 body_after to_trunk more n = if nat_lt more n then Kind else Body to_trunk (more - n)
 
--- records were taken up to this place, and the bodies of the T records among them went
-pub record HasPassed (place : Place) (taken went : List ℕ) : Type 0 where
+-- Records were taken up to this place. The bodies of the T records among them went to the trunk, and the others
+-- to clients.
+pub record HasPassed (place : Place) (taken went told : List ℕ) : Type 0 where
   pub place_is : place ≡ place_after Kind taken
   pub went_are : went ≡ bodies taken
+  pub told_are : told ≡ others taken
 
--- octets were taken from one place to another, and what of them goes to the trunk went
-pub record StepsOver (place place' : Place) (went went' octets : List ℕ) : Type 0 where
+-- octets were taken from one place to another, and what of them goes to the trunk and to clients went
+pub record StepsOver (place place' : Place) (went went' told told' octets : List ℕ) : Type 0 where
   pub place_is : place' ≡ place_after place octets
   pub went_are : went' ≡ went ++ passed place octets
+  pub told_are : told' ≡ told ++ answered place octets

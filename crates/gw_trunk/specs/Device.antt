@@ -10,6 +10,12 @@ IsTaken (Octets n) room = (0 < n) × (n ≤ room)
 IsTaken NoneNow room = ⊤
 IsTaken Ended room = ⊤
 
+-- the trunk was read: octets were taken, or none had come
+abbrev pub IsRead : Taken → Type 0
+IsRead (Octets n) = ⊤
+IsRead NoneNow = ⊤
+IsRead Ended = ⊥
+
 -- the octets that a read took into a room
 abbrev pub octets_taken : Result Taken DeviceFault → List ℕ → List ℕ
 octets_taken (Ok (Octets n)) room = take n room

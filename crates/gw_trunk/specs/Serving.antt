@@ -1,49 +1,85 @@
 -- A trunk that is served by a gateway: what comes and what goes (module `serving`).
-use Rattle.std.specs.Prelude.{◌≡◌, ◌++◌, ℕ, List, [], map, Result, MatchResult}
+use Rattle.std.specs.Prelude.{◌≡◌, ◌++◌, ◌∷◌, ℕ, List, [], Result, MatchResult}
 use Rattle.gw_switch.specs.declared.GatewayConfig.{GatewayConfig}
 use Rattle.gw_switch.specs.declared.gateway.Gateway.{Gateway}
-use Rattle.gw_switch.specs.Events.{Event}
+use Rattle.gw_switch.specs.Events.{Event, octets}
 use Rattle.gw_switch.specs.Standing.{Stands}
+use Rattle.gw_switch.specs.Whole.{Reply, reply_to}
 use Rattle.gw_records.specs.declared.outcome.Totals.{Totals}
 use Rattle.gw_records.specs.declared.outcome.RunFault.{RunFault}
 use Rattle.gw_records.specs.declared.outcome.RunFault.TheVariants.{Read, Write, OutOfMemory}
+use Rattle.gw_records.specs.Records.{Record}
+use Rattle.gw_session.specs.Answers.{Written, written_out, code_of, events}
 use Rattle.gw_session.specs.Serve.{octets_for}
 use Rattle.gw_session.specs.ServeLaws.{without_datagrams}
 use Rattle.gw_session.specs.Tape.{TapeState, Recorded}
+use Rattle.gw_trunk.specs.Pieces.{Woven, from_clients}
 
--- These octets and nothing but datagrams between them happened to the gateway, and it stands after them. The
--- octets that are sent with them, one for each, are these. What happened was recorded.
+-- events but for octets and datagrams
+abbrev pub commands_in : List Event → List Event
+commands_in [] = []
+commands_in (Event.Octet octet ∷ es) = commands_in es
+commands_in (Event.Datagram circuit bytes ∷ es) = commands_in es
+commands_in (event ∷ es) = event ∷ commands_in es
+
+-- the R record that answers a command or a codec, by the gateway's reply to it; none answers other events
+abbrev pub answer_in : Event → Reply → List ℕ
+answer_in (Event.Command circuit asked) reply = written_out (Written.Answered circuit 0x43 (code_of reply))
+answer_in (Event.Codec circuit kind payload_type) reply =
+    written_out (Written.Answered circuit 0x4B (code_of reply))
+answer_in event reply = []
+
+-- the R records that answer events, after the events before them
+abbrev pub answers_for : GatewayConfig → List Event → List Event → List ℕ
+answers_for config before [] = []
+answers_for config before (event ∷ es) =
+    answer_in event (reply_to config before event) ++ answers_for config (before ++ event ∷ []) es
+
+-- Octets and records of clients, woven, and nothing but datagrams between them happened to the gateway, and it
+-- stands after them. Without the rest it is the octets in their order, or the records of clients in theirs. The
+-- octets that are sent, one for each octet, and the answers to the clients are these. What happened was recorded.
 pub record Carries (config : GatewayConfig) (gateway' : Gateway) (tape tape' : TapeState)
-    (heard sent : List ℕ) : Type 0 where
+    (heard asked sent told : List ℕ) : Type 0 where
   pub happened : List Event
   pub stands : Stands config gateway' happened
-  pub heard_are : without_datagrams happened ≡ map Event.Octet heard
+  pub records : List Record
+  pub woven : Woven heard asked records
+  pub weave_is : without_datagrams happened ≡ events records
+  pub heard_are : octets happened ≡ heard
+  pub asked_are : commands_in happened ≡ events (from_clients records)
   pub sent_are : sent ≡ octets_for config [] happened
+  pub told_are : told ≡ answers_for config [] happened
   pub recorded : Recorded tape tape' happened
 
--- What came was heard, but for the octets behind these. The device failed when the first octets had gone of
--- those that are sent for them.
+-- What came was heard and what was asked was obeyed, but for what is behind these. The device failed when the
+-- first octets had gone of those that are sent for them, and the first of the answers.
 pub record CarriesUntilWrite (config : GatewayConfig) (gateway' : Gateway) (tape tape' : TapeState)
-    (came went : List ℕ) : Type 0 where
+    (came asked went told : List ℕ) : Type 0 where
   pub heard : List ℕ
   pub unheard : List ℕ
   pub came_are : came ≡ heard ++ unheard
+  pub obeyed : List ℕ
+  pub unobeyed : List ℕ
+  pub asked_are : asked ≡ obeyed ++ unobeyed
   pub lost : List ℕ
-  pub carries : Carries config gateway' tape tape' heard (went ++ lost)
+  pub untold : List ℕ
+  pub carries : Carries config gateway' tape tape' heard obeyed (went ++ lost) (told ++ untold)
 
 -- how a trunk ended before its end: where a read failed all that came was heard and answered; for want of
--- memory nothing came or went; no record was bad
-abbrev pub CarriesUntil : GatewayConfig → Gateway → TapeState → TapeState → List ℕ → List ℕ → RunFault
-    → Type 0
-CarriesUntil config gateway' tape tape' came went Read = Carries config gateway' tape tape' came went
-CarriesUntil config gateway' tape tape' came went Write =
-    CarriesUntilWrite config gateway' tape tape' came went
-CarriesUntil config gateway' tape tape' came went OutOfMemory = (came ≡ []) × (went ≡ [])
-CarriesUntil config gateway' tape tape' came went _ = ⊥
+-- memory nothing came, was asked or went; no record was bad
+abbrev pub CarriesUntil : GatewayConfig → Gateway → TapeState → TapeState → List ℕ → List ℕ → List ℕ → List ℕ
+    → RunFault → Type 0
+CarriesUntil config gateway' tape tape' came asked went told Read =
+    Carries config gateway' tape tape' came asked went told
+CarriesUntil config gateway' tape tape' came asked went told Write =
+    CarriesUntilWrite config gateway' tape tape' came asked went told
+CarriesUntil config gateway' tape tape' came asked went told OutOfMemory =
+    (came ≡ []) × (asked ≡ []) × (went ≡ []) × (told ≡ [])
+CarriesUntil config gateway' tape tape' came asked went told _ = ⊥
 
 -- a trunk was served up to its end, or until a fault
-abbrev pub Carried : GatewayConfig → Gateway → TapeState → TapeState → List ℕ → List ℕ
+abbrev pub Carried : GatewayConfig → Gateway → TapeState → TapeState → List ℕ → List ℕ → List ℕ → List ℕ
     → Result Totals RunFault → Type 0
-Carried config gateway' tape tape' came went end = MatchResult end
-    (λ _. Carries config gateway' tape tape' came went)
-    (CarriesUntil config gateway' tape tape' came went)
+Carried config gateway' tape tape' came asked went told end = MatchResult end
+    (λ _. Carries config gateway' tape tape' came asked went told)
+    (CarriesUntil config gateway' tape tape' came asked went told)

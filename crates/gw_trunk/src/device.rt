@@ -1,7 +1,9 @@
 //! What the octets of a trunk come from, and what they go to.
 
-ghost use Rattle.std.specs.Prelude.{◌≡◌, ◌<◌, ◌≤◌, ◌++◌, ℕ, List, [], length, take, IfOk, IfSome, ⊤};
-ghost use Rattle.gw_trunk.specs.Device.{IsTaken, octets_taken, written_of};
+ghost use Rattle.std.specs.Prelude.{◌≡◌, ◌<◌, ◌≤◌, ◌++◌, ℕ, List, [], length, take, IfOk, IfSome, IfNone, ⊤};
+ghost use Rattle.std.specs.Prelude.{Bool, true};
+ghost use Rattle.gw_trunk.specs.Device.{IsTaken, IsRead, octets_taken, written_of};
+ghost use Rattle.gw_trunk.specs.Pieces.{AsksRecord};
 
 use crate::waiting::Waiting;
 use gw_records::Log;
@@ -26,25 +28,54 @@ pub enum Taken {
     Ended,
 }
 
-/// What the octets of a trunk come from.
+/// What the octets of a trunk come from, and the commands of clients.
+///
+/// What it is at a time is the type's own: a caller that knows nothing of the type has it only of the calls
+/// that say it.
 pub trait Incoming {
-    /// The octets that have come.
+    /// The octets of the trunk that have come.
     ghost came: { Self → List ℕ };
 
-    /// Holds of a device if a read told that it has ended. The relation is the type's own: a caller that knows
-    /// nothing of the type has it of such a read alone.
+    /// The octets of the C and K records of clients that were taken.
+    ghost asked: { Self → List ℕ };
+
+    /// Holds of a device if a read told that it has ended.
     ghost has_ended: { Self → Type 0 } = { λ _. ⊤ };
 
-    /// Takes octets that have come, to the front of `room`. It never waits for them.
+    /// Whether the trunk was read since the last record of a client.
+    ghost is_turn: { Self → Bool } = { λ _. true };
+
+    /// Whether the last read of the trunk found none.
+    ghost is_empty: { Self → Bool } = { λ _. true };
+
+    /// Whether neither the trunk nor a client has anything.
+    ghost is_idle: { Self → Bool } = { λ _. true };
+
+    /// Takes octets of the trunk that have come, to the front of `room`. It never waits for them.
     fn read(&mut self, room: &mut [u8]) -> Result<Taken, DeviceFault>
         requires { 0 < length room.old }
         ensures bound { IfOk result (λ t. IsTaken t (length room.new)) }
         ensures came { came self.new ≡ came self.old ++ octets_taken result room.new }
+        ensures asked { asked self.new ≡ asked self.old }
+        ensures turn { IfOk result (λ t. IsRead t → is_turn self.new ≡ true) }
+        ensures empty { IfOk result (λ t. t ≡ Taken.NoneNow → is_empty self.new ≡ true) }
         ensures ended { IfOk result (λ t. t ≡ Taken.Ended → has_ended self.new) };
 
-    /// Waits until octets may have come.
+    /// Takes the next record of a client to the front of `room`, and returns its length; None if no client has
+    /// a whole one. Each record of a client comes behind a read of the trunk. It never waits.
+    fn command(&mut self, room: &mut [u8]) -> Option<usize>
+        requires turn { is_turn self.old ≡ true }
+        ensures came { came self.new ≡ came self.old }
+        ensures bound { IfSome result (λ n. n ≤ length room.new) }
+        ensures asked { IfSome result (λ n. AsksRecord (asked self.old) (asked self.new) (take n room.new)) }
+        ensures none { IfNone result (asked self.new ≡ asked self.old) }
+        ensures idle { IfNone result (is_empty self.old ≡ true → is_idle self.new ≡ true) };
+
+    /// Waits until octets or a client may have come, when there is nothing.
     fn wait(&mut self)
-        ensures { came self.new ≡ came self.old };
+        requires idle { is_idle self.old ≡ true }
+        ensures came { came self.new ≡ came self.old }
+        ensures asked { asked self.new ≡ asked self.old };
 }
 
 /// What the octets of a trunk go to.
@@ -79,8 +110,25 @@ pub struct ToDevice<W> {
     log: Log,
 }
 
+/// Takes the answers where there are no clients.
+#[derive(Drop)]
+pub struct NoClients {
+    log: OctetLog,
+}
+
+impl NoClients {
+    /// Nothing was taken yet.
+    pub fn new() -> NoClients
+        ensures { result.log.octets ≡ [] }
+    {
+        NoClients {
+            log: OctetLog::new(),
+        }
+    }
+}
+
 impl<R: Drop> FromDevice<R> {
-    /// What comes from the reader, whose descriptor this is. The error is the system's.
+    /// What comes from the reader, whose descriptor this is, without clients. The error is the system's.
     pub fn open(rt: &HostRuntime, reader: R, descriptor: i32) -> io::Result<FromDevice<R>>
         ensures { IfOk result (λ d. d.log.octets ≡ []) }
     {
@@ -113,6 +161,8 @@ fn is_for_later(error: &io::Error) -> bool {
 impl<R: Read> Incoming for FromDevice<R> {
     ghost came = { λ d. d.log.octets };
 
+    ghost asked = { λ _. [] };
+
     fn read(&mut self, room: &mut [u8]) -> Result<Taken, DeviceFault> {
         match self.reader.read(room) {
             Ok(0) => Ok(Taken::Ended),
@@ -123,6 +173,10 @@ impl<R: Read> Incoming for FromDevice<R> {
             Err(error) if is_for_later(&error) => Ok(Taken::NoneNow),
             Err(_) => Err(DeviceFault),
         }
+    }
+
+    fn command(&mut self, _room: &mut [u8]) -> Option<usize> {
+        None
     }
 
     fn wait(&mut self) {
@@ -147,4 +201,15 @@ impl<W: Write> Outgoing for ToDevice<W> {
     fn wait(&mut self) {
         self.waiting.wait();
     }
+}
+
+impl Outgoing for NoClients {
+    ghost went = { λ d. d.log.octets };
+
+    fn write(&mut self, octets: &[u8]) -> Result<Option<usize>, DeviceFault> {
+        self.log.append(octets, octets.len());
+        Ok(Some(octets.len()))
+    }
+
+    fn wait(&mut self) {}
 }

@@ -1,4 +1,5 @@
-//! A trunk in service: its octets as the records of a session, and the records that answer as its octets.
+//! A trunk in service: its octets, and the commands of clients, as the records of a session; and the records that
+//! answer as its octets, and the answers to clients.
 #![tactic(auto)]
 
 mod device;
@@ -7,7 +8,7 @@ mod sink;
 mod source;
 mod waiting;
 
-pub use device::{DeviceFault, FromDevice, Incoming, Outgoing, Taken, ToDevice};
+pub use device::{DeviceFault, FromDevice, Incoming, NoClients, Outgoing, Taken, ToDevice};
 pub use serving::serve_trunk;
 pub use sink::TrunkSink;
 pub use source::TrunkSource;

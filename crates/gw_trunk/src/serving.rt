@@ -13,40 +13,41 @@ use gw_session::{Ports, RunFault, Sink, Source, Tape, Totals, serve_recorded};
 use gw_switch::Gateway;
 use std::alloc::Global;
 
-/// Serves a trunk by a gateway until no octet comes any more: for each octet that comes the one goes that the
-/// gateway sends with it, in their order, and nothing else goes. Datagrams come and go through the ports, and
+/// Serves a trunk and its clients by a gateway until no octet comes any more: for each octet that comes the one
+/// goes that the gateway sends with it, in their order, and nothing else goes. For each record of a client an
+/// answer goes to clients, in their order, and nothing else does. Datagrams come and go through the ports, and
 /// the tape takes what happens, as in `serve_recorded`.
 ///
 /// # Errors
 ///
 /// [`RunFault::Read`] where the device that octets come from fails: all that came is answered.
 /// [`RunFault::Write`] where the other fails. [`RunFault::OutOfMemory`] where memory was refused: nothing
-/// comes or goes.
-pub fn serve_trunk<I: Incoming, O: Outgoing, P: Ports, T: Tape>(
+/// comes, is asked or goes.
+pub fn serve_trunk<I: Incoming, O: Outgoing, A: Outgoing, P: Ports, T: Tape>(
     alloc: Global,
     gateway: &mut Gateway,
     ports: &mut P,
     source: &mut TrunkSource<I>,
-    sink: &mut TrunkSink<O>,
+    sink: &mut TrunkSink<O, A>,
     tape: &mut T,
 ) -> Result<Totals, RunFault>
     requires source { (source.old.failed ≡ 0) × (source.old.reads ≡ 0) × (source.old.log.octets ≡ []) }
     requires sink { (sink.old.failed ≡ 0) × (sink.old.log.octets ≡ []) }
     ensures ok { IfOk result (ServesAll
-        (around (⟦<TrunkSource<I> as Source>⟧.tells source.old) (⟦<TrunkSink<O> as Sink>⟧.tells sink.old)
+        (around (⟦<TrunkSource<I> as Source>⟧.tells source.old) (⟦<TrunkSink<O, A> as Sink>⟧.tells sink.old)
         (P.tells ports.old) (T.tells tape.old))
-        (around (⟦<TrunkSource<I> as Source>⟧.tells source.new) (⟦<TrunkSink<O> as Sink>⟧.tells sink.new)
+        (around (⟦<TrunkSource<I> as Source>⟧.tells source.new) (⟦<TrunkSink<O, A> as Sink>⟧.tells sink.new)
         (P.tells ports.new) (T.tells tape.new))
         gateway.old gateway.new) }
     ensures fault { IfErr result (ServesUntil
-        (around (⟦<TrunkSource<I> as Source>⟧.tells source.old) (⟦<TrunkSink<O> as Sink>⟧.tells sink.old)
+        (around (⟦<TrunkSource<I> as Source>⟧.tells source.old) (⟦<TrunkSink<O, A> as Sink>⟧.tells sink.old)
         (P.tells ports.old) (T.tells tape.old))
-        (around (⟦<TrunkSource<I> as Source>⟧.tells source.new) (⟦<TrunkSink<O> as Sink>⟧.tells sink.new)
+        (around (⟦<TrunkSource<I> as Source>⟧.tells source.new) (⟦<TrunkSink<O, A> as Sink>⟧.tells sink.new)
         (P.tells ports.new) (T.tells tape.new))
         gateway.old gateway.new) }
     ensures carries { (config : GatewayConfig) → Stands config gateway.old []
         → ∥ Carried config gateway.new (T.tells tape.old) (T.tells tape.new) (I.came source.new.incoming)
-        (O.went sink.new.outgoing) result ∥₁ }
+        (I.asked source.new.incoming) (O.went sink.new.outgoing) (A.went sink.new.answers) result ∥₁ }
 {
     serve_recorded(alloc, gateway, ports, source, sink, tape)
 }

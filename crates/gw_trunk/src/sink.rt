@@ -1,7 +1,7 @@
 //! The records that answer, whose octets go to a trunk.
 
-ghost use Rattle.std.specs.Prelude.{◌≡◌, ◌≤◌, ◌++◌, [], length, take, IfOk, OnErr, Some, if◌then◌else◌};
-ghost use Rattle.gw_trunk.specs.Bodies.{HasPassed, StepsOver, place_next, body_place, body_after};
+ghost use Rattle.std.specs.Prelude.{◌≡◌, ◌≤◌, ◌<◌, ◌++◌, [], length, take, IfOk, OnErr, Some, if◌then◌else◌, slice_index};
+ghost use Rattle.gw_trunk.specs.Bodies.{HasPassed, StepsOver, is_answer, answered, place_next, body_place, body_after};
 
 use crate::device::Outgoing;
 use gw_records::{Log, Sink, SinkFault, TRUNK};
@@ -21,15 +21,16 @@ enum Place {
     Body(bool, usize),
 }
 
-/// Takes the records that answer. The bodies of T records go to the trunk, and nothing else does. If the trunk
-/// takes none now, it waits until it does.
+/// Takes the records that answer. The bodies of T records go to the trunk, and nothing else does; records of
+/// other kinds go whole to clients. If the trunk takes none now, it waits until it does.
 #[derive(Drop)]
-pub struct TrunkSink<O: Outgoing> {
+pub struct TrunkSink<O: Outgoing, A: Outgoing> {
     outgoing: O,
+    answers: A,
     failed: u64,
     place: Place,
     log: Log,
-    ghost passed: { HasPassed place log.octets (O.went outgoing) },
+    ghost passed: { HasPassed place log.octets (O.went outgoing) (A.went answers) },
 }
 
 // Where a body of so many octets begins.
@@ -67,8 +68,20 @@ fn body_after(to_trunk: bool, more: usize, n: usize) -> Place
     Place::Body(to_trunk, more - n)
 }
 
-// Puts octets out to the trunk, and returns how many went: the first ones. It waits for a trunk that takes
-// none now.
+// Whether an octet is of a record that is no T record.
+fn is_answer(place: Place, octet: u8) -> bool
+    ensures { result ≡ is_answer place octet }
+{
+    match place {
+        Place::Kind => octet != TRUNK,
+        Place::Circuit(to_trunk) => !to_trunk,
+        Place::High(to_trunk) => !to_trunk,
+        Place::Low(to_trunk, _) => !to_trunk,
+        Place::Body(to_trunk, _) => !to_trunk,
+    }
+}
+
+// Puts octets out, and returns how many went: the first ones. It waits if none can go now.
 fn put_out<O: Outgoing>(outgoing: &mut O, octets: &[u8]) -> Result<usize, SinkFault>
     ensures bound { IfOk result (λ n. n ≤ length octets.now) }
     ensures went { IfOk result (λ n. O.went outgoing.new ≡ O.went outgoing.old ++ take n octets.now) }
@@ -84,54 +97,84 @@ fn put_out<O: Outgoing>(outgoing: &mut O, octets: &[u8]) -> Result<usize, SinkFa
     Err(SinkFault)
 }
 
-// Takes octets of a body, and returns how many: those of a T record go to the trunk.
-fn put_body<O: Outgoing>(
+// Takes the first octet of these, which is of the front of a record: that of an answer goes to clients.
+fn put_front<A: Outgoing>(answers: &mut A, place: Place, octets: &[u8]) -> Result<usize, SinkFault>
+    requires { 0 < length octets.now }
+    ensures bound { IfOk result (λ n. n ≤ 1) }
+    ensures told { IfOk result (λ n. A.went answers.new
+        ≡ A.went answers.old ++ (if is_answer place (slice_index octets.now 0) then take n octets.now else [])) }
+    ensures err { OnErr result (A.went answers.new ≡ A.went answers.old) }
+{
+    if !is_answer(place, octets[0]) {
+        return Ok(1);
+    }
+    put_out(answers, &octets[..1])
+}
+
+// Takes octets of a body, and returns how many: those of a T record go to the trunk, others to clients.
+fn put_body<O: Outgoing, A: Outgoing>(
     outgoing: &mut O,
+    answers: &mut A,
     to_trunk: bool,
     octets: &[u8],
 ) -> Result<usize, SinkFault>
     ensures bound { IfOk result (λ n. n ≤ length octets.now) }
     ensures went { IfOk result (λ n. O.went outgoing.new
         ≡ O.went outgoing.old ++ (if to_trunk then take n octets.now else [])) }
+    ensures told { IfOk result (λ n. A.went answers.new
+        ≡ A.went answers.old ++ (if to_trunk then [] else take n octets.now)) }
     ensures err { OnErr result (O.went outgoing.new ≡ O.went outgoing.old) }
+    ensures untold { OnErr result (A.went answers.new ≡ A.went answers.old) }
 {
-    if !to_trunk {
-        return Ok(octets.len());
+    if to_trunk {
+        return put_out(outgoing, octets);
     }
-    put_out(outgoing, octets)
+    put_out(answers, octets)
 }
 
 // Takes octets from this place on, and returns how many.
-fn pass<O: Outgoing>(outgoing: &mut O, place: &mut Place, octets: &[u8]) -> Result<usize, SinkFault>
+fn pass<O: Outgoing, A: Outgoing>(
+    outgoing: &mut O,
+    answers: &mut A,
+    place: &mut Place,
+    octets: &[u8],
+) -> Result<usize, SinkFault>
     ensures bound { IfOk result (λ n. n ≤ length octets.now) }
-    ensures passes { IfOk result (λ n. StepsOver place.old place.new
-        (O.went outgoing.old) (O.went outgoing.new) (take n octets.now)) }
+    ensures passes { IfOk result (λ n. StepsOver place.old place.new (O.went outgoing.old) (O.went outgoing.new)
+        (A.went answers.old) (A.went answers.new) (take n octets.now)) }
     ensures err { OnErr result (O.went outgoing.new ≡ O.went outgoing.old) }
+    ensures untold { OnErr result (A.went answers.new ≡ A.went answers.old) }
     ensures stays { OnErr result (place.new ≡ place.old) }
 {
     let Some(octet) = octets.first() else {
         return Ok(0);
     };
     let Place::Body(to_trunk, more) = *place else {
-        *place = place_next(*place, *octet);
-        return Ok(1);
+        let n = put_front(answers, *place, octets)?;
+        if n > 0 {
+            *place = place_next(*place, *octet);
+        }
+        return Ok(n);
     };
     let most = octets.len().min(more.saturating_add(1));
-    let n = put_body(outgoing, to_trunk, &octets[..most])?;
+    let n = put_body(outgoing, answers, to_trunk, &octets[..most])?;
     *place = body_after(to_trunk, more, n);
     Ok(n)
 }
 
-impl<O: Outgoing> TrunkSink<O> {
+impl<O: Outgoing, A: Outgoing> TrunkSink<O, A> {
     /// What takes the records from now on, with no failure yet.
-    pub fn new(outgoing: O) -> TrunkSink<O>
-        requires { O.went outgoing ≡ [] }
+    pub fn new(outgoing: O, answers: A) -> TrunkSink<O, A>
+        requires went { O.went outgoing ≡ [] }
+        requires told { A.went answers ≡ [] }
         ensures outgoing { result.outgoing ≡ outgoing }
+        ensures answers { result.answers ≡ answers }
         ensures failed { result.failed ≡ 0 }
         ensures log { result.log.octets ≡ [] }
     {
         TrunkSink {
             outgoing,
+            answers,
             failed: 0,
             place: Place::Kind,
             log: Log::new(),
@@ -139,11 +182,16 @@ impl<O: Outgoing> TrunkSink<O> {
     }
 }
 
-impl<O: Outgoing> Sink for TrunkSink<O> {
+impl<O: Outgoing, A: Outgoing> Sink for TrunkSink<O, A> {
     ghost tells = { λ s. record { failures = s.failed; taken = Some s.log.octets } };
 
     fn write(&mut self, octets: &[u8]) -> Result<usize, SinkFault> {
-        match pass(&mut self.outgoing, &mut self.place, octets) {
+        match pass(
+            &mut self.outgoing,
+            &mut self.answers,
+            &mut self.place,
+            octets,
+        ) {
             Ok(n) => {
                 self.log.append(octets, n);
                 if n == 0 && !octets.is_empty() {

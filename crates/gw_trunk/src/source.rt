@@ -1,8 +1,9 @@
 //! The octets of a trunk, as the records of a session.
 
-ghost use Rattle.std.specs.Prelude.{◌≡◌, ◌<◌, ◌≤◌, ◌^◌, ◌++◌, ◌∷◌, [], length, IfOk, Some, None};
+ghost use Rattle.std.specs.Prelude.{◌≡◌, ◌<◌, ◌≤◌, ◌^◌, ◌++◌, ◌∷◌, [], length, take, IfOk, IfSome, IfNone};
+ghost use Rattle.std.specs.Prelude.{Some, None, true, false};
 ghost use Rattle.byteorder.specs.Endian.{big_bytes};
-ghost use Rattle.gw_trunk.specs.Pieces.{InPieces, ReadsPiece};
+ghost use Rattle.gw_trunk.specs.Pieces.{GivesWoven, ReadsRecord, AsksRecord};
 
 use crate::device::{Incoming, Taken};
 use byteorder::{BigEndian, ByteOrder};
@@ -11,15 +12,19 @@ use gw_records::{FRONT_LEN, Log, Source, SourceFault, TRUNK};
 // The octets of the trunk that one record has at most.
 const MOST_OCTETS: usize = 2_048;
 
-/// The octets of a trunk as T records. Each read gives one whole record: the octets that have come, 2,048 of
-/// them at most. If none has come it waits for them.
+/// The octets of a trunk as T records, and C and K records of clients between them. Each read gives one whole
+/// record: the octets that have come, 2,048 of them at most, or a record of a client. Between two records of
+/// clients the trunk was read. If neither has anything it waits.
 #[derive(Drop)]
 pub struct TrunkSource<I: Incoming> {
     incoming: I,
+    // Whether clients are asked before the trunk is read.
+    turn: bool,
     failed: u64,
     reads: u64,
     log: Log,
-    ghost pieces: { ∥ InPieces (I.came incoming) log.octets ∥₁ },
+    ghost woven: { ∥ GivesWoven (I.came incoming) (I.asked incoming) log.octets ∥₁ },
+    ghost in_turn: { turn ≡ true → I.is_turn incoming ≡ true },
 }
 
 // The front of a record of so many octets of the trunk.
@@ -32,23 +37,54 @@ fn front_of(len: usize) -> [u8; 4]
     front
 }
 
-// The next record, whole, or 0 at the end of the trunk.
-fn next_record<I: Incoming>(incoming: &mut I, room: &mut [u8]) -> Result<usize, SourceFault>
+// The next record of a client, where it is their turn.
+fn command_in_turn<I: Incoming>(incoming: &mut I, turn: &mut bool, room: &mut [u8]) -> Option<usize>
+    requires { turn.old ≡ true → I.is_turn incoming.old ≡ true }
+    ensures bound { IfSome result (λ n. n ≤ length room.new) }
+    ensures came { I.came incoming.new ≡ I.came incoming.old }
+    ensures asked { IfSome result (λ n. AsksRecord (I.asked incoming.old) (I.asked incoming.new) (take n room.new)) }
+    ensures none { IfNone result (I.asked incoming.new ≡ I.asked incoming.old) }
+    ensures turn { turn.new ≡ false }
+{
+    if !*turn {
+        return None;
+    }
+    *turn = false;
+    incoming.command(room)
+}
+
+// The next record, whole, or 0 at the end of the trunk. It is a client's only if `turn` holds or the trunk has
+// none, and the source waits only if a client has none either.
+fn next_record<I: Incoming>(
+    incoming: &mut I,
+    turn: &mut bool,
+    room: &mut [u8],
+) -> Result<usize, SourceFault>
+    requires { turn.old ≡ true → I.is_turn incoming.old ≡ true }
     ensures bound { IfOk result (λ n. n ≤ length room.new) }
-    ensures reads { ReadsPiece (I.came incoming.old) (I.came incoming.new) result room.new }
+    ensures reads { ReadsRecord (I.came incoming.old) (I.came incoming.new)
+        (I.asked incoming.old) (I.asked incoming.new) result room.new }
+    ensures turn { turn.new ≡ true → I.is_turn incoming.new ≡ true }
     ensures ended { IfOk result (λ n. n ≡ 0 → I.has_ended incoming.new) }
 {
     let most = room.len().min(FRONT_LEN + MOST_OCTETS);
     if most <= FRONT_LEN {
         return Err(SourceFault);
     }
+    if let Some(n) = command_in_turn(incoming, turn, room) {
+        return Ok(n);
+    }
     for _turn in 0..u64::MAX {
         match incoming.read(&mut room[FRONT_LEN..most]) {
             Ok(Taken::Octets(n)) => {
                 room[..FRONT_LEN].copy_from_slice(&front_of(n));
+                *turn = true;
                 return Ok(FRONT_LEN + n);
             }
-            Ok(Taken::NoneNow) => incoming.wait(),
+            Ok(Taken::NoneNow) => match incoming.command(room) {
+                Some(n) => return Ok(n),
+                None => incoming.wait(),
+            },
             Ok(Taken::Ended) => return Ok(0),
             Err(_) => return Err(SourceFault),
         }
@@ -59,7 +95,8 @@ fn next_record<I: Incoming>(incoming: &mut I, room: &mut [u8]) -> Result<usize, 
 impl<I: Incoming> TrunkSource<I> {
     /// The records of what comes from now on, with no read yet.
     pub fn new(incoming: I) -> TrunkSource<I>
-        requires { I.came incoming ≡ [] }
+        requires came { I.came incoming ≡ [] }
+        requires asked { I.asked incoming ≡ [] }
         ensures incoming { result.incoming ≡ incoming }
         ensures failed { result.failed ≡ 0 }
         ensures reads { result.reads ≡ 0 }
@@ -67,6 +104,7 @@ impl<I: Incoming> TrunkSource<I> {
     {
         TrunkSource {
             incoming,
+            turn: false,
             failed: 0,
             reads: 0,
             log: Log::new(),
@@ -83,7 +121,7 @@ impl<I: Incoming> Source for TrunkSource<I> {
     } };
 
     fn read(&mut self, buf: &mut [u8]) -> Result<usize, SourceFault> {
-        match next_record(&mut self.incoming, buf) {
+        match next_record(&mut self.incoming, &mut self.turn, buf) {
             Ok(n) => {
                 self.log.append(buf, n);
                 self.reads = self.reads.saturating_add(1);

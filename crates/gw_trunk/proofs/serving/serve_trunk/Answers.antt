@@ -7,8 +7,12 @@ pub returns : goal.returns
 returns g c = record {
   ok = c.serve_recorded.ensures.ok;
   fault = c.serve_recorded.ensures.fault;
-  carries = λ config new. ∥∥₁_map c.serve_recorded.new.source.pieces (λ cut.
-      carried _ _ config c.serve_recorded.result _ _ _ _
+  carries = λ config new. ∥∥₁_map c.serve_recorded.new.source.woven (λ w.
+      carried _ _ config c.serve_recorded.result _ _ _ _ _ _
       (record { unread = ap Some c.requires.source.2; read = refl; untaken = ap Some c.requires.sink.1; took = refl })
-      cut c.serve_recorded.new.sink.passed.went_are new c.serve_recorded.ensures.ok c.serve_recorded.ensures.fault);
+      (record {
+        gives = w;
+        went_are = c.serve_recorded.new.sink.passed.went_are;
+        told_are = c.serve_recorded.new.sink.passed.told_are;
+      }) new c.serve_recorded.ensures.ok c.serve_recorded.ensures.fault);
 }

@@ -1,5 +1,6 @@
-use Rattle.std.proofs.Common.{◌++◌, ◌∙◌, length, take, inr, arith, ap, refl, List, ℕ}
+use Rattle.std.proofs.Common.{◌++◌, ◌∙◌, length, take, inr, arith, ap, refl, sym, append-nil, List, ℕ}
 use Rattle.std.proofs.lemmas.List.{length-take-le}
+use Rattle.gw_records.specs.Records.{Record}
 use Rattle.gw_trunk.proofs.Cutting.{framed}
 use Rattle.gw_trunk.proofs.source.next_record.Goals as goal
 
@@ -16,11 +17,12 @@ returns-in-Ok-Octets-clause-reads g c =
     let counted = length-take-le n room bound.1 in
     let whole = framed c.loop-turn.room room front c.min-most.result n most some (ap length head) bound.1 in
     inr (record {
-      piece = take n room;
-      size = (
+      one = Record.Trunk (take n room);
+      good = (
         omega (arith, counted, bound),
         omega (arith, counted, bound, c.loop-turn.invariant.few, c.read.auto.room),
       );
-      came_is = came ∙ ap (λ (xs : List ℕ). xs ++ take n room) c.loop-turn.invariant.came;
+      came_is = came ∙ ap (λ (xs : List ℕ). xs ++ take n room) (c.loop-turn.invariant.came ∙ c.command_in_turn.ensures.came);
+      asked_is = c.in-Ok-Octets.ensures.asked ∙ c.loop-turn.invariant.asked ∙ c.in_default.ensures.none ∙ sym (append-nil _);
       given_is = whole ∙ rw (head, counted) refl;
     })

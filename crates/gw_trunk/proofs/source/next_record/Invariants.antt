@@ -1,11 +1,13 @@
-use Rattle.std.proofs.Common.{◌≡◌, ◌≤◌, ◌<◌, length}
+use Rattle.std.proofs.Common.{◌≡◌, ◌≤◌, ◌<◌, length, false}
 use Rattle.gw_trunk.proofs.source.next_record.Given as goal
 
--- Nothing came so far, and the room is as long as it was.
+-- Nothing came and nothing was asked so far, and the room is as long as it was.
 abbrev pub invariant-loop-turn : goal.invariant-loop-turn
 invariant-loop-turn g l = record {
   came : g.I.Incoming.came l.incoming ≡ g.I.Incoming.came l.initial.incoming;
+  asked : g.I.Incoming.asked l.incoming ≡ g.I.Incoming.asked l.initial.incoming;
   most : l.most ≤ length l.room;
   some : 4 < l.most;
   few : l.most ≤ 2052;
+  asked_first : l.turn ≡ false;
 }

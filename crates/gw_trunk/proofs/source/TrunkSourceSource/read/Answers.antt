@@ -4,6 +4,7 @@ use Rattle.gw_trunk.proofs.source.TrunkSourceSource.read.Goals as goal
 
 pub invariant_of-self : goal.invariant_of-self
 invariant_of-self g c = record {
-  pieces = ∥∥₁_map c.args.self.now.pieces (λ cut.
-      rw (c.append.ensures) (read-cut _ _ _ c.next_record.new.room c.in-Ok.n cut c.in-Ok.ensures.reads));
+  woven = ∥∥₁_map c.args.self.now.woven (λ w.
+      rw (c.append.ensures) (read-cut _ _ _ _ _ c.next_record.new.room c.in-Ok.n w c.in-Ok.ensures.reads));
+  in_turn = c.in-Ok.ensures.turn;
 }
