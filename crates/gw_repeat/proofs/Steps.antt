@@ -1,6 +1,7 @@
 -- What is held, and what went out, from call to call.
 use Rattle.std.proofs.Common.{◌≡◌, ◌≢◌, ℕ, zero, suc, ◌+◌, ◌-◌, ◌≤◌, ◌<◌, ◌++◌, ◌∷◌, [], List, Bool, true, false}
-use Rattle.std.proofs.Common.{Option, Some, None, Result, Ok, Err, refl, ap, inl, inr, arith, take, drop, sym, append-nil, length}
+use Rattle.std.proofs.Common.{Option, Some, None, Result, Ok, Err, refl, ap, inl, inr, arith, take, drop}
+use Rattle.std.proofs.Common.{sym, append-nil, length}
 use Rattle.std.proofs.Common.{append_assoc, slice_index, slice_index_or, map}
 use Rattle.std.proofs.lemmas.Bool.Decides.{eqb_tells}
 use Rattle.std.proofs.lemmas.List.{drop-take, reverse-append}
@@ -8,7 +9,8 @@ use Rattle.std.specs.Prelude.{reverse, flat_map, if◌then◌else◌, nat_eq}
 use Rattle.std.proofs.lemmas.Grind.{flat_map-append}
 use Rattle.std.specs.VecDeque.{deque_capacity}
 use Rattle.gw_records.specs.declared.ports.PortFault.{PortFault}
-use Rattle.gw_records.specs.Ports.{KeepsReceives, given_by_call, PortCall, PortsState, Receives, Sends, Grows, IfKnown, receive_call, send_call}
+use Rattle.gw_records.specs.Ports.{KeepsReceives, given_by_call, PortCall, PortsState, Receives, Sends, Grows}
+use Rattle.gw_records.specs.Ports.{IfKnown, receive_call, send_call}
 use Rattle.gw_repeat.specs.Repetition.{has_room, continues, with_next, last_run, repetition}
 use Rattle.gw_repeat.specs.Ports.{octets_of, sent_by_call, sent_of, attempt, repeats_behind, Repeats, words_of}
 use Rattle.gw_repeat.specs.Ports.{HasRepeated, IsHeld, AreHeld, SendsAgain, KeepsOthers, told}
@@ -124,7 +126,8 @@ held_next n words datagram datagrams old new some is next room = record {
 pub held_more : (n : ℕ) (words : List ℕ) (circuit : ℕ) (datagram : List ℕ) (r : Result (Unit {0}) PortFault)
     (calls : List PortCall) (old new : List Held) → 0 < n → 1 ≤ circuit → AreHeld n words calls old
     → ((d : Held) → octets_of (slice_index_or new (circuit - 1) d).packets.items
-    ≡ take n (with_next (words_of words circuit) datagram (octets_of (slice_index_or old (circuit - 1) d).packets.items)))
+    ≡ take n (with_next (words_of words circuit) datagram
+    (octets_of (slice_index_or old (circuit - 1) d).packets.items)))
     → ((d : Held) → n ≤ deque_capacity (slice_index_or new (circuit - 1) d).packets)
     → KeepsOthers circuit old new → AreHeld n words (calls ++ send_call circuit datagram r ∷ []) new
 held_more n words circuit datagram r calls old new some from are own room others = λ i d below.

@@ -1,6 +1,6 @@
 -- Which calls of the ports below come of those of a session.
-use Rattle.std.specs.Prelude.{◌≡◌, ◌≢◌, ◌==◌, ◌+◌, ◌-◌, ◌≤◌, ◌<◌, ◌++◌, if◌then◌else◌, ℕ, List, [], ◌∷◌, map, flat_map}
-use Rattle.std.specs.Prelude.{reverse, take, slice_index, slice_index_or, Some}
+use Rattle.std.specs.Prelude.{◌≡◌, ◌≢◌, ◌==◌, ◌+◌, ◌-◌, ◌≤◌, ◌<◌, ◌++◌, if◌then◌else◌, ℕ, List, [], ◌∷◌}
+use Rattle.std.specs.Prelude.{map, flat_map, reverse, take, slice_index, slice_index_or, Some}
 use Rattle.std.specs.VecDeque.{deque_capacity}
 use Rattle.gw_records.specs.Ports.{PortCall, PortsState, Grows, IfKnown, given_by_call, taken_by_call}
 use Rattle.gw_records.specs.Ports.{KeepsReceives}
@@ -27,8 +27,8 @@ abbrev pub attempt : PortCall → PortCall
 attempt (PortCall.SendFailed circuit datagram) = PortCall.Took circuit datagram
 attempt call = call
 
--- The sends that follow a call of a session, given it and those before it, the latest first: behind a send that
--- of the datagram of its circuit that is due, and none behind a receive.
+-- The sends that follow a call of a session, given it and those before it, the latest first: behind a send
+-- that of the datagram of its circuit that is due, and none behind a receive.
 abbrev pub repeats_behind : ℕ → (ℕ → ℕ) → PortCall → List PortCall → List PortCall
 repeats_behind n words (PortCall.Took circuit datagram) earlier =
     map (PortCall.Took circuit) (repetition n (words circuit) (datagram ∷ sent_of circuit earlier))
@@ -76,7 +76,8 @@ abbrev pub KeepsOthers : ℕ → List Held → List Held → Type 0
 KeepsOthers circuit old new = (i : ℕ) (d : Held) → i ≢ circuit - 1
     → slice_index_or new i d ≡ slice_index_or old i d
 
--- What ports over others tell: of receives what those below tell, of sends and calls what a session asked for.
+-- What ports over others tell: of receives what those below tell, of sends and calls what a session asked
+-- for.
 abbrev pub told : PortsState → ℕ → List PortCall → PortsState
 told below send_failed calls = record {
   receive_failures = below.receive_failures;

@@ -26,7 +26,8 @@ impl Packet {
 
     // A datagram as it is held, unless it has no fixed header or is longer than any of a circuit.
     pub(crate) fn of(datagram: &[u8]) -> Option<Packet>
-        ensures found { IfSome result (λ p. (p.octets.items ≡ datagram.now) × (has_room datagram.now ≡ true)) }
+        ensures found { IfSome result (λ p.
+            (p.octets.items ≡ datagram.now) × (has_room datagram.now ≡ true)) }
         ensures none { IfNone result (has_room datagram.now ≡ false) }
     {
         if datagram.len() < HEADER_LEN {

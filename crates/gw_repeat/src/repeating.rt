@@ -39,8 +39,8 @@ pub struct Repeating<P: Ports> {
         (HasRepeated count words log.calls) ∥₁ },
 }
 
-// Sends the datagram of a circuit that is due behind this one, if there is one. Its failure changes nothing: the
-// ports count it.
+// Sends the datagram of a circuit that is due behind this one, if there is one. Its failure changes nothing:
+// the ports count it.
 #[inline(never)]
 fn send_due<P: Ports>(
     ports: &mut P,
@@ -53,14 +53,16 @@ fn send_due<P: Ports>(
     requires thirty { vec_len held.old ≡ 30 }
     requires some { 0 < count }
     requires few { (d : Held) → length (slice_index_or held.old.items (circuit - 1) d).packets.items ≤ count }
-    requires room { (d : Held) → count ≤ deque_capacity (slice_index_or held.old.items (circuit - 1) d).packets }
+    requires room { (d : Held)
+        → count ≤ deque_capacity (slice_index_or held.old.items (circuit - 1) d).packets }
     ensures sends { (d : Held) → SendsAgain (P.tells ports.old) (P.tells ports.new) circuit
         (drop count (with_next (words_of words.now circuit) datagram.now
         (octets_of (slice_index_or held.old.items (circuit - 1) d).packets.items))) }
     ensures own { (d : Held) → octets_of (slice_index_or held.new.items (circuit - 1) d).packets.items
         ≡ take count (with_next (words_of words.now circuit) datagram.now
         (octets_of (slice_index_or held.old.items (circuit - 1) d).packets.items)) }
-    ensures room { (d : Held) → count ≤ deque_capacity (slice_index_or held.new.items (circuit - 1) d).packets }
+    ensures room { (d : Held)
+        → count ≤ deque_capacity (slice_index_or held.new.items (circuit - 1) d).packets }
     ensures others { KeepsOthers circuit held.old.items held.new.items }
     ensures thirty { vec_len held.new ≡ 30 }
     ensures some { 1 ≤ circuit }
@@ -136,7 +138,8 @@ impl<P: Ports> Ports for Repeating<P> {
     fn send(&mut self, circuit: CircuitNo, datagram: &[u8]) -> Result<(), PortFault>
         ensures sends { Sends
             (told (P.tells self.old.ports) self.old.send_failed self.old.log.calls)
-            (told (P.tells self.new.ports) self.new.send_failed self.new.log.calls) circuit result datagram.now }
+            (told (P.tells self.new.ports) self.new.send_failed self.new.log.calls)
+            circuit result datagram.now }
         ensures counts { CountsFault self.old.send_failed self.new.send_failed result }
         ensures receives_stay { KeepsReceives
             (told (P.tells self.old.ports) self.old.send_failed self.old.log.calls)

@@ -13,5 +13,6 @@ invariant_of-self g c = record {
   repeated = ∥∥₁_map c.args.self.now.repeated (λ known. rw c.received.ensures (repeated_receive c.args.self.now.count
       c.args.self.now.words c.args.self.now.log.calls c.args.circuit c.receive-received.result
       c.receive-received.new.room (g.P.Ports.tells c.args.self.now.opened.value).calls
-      (g.P.Ports.tells c.args.self.now.ports) (g.P.Ports.tells c.receive-received.new.self) known c.receive-received.ensures.receives));
+      (g.P.Ports.tells c.args.self.now.ports) (g.P.Ports.tells c.receive-received.new.self)
+      known c.receive-received.ensures.receives));
 }

@@ -14,13 +14,17 @@ invariant_of-self g c = record {
       c.args.self.now.words c.args.self.now.log.calls c.args.circuit c.args.datagram.now c.send-sent.result
       (g.P.Ports.tells c.args.self.now.opened.value).calls (g.P.Ports.tells c.args.self.now.ports)
       (g.P.Ports.tells c.send-sent.new.self) (g.P.Ports.tells c.send_due.new.ports)
-      (slice_index_or c.args.self.now.held.items (c.args.circuit - 1) (one_of c.args.self.now.held.items (omega (arith, c.args.self.now.thirty, c.args.self.now.held.ok)))) c.if-self-gt0.true known
+      (slice_index_or c.args.self.now.held.items (c.args.circuit - 1)
+      (one_of c.args.self.now.held.items (omega (arith, c.args.self.now.thirty, c.args.self.now.held.ok))))
+      c.if-self-gt0.true known
       c.send-sent.ensures.sends
       (held_at c.args.self.now.count c.args.self.now.words c.args.circuit c.args.self.now.log.calls
       c.args.self.now.held.items
-      (one_of c.args.self.now.held.items (omega (arith, c.args.self.now.thirty, c.args.self.now.held.ok))) c.send_due.ensures.some c.send_due.ensures.within
+      (one_of c.args.self.now.held.items (omega (arith, c.args.self.now.thirty, c.args.self.now.held.ok)))
+      c.send_due.ensures.some c.send_due.ensures.within
       c.args.self.now.are_held)
-      (c.send_due.ensures.sends (one_of c.args.self.now.held.items (omega (arith, c.args.self.now.thirty, c.args.self.now.held.ok))))));
+      (c.send_due.ensures.sends
+      (one_of c.args.self.now.held.items (omega (arith, c.args.self.now.thirty, c.args.self.now.held.ok))))));
 }
 
 pub invariant_of-self-else-self-gt0 : goal.invariant_of-self-else-self-gt0
@@ -39,4 +43,6 @@ pub returns-then-self-gt0-clause-receives_stay : goal.returns-then-self-gt0-clau
 returns-then-self-gt0-clause-receives_stay g c = receives_stay (g.P.Ports.tells c.args.self.now.ports)
     (g.P.Ports.tells c.send-sent.new.self) (g.P.Ports.tells c.send_due.new.ports) 0 0 c.args.self.now.log.calls
     c.sent.new.self.calls c.args.circuit c.args.datagram.now c.send-sent.result c.send-sent.ensures.receives_stay
-    ((c.send_due.ensures.sends (one_of c.args.self.now.held.items (omega (arith, c.args.self.now.thirty, c.args.self.now.held.ok)))).stays) c.sent.ensures
+    ((c.send_due.ensures.sends
+    (one_of c.args.self.now.held.items (omega (arith, c.args.self.now.thirty, c.args.self.now.held.ok)))).stays)
+    c.sent.ensures
