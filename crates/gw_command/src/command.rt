@@ -260,7 +260,8 @@ pub fn senders_of<'m>(matches: &'m ArgMatches<'_>) -> Option<&'m str>
 /// After how many datagrams of a circuit each is sent again, by the first number that the matches name.
 pub fn repeat_of(matches: &ArgMatches<'_>) -> Option<u8>
     ensures found { IfSome result (SaysNumberIn 8 (codes "repeat") (subcommand_rows_of matches.now)) }
-    ensures none { IfNone result ((n : ℕ) → ¬ SaysNumberIn 8 (codes "repeat") (subcommand_rows_of matches.now) n) }
+    ensures none { IfNone result ((n : ℕ)
+        → ¬ SaysNumberIn 8 (codes "repeat") (subcommand_rows_of matches.now) n) }
 {
     let (_, options) = matches.subcommand()?;
     options.get_one("repeat")
