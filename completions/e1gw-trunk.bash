@@ -2,8 +2,8 @@
 
 _e1gw_trunk() {
   local cur=${COMP_WORDS[COMP_CWORD]} prev=${COMP_WORDS[COMP_CWORD - 1]}
-  local options='--config --name --program --senders --totals --in --out --unix --tcp --satop --clear --align --crc4
-    --pace --most --reopen --satop-size --satop-jitter --satop-rtp --satop-fill --satop-clock --control --control-mode
+  local options='--config --name --program --repeat --senders --totals --in --out --unix --tcp --satop --clear --align
+    --crc4 --pace --most --reopen --satop-size --satop-jitter --satop-rtp --satop-fill --satop-clock --control --control-mode
     --control-group --on-loss --http --picture --metrics --json --watch --top --no-counts --session --calls --keep --gap
     --dark --help'
   COMPREPLY=()
@@ -16,7 +16,7 @@ _e1gw_trunk() {
     --senders) mapfile -t COMPREPLY < <(compgen -W 'any host peer' -- "$cur") ;;
     --on-loss) mapfile -t COMPREPLY < <(compgen -W 'keep clear block' -- "$cur") ;;
     --control-group) mapfile -t COMPREPLY < <(compgen -g -- "$cur") ;;
-    --name | --tcp | --satop | --pace | --most | --satop-size | --satop-jitter | --satop-rtp | --control-mode | \
+    --name | --repeat | --tcp | --satop | --pace | --most | --satop-size | --satop-jitter | --satop-rtp | --control-mode | \
       --http | --picture | --keep | --gap | --dark) ;;
     *) mapfile -t COMPREPLY < <(compgen -W "$options" -- "$cur") ;;
   esac

@@ -17,7 +17,7 @@ _e1gw_options() {
     crc4) echo '--check --totals --help' ;;
     encode | decode) echo '--law --codec --payload --ptime --ssrc --sequence --timestamp --totals --help' ;;
     replay | check) echo '--config --totals --help' ;;
-    serve | trunk) echo '--config --record --record-over --senders --totals --help' ;;
+    serve | trunk) echo '--config --record --record-over --repeat --senders --totals --help' ;;
     '') echo '--help --version' ;;
   esac
 }
@@ -37,7 +37,7 @@ _e1gw() {
     --law | --codec | --ptime | --senders)
       mapfile -t COMPREPLY < <(compgen -W "$(_e1gw_values "$prev")" -- "$cur")
       return ;;
-    --payload | --ssrc | --sequence | --timestamp)
+    --payload | --ssrc | --sequence | --timestamp | --repeat)
       return ;;
     --config | --record)
       compopt -o filenames 2> /dev/null

@@ -77,13 +77,22 @@ class Gateway:
         self._output.close()
 
 
+def timestamp_of(datagram: bytes) -> int:
+    """The timestamp (RFC 3550, 5.1)."""
+    return int.from_bytes(datagram[4:8], 'big')
+
+
 @dataclass
 class Network:
     """One direction. A share `loss` of the datagrams is lost, each by itself, or with `pairs` two in a row of a
-    circuit; each that is not comes after `delay` ms and up to `jitter` ms more."""
+    circuit; each that is not comes after `delay` ms and up to `jitter` ms more. With `repeat` each datagram of a
+    circuit is sent again behind the one that is so many later, as `e1gw serve --repeat` does, if their timestamps
+    follow one another by `words`."""
 
     loss: float = 0.0
     pairs: bool = False
+    repeat: int = 0
+    words: int = 160
     delay: int = 10
     jitter: int = 0
     seed: int = 1
@@ -93,7 +102,18 @@ class Network:
         self._waiting: list[tuple[int, int, int, bytes]] = []
         self._second: set[int] = set()          # circuits whose next datagram is the second of a lost pair
         self._count = 0
+        self._runs: dict[int, list[bytes]] = {}     # the datagrams of a circuit that follow one another
         self.lost = 0
+
+    def _with_repetition(self, circuit: int, datagram: bytes) -> list[bytes]:
+        """A datagram, and behind it the one that is due again."""
+        if not self.repeat:
+            return [datagram]
+        run = self._runs.setdefault(circuit, [])
+        if run and (timestamp_of(datagram) - timestamp_of(run[-1])) % 2 ** 32 != self.words:
+            run.clear()
+        run.append(datagram)
+        return [datagram] if len(run) <= self.repeat else [datagram, run.pop(0)]
 
     def _loses(self, circuit: int) -> bool:
         if circuit in self._second:
@@ -108,7 +128,9 @@ class Network:
         return True
 
     def send(self, step: int, datagrams: Iterable[tuple[int, bytes]]) -> None:
-        for circuit, datagram in datagrams:
+        repeated = ((circuit, each) for circuit, datagram in datagrams
+                    for each in self._with_repetition(circuit, datagram))
+        for circuit, datagram in repeated:
             if self._loses(circuit):
                 self.lost += 1
                 continue
@@ -229,6 +251,7 @@ class Plan:
     jitter: int = 0
     loss: float = 0.0
     pairs: bool = False
+    repeat: int = 0
     seed: int = 1
     options: tuple[str, ...] = ()       # of the exchanges
 
@@ -243,7 +266,8 @@ def world_of(folder: str, exchange: str, gateway: str, plan: Plan) -> Iterator[W
         with open(path, 'w', encoding='utf-8') as file:
             file.write(config(incoming[k], plan.codecs, plan.prefill * 8, plan.ptime))
         sites.append(Site(OpenR2(exchange, *plan.options), Gateway(gateway, path), incoming[k]))
-        networks.append(Network(plan.loss, plan.pairs, jitter=plan.jitter, seed=plan.seed * 2 + k))
+        networks.append(Network(plan.loss, plan.pairs, plan.repeat, plan.ptime * 8, jitter=plan.jitter,
+                                seed=plan.seed * 2 + k))
     world = World((sites[0], sites[1]), (networks[0], networks[1]), plan.tie,
                   plan.codecs if plan.until_answer else None)
     try:

@@ -110,6 +110,8 @@ def parser() -> argparse.ArgumentParser:
     words.add_argument('--program', metavar='E1GW', help='the program [default: that of this repository, or e1gw]')
     words.add_argument('--senders', choices=('any', 'host', 'peer'), help='whose datagrams are received, e1gw(1) '
                        '[default: host if each peer_host is an address, else any]')
+    words.add_argument('--repeat', type=int, choices=range(9), default=0, metavar='N',
+                       help='sends each datagram again behind the N-th after it, 0 to 8 [default: 0, never]')
     words.add_argument('--totals', action='store_true', help='tells at the end what the gateway has counted')
     _add_trunk(words.add_argument_group('the trunk'))
     satop.add_arguments(words)
@@ -202,7 +204,8 @@ def options_of(words: list[str]) -> Options:
 
 def _serve_words(asked: argparse.Namespace) -> list[str]:
     """The options that the gateway gets."""
-    return ['--totals'] * asked.totals + ['--senders', asked.senders or senders_of(asked.config)]
+    return (['--totals'] * asked.totals + ['--repeat', str(asked.repeat)] * (asked.repeat > 0)
+            + ['--senders', asked.senders or senders_of(asked.config)])
 
 
 def senders_of(config: str) -> str:

@@ -16,6 +16,7 @@ from . import support
 from .world import IDLE, LAUNCHER, SECONDS, SEIZED, World, config_of, free_ports
 from e1gw import session
 from e1gw.session import Kind
+from e1gw.trunk import _serve_words, parser    # pylint: disable=protected-access
 
 FOUR = range(1, 5)
 # Runs a command in the background of a terminal, as a shell does.
@@ -475,6 +476,11 @@ class Refused(support.Folder):
             with self.subTest(host=host, option=option):
                 status, told = self.run_driver('--config', config, *words, *option)
                 self.assertEqual((status, told.count(f'({said})')), (0, 1))
+
+    def test_repeat_is_passed_on(self) -> None:
+        words = ['--config', self.good, '--in', '/dev/null', '--out', '/dev/null', '--senders', 'any']
+        for option, given in (([], []), (['--repeat', '0'], []), (['--repeat', '2'], ['--repeat', '2'])):
+            self.assertEqual(_serve_words(parser().parse_args(words + option)), given + ['--senders', 'any'])
 
     def test_a_file_goes_through(self) -> None:
         trunk = os.path.join(self.folder, 'trunk')

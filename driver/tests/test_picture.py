@@ -99,6 +99,14 @@ class Gathered(unittest.TestCase):
             row.came(0, 0, rtp(sequence, 0, 7)[:12], 172)
         self.assertEqual(row.cell.lost, 1)
 
+    def test_repetitions_hide_no_loss(self) -> None:
+        row = Row(3)
+        for sequence, code in ((1, 0), (2, 0), (1, 13), (4, 0), (2, 14), (5, 0), (4, 13)):      # 3 is missing
+            row.came(0, code, rtp(sequence, 0, 7)[:12], 172)
+        self.assertEqual(row.cell.lost, 1)
+        row.came(0, 0, rtp(3, 0, 7)[:12], 172)          # its repetition comes
+        self.assertEqual(row.cell.lost, 0)
+
     def test_states_by_the_signals(self) -> None:
         facts = facts_of(self.call(), [0] * 40)
         states = [state for _, state in facts.rows[3].states.items]

@@ -16,7 +16,7 @@ use Rattle.g726_codec.specs.declared.CodecKind.TheVariants.{G711, G16, G24, G32,
 use Rattle.rtp_pack.specs.PacketTime.{IsPacketTime}
 use Rattle.gw_speech.specs.declared.spec.StreamSpec.{StreamSpec}
 use Rattle.gw_command.specs.Command.{law_name, codec_name, usual_payload, IsNumber, SaysNumber, SaysOrUsual, IsStream}
-use Rattle.gw_command.specs.Command.{text_in}
+use Rattle.gw_command.specs.Command.{text_in, SaysNumberIn}
 
 -- what reading a text as an unsigned number of so many bits gives
 abbrev pub Reads : ℕ → List ℕ → Result ℕ ParseIntError → Type 0
@@ -173,3 +173,24 @@ pub text_is : (id : List ℕ) (command : Option (List ℕ × List Row)) (options
     → Some options ≡ option_map (λ p. p.1) command → text_in id command ≡ first_of id options
 text_is id None options e = absurd cc
 text_is id (Some (name, rows)) options e = let same : rows ≡ options = cc in rw same refl
+
+-- the number that the getter gives is what an option of the subcommand says
+pub number_found : (k : ℕ) (f : Found) (id : List ℕ) (r : Option ℕ) (command : Option (List ℕ × List Row))
+    → Some (rows_of f) ≡ option_map (λ p. p.1) command
+    → (one_text f id ≡ None → r ≡ None)
+    → ((t : List ℕ) → one_text f id ≡ Some t → ReadsOne (Reads k) t r)
+    → IfSome r (SaysNumberIn k id command)
+number_found k f id r None e missing value = absurd cc
+number_found k f id None (Some (name, rows)) e missing value = tt
+number_found k f id (Some n) (Some (name, rows)) e missing value =
+    let same : rows ≡ rows_of f = cc in rw same (the_number k f id (Some n) n missing value refl)
+
+-- where the getter gives none, an option of the subcommand says none
+pub number_none : (k : ℕ) (f : Found) (id : List ℕ) (r : Option ℕ) (command : Option (List ℕ × List Row))
+    → Some (rows_of f) ≡ option_map (λ p. p.1) command
+    → ((t : List ℕ) → one_text f id ≡ Some t → ReadsOne (Reads k) t r)
+    → IfNone r ((n : ℕ) → ¬ SaysNumberIn k id command n)
+number_none k f id r None e value = absurd cc
+number_none k f id (Some n) (Some (name, rows)) e value = tt
+number_none k f id None (Some (name, rows)) e value = λ n says.
+    let same : rows ≡ rows_of f = cc in no_number k f id None n value refl (rw same at says)

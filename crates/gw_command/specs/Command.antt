@@ -113,3 +113,8 @@ IsRequest command requests.Trunk = IsTrunk command
 abbrev pub text_in : List ℕ → Option (List ℕ × List Row) → Option (List ℕ)
 text_in id None = None
 text_in id (Some (name, options)) = first_of id options
+
+-- the first value of an option of a subcommand is this number
+abbrev pub SaysNumberIn : ℕ → List ℕ → Option (List ℕ × List Row) → ℕ → Type 0
+SaysNumberIn bits id None n = ⊥
+SaysNumberIn bits id (Some (name, options)) n = SaysNumber bits (one_of id options) n

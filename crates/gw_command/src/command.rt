@@ -1,5 +1,5 @@
 //! The command line: what the program is asked to do.
-ghost use Rattle.std.specs.Prelude.{◌≡◌, ◌≢◌, true, Some, IfSome, IfNone, option_map, codes};
+ghost use Rattle.std.specs.Prelude.{◌≡◌, ◌≢◌, ℕ, true, Some, IfSome, IfNone, option_map, codes};
 ghost use Rattle.e1_g711.specs.declared.Law.{Law};
 ghost use Rattle.g726_codec.specs.declared.CodecKind.{CodecKind};
 ghost use Rattle.clap.specs.Words.{found_of, rows_of, subcommand_rows_of};
@@ -7,6 +7,7 @@ ghost use Rattle.gw_speech.specs.declared.spec.StreamSpec.{StreamSpec};
 ghost use Rattle.gw_command.specs.Command.{law_name, codec_name, job_name, job_spec, usual_payload};
 ghost use Rattle.gw_command.specs.Command.{IsStream, IsJob, IsSession, session_name};
 ghost use Rattle.gw_command.specs.Command.{IsFilter, filter_name, IsTrunk, IsRequest, text_in};
+ghost use Rattle.gw_command.specs.Command.{SaysNumberIn};
 ghost use Rattle.gw_command.specs.declared.command.Filter.{Filter};
 ghost use Rattle.gw_command.specs.declared.command.Job.{Job};
 ghost use Rattle.gw_command.specs.declared.command.Request.{Request};
@@ -254,6 +255,16 @@ pub fn senders_of<'m>(matches: &'m ArgMatches<'_>) -> Option<&'m str>
         ≡ text_in (codes "senders") (subcommand_rows_of matches.now) }
 {
     text_of(matches, "senders")
+}
+
+/// After how many datagrams of a circuit each is sent again, by the first number that the matches name.
+pub fn repeat_of(matches: &ArgMatches<'_>) -> Option<u8>
+    ensures found { IfSome result (SaysNumberIn 8 (codes "repeat") (subcommand_rows_of matches.now)) }
+    ensures none { IfNone result ((n : ℕ)
+        → ¬ SaysNumberIn 8 (codes "repeat") (subcommand_rows_of matches.now) n) }
+{
+    let (_, options) = matches.subcommand()?;
+    options.get_one("repeat")
 }
 
 /// The path of the recording that the matches name, the first one, where they name one.

@@ -88,6 +88,9 @@ const RECORD_TEXT: &str = "Record what the gateway takes in a new file, for repl
 const SENDERS_TEXT: &str =
     "Senders let in: any, host for the peer's address at any port,\npeer for its address and port";
 
+const REPEAT_TEXT: &str =
+    "Datagrams of a circuit after which each is sent again, 0 to 8;\n0 for never";
+
 // The options.
 #[derive(Clone, Copy)]
 enum Opt {
@@ -103,6 +106,7 @@ enum Opt {
     Record,
     RecordOver,
     Senders,
+    Repeat,
     Crc4Check,
 }
 
@@ -136,6 +140,7 @@ const OF_SERVE: &[Opt] = &[
     Opt::Config,
     Opt::Totals,
     Opt::Senders,
+    Opt::Repeat,
 ];
 
 const SUBCOMMANDS: [Subcommand; 8] = [
@@ -296,6 +301,13 @@ fn senders_option<'a>(alloc: Global) -> Arg<'a> {
         .hide_possible_values(true)
 }
 
+// After how many datagrams each is sent again.
+fn repeat_option<'a>(alloc: Global) -> Arg<'a> {
+    option(alloc, "repeat", REPEAT_TEXT)
+        .value_parser(value_parser!(u8).range(0..=8))
+        .default_value("0")
+}
+
 // The option that is meant.
 fn declared<'a>(alloc: Global, option: Opt) -> Arg<'a> {
     match option {
@@ -311,6 +323,7 @@ fn declared<'a>(alloc: Global, option: Opt) -> Arg<'a> {
         Opt::Record => record_option(alloc),
         Opt::RecordOver => over_option(alloc),
         Opt::Senders => senders_option(alloc),
+        Opt::Repeat => repeat_option(alloc),
         Opt::Crc4Check => flag(alloc, "check", CRC4_CHECK_TEXT),
     }
 }

@@ -113,7 +113,7 @@ pub struct ToDevice<W> {
 /// Takes the answers where there are no clients.
 #[derive(Drop)]
 pub struct NoClients {
-    log: OctetLog,
+    log: Log,
 }
 
 impl NoClients {
@@ -122,7 +122,7 @@ impl NoClients {
         ensures { result.log.octets ≡ [] }
     {
         NoClients {
-            log: OctetLog::new(),
+            log: Log::new(),
         }
     }
 }

@@ -165,6 +165,7 @@ class Stream:
     ssrc: int = 0
     sequence: int = -1
     stamp: int = 0
+    missing: set[int] = field(default_factory=set)      # sequence numbers that did not come
     came: Turns = field(default_factory=Turns)          # when it is listened to: to datagrams, to the time slot
     slot: Turns = field(default_factory=Turns)
     stretch: list[bytes] | None = None                  # datagrams in a row that are to be decoded
@@ -241,6 +242,7 @@ class Row:
         """The first datagram of a call that is admitted."""
         stream.base, stream.ssrc, stream.sequence = place // FRAME + self.prefill - stamp, ssrc, -1
         self.ssrc = ssrc
+        stream.missing.clear()
         self.begun.append(place)
         self.types[kind] = self.sources[ssrc] = place
 
@@ -250,8 +252,11 @@ class Row:
         if stream.sequence >= 0 and ahead != 1:
             if 1 < ahead < 3000:
                 self.cell.lost += ahead - 1
+                stream.missing.update((stream.sequence + k) & 0xFFFF for k in range(1, ahead))
             elif ahead > 0x8000:
-                self.cell.lost -= 1
+                if sequence in stream.missing:          # else one that came comes again
+                    stream.missing.remove(sequence)
+                    self.cell.lost -= 1
                 return
         elif stream.sequence >= 0:
             words = (length - 12) * 8 // BITS.get(self.codec, 8)

@@ -105,7 +105,7 @@ def _moment(facts: Facts, place: int) -> str:
 HINTS = {
     1: 'no RTP: keep-alives or scans', 2: 'no RTP: STUN or scans', 3: 'cut, or no RTP', 4: 'cut, or no RTP',
     5: 'cut, or encrypted (SRTP)',
-    13: 'the network doubles datagrams',
+    13: 'the sender sends each twice (--repeat), which does no harm, or the network doubles datagrams',
     15: 'the sender\'s packets are too long: at most 200 ms',
 }
 

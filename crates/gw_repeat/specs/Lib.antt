@@ -1,0 +1,3 @@
+pub mod Repetition
+pub mod Ports
+pub mod Words

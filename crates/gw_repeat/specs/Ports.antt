@@ -1,0 +1,90 @@
+-- Which calls of the ports below come of those of a session.
+use Rattle.std.specs.Prelude.{◌≡◌, ◌≢◌, ◌==◌, ◌+◌, ◌-◌, ◌≤◌, ◌<◌, ◌++◌, if◌then◌else◌, ℕ, List, [], ◌∷◌}
+use Rattle.std.specs.Prelude.{map, flat_map, reverse, take, slice_index, slice_index_or, Some}
+use Rattle.std.specs.VecDeque.{deque_capacity}
+use Rattle.gw_records.specs.Ports.{PortCall, PortsState, Grows, IfKnown, given_by_call, taken_by_call}
+use Rattle.gw_records.specs.Ports.{KeepsReceives}
+use Rattle.gw_repeat.specs.Repetition.{last_run, repetition}
+use Rattle.gw_repeat.specs.declared.packet.Packet.{Packet}
+use Rattle.gw_repeat.specs.declared.held.Held.{Held}
+
+-- the octets of datagrams that are held
+abbrev pub octets_of : List Packet → List (List ℕ)
+octets_of packets = map (λ p. p.octets.items) packets
+
+-- the datagram that a send of this circuit was asked to take
+abbrev pub sent_by_call : ℕ → PortCall → List (List ℕ)
+sent_by_call circuit (PortCall.Took c datagram) = if c == circuit then datagram ∷ [] else []
+sent_by_call circuit (PortCall.SendFailed c datagram) = if c == circuit then datagram ∷ [] else []
+sent_by_call circuit call = []
+
+-- the datagrams that sends of this circuit were asked to take
+abbrev pub sent_of : ℕ → List PortCall → List (List ℕ)
+sent_of circuit calls = flat_map (sent_by_call circuit) calls
+
+-- a send as if it had been taken, and a receive as it was
+abbrev pub attempt : PortCall → PortCall
+attempt (PortCall.SendFailed circuit datagram) = PortCall.Took circuit datagram
+attempt call = call
+
+-- The sends that follow a call of a session, given it and those before it, the latest first: behind a send
+-- that of the datagram of its circuit that is due, and none behind a receive.
+abbrev pub repeats_behind : ℕ → (ℕ → ℕ) → PortCall → List PortCall → List PortCall
+repeats_behind n words (PortCall.Took circuit datagram) earlier =
+    map (PortCall.Took circuit) (repetition n (words circuit) (datagram ∷ sent_of circuit earlier))
+repeats_behind n words (PortCall.SendFailed circuit datagram) earlier =
+    map (PortCall.Took circuit) (repetition n (words circuit) (datagram ∷ sent_of circuit earlier))
+repeats_behind n words call earlier = []
+
+-- The calls below those of a session, all given the latest first: each call as it was, then the sends that
+-- follow it, taken or failed, and no others.
+abbrev pub Repeats : ℕ → (ℕ → ℕ) → List PortCall → List PortCall → Type 0
+Repeats n words [] below = below ≡ []
+Repeats n words (call ∷ earlier) below = (again : List PortCall) × (rest : List PortCall)
+    × (below ≡ reverse again ++ call ∷ rest) × (map attempt again ≡ repeats_behind n words call earlier)
+    × Repeats n words earlier rest
+
+-- the words of a packet of each circuit, by the list for circuits 1 to 30
+abbrev pub words_of : List ℕ → ℕ → ℕ
+words_of words circuit = slice_index words (circuit - 1)
+
+-- the calls below grew by those that come of a session's
+pub record HasRepeated (n : ℕ) (words : List ℕ) (calls old new : List PortCall) : Type 0 where
+  pub more : List PortCall
+  pub grew : new ≡ old ++ more
+  pub repeats : Repeats n (words_of words) (reverse calls) (reverse more)
+
+-- the last n datagrams of a circuit are held, the latest first, as far as they follow one another
+pub record IsHeld (n words : ℕ) (datagrams : List (List ℕ)) (held : Held) : Type 0 where
+  pub last : octets_of held.packets.items ≡ take n (last_run words datagrams)
+  pub room : n ≤ deque_capacity held.packets
+
+-- .. of each circuit, after these calls
+abbrev pub AreHeld : ℕ → List ℕ → List PortCall → List Held → Type 0
+AreHeld n words calls held = (i : ℕ) (d : Held) → i < 30
+    → IsHeld n (slice_index words i) (sent_of (i + 1) (reverse calls)) (slice_index_or held i d)
+
+-- ports sent these datagrams of a circuit, and did nothing else
+pub record SendsAgain (old new : PortsState) (circuit : ℕ) (due : List (List ℕ)) : Type 0 where
+  pub again : List PortCall
+  pub grew : Grows old.calls new.calls again
+  pub sends : map attempt again ≡ map (PortCall.Took circuit) due
+  pub stays : KeepsReceives old new
+
+-- all circuits but this one are as they were
+abbrev pub KeepsOthers : ℕ → List Held → List Held → Type 0
+KeepsOthers circuit old new = (i : ℕ) (d : Held) → i ≢ circuit - 1
+    → slice_index_or new i d ≡ slice_index_or old i d
+
+-- What ports over others tell: of receives what those below tell, of sends and calls what a session asked
+-- for.
+abbrev pub told : PortsState → ℕ → List PortCall → PortsState
+told below send_failed calls = record {
+  receive_failures = below.receive_failures;
+  send_failures = send_failed;
+  addresses = below.addresses;
+  waiting = below.waiting;
+  given = Some (flat_map given_by_call calls);
+  taken = Some (flat_map taken_by_call calls);
+  calls = Some calls;
+}

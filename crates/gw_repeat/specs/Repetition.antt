@@ -1,0 +1,37 @@
+-- Which datagrams of a circuit are sent again.
+use Rattle.std.specs.Prelude.{◌+◌, ◌%◌, ◌^◌, ◌==◌, ◌&&◌, nat_le, if◌then◌else◌, ℕ, zero, suc, Bool, false}
+use Rattle.std.specs.Prelude.{List, [], ◌∷◌, take, drop, length}
+use Rattle.byteorder.specs.Endian.{big_number}
+
+-- the timestamp of a datagram (RFC 3550, 5.1)
+unfoldable pub timestamp_of : List ℕ → ℕ
+timestamp_of datagram = big_number 4 (take 4 (drop 4 datagram))
+
+-- a datagram has a fixed header (RFC 3550, 5.1) and at most the words of 30 ms behind it
+abbrev pub has_room : List ℕ → Bool
+has_room datagram = nat_le 12 (length datagram) && nat_le (length datagram) 252
+
+-- A datagram follows the latest of these, which are the latest first: its first word is the next behind the
+-- words of that packet.
+abbrev pub continues : ℕ → List ℕ → List (List ℕ) → Bool
+continues words datagram [] = false
+continues words datagram (latest ∷ earlier) =
+    timestamp_of datagram == (timestamp_of latest + words) % 2 ^ 32
+
+-- a datagram, and behind it those before it, the latest first, if it follows them
+abbrev pub with_next : ℕ → List ℕ → List (List ℕ) → List (List ℕ)
+with_next words datagram earlier =
+    if has_room datagram
+    then datagram ∷ (if continues words datagram earlier then earlier else [])
+    else []
+
+-- the last of a circuit's datagrams, given the latest first, as far back as each follows the one before it
+abbrev pub last_run : ℕ → List (List ℕ) → List (List ℕ)
+last_run words [] = []
+last_run words (datagram ∷ earlier) = with_next words datagram (last_run words earlier)
+
+-- What is sent again behind the first of these datagrams of a circuit, given the latest first: that which was
+-- sent n datagrams before it, if all from it on follow one another; none where n is 0.
+abbrev pub repetition : ℕ → ℕ → List (List ℕ) → List (List ℕ)
+repetition zero words datagrams = []
+repetition (suc n) words datagrams = take 1 (drop (suc n) (last_run words datagrams))

@@ -1,0 +1,90 @@
+//! The datagrams of a circuit that are to be sent again.
+
+ghost use Rattle.std.specs.Prelude.{◌≡◌, ◌<◌, ◌≤◌, ◌++◌, [], length, take, drop, option_to_list};
+ghost use Rattle.std.specs.Prelude.{IfOk, IfSome};
+ghost use Rattle.std.specs.VecDeque.{deque_capacity};
+ghost use Rattle.gw_repeat.specs.Repetition.{timestamp_of, continues, with_next};
+ghost use Rattle.gw_repeat.specs.Ports.{octets_of};
+
+use crate::packet::Packet;
+use byteorder::{BigEndian, ByteOrder};
+use std::alloc::{AllocError, Global};
+use std::collections::VecDeque;
+
+// The last datagrams of a circuit, the latest first, as far as they follow one another.
+#[derive(Drop)]
+pub(crate) struct Held {
+    pub(crate) packets: VecDeque<Packet>,
+}
+
+// The timestamp of a datagram (RFC 3550, 5.1).
+#[tactic(auto, unfolding(crate::specs::Repetition::timestamp_of))]
+fn timestamp_of(datagram: &[u8]) -> u32
+    requires { 12 ≤ length datagram.now }
+    ensures { result ≡ timestamp_of datagram.now }
+{
+    BigEndian::read_u32(&datagram[4..8])
+}
+
+impl Held {
+    // Room for so many datagrams, and none held.
+    pub(crate) fn open(alloc: Global, count: u8) -> Result<Held, AllocError>
+        ensures { IfOk result (λ h. (h.packets.items ≡ []) × (count ≤ deque_capacity h.packets)) }
+    {
+        let packets = VecDeque::with_capacity(alloc, usize::from(count))?;
+        Ok(Held { packets })
+    }
+
+    // Whether a datagram follows the latest that is held.
+    fn continued_by(&self, words: u8, datagram: &[u8]) -> bool
+        requires { 12 ≤ length datagram.now }
+        ensures { result ≡ continues words datagram.now (octets_of self.now.packets.items) }
+    {
+        match self.packets.front() {
+            Some(latest) => {
+                timestamp_of(datagram)
+                    == timestamp_of(latest.as_slice()).wrapping_add(u32::from(words))
+            }
+            None => false,
+        }
+    }
+
+    // Takes out the first that is held where there are so many.
+    fn make_room(&mut self, count: u8) -> Option<Packet>
+        requires some { 0 < count }
+        requires few { length self.old.packets.items ≤ count }
+        ensures parts { self.old.packets.items ≡ self.new.packets.items ++ option_to_list result }
+        ensures less { length self.new.packets.items < count }
+        ensures full { IfSome result (λ _. length self.old.packets.items ≡ count) }
+        ensures capacity { deque_capacity self.new.packets ≡ deque_capacity self.old.packets }
+    {
+        if self.packets.len() < usize::from(count) {
+            return None;
+        }
+        self.packets.pop_back()
+    }
+
+    // Holds a datagram, and lets go those that it does not follow. Where there is no more room the first
+    // that is held goes out.
+    pub(crate) fn keep(&mut self, count: u8, words: u8, datagram: &[u8]) -> Option<Packet>
+        requires some { 0 < count }
+        requires few { length self.old.packets.items ≤ count }
+        requires room { count ≤ deque_capacity self.old.packets }
+        ensures kept { octets_of self.new.packets.items
+            ≡ take count (with_next words datagram.now (octets_of self.old.packets.items)) }
+        ensures due { octets_of (option_to_list result)
+            ≡ drop count (with_next words datagram.now (octets_of self.old.packets.items)) }
+        ensures room { count ≤ deque_capacity self.new.packets }
+    {
+        let Some(packet) = Packet::of(datagram) else {
+            self.packets.clear();
+            return None;
+        };
+        if !self.continued_by(words, datagram) {
+            self.packets.clear();
+        }
+        let due = self.make_room(count);
+        self.packets.push_front_reserved(packet);
+        due
+    }
+}

@@ -1,0 +1,14 @@
+//! Laws of ports that send each datagram twice, proved by functions that do nothing.
+
+ghost use Rattle.gw_records.specs.Ports.{IfKnown};
+ghost use Rattle.gw_repeat.specs.Ports.{HasRepeated};
+
+use crate::repeating::Repeating;
+use gw_records::Ports;
+
+/// The calls of the ports below, since these were opened, are those of the session, each as it was, and
+/// behind a send that of the datagram that is due, of the same circuit, and no others.
+pub fn each_goes_out_again<P: Ports>(_ports: &Repeating<P>)
+    ensures { ∥ IfKnown (P.tells _ports.now.opened.value).calls (P.tells _ports.now.ports).calls
+        (HasRepeated _ports.now.count _ports.now.words _ports.now.log.calls) ∥₁ }
+{}

@@ -1,0 +1,165 @@
+//! Ports over ports that send each datagram of a circuit a second time.
+
+ghost use Rattle.std.specs.Prelude.{◌≡◌, ◌<◌, ◌≤◌, ◌-◌, ◌+◌, [], length, drop, vec_len, slice_index};
+ghost use Rattle.std.specs.Prelude.{slice_index_or, take, ℕ, IfOk, IfSome};
+ghost use Rattle.std.specs.VecDeque.{deque_capacity};
+ghost use Rattle.gw_records.specs.Ports.{Receives, Sends, CountsFault, KeepsSends, KeepsReceives, IfKnown};
+ghost use Rattle.gw_repeat.specs.declared.held.Held.{Held};
+ghost use Rattle.gw_repeat.specs.Words.{HasPacketWords};
+ghost use Rattle.gw_repeat.specs.Repetition.{with_next};
+ghost use Rattle.gw_repeat.specs.Ports.{HasRepeated, IsHeld, AreHeld, SendsAgain, KeepsOthers, octets_of};
+ghost use Rattle.gw_repeat.specs.Ports.{told, words_of};
+
+use crate::held::Held;
+use g704_cas::CircuitNo;
+use gw_circuit::CircuitConfig;
+use gw_records::{AtStart, CallLog, PortFault, Ports};
+use std::alloc::{AllocError, Global};
+
+const CIRCUITS: usize = 30;
+
+/// Behind how many datagrams one is sent again, at most.
+pub const MOST: u8 = 8;
+
+/// Ports over others: each datagram of a circuit goes to those below when it is sent, and again behind that
+/// which is sent so many datagrams later, if all from it on follow one another in their timestamps. Receives
+/// pass through. The ports as they were and all calls are known to proofs alone.
+#[derive(Drop)]
+pub struct Repeating<P: Ports> {
+    pub(crate) ports: P,
+    pub(crate) count: u8,
+    pub(crate) words: [u8; 30],
+    held: Vec<Held>,
+    send_failed: u64,
+    pub(crate) opened: AtStart<P>,
+    pub(crate) log: CallLog,
+    ghost thirty: { vec_len held ≡ 30 },
+    ghost are_held: { AreHeld count words log.calls held.items },
+    ghost repeated: { ∥ IfKnown (P.tells opened.value).calls (P.tells ports).calls
+        (HasRepeated count words log.calls) ∥₁ },
+}
+
+// Sends the datagram of a circuit that is due behind this one, if there is one. Its failure changes nothing:
+// the ports count it.
+#[inline(never)]
+fn send_due<P: Ports>(
+    ports: &mut P,
+    held: &mut Vec<Held>,
+    count: u8,
+    words: &[u8; 30],
+    circuit: CircuitNo,
+    datagram: &[u8],
+)
+    requires thirty { vec_len held.old ≡ 30 }
+    requires some { 0 < count }
+    requires few { (d : Held) → length (slice_index_or held.old.items (circuit - 1) d).packets.items ≤ count }
+    requires room { (d : Held)
+        → count ≤ deque_capacity (slice_index_or held.old.items (circuit - 1) d).packets }
+    ensures sends { (d : Held) → SendsAgain (P.tells ports.old) (P.tells ports.new) circuit
+        (drop count (with_next (words_of words.now circuit) datagram.now
+        (octets_of (slice_index_or held.old.items (circuit - 1) d).packets.items))) }
+    ensures own { (d : Held) → octets_of (slice_index_or held.new.items (circuit - 1) d).packets.items
+        ≡ take count (with_next (words_of words.now circuit) datagram.now
+        (octets_of (slice_index_or held.old.items (circuit - 1) d).packets.items)) }
+    ensures room { (d : Held)
+        → count ≤ deque_capacity (slice_index_or held.new.items (circuit - 1) d).packets }
+    ensures others { KeepsOthers circuit held.old.items held.new.items }
+    ensures thirty { vec_len held.new ≡ 30 }
+    ensures some { 1 ≤ circuit }
+    ensures within { circuit ≤ 30 }
+{
+    let place = usize::from(circuit.get()) - 1;
+    if let Some(again) = held[place].keep(count, words[place], datagram) {
+        let _ = ports.send(circuit, again.as_slice());
+    }
+}
+
+/// The words of a packet of each circuit.
+pub fn packet_words(circuits: &[CircuitConfig; 30]) -> [u8; 30]
+    ensures { HasPacketWords circuits.now result }
+{
+    let mut words = [0u8; CIRCUITS];
+    for (place, circuit) in circuits.iter().enumerate() {
+        words[place] = 8 * circuit.ptime;
+    }
+    words
+}
+
+impl<P: Ports + Drop> Repeating<P> {
+    /// Ports over these, which send each datagram again behind the one that is so many later, or never where
+    /// that is 0; of each circuit with the words of its packets.
+    pub fn open(
+        alloc: Global,
+        ports: P,
+        count: u8,
+        words: [u8; 30],
+    ) -> Result<Repeating<P>, AllocError>
+        ensures { IfOk result (λ r. (r.ports ≡ ports) × (r.opened.value ≡ ports) × (r.count ≡ count)
+            × (r.words ≡ words) × (r.log.calls ≡ [])) }
+    {
+        let mut held = Vec::with_capacity(alloc, CIRCUITS)?;
+        for _circuit in 0..CIRCUITS {
+            held.push(Held::open(alloc, count)?)?;
+        }
+        let opened = AtStart::of(&ports);
+        Ok(Repeating {
+            ports,
+            count,
+            words,
+            held,
+            send_failed: 0,
+            opened,
+            log: CallLog::new(),
+        })
+    }
+}
+
+impl<P: Ports> Ports for Repeating<P> {
+    ghost tells = { λ r. told (P.tells r.ports) r.send_failed r.log.calls };
+
+    #[inline]
+    fn receive(&mut self, circuit: CircuitNo, room: &mut [u8]) -> Result<Option<usize>, PortFault>
+        requires { 65536 ≤ length room.old }
+        ensures bound { IfOk result (λ got. IfSome got (λ n. n ≤ length room.new)) }
+        ensures receives { Receives
+            (told (P.tells self.old.ports) self.old.send_failed self.old.log.calls)
+            (told (P.tells self.new.ports) self.new.send_failed self.new.log.calls) circuit result room.new }
+        ensures counts { CountsFault (P.tells self.old.ports).receive_failures
+            (P.tells self.new.ports).receive_failures result }
+        ensures sends_stay { KeepsSends
+            (told (P.tells self.old.ports) self.old.send_failed self.old.log.calls)
+            (told (P.tells self.new.ports) self.new.send_failed self.new.log.calls) }
+    {
+        let received = self.ports.receive(circuit, room);
+        self.log.received(circuit, &received, room);
+        received
+    }
+
+    fn send(&mut self, circuit: CircuitNo, datagram: &[u8]) -> Result<(), PortFault>
+        ensures sends { Sends
+            (told (P.tells self.old.ports) self.old.send_failed self.old.log.calls)
+            (told (P.tells self.new.ports) self.new.send_failed self.new.log.calls)
+            circuit result datagram.now }
+        ensures counts { CountsFault self.old.send_failed self.new.send_failed result }
+        ensures receives_stay { KeepsReceives
+            (told (P.tells self.old.ports) self.old.send_failed self.old.log.calls)
+            (told (P.tells self.new.ports) self.new.send_failed self.new.log.calls) }
+    {
+        let sent = self.ports.send(circuit, datagram);
+        self.log.sent(circuit, datagram, &sent);
+        if sent.is_err() {
+            self.send_failed = self.send_failed.saturating_add(1);
+        }
+        if self.count > 0 {
+            send_due(
+                &mut self.ports,
+                &mut self.held,
+                self.count,
+                &self.words,
+                circuit,
+                datagram,
+            );
+        }
+        sent
+    }
+}
