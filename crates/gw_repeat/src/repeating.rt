@@ -13,7 +13,7 @@ ghost use Rattle.gw_repeat.specs.Ports.{told, words_of};
 use crate::held::Held;
 use g704_cas::CircuitNo;
 use gw_circuit::CircuitConfig;
-use gw_records::{AtStart, CallLog, PortFault, Ports};
+use gw_records::{AtStart, Log, PortFault, Ports};
 use std::alloc::{AllocError, Global};
 
 const CIRCUITS: usize = 30;
@@ -32,7 +32,7 @@ pub struct Repeating<P: Ports> {
     held: Vec<Held>,
     send_failed: u64,
     pub(crate) opened: AtStart<P>,
-    pub(crate) log: CallLog,
+    pub(crate) log: Log,
     ghost thirty: { vec_len held ≡ 30 },
     ghost are_held: { AreHeld count words log.calls held.items },
     ghost repeated: { ∥ IfKnown (P.tells opened.value).calls (P.tells ports).calls
@@ -109,7 +109,7 @@ impl<P: Ports + Drop> Repeating<P> {
             held,
             send_failed: 0,
             opened,
-            log: CallLog::new(),
+            log: Log::new(),
         })
     }
 }
