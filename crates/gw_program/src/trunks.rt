@@ -13,8 +13,8 @@ use gw_switch::{Gateway, GatewayConfig};
 use gw_trunk::{Incoming, Outgoing, TrunkSink, TrunkSource, serve_trunk};
 use std::alloc::Global;
 
-// Serves a trunk and its clients by a new gateway, whose datagrams come and go through ports, and records on a tape what the
-// gateway takes.
+// Serves a trunk and its clients by a new gateway, whose datagrams come and go through ports, and records on
+// a tape what the gateway takes.
 #[inline(never)]
 fn carry_trunk<I: Incoming, O: Outgoing, A: Outgoing, P: Ports, T: Tape>(
     alloc: Global,

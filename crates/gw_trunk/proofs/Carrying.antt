@@ -155,7 +155,7 @@ pub whole-session : {a a' : Around} {gateway gateway' : Gateway} {ending : Endin
     → SessionTo served_kinds a.source a'.source a.sink a'.sink
     (Served a a' gateway gateway' (λ first. Appends a.sink.taken a'.sink.taken)) ending
     → (ending ≡ endings.End) × Carries config gateway' a.tape a'.tape came asked went told
-whole-session {a = a} {a' = a'} {gateway' = g} {ending = ending} config came asked went told given taken around t new s =
+whole-session {ending = ending} config came asked went told given taken around t new s =
     let w = t.gives in
     let octets-are : s.octets ≡ flat_map spelled w.records
     = sym (appends-first _ _ given s.octets around.unread around.read s.gives.gave) ∙ w.given_are in
@@ -227,8 +227,8 @@ none-given came asked given w none =
 
 -- A session of a trunk until a fault.
 until : {a a' : Around} (gateway gateway' : Gateway) (config : GatewayConfig) (fault : RunFault)
-    (came asked went told given taken : List ℕ) → Around-trunk a a' given taken → Trunked came asked went told given taken
-    → Stands config gateway [] → ServesUntil a a' gateway gateway' fault
+    (came asked went told given taken : List ℕ) → Around-trunk a a' given taken
+    → Trunked came asked went told given taken → Stands config gateway [] → ServesUntil a a' gateway gateway' fault
     → CarriesUntil config gateway' a.tape a'.tape came asked went told fault
 unfolding passed answered place_after
 until gateway gateway' config faults.BadKind came asked went told given taken around t new s =
@@ -248,12 +248,13 @@ until {a = a} {a' = a'} gateway gateway' config faults.OutOfMemory came asked we
     let untaken : a'.sink.taken ≡ Some [] = ap (λ (b : Around). b.sink.taken) s.0 ∙ around.untaken in
     let none : given ≡ [] = let e = around.read in cc in
     let nothing : taken ≡ [] = let e = around.took in cc in
-    (let n = none-given came asked given t.gives none in (n.0, n.1, t.went_are ∙ ap bodies nothing, t.told_are ∙ ap others nothing))
+    let n = none-given came asked given t.gives none in
+    (n.0, n.1, t.went_are ∙ ap bodies nothing, t.told_are ∙ ap others nothing)
 
 -- A session of a trunk, however it ended.
 pub carried : {a a' : Around} (gateway gateway' : Gateway) (config : GatewayConfig) (end : Result Totals RunFault)
-    (came asked went told given taken : List ℕ) → Around-trunk a a' given taken → Trunked came asked went told given taken
-    → Stands config gateway [] → IfOk end (ServesAll a a' gateway gateway')
+    (came asked went told given taken : List ℕ) → Around-trunk a a' given taken
+    → Trunked came asked went told given taken → Stands config gateway [] → IfOk end (ServesAll a a' gateway gateway')
     → IfErr end (ServesUntil a a' gateway gateway')
     → Carried config gateway' a.tape a'.tape came asked went told end
 carried gateway gateway' config (Ok totals) came asked went told given taken around t new ok err =

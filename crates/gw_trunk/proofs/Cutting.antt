@@ -43,4 +43,5 @@ pub read-cut : (came came' asked asked' given room : List ℕ) (n : ℕ) → Giv
     → ((n ≡ 0) × GivesNone came came' asked asked') ⊎ GivesRecord came came' asked asked' (take n room)
     → GivesWoven came' asked' (given ++ take n room)
 read-cut came came' asked asked' given room n w (inl none) = rw (none.0, none.1.0, none.1.1, append-nil) w
-read-cut came came' asked asked' given room n w (inr gives) = one-more came came' asked asked' given (take n room) w gives
+read-cut came came' asked asked' given room n w (inr gives) =
+    one-more came came' asked asked' given (take n room) w gives

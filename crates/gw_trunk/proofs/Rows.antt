@@ -25,17 +25,19 @@ row_others : others (0x54 ∷ 0 ∷ 0 ∷ 2 ∷ 0xd5 ∷ 0x2a ∷ 0x52 ∷ 7 ∷
 unfolding answered place_after
 row_others = refl
 
--- Two pieces of a trunk with the command of a client between them: what came, what was asked, and the octets of
--- their records.
+-- Two pieces of a trunk with the command of a client between them.
 abbrev row_woven : List Record
 row_woven = Record.Trunk (0x9b ∷ 0xd5 ∷ []) ∷ Record.Command 7 1 ∷ Record.Trunk (0xdf ∷ []) ∷ []
 
+-- .. what came
 row_came : flat_map trunk_part row_woven ≡ 0x9b ∷ 0xd5 ∷ 0xdf ∷ []
 row_came = refl
 
+-- .. what was asked
 row_asked : flat_map client_part row_woven ≡ 0x43 ∷ 7 ∷ 0 ∷ 1 ∷ 1 ∷ []
 row_asked = refl
 
+-- .. and their octets
 row_given : flat_map spelled row_woven
     ≡ 0x54 ∷ 0 ∷ 0 ∷ 2 ∷ 0x9b ∷ 0xd5 ∷ 0x43 ∷ 7 ∷ 0 ∷ 1 ∷ 1 ∷ 0x54 ∷ 0 ∷ 0 ∷ 1 ∷ 0xdf ∷ []
 row_given = refl

@@ -58,8 +58,8 @@ others octets = answered Kind octets
 abbrev pub body_after : Bool → ℕ → ℕ → Place
 body_after to_trunk more n = if nat_lt more n then Kind else Body to_trunk (more - n)
 
--- Records were taken up to this place. The bodies of the T records among them went to the trunk, and the others
--- to clients.
+-- Records were taken up to this place. The bodies of the T records among them went to the trunk, and the
+-- others to clients.
 pub record HasPassed (place : Place) (taken went told : List ℕ) : Type 0 where
   pub place_is : place ≡ place_after Kind taken
   pub went_are : went ≡ bodies taken

@@ -11,10 +11,10 @@ IsTaken NoneNow room = ⊤
 IsTaken Ended room = ⊤
 
 -- the trunk was read: octets were taken, or none had come
-abbrev pub IsRead : Taken → Type 0
-IsRead (Octets n) = ⊤
-IsRead NoneNow = ⊤
-IsRead Ended = ⊥
+abbrev pub WasRead : Taken → Type 0
+WasRead (Octets n) = ⊤
+WasRead NoneNow = ⊤
+WasRead Ended = ⊥
 
 -- the octets that a read took into a room
 abbrev pub octets_taken : Result Taken DeviceFault → List ℕ → List ℕ

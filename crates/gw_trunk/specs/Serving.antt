@@ -1,5 +1,5 @@
 -- A trunk that is served by a gateway: what comes and what goes (module `serving`).
-use Rattle.std.specs.Prelude.{◌≡◌, ◌++◌, ◌∷◌, ℕ, List, [], Result, MatchResult}
+use Rattle.std.specs.Prelude.{◌≡◌, ◌++◌, ◌∷◌, ℕ, List, [], flat_map, Result, MatchResult}
 use Rattle.gw_switch.specs.declared.GatewayConfig.{GatewayConfig}
 use Rattle.gw_switch.specs.declared.gateway.Gateway.{Gateway}
 use Rattle.gw_switch.specs.Events.{Event, octets}
@@ -8,8 +8,9 @@ use Rattle.gw_switch.specs.Whole.{Reply, reply_to}
 use Rattle.gw_records.specs.declared.outcome.Totals.{Totals}
 use Rattle.gw_records.specs.declared.outcome.RunFault.{RunFault}
 use Rattle.gw_records.specs.declared.outcome.RunFault.TheVariants.{Read, Write, OutOfMemory}
+use Rattle.gw_records.specs.Octets.{octet_of_command, octet_of_codec}
 use Rattle.gw_records.specs.Records.{Record}
-use Rattle.gw_session.specs.Answers.{Written, written_out, code_of, events}
+use Rattle.gw_session.specs.Answers.{written_out, answers, events}
 use Rattle.gw_session.specs.Serve.{octets_for}
 use Rattle.gw_session.specs.ServeLaws.{without_datagrams}
 use Rattle.gw_session.specs.Tape.{TapeState, Recorded}
@@ -24,9 +25,10 @@ commands_in (event ∷ es) = event ∷ commands_in es
 
 -- the R record that answers a command or a codec, by the gateway's reply to it; none answers other events
 abbrev pub answer_in : Event → Reply → List ℕ
-answer_in (Event.Command circuit asked) reply = written_out (Written.Answered circuit 0x43 (code_of reply))
+answer_in (Event.Command circuit asked) reply =
+    flat_map written_out (answers (Record.Command circuit (octet_of_command asked)) (reply ∷ []))
 answer_in (Event.Codec circuit kind payload_type) reply =
-    written_out (Written.Answered circuit 0x4B (code_of reply))
+    flat_map written_out (answers (Record.Codec circuit (octet_of_codec kind) payload_type) (reply ∷ []))
 answer_in event reply = []
 
 -- the R records that answer events, after the events before them
@@ -35,9 +37,10 @@ answers_for config before [] = []
 answers_for config before (event ∷ es) =
     answer_in event (reply_to config before event) ++ answers_for config (before ++ event ∷ []) es
 
--- Octets and records of clients, woven, and nothing but datagrams between them happened to the gateway, and it
--- stands after them. Without the rest it is the octets in their order, or the records of clients in theirs. The
--- octets that are sent, one for each octet, and the answers to the clients are these. What happened was recorded.
+-- Octets and records of clients, woven, and nothing but datagrams between them happened to the gateway, and
+-- it stands after them. Its octets are those in their order, its commands those of the records in theirs.
+-- The octets that are sent, one for each octet, and the answers to clients are these. What happened was
+-- recorded.
 pub record Carries (config : GatewayConfig) (gateway' : Gateway) (tape tape' : TapeState)
     (heard asked sent told : List ℕ) : Type 0 where
   pub happened : List Event

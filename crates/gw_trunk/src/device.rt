@@ -2,7 +2,7 @@
 
 ghost use Rattle.std.specs.Prelude.{◌≡◌, ◌<◌, ◌≤◌, ◌++◌, ℕ, List, [], length, take, IfOk, IfSome, IfNone, ⊤};
 ghost use Rattle.std.specs.Prelude.{Bool, true};
-ghost use Rattle.gw_trunk.specs.Device.{IsTaken, IsRead, octets_taken, written_of};
+ghost use Rattle.gw_trunk.specs.Device.{IsTaken, WasRead, octets_taken, written_of};
 ghost use Rattle.gw_trunk.specs.Pieces.{AsksRecord};
 
 use crate::waiting::Waiting;
@@ -57,12 +57,12 @@ pub trait Incoming {
         ensures bound { IfOk result (λ t. IsTaken t (length room.new)) }
         ensures came { came self.new ≡ came self.old ++ octets_taken result room.new }
         ensures asked { asked self.new ≡ asked self.old }
-        ensures turn { IfOk result (λ t. IsRead t → is_turn self.new ≡ true) }
+        ensures turn { IfOk result (λ t. WasRead t → is_turn self.new ≡ true) }
         ensures empty { IfOk result (λ t. t ≡ Taken.NoneNow → is_empty self.new ≡ true) }
         ensures ended { IfOk result (λ t. t ≡ Taken.Ended → has_ended self.new) };
 
-    /// Takes the next record of a client to the front of `room`, and returns its length; None if no client has
-    /// a whole one. Each record of a client comes behind a read of the trunk. It never waits.
+    /// Takes the next record of a client to the front of `room`, and returns its length; None if no client
+    /// has a whole one. Each record of a client comes behind a read of the trunk. It never waits.
     fn command(&mut self, room: &mut [u8]) -> Option<usize>
         requires turn { is_turn self.old ≡ true }
         ensures came { came self.new ≡ came self.old }

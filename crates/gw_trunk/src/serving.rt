@@ -13,10 +13,10 @@ use gw_session::{Ports, RunFault, Sink, Source, Tape, Totals, serve_recorded};
 use gw_switch::Gateway;
 use std::alloc::Global;
 
-/// Serves a trunk and its clients by a gateway until no octet comes any more: for each octet that comes the one
-/// goes that the gateway sends with it, in their order, and nothing else goes. For each record of a client an
-/// answer goes to clients, in their order, and nothing else does. Datagrams come and go through the ports, and
-/// the tape takes what happens, as in `serve_recorded`.
+/// Serves a trunk and its clients by a gateway until no octet comes any more: for each octet that comes the
+/// one goes that the gateway sends with it, in their order, and nothing else goes. For each record of a
+/// client an answer goes to clients, in their order, and nothing else does. Datagrams come and go through the
+/// ports, and the tape takes what happens, as in `serve_recorded`.
 ///
 /// # Errors
 ///

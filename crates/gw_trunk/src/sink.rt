@@ -1,7 +1,8 @@
 //! The records that answer, whose octets go to a trunk.
 
-ghost use Rattle.std.specs.Prelude.{◌≡◌, ◌≤◌, ◌<◌, ◌++◌, [], length, take, IfOk, OnErr, Some, if◌then◌else◌, slice_index};
-ghost use Rattle.gw_trunk.specs.Bodies.{HasPassed, StepsOver, is_answer, answered, place_next, body_place, body_after};
+ghost use Rattle.std.specs.Prelude.{◌≡◌, ◌≤◌, ◌<◌, ◌++◌, [], length, take, IfOk, OnErr, Some, if◌then◌else◌};
+ghost use Rattle.std.specs.Prelude.{slice_index};
+ghost use Rattle.gw_trunk.specs.Bodies.{HasPassed, StepsOver, is_answer, place_next, body_place, body_after};
 
 use crate::device::Outgoing;
 use gw_records::{Log, Sink, SinkFault, TRUNK};
@@ -101,8 +102,8 @@ fn put_out<O: Outgoing>(outgoing: &mut O, octets: &[u8]) -> Result<usize, SinkFa
 fn put_front<A: Outgoing>(answers: &mut A, place: Place, octets: &[u8]) -> Result<usize, SinkFault>
     requires { 0 < length octets.now }
     ensures bound { IfOk result (λ n. n ≤ 1) }
-    ensures told { IfOk result (λ n. A.went answers.new
-        ≡ A.went answers.old ++ (if is_answer place (slice_index octets.now 0) then take n octets.now else [])) }
+    ensures told { IfOk result (λ n. A.went answers.new ≡ A.went answers.old
+        ++ (if is_answer place (slice_index octets.now 0) then take n octets.now else [])) }
     ensures err { OnErr result (A.went answers.new ≡ A.went answers.old) }
 {
     if !is_answer(place, octets[0]) {
@@ -140,7 +141,8 @@ fn pass<O: Outgoing, A: Outgoing>(
     octets: &[u8],
 ) -> Result<usize, SinkFault>
     ensures bound { IfOk result (λ n. n ≤ length octets.now) }
-    ensures passes { IfOk result (λ n. StepsOver place.old place.new (O.went outgoing.old) (O.went outgoing.new)
+    ensures passes { IfOk result (λ n. StepsOver place.old place.new
+        (O.went outgoing.old) (O.went outgoing.new)
         (A.went answers.old) (A.went answers.new) (take n octets.now)) }
     ensures err { OnErr result (O.went outgoing.new ≡ O.went outgoing.old) }
     ensures untold { OnErr result (A.went answers.new ≡ A.went answers.old) }

@@ -42,7 +42,8 @@ fn command_in_turn<I: Incoming>(incoming: &mut I, turn: &mut bool, room: &mut [u
     requires { turn.old ≡ true → I.is_turn incoming.old ≡ true }
     ensures bound { IfSome result (λ n. n ≤ length room.new) }
     ensures came { I.came incoming.new ≡ I.came incoming.old }
-    ensures asked { IfSome result (λ n. AsksRecord (I.asked incoming.old) (I.asked incoming.new) (take n room.new)) }
+    ensures asked { IfSome result (λ n.
+        AsksRecord (I.asked incoming.old) (I.asked incoming.new) (take n room.new)) }
     ensures none { IfNone result (I.asked incoming.new ≡ I.asked incoming.old) }
     ensures turn { turn.new ≡ false }
 {
@@ -53,8 +54,8 @@ fn command_in_turn<I: Incoming>(incoming: &mut I, turn: &mut bool, room: &mut [u
     incoming.command(room)
 }
 
-// The next record, whole, or 0 at the end of the trunk. It is a client's only if `turn` holds or the trunk has
-// none, and the source waits only if a client has none either.
+// The next record, whole, or 0 at the end of the trunk. It is a client's only if `turn` holds or the trunk
+// has none, and the source waits only if a client has none either.
 fn next_record<I: Incoming>(
     incoming: &mut I,
     turn: &mut bool,

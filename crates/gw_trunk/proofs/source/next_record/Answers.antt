@@ -22,7 +22,9 @@ returns-in-Ok-Octets-clause-reads g c =
         omega (arith, counted, bound),
         omega (arith, counted, bound, c.loop-turn.invariant.few, c.read.auto.room),
       );
-      came_is = came ∙ ap (λ (xs : List ℕ). xs ++ take n room) (c.loop-turn.invariant.came ∙ c.command_in_turn.ensures.came);
-      asked_is = c.in-Ok-Octets.ensures.asked ∙ c.loop-turn.invariant.asked ∙ c.in_default.ensures.none ∙ sym (append-nil _);
+      came_is = came ∙ ap (λ (xs : List ℕ). xs ++ take n room)
+          (c.loop-turn.invariant.came ∙ c.command_in_turn.ensures.came);
+      asked_is = c.in-Ok-Octets.ensures.asked ∙ c.loop-turn.invariant.asked ∙ c.in_default.ensures.none
+          ∙ sym (append-nil _);
       given_is = whole ∙ rw (head, counted) refl;
     })
