@@ -121,9 +121,7 @@ impl NoClients {
     pub fn new() -> NoClients
         ensures { result.log.octets ≡ [] }
     {
-        NoClients {
-            log: Log::new(),
-        }
+        NoClients { log: Log::new() }
     }
 }
 
