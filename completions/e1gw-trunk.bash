@@ -16,8 +16,8 @@ _e1gw_trunk() {
     --senders) mapfile -t COMPREPLY < <(compgen -W 'any host peer' -- "$cur") ;;
     --on-loss) mapfile -t COMPREPLY < <(compgen -W 'keep clear block' -- "$cur") ;;
     --control-group) mapfile -t COMPREPLY < <(compgen -g -- "$cur") ;;
-    --name | --repeat | --tcp | --satop | --pace | --most | --satop-size | --satop-jitter | --satop-rtp | --control-mode | \
-      --http | --picture | --keep | --gap | --dark) ;;
+    --name | --repeat | --tcp | --satop | --pace | --most | --satop-size | --satop-jitter | --satop-rtp | \
+      --control-mode | --http | --picture | --keep | --gap | --dark) ;;
     *) mapfile -t COMPREPLY < <(compgen -W "$options" -- "$cur") ;;
   esac
 }

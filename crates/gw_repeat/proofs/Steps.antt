@@ -1,10 +1,10 @@
 -- What is held, and what went out, from call to call.
-use Rattle.std.proofs.Common.{◌≡◌, ◌≢◌, ℕ, zero, suc, ◌+◌, ◌-◌, ◌≤◌, ◌<◌, ◌++◌, ◌∷◌, [], List, Bool, true, false}
+use Rattle.std.proofs.Common.{◌≡◌, ℕ, zero, suc, ◌+◌, ◌-◌, ◌≤◌, ◌<◌, ◌++◌, ◌∷◌, [], List, Bool, true, false}
 use Rattle.std.proofs.Common.{Option, Some, None, Result, Ok, Err, refl, ap, inl, inr, arith, take, drop}
 use Rattle.std.proofs.Common.{sym, append-nil, length}
 use Rattle.std.proofs.Common.{append_assoc, slice_index, slice_index_or, map}
 use Rattle.std.proofs.lemmas.Bool.Decides.{eqb_tells}
-use Rattle.std.proofs.lemmas.List.{drop-take, reverse-append}
+use Rattle.std.proofs.lemmas.List.{reverse-append}
 use Rattle.std.specs.Prelude.{reverse, flat_map, if◌then◌else◌, nat_eq}
 use Rattle.std.proofs.lemmas.Grind.{flat_map-append}
 use Rattle.std.specs.VecDeque.{deque_capacity}
@@ -12,7 +12,7 @@ use Rattle.gw_records.specs.declared.ports.PortFault.{PortFault}
 use Rattle.gw_records.specs.Ports.{KeepsReceives, given_by_call, PortCall, PortsState, Receives, Sends, Grows}
 use Rattle.gw_records.specs.Ports.{IfKnown, receive_call, send_call}
 use Rattle.gw_repeat.specs.Repetition.{has_room, continues, with_next, last_run, repetition}
-use Rattle.gw_repeat.specs.Ports.{octets_of, sent_by_call, sent_of, attempt, repeats_behind, Repeats, words_of}
+use Rattle.gw_repeat.specs.Ports.{held_octets, sent_by_call, sent_of, attempt, repeats_behind, words_at}
 use Rattle.gw_repeat.specs.Ports.{HasRepeated, IsHeld, AreHeld, SendsAgain, KeepsOthers, told}
 use Rattle.gw_repeat.specs.declared.held.Held.{Held}
 
@@ -115,7 +115,7 @@ receive_quiet circuit (Err e) room c = refl
 -- what is held of the circuit of a send after it
 held_next : (n words : ℕ) (datagram : List ℕ) (datagrams : List (List ℕ)) (old new : Held) → 0 < n
     → IsHeld n words datagrams old
-    → octets_of new.packets.items ≡ take n (with_next words datagram (octets_of old.packets.items))
+    → held_octets new.packets.items ≡ take n (with_next words datagram (held_octets old.packets.items))
     → n ≤ deque_capacity new.packets → IsHeld n words (datagram ∷ datagrams) new
 held_next n words datagram datagrams old new some is next room = record {
   last = rw (next, is.last) (kept n words datagram (last_run words datagrams) some);
@@ -125,9 +125,9 @@ held_next n words datagram datagrams old new some is next room = record {
 -- what is held of all circuits after a send
 pub held_more : (n : ℕ) (words : List ℕ) (circuit : ℕ) (datagram : List ℕ) (r : Result (Unit {0}) PortFault)
     (calls : List PortCall) (old new : List Held) → 0 < n → 1 ≤ circuit → AreHeld n words calls old
-    → ((d : Held) → octets_of (slice_index_or new (circuit - 1) d).packets.items
-    ≡ take n (with_next (words_of words circuit) datagram
-    (octets_of (slice_index_or old (circuit - 1) d).packets.items)))
+    → ((d : Held) → held_octets (slice_index_or new (circuit - 1) d).packets.items
+    ≡ take n (with_next (words_at words circuit) datagram
+    (held_octets (slice_index_or old (circuit - 1) d).packets.items)))
     → ((d : Held) → n ≤ deque_capacity (slice_index_or new (circuit - 1) d).packets)
     → KeepsOthers circuit old new → AreHeld n words (calls ++ send_call circuit datagram r ∷ []) new
 held_more n words circuit datagram r calls old new some from are own room others = λ i d below.
@@ -143,26 +143,26 @@ held_more n words circuit datagram r calls old new some from are own room others
 -- the sends behind one of a session, by what was due
 pub behind_send : (n : ℕ) (words : List ℕ) (circuit : ℕ) (datagram : List ℕ) (r : Result (Unit {0}) PortFault)
     (calls again : List PortCall) (held : Held) → 0 < n
-    → IsHeld n (words_of words circuit) (sent_of circuit (reverse calls)) held
+    → IsHeld n (words_at words circuit) (sent_of circuit (reverse calls)) held
     → map attempt again ≡ map (PortCall.Took circuit)
-    (drop n (with_next (words_of words circuit) datagram (octets_of held.packets.items)))
-    → map attempt again ≡ repeats_behind n (words_of words) (send_call circuit datagram r) (reverse calls)
+    (drop n (with_next (words_at words circuit) datagram (held_octets held.packets.items)))
+    → map attempt again ≡ repeats_behind n (words_at words) (send_call circuit datagram r) (reverse calls)
 behind_send n words circuit datagram (Ok x) calls again held some is sends = rw (sends, is.last)
-    (ap (map (PortCall.Took circuit)) (due n (words_of words circuit) datagram (sent_of circuit (reverse calls)) some))
+    (ap (map (PortCall.Took circuit)) (due n (words_at words circuit) datagram (sent_of circuit (reverse calls)) some))
 behind_send n words circuit datagram (Err e) calls again held some is sends = rw (sends, is.last)
-    (ap (map (PortCall.Took circuit)) (due n (words_of words circuit) datagram (sent_of circuit (reverse calls)) some))
+    (ap (map (PortCall.Took circuit)) (due n (words_at words circuit) datagram (sent_of circuit (reverse calls)) some))
 
 -- none is sent behind a send where none is to be repeated
 pub behind_none : (n : ℕ) (words : List ℕ) (circuit : ℕ) (datagram : List ℕ) (r : Result (Unit {0}) PortFault)
     (calls : List PortCall) → n ≡ 0
-    → [] ≡ repeats_behind n (words_of words) (send_call circuit datagram r) (reverse calls)
+    → [] ≡ repeats_behind n (words_at words) (send_call circuit datagram r) (reverse calls)
 behind_none n words circuit datagram (Ok x) calls is = rw is refl
 behind_none n words circuit datagram (Err e) calls is = rw is refl
 
 -- none is sent behind a receive
 pub behind_receive : (n : ℕ) (words : List ℕ) (circuit : ℕ) (r : Result (Option ℕ) PortFault) (room : List ℕ)
     (calls : List PortCall)
-    → [] ≡ repeats_behind n (words_of words) (receive_call circuit r room) (reverse calls)
+    → [] ≡ repeats_behind n (words_at words) (receive_call circuit r room) (reverse calls)
 behind_receive n words circuit (Ok (Some len)) room calls = refl
 behind_receive n words circuit (Ok None) room calls = refl
 behind_receive n words circuit (Err e) room calls = refl
@@ -176,7 +176,7 @@ reversed more again call = rw (reverse-append more (call ∷ again), reverse-app
 repeated_lists : (n : ℕ) (words : List ℕ) (calls : List PortCall) (call : PortCall) (again : List PortCall)
     (old between new : List PortCall) → HasRepeated n words calls old between
     → new ≡ between ++ call ∷ again
-    → map attempt again ≡ repeats_behind n (words_of words) call (reverse calls)
+    → map attempt again ≡ repeats_behind n (words_at words) call (reverse calls)
     → HasRepeated n words (calls ++ call ∷ []) old new
 repeated_lists n words calls call again old between new has grew sends = record {
   more = has.more ++ call ∷ again;
@@ -188,7 +188,7 @@ repeated_lists n words calls call again old between new has grew sends = record 
 pub repeated_more : (n : ℕ) (words : List ℕ) (calls : List PortCall) (call : PortCall) (again : List PortCall)
     (old between grown new : Option (List PortCall)) → IfKnown old between (HasRepeated n words calls)
     → Grows between grown (call ∷ []) → Grows grown new again
-    → map attempt again ≡ repeats_behind n (words_of words) call (reverse calls)
+    → map attempt again ≡ repeats_behind n (words_at words) call (reverse calls)
     → IfKnown old new (HasRepeated n words (calls ++ call ∷ []))
 repeated_more n words calls call again None between grown new has one more sends = tt
 repeated_more n words calls call again (Some old) None grown new has one more sends = absurd has
@@ -238,9 +238,9 @@ repeated_send n words calls circuit datagram r opened old new none has sends =
 pub repeated_due : (n : ℕ) (words : List ℕ) (calls : List PortCall) (circuit : ℕ) (datagram : List ℕ)
     (r : Result (Unit {0}) PortFault) (opened : Option (List PortCall)) (old sent new : PortsState) (held : Held)
     → 0 < n → IfKnown opened old.calls (HasRepeated n words calls) → Sends old sent circuit r datagram
-    → IsHeld n (words_of words circuit) (sent_of circuit (reverse calls)) held
+    → IsHeld n (words_at words circuit) (sent_of circuit (reverse calls)) held
     → SendsAgain sent new circuit
-    (drop n (with_next (words_of words circuit) datagram (octets_of held.packets.items)))
+    (drop n (with_next (words_at words circuit) datagram (held_octets held.packets.items)))
     → IfKnown opened new.calls (HasRepeated n words (calls ++ send_call circuit datagram r ∷ []))
 repeated_due n words calls circuit datagram r opened old sent new held some has sends is again =
     repeated_more n words calls (send_call circuit datagram r) again.again opened old.calls sent.calls new.calls has
@@ -250,7 +250,7 @@ repeated_due n words calls circuit datagram r opened old sent new held some has 
 -- the circuit of a send is one of those that are held
 pub held_at : (n : ℕ) (words : List ℕ) (circuit : ℕ) (calls : List PortCall) (held : List Held) (d : Held)
     → 1 ≤ circuit → circuit ≤ 30 → AreHeld n words calls held
-    → IsHeld n (words_of words circuit) (sent_of circuit (reverse calls)) (slice_index_or held (circuit - 1) d)
+    → IsHeld n (words_at words circuit) (sent_of circuit (reverse calls)) (slice_index_or held (circuit - 1) d)
 held_at n words circuit calls held d from to are =
     let same : circuit - 1 + 1 ≡ circuit = omega (arith, from) in
     rw same at (are (circuit - 1) d (omega (arith, from, to)))

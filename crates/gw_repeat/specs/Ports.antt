@@ -2,15 +2,15 @@
 use Rattle.std.specs.Prelude.{◌≡◌, ◌≢◌, ◌==◌, ◌+◌, ◌-◌, ◌≤◌, ◌<◌, ◌++◌, if◌then◌else◌, ℕ, List, [], ◌∷◌}
 use Rattle.std.specs.Prelude.{map, flat_map, reverse, take, slice_index, slice_index_or, Some}
 use Rattle.std.specs.VecDeque.{deque_capacity}
-use Rattle.gw_records.specs.Ports.{PortCall, PortsState, Grows, IfKnown, given_by_call, taken_by_call}
+use Rattle.gw_records.specs.Ports.{PortCall, PortsState, Grows, given_by_call, taken_by_call}
 use Rattle.gw_records.specs.Ports.{KeepsReceives}
 use Rattle.gw_repeat.specs.Repetition.{last_run, repetition}
 use Rattle.gw_repeat.specs.declared.packet.Packet.{Packet}
 use Rattle.gw_repeat.specs.declared.held.Held.{Held}
 
 -- the octets of datagrams that are held
-abbrev pub octets_of : List Packet → List (List ℕ)
-octets_of packets = map (λ p. p.octets.items) packets
+abbrev pub held_octets : List Packet → List (List ℕ)
+held_octets packets = map (λ p. p.octets.items) packets
 
 -- the datagram that a send of this circuit was asked to take
 abbrev pub sent_by_call : ℕ → PortCall → List (List ℕ)
@@ -45,18 +45,18 @@ Repeats n words (call ∷ earlier) below = (again : List PortCall) × (rest : Li
     × Repeats n words earlier rest
 
 -- the words of a packet of each circuit, by the list for circuits 1 to 30
-abbrev pub words_of : List ℕ → ℕ → ℕ
-words_of words circuit = slice_index words (circuit - 1)
+abbrev pub words_at : List ℕ → ℕ → ℕ
+words_at words circuit = slice_index words (circuit - 1)
 
 -- the calls below grew by those that come of a session's
 pub record HasRepeated (n : ℕ) (words : List ℕ) (calls old new : List PortCall) : Type 0 where
   pub more : List PortCall
   pub grew : new ≡ old ++ more
-  pub repeats : Repeats n (words_of words) (reverse calls) (reverse more)
+  pub repeats : Repeats n (words_at words) (reverse calls) (reverse more)
 
 -- the last n datagrams of a circuit are held, the latest first, as far as they follow one another
 pub record IsHeld (n words : ℕ) (datagrams : List (List ℕ)) (held : Held) : Type 0 where
-  pub last : octets_of held.packets.items ≡ take n (last_run words datagrams)
+  pub last : held_octets held.packets.items ≡ take n (last_run words datagrams)
   pub room : n ≤ deque_capacity held.packets
 
 -- .. of each circuit, after these calls

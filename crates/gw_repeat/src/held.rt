@@ -4,7 +4,7 @@ ghost use Rattle.std.specs.Prelude.{◌≡◌, ◌<◌, ◌≤◌, ◌++◌, [],
 ghost use Rattle.std.specs.Prelude.{IfOk, IfSome};
 ghost use Rattle.std.specs.VecDeque.{deque_capacity};
 ghost use Rattle.gw_repeat.specs.Repetition.{timestamp_of, continues, with_next};
-ghost use Rattle.gw_repeat.specs.Ports.{octets_of};
+ghost use Rattle.gw_repeat.specs.Ports.{held_octets};
 
 use crate::packet::Packet;
 use byteorder::{BigEndian, ByteOrder};
@@ -38,7 +38,7 @@ impl Held {
     // Whether a datagram follows the latest that is held.
     fn continued_by(&self, words: u8, datagram: &[u8]) -> bool
         requires { 12 ≤ length datagram.now }
-        ensures { result ≡ continues words datagram.now (octets_of self.now.packets.items) }
+        ensures { result ≡ continues words datagram.now (held_octets self.now.packets.items) }
     {
         match self.packets.front() {
             Some(latest) => {
@@ -70,10 +70,10 @@ impl Held {
         requires some { 0 < count }
         requires few { length self.old.packets.items ≤ count }
         requires room { count ≤ deque_capacity self.old.packets }
-        ensures kept { octets_of self.new.packets.items
-            ≡ take count (with_next words datagram.now (octets_of self.old.packets.items)) }
-        ensures due { octets_of (option_to_list result)
-            ≡ drop count (with_next words datagram.now (octets_of self.old.packets.items)) }
+        ensures kept { held_octets self.new.packets.items
+            ≡ take count (with_next words datagram.now (held_octets self.old.packets.items)) }
+        ensures due { held_octets (option_to_list result)
+            ≡ drop count (with_next words datagram.now (held_octets self.old.packets.items)) }
         ensures room { count ≤ deque_capacity self.new.packets }
     {
         let Some(packet) = Packet::of(datagram) else {

@@ -7,8 +7,8 @@ ghost use Rattle.gw_records.specs.Ports.{Receives, Sends, CountsFault, KeepsSend
 ghost use Rattle.gw_repeat.specs.declared.held.Held.{Held};
 ghost use Rattle.gw_repeat.specs.Words.{HasPacketWords};
 ghost use Rattle.gw_repeat.specs.Repetition.{with_next};
-ghost use Rattle.gw_repeat.specs.Ports.{HasRepeated, IsHeld, AreHeld, SendsAgain, KeepsOthers, octets_of};
-ghost use Rattle.gw_repeat.specs.Ports.{told, words_of};
+ghost use Rattle.gw_repeat.specs.Ports.{HasRepeated, IsHeld, AreHeld, SendsAgain, KeepsOthers, held_octets};
+ghost use Rattle.gw_repeat.specs.Ports.{told, words_at};
 
 use crate::held::Held;
 use g704_cas::CircuitNo;
@@ -56,11 +56,11 @@ fn send_due<P: Ports>(
     requires room { (d : Held)
         → count ≤ deque_capacity (slice_index_or held.old.items (circuit - 1) d).packets }
     ensures sends { (d : Held) → SendsAgain (P.tells ports.old) (P.tells ports.new) circuit
-        (drop count (with_next (words_of words.now circuit) datagram.now
-        (octets_of (slice_index_or held.old.items (circuit - 1) d).packets.items))) }
-    ensures own { (d : Held) → octets_of (slice_index_or held.new.items (circuit - 1) d).packets.items
-        ≡ take count (with_next (words_of words.now circuit) datagram.now
-        (octets_of (slice_index_or held.old.items (circuit - 1) d).packets.items)) }
+        (drop count (with_next (words_at words.now circuit) datagram.now
+        (held_octets (slice_index_or held.old.items (circuit - 1) d).packets.items))) }
+    ensures own { (d : Held) → held_octets (slice_index_or held.new.items (circuit - 1) d).packets.items
+        ≡ take count (with_next (words_at words.now circuit) datagram.now
+        (held_octets (slice_index_or held.old.items (circuit - 1) d).packets.items)) }
     ensures room { (d : Held)
         → count ≤ deque_capacity (slice_index_or held.new.items (circuit - 1) d).packets }
     ensures others { KeepsOthers circuit held.old.items held.new.items }

@@ -1,11 +1,14 @@
 //! A call over UDP, on ports of 127.0.0.1 that are free.
 
+use byteorder::{BigEndian, ByteOrder};
 use e1_g711::Law;
+use g704_cas::CircuitNo;
 use g726_codec::CodecKind;
 use gw_circuit::CircuitConfig;
 use gw_config::Port;
 use gw_program::serve_through;
-use gw_session::{FromRead, NoTape, ToWrite};
+use gw_repeat::Repeating;
+use gw_session::{FromRead, NoTape, Ports, ToWrite};
 use gw_switch::GatewayConfig;
 use gw_udp::{Senders, UdpPorts};
 use q421_line::Role;
@@ -43,9 +46,8 @@ fn first_call(alloc: Global) -> Result<Vec<u8>, AllocError> {
     Ok(octets)
 }
 
-#[test]
-fn first_call_over_udp(rt: HostRuntime) -> Result<(), Fail> {
-    let peer = UdpSocket::bind(&rt, "127.0.0.1:0")?;
+// A socket for circuit 1, whose datagrams go to this peer.
+fn ports_to(rt: &HostRuntime, peer: &UdpSocket) -> Result<UdpPorts<UdpSocket>, Fail> {
     peer.set_nonblocking(true)?;
     let mut circuits = [const { None }; 30];
     circuits[0] = Some(Port {
@@ -53,8 +55,14 @@ fn first_call_over_udp(rt: HostRuntime) -> Result<(), Fail> {
         peer_host: String::from_str(rt.alloc(), "127.0.0.1")?,
         peer_port: peer.local_addr()?.port(),
     });
-    let opened = UdpPorts::<UdpSocket>::open(&rt, rt.alloc(), "127.0.0.1", &circuits, Senders::Any);
-    let mut ports = opened.ok().ok_or("sockets")?;
+    let opened = UdpPorts::<UdpSocket>::open(rt, rt.alloc(), "127.0.0.1", &circuits, Senders::Any);
+    Ok(opened.ok().ok_or("sockets")?)
+}
+
+#[test]
+fn first_call_over_udp(rt: HostRuntime) -> Result<(), Fail> {
+    let peer = UdpSocket::bind(&rt, "127.0.0.1:0")?;
+    let mut ports = ports_to(&rt, &peer)?;
     let circuit = CircuitConfig::new(Role::Outgoing, CodecKind::G711, 8, 20, 0, 1, 0, 0).ok_or(
         "a configuration",
     )?;
@@ -85,5 +93,31 @@ fn first_call_over_udp(rt: HostRuntime) -> Result<(), Fail> {
         ])
     );
     assert!(rt; room[12..172].iter().all(|octet| *octet == 0xD4));
+    Ok(())
+}
+
+// The timestamps of datagrams that are sent, and of those that arrive where each is sent again behind the next one.
+// The fourth begins anew, so the third is not sent again.
+const SENT: [u32; 5] = [0, 160, 320, 1_000, 1_160];
+
+const ARRIVED: [u32; 8] = [0, 160, 0, 320, 160, 1_000, 1_160, 1_000];
+
+#[test]
+fn each_datagram_twice_over_udp(rt: HostRuntime) -> Result<(), Fail> {
+    let peer = UdpSocket::bind(&rt, "127.0.0.1:0")?;
+    let mut ports = Repeating::open(rt.alloc(), ports_to(&rt, &peer)?, 1, [160; 30])?;
+    let circuit = CircuitNo::new(1).ok_or("no circuit")?;
+    let mut datagram = [0x80, 8, 0, 0, 0, 0, 0, 0, 0, 0, 0, 9, 0xD5];
+    for timestamp in SENT {
+        BigEndian::write_u32(&mut datagram[4..8], timestamp);
+        assert!(rt; ports.send(circuit, &datagram).is_ok());
+    }
+    let mut room = [0u8; 252];
+    for timestamp in ARRIVED {
+        let (len, _) = peer.recv_from(&mut room)?;
+        assert!(rt; len == 13);
+        assert_eq!(rt; BigEndian::read_u32(&room[4..8]), timestamp);
+    }
+    assert!(rt; peer.recv_from(&mut room).is_err());
     Ok(())
 }

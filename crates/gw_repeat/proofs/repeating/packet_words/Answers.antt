@@ -1,4 +1,4 @@
-use Rattle.std.proofs.Common.{◌≡◌, ◌≢◌, ◌<◌, ◌+◌, ◌*◌, ℕ, length, slice_index, slice_index_or, arith, rules}
+use Rattle.std.proofs.Common.{◌≡◌, ◌≢◌, ◌<◌, ◌*◌, length, slice_index, slice_index_or, arith, rules}
 use Rattle.std.proofs.Common.{get_or-set_other, get_or-set_same, below_more, set, refl}
 use Rattle.std.proofs.lemmas.List.{get_or_default}
 use Rattle.gw_circuit.specs.declared.config.CircuitConfig.{CircuitConfig}

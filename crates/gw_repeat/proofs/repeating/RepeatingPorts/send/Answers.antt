@@ -1,4 +1,4 @@
-use Rattle.std.proofs.Common.{◌≡◌, ◌-◌, refl, rules, arith, slice_index_or}
+use Rattle.std.proofs.Common.{◌-◌, arith, slice_index_or}
 use Rattle.std.proofs.Math.Logic.{∥∥₁_map}
 use Rattle.gw_repeat.proofs.Steps.{held_none, held_more, held_at, one_of, receives_stay, repeated_send, repeated_due}
 use Rattle.gw_repeat.proofs.repeating.RepeatingPorts.send.Goals as goal
