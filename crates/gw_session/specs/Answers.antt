@@ -1,7 +1,8 @@
 -- What a session of a gateway makes of its records, and what it writes for them (modules `act`, `exchange`
 -- and `attend`).
-use Rattle.gw_session.specs.Prelude.{ℕ, List, [], ◌∷◌, ◌++◌, length, take, drop, map, Option, Some, None, Err}
-use Rattle.gw_session.specs.Prelude.{flat_map, Event, Reply, Record, record_of}
+use Rattle.std.specs.Prelude.{ℕ, List, [], ◌∷◌, ◌++◌, length, take, drop, map, Option, Some, None, Err}
+use Rattle.std.specs.Prelude.{flat_map}
+use Rattle.gw_session.specs.Prelude.{Event, Reply, Record, record_of}
 use Rattle.q421_line.specs.Commands.{fault_number}
 use Rattle.gw_circuit.specs.Faults as refusals
 use Rattle.gw_records.specs.Octets.{command_of, codec_of}

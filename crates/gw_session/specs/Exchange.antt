@@ -1,9 +1,9 @@
 -- What the parts of a session do, for the private functions of modules `exchange`, `act` and `attend`.
-use Rattle.gw_session.specs.Prelude.{◌≡◌, ◌⊎◌, ◌<◌, ◌≤◌, ◌++◌, ℕ, List, [], ◌∷◌, length, map, drop, Option}
-use Rattle.gw_session.specs.Prelude.{Bool, true, false, Some, Result, MatchResult, flat_map, GatewayConfig}
-use Rattle.gw_session.specs.Prelude.{Gateway, Event, octets, Stands, next_circuit, Totals, RunFault, Record}
-use Rattle.gw_session.specs.Prelude.{SinkState, AppendsPrefix, AppendsBut, Waiting, PortsState, IfKnown}
-use Rattle.gw_session.specs.Prelude.{Grows, counted}
+use Rattle.std.specs.Prelude.{◌≡◌, ◌⊎◌, ◌<◌, ◌≤◌, ◌++◌, ℕ, List, [], ◌∷◌, length, map, drop, Option, Bool}
+use Rattle.std.specs.Prelude.{true, false, Some, Result, MatchResult, flat_map}
+use Rattle.gw_session.specs.Prelude.{GatewayConfig, Gateway, Event, octets, Stands, next_circuit, Totals}
+use Rattle.gw_session.specs.Prelude.{RunFault, Record, SinkState, AppendsPrefix, AppendsBut, Waiting}
+use Rattle.gw_session.specs.Prelude.{PortsState, IfKnown, Grows, counted}
 use Rattle.gw_switch.specs.Whole.{reply_to, octet_reply}
 use Rattle.gw_records.specs.declared.outcome.RunFault.TheVariants.{Write}
 use Rattle.gw_records.specs.Streams.{Passes, Breaks}

@@ -1,6 +1,6 @@
 -- Where packets of a session go (module `outlet`).
-use Rattle.gw_session.specs.Prelude.{◌≡◌, ◌+◌, ℕ, Bool, true, false, List, [], ◌∷◌, Some, None, at_most}
-use Rattle.gw_session.specs.Prelude.{record_of, PortsState, PortCall, Grows}
+use Rattle.std.specs.Prelude.{◌≡◌, ◌+◌, ℕ, Bool, true, false, List, [], ◌∷◌, Some, None}
+use Rattle.gw_session.specs.Prelude.{at_most, record_of, PortsState, PortCall, Grows}
 
 -- the octets that a packet of a circuit puts in front of the answer
 abbrev pub Spells : Type 0

@@ -1,9 +1,4 @@
 -- The names that most modules of this crate cite, passed on from one place. Declares nothing.
-pub use Rattle.std.specs.Io.KnownBytes.{Appends}
-pub use Rattle.std.specs.List.{AllByRecursion}
-pub use Rattle.std.specs.Prelude.{◌≡◌, ◌∷◌, ◌++◌, ℕ, Bool, true, false, List, [], length, take, map, flat_map}
-pub use Rattle.std.specs.Prelude.{count_by, Err, ◌⊎◌, ◌<◌, ◌≤◌, drop, Option, Some, Result, MatchResult, ◌==◌}
-pub use Rattle.std.specs.Prelude.{if◌then◌else◌, ◌+◌, None, ◌^◌}
 pub use Rattle.gw_records.specs.Outcome.{nothing_counted, EndsAll, EndsUntil, OrNoMemory}
 pub use Rattle.gw_records.specs.Ports.{Waiting, PortsState, IfKnown, Grows, counted, PortCall}
 pub use Rattle.gw_records.specs.Records.{Record, record_of, IsGood}

@@ -1,8 +1,9 @@
 -- Laws of recordings.
-use Rattle.gw_session.specs.Prelude.{◌≡◌, ◌==◌, ◌++◌, if◌then◌else◌, ℕ, false, List, [], ◌∷◌, Some, Result}
-use Rattle.gw_session.specs.Prelude.{MatchResult, flat_map, Appends, GatewayConfig, Gateway, Stands, Totals}
-use Rattle.gw_session.specs.Prelude.{RunFault, SourceState, SinkState, AppendsPrefix, Grows, counted, Event}
-use Rattle.gw_session.specs.Prelude.{whole_from, Record}
+use Rattle.std.specs.Prelude.{◌≡◌, ◌==◌, ◌++◌, if◌then◌else◌, ℕ, false, List, [], ◌∷◌, Some, Result}
+use Rattle.std.specs.Prelude.{MatchResult, flat_map}
+use Rattle.std.specs.Io.KnownBytes.{Appends}
+use Rattle.gw_session.specs.Prelude.{GatewayConfig, Gateway, Stands, Totals, RunFault, SourceState}
+use Rattle.gw_session.specs.Prelude.{SinkState, AppendsPrefix, Grows, counted, Event, whole_from, Record}
 use Rattle.gw_records.specs.declared.records.Ending.{Ending}
 use Rattle.gw_records.specs.declared.records.Ending.TheVariants as endings
 use Rattle.gw_records.specs.Records.{Reads}

@@ -1,8 +1,9 @@
 -- What tapes tell of themselves, and how events are recorded on them.
-use Rattle.gw_session.specs.Prelude.{◌≡◌, ◌⊎◌, ◌^◌, ◌<◌, ◌≤◌, ◌++◌, Bool, true, false, List, [], ℕ, Option}
-use Rattle.gw_session.specs.Prelude.{None, Some, length, map, flat_map, AllByRecursion, Appends, Event}
-use Rattle.gw_session.specs.Prelude.{Record, IsGood, AppendsPrefix}
-use Rattle.std.specs.Prelude.{Contains}
+use Rattle.std.specs.Prelude.{Contains, ◌≡◌, ◌⊎◌, ◌^◌, ◌<◌, ◌≤◌, ◌++◌, Bool, true, false, List, [], ℕ}
+use Rattle.std.specs.Prelude.{Option, None, Some, length, map, flat_map}
+use Rattle.std.specs.Io.KnownBytes.{Appends}
+use Rattle.std.specs.List.{AllByRecursion}
+use Rattle.gw_session.specs.Prelude.{Event, Record, IsGood, AppendsPrefix}
 use Rattle.gw_records.specs.declared.records.Head.{Head}
 use Rattle.gw_records.specs.declared.records.Head.TheVariants as heads
 use Rattle.gw_records.specs.Records.{spelled}

@@ -1,5 +1,6 @@
 -- What a session changes.
-use Rattle.gw_session.specs.Prelude.{List, ℕ, Gateway, Totals, SinkState, PortsState}
+use Rattle.std.specs.Prelude.{List, ℕ}
+use Rattle.gw_session.specs.Prelude.{Gateway, Totals, SinkState, PortsState}
 use Rattle.gw_session.specs.Tape.{TapeState}
 
 -- Where a session stands: what its ports tell, its gateway, and what is counted.
