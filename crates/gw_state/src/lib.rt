@@ -1,0 +1,11 @@
+//! The state of a gateway as a file: a mark, the configuration, the gateway, and a check sum.
+#![tactic(auto)]
+
+mod fault;
+mod head;
+mod loading;
+mod saving;
+
+pub use fault::{LoadFault, StateKind};
+pub use loading::load_gateway;
+pub use saving::state_file;
