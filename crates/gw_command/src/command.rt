@@ -275,6 +275,20 @@ pub fn recording_of<'m>(matches: &'m ArgMatches<'_>) -> Option<&'m str>
     text_of(matches, "record")
 }
 
+/// The path of the state that a session begins with, the first one, if the matches name one.
+pub fn load_of<'m>(matches: &'m ArgMatches<'_>) -> Option<&'m str>
+    ensures { option_map (λ path. path.now) result ≡ text_in (codes "load") (subcommand_rows_of matches.now) }
+{
+    text_of(matches, "load")
+}
+
+/// The path for the state at the end of a session, the first one, if the matches name one.
+pub fn save_of<'m>(matches: &'m ArgMatches<'_>) -> Option<&'m str>
+    ensures { option_map (λ path. path.now) result ≡ text_in (codes "save") (subcommand_rows_of matches.now) }
+{
+    text_of(matches, "save")
+}
+
 /// Whether CRC-4 multiframes are to be checked in place of sent.
 pub fn asks_check(matches: &ArgMatches<'_>) -> bool
     ensures yes { text_in (codes "check") (subcommand_rows_of matches.now) ≡ Some (codes "true")

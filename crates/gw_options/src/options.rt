@@ -85,6 +85,10 @@ const PAYLOAD_TEXT: &str =
 
 const RECORD_TEXT: &str = "Record what the gateway takes in a new file, for replay and check";
 
+const LOAD_TEXT: &str = "Begin with the state that an earlier session saved";
+
+const SAVE_TEXT: &str = "Save the state at the end, for --load";
+
 const SENDERS_TEXT: &str =
     "Senders let in: any, host for the peer's address at any port,\npeer for its address and port";
 
@@ -103,6 +107,8 @@ enum Opt {
     Timestamp,
     Totals,
     Config,
+    Load,
+    Save,
     Record,
     RecordOver,
     Senders,
@@ -131,13 +137,18 @@ const OF_A_STREAM: &[Opt] = &[
 ];
 
 // The options of a session of a gateway.
-const OF_A_SESSION: &[Opt] = &[Opt::Config, Opt::Totals];
+const OF_A_SESSION: &[Opt] = &[Opt::Config, Opt::Load, Opt::Save, Opt::Totals];
+
+// The options of a session whose answers are not written.
+const OF_CHECK: &[Opt] = &[Opt::Config, Opt::Load, Opt::Totals];
 
 // The options of a session over UDP.
 const OF_SERVE: &[Opt] = &[
     Opt::Record,
     Opt::RecordOver,
     Opt::Config,
+    Opt::Load,
+    Opt::Save,
     Opt::Totals,
     Opt::Senders,
     Opt::Repeat,
@@ -166,7 +177,7 @@ const SUBCOMMANDS: [Subcommand; 8] = [
         name: "check",
         about: "Records of a gateway, and a line for each circuit",
         after_help: CHECK_HELP,
-        options: OF_A_SESSION,
+        options: OF_CHECK,
     },
     Subcommand {
         name: "serve",
@@ -279,6 +290,16 @@ fn config_option<'a>(alloc: Global) -> Arg<'a> {
         .required(true)
 }
 
+// The file of a state to begin with.
+fn load_option<'a>(alloc: Global) -> Arg<'a> {
+    option(alloc, "load", LOAD_TEXT).value_name("STATE")
+}
+
+// The file for the state at the end.
+fn save_option<'a>(alloc: Global) -> Arg<'a> {
+    option(alloc, "save", SAVE_TEXT).value_name("STATE")
+}
+
 // The file of a recording.
 fn record_option<'a>(alloc: Global) -> Arg<'a> {
     option(alloc, "record", RECORD_TEXT).value_name("RECORDING")
@@ -320,6 +341,8 @@ fn declared<'a>(alloc: Global, option: Opt) -> Arg<'a> {
         Opt::Timestamp => timestamp_option(alloc),
         Opt::Totals => totals_option(alloc),
         Opt::Config => config_option(alloc),
+        Opt::Load => load_option(alloc),
+        Opt::Save => save_option(alloc),
         Opt::Record => record_option(alloc),
         Opt::RecordOver => over_option(alloc),
         Opt::Senders => senders_option(alloc),

@@ -1,4 +1,5 @@
 pub mod Jobs
+pub mod State
 pub mod Status
 pub mod Sessions
 pub mod Listing

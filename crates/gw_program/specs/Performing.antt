@@ -20,6 +20,25 @@ pub record Ended (ends : Result Totals RunFault → Type 0) (told : Result Total
   pub done : ends end
   pub told_is : told ≡ told_as end
 
+-- what is told of how a session ended and of the saving of its state: a saving that failed is told in any case
+abbrev pub told_after : Result Totals RunFault → Result (Unit {0}) Trouble → Result Totals Trouble
+told_after end (Ok u) = told_as end
+told_after end (Err trouble) = Err trouble
+
+-- the state was saved so, or was not, and this is told of a session that ended so
+pub record IsTold (Saves : Result (Unit {0}) Trouble → Type 0) (end : Result Totals RunFault)
+    (told : Result Totals Trouble) : Type 0 where
+  pub saved : Result (Unit {0}) Trouble
+  pub saves : Saves saved
+  pub told_is : told ≡ told_after end saved
+
+-- a session ended so, and this is told of it and of the saving of its state
+pub record EndedSaved (ends : Result Totals RunFault → Type 0) (Saves : Result (Unit {0}) Trouble → Type 0)
+    (told : Result Totals Trouble) : Type 0 where
+  pub end : Result Totals RunFault
+  pub done : ends end
+  pub tells : IsTold Saves end told
+
 -- a trouble is told for a reason, and nothing was read or written
 pub record NotBegun {S K : Type 0} (source source' : S) (sink sink' : K) (Why : Trouble → Type 0)
     (told : Result Totals Trouble) : Type 0 where

@@ -20,36 +20,17 @@ Runs source source' sink sink' end gateway gateway' = MatchResult end
     (RunsAll gateway gateway' source source' sink sink')
     (RunsUntil gateway gateway' source source' sink sink')
 
--- a gateway of this configuration, to which nothing had happened, did this
-pub record HasGateway (config : GatewayConfig) (does : Gateway → Gateway → Type 0) : Type 0 where
+-- this was done with a gateway that a session began with so
+pub record HasGateway (Begins : Gateway → Type 0) (does : Gateway → Gateway → Type 0) : Type 0 where
   pub gateway : Gateway
   pub gateway' : Gateway
-  pub new : Stands config gateway []
+  pub begun : Begins gateway
   pub done : does gateway gateway'
-
--- there was no memory for the gateway, and nothing was read or written
-pub record NoGateway (source source' : SourceState) (sink sink' : SinkState) (end : Result Totals RunFault)
-    : Type 0 where
-  pub end_is : end ≡ Err faults.OutOfMemory
-  pub unread : source' ≡ source
-  pub unwritten : sink' ≡ sink
-
--- a session of this kind by a new gateway of this configuration ended so
-abbrev pub Ends : (SourceState → SourceState → SinkState → SinkState → Result Totals RunFault
-    → Gateway → Gateway → Type 0)
-    → GatewayConfig → SourceState → SourceState → SinkState → SinkState → Result Totals RunFault → Type 0
-Ends session config source source' sink sink' end =
-    HasGateway config (session source source' sink sink' end) ⊎ NoGateway source source' sink sink' end
 
 -- the same with datagrams that come and go through ports, and what the gateway took was recorded
 abbrev pub Serves : Around → Around → Result Totals RunFault → Gateway → Gateway → Type 0
 Serves a a' end gateway gateway' =
     MatchResult end (ServesAll a a' gateway gateway') (ServesUntil a a' gateway gateway')
-
--- .. by a new gateway of this configuration, or there was no memory for it, and nothing was recorded
-abbrev pub EndsRecorded : GatewayConfig → Around → Around → Result Totals RunFault → Type 0
-EndsRecorded config a a' end = HasGateway config (Serves a a' end)
-    ⊎ (NoGateway a.source a'.source a.sink a'.sink end × (a'.tape ≡ a.tape))
 
 -- the end of a session and of the listing after it: a fault of the session comes first
 abbrev pub checked : Result Totals RunFault → Result (Unit {0}) RunFault → Result Totals RunFault

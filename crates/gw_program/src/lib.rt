@@ -12,6 +12,7 @@ mod sealed;
 mod sessions;
 mod setup;
 mod standard;
+mod state;
 mod trouble;
 mod trunks;
 
@@ -23,5 +24,6 @@ pub use report::{PassedOver, passed_over, print_tally, print_totals};
 pub use sessions::{check, replay, serve_through};
 pub use setup::read_config;
 pub use standard::{Held, hold};
+pub use state::{begin_gateway, keep_gateway, load_from, save_to};
 pub use trouble::{DONE, NO_MEMORY, REFUSED, Trouble};
 pub use trunks::perform_trunk;

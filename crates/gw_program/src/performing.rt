@@ -4,9 +4,9 @@ ghost use Rattle.std.specs.Prelude.{◌≡◌, ◌⊎◌, ◌-◌, ◌^◌, ◌<
 ghost use Rattle.gw_records.specs.Streams.{CanBegin};
 ghost use Rattle.gw_session.specs.Serve.{around};
 ghost use Rattle.gw_program.specs.Jobs.{Does, DoesUntil};
-ghost use Rattle.gw_program.specs.Sessions.{Ends, EndsRecorded, Runs, Checks};
+ghost use Rattle.gw_program.specs.Sessions.{HasGateway, Runs, Serves, Checks};
 ghost use Rattle.gw_program.specs.Performing.{Ended, NotBegun, LacksTapeOrPorts, HasServed, HasConfig};
-ghost use Rattle.gw_program.specs.Performing.{by_session, told_as};
+ghost use Rattle.gw_program.specs.Performing.{by_session, told_as, IsTold, EndedSaved};
 
 use crate::jobs::do_job;
 use crate::report::passed_over;
@@ -16,12 +16,15 @@ use crate::trouble::Trouble;
 use gw_command::{Job, Session};
 use gw_config::Config;
 use gw_session::{Ports, RunFault, Sink, Source, Tape, Totals};
+use gw_switch::Gateway;
 use std::alloc::Global;
 
 /// What a session takes from the system beside its streams. The relations are the type's own: a caller that
 /// knows nothing of the type has them of what these calls returned alone.
 pub trait System {
+    ghost use Rattle.std.specs.Prelude.{Result};
     ghost use Rattle.gw_config.specs.declared.config.Config.{Config};
+    ghost use Rattle.gw_switch.specs.declared.gateway.Gateway.{Gateway};
     ghost use Rattle.gw_program.specs.declared.trouble.Trouble.{Trouble};
 
     /// Where the datagrams of circuits come from, and where they go.
@@ -35,6 +38,15 @@ pub trait System {
 
     /// Holds of why no configuration was read.
     ghost lacks_config: { Self → Trouble → Type 0 };
+
+    /// Holds of a configuration and a gateway that a session begins with.
+    ghost starts: { Self → Config → Gateway → Type 0 };
+
+    /// Holds of a configuration and why there is no gateway for it.
+    ghost lacks_gateway: { Self → Config → Trouble → Type 0 };
+
+    /// Holds of a configuration, a gateway of it, and what came of the saving of its state.
+    ghost saves: { Self → Config → Gateway → Result (Unit {0}) Trouble → Type 0 };
 
     /// Holds of a tape that was begun.
     ghost begins: { Self → Self.Tape → Type 0 };
@@ -53,6 +65,15 @@ pub trait System {
         ensures ok { IfOk result (λ config. reads self.now config) }
         ensures err { IfErr result (λ trouble. lacks_config self.now trouble) };
 
+    /// The gateway that a session begins with.
+    fn begin_gateway(&self, config: &Config) -> Result<Gateway, Trouble>
+        ensures ok { IfOk result (λ gateway. starts self.now config.now gateway) }
+        ensures err { IfErr result (λ trouble. lacks_gateway self.now config.now trouble) };
+
+    /// Saves the state of a gateway, if that is asked for.
+    fn save_gateway(&self, config: &Config, gateway: &Gateway) -> Result<(), Trouble>
+        ensures { saves self.now config.now gateway.now result };
+
     /// Begins the recording, if one is asked for.
     fn begin_tape(&self) -> Result<Self::Tape, Trouble>
         ensures ok { IfOk result (λ tape. begins self.now tape) }
@@ -65,6 +86,9 @@ pub trait System {
 
     /// Tells where a recording has ended before its session.
     fn tell_end(&self, tape: &Self::Tape);
+
+    /// Tells how a session ended, where more is to be told.
+    fn tell(&self, trouble: &Trouble);
 }
 
 // What is told of how a job or a session ended.
@@ -102,32 +126,55 @@ pub fn perform_job<S: Source + StandardInput, K: Sink + StandardOutput>(
     told_as(ended)
 }
 
-// Serves by a configuration, on ports and a tape of the system's. The tape is begun before the ports are
-// opened.
+// Saves the state of a gateway after a session that ended so. Where that fails the end of the session is told
+// first.
+pub(crate) fn end_session<Y: System>(
+    system: &Y,
+    config: &Config,
+    gateway: &Gateway,
+    ended: Result<Totals, RunFault>,
+) -> Result<Totals, Trouble>
+    ensures { IsTold (Y.saves system.now config.now gateway.now) ended result }
+{
+    match system.save_gateway(config, gateway) {
+        Ok(()) => told_as(ended),
+        Err(trouble) => {
+            if let Err(fault) = ended {
+                system.tell(&Trouble::Session(fault));
+            }
+            Err(trouble)
+        }
+    }
+}
+
+// Serves by a configuration, on ports and a tape of the system's. The tape is begun before the ports are opened.
 fn perform_serve<Y: System, S: Source, K: Sink>(
     system: &Y,
     alloc: Global,
     config: &Config,
+    gateway: &mut Gateway,
     source: &mut S,
     sink: &mut K,
 ) -> Result<Totals, Trouble>
     requires { CanBegin (S.tells source.old) (K.tells sink.old) }
     ensures { NotBegun (S.tells source.old) (S.tells source.new) (K.tells sink.old) (K.tells sink.new)
         (LacksTapeOrPorts (Y.lacks_tape system.now) (Y.lacks_ports system.now config.now)) result
-        ⊎ HasServed (Y.opens system.now config.now) (Y.begins system.now) (λ ports ports' tape tape'. Ended
-        (EndsRecorded config.now.gateway
+        ⊎ HasServed (Y.opens system.now config.now) (Y.begins system.now) (λ ports ports' tape tape'. EndedSaved
+        (λ end. Serves
         (around (S.tells source.old) (K.tells sink.old) (Y.Ports.tells ports) (Y.Tape.tells tape))
-        (around (S.tells source.new) (K.tells sink.new) (Y.Ports.tells ports') (Y.Tape.tells tape'))) result) }
+        (around (S.tells source.new) (K.tells sink.new) (Y.Ports.tells ports') (Y.Tape.tells tape'))
+        end gateway.old gateway.new) (Y.saves system.now config.now gateway.new) result) }
 {
     let mut tape = system.begin_tape()?;
     let mut ports = system.open_ports(config)?;
-    let ended = serve_through(alloc, &config.gateway, &mut ports, source, sink, &mut tape);
+    let ended = serve_through(alloc, gateway, &mut ports, source, sink, &mut tape);
     system.tell_end(&tape);
-    told_as(ended)
+    end_session(system, config, gateway, ended)
 }
 
-/// Does a session by the configuration of the system's, on its ports and its tape where it serves. What the
-/// system lacked is told, and nothing was read or written then.
+/// Does a session by the configuration of the system's with a gateway of its, on its ports and its tape where it
+/// serves, and saves the state of the gateway. What the system lacked is told, and nothing was read or written
+/// then.
 pub fn perform_session<Y: System, S: Source + StandardInput, K: Sink + StandardOutput>(
     system: &Y,
     alloc: Global,
@@ -138,22 +185,33 @@ pub fn perform_session<Y: System, S: Source + StandardInput, K: Sink + StandardO
     requires { CanBegin (S.tells source.old) (K.tells sink.old) }
     ensures { NotBegun (S.tells source.old) (S.tells source.new) (K.tells sink.old) (K.tells sink.new)
         (Y.lacks_config system.now) result
-        ⊎ HasConfig (Y.reads system.now) (λ config. by_session session
-        (Ended (Ends Runs config.gateway
-        (S.tells source.old) (S.tells source.new) (K.tells sink.old) (K.tells sink.new)) result)
-        (Ended (Ends Checks config.gateway
-        (S.tells source.old) (S.tells source.new) (K.tells sink.old) (K.tells sink.new)) result)
+        ⊎ HasConfig (Y.reads system.now) (λ config.
+        NotBegun (S.tells source.old) (S.tells source.new) (K.tells sink.old) (K.tells sink.new)
+        (Y.lacks_gateway system.now config) result
+        ⊎ HasGateway (Y.starts system.now config) (λ gateway gateway'. by_session session
+        (EndedSaved (λ end. Runs (S.tells source.old) (S.tells source.new) (K.tells sink.old) (K.tells sink.new)
+        end gateway gateway') (Y.saves system.now config gateway') result)
+        (EndedSaved (λ end. Checks (S.tells source.old) (S.tells source.new) (K.tells sink.old) (K.tells sink.new)
+        end gateway gateway') (Y.saves system.now config gateway') result)
         (NotBegun (S.tells source.old) (S.tells source.new) (K.tells sink.old) (K.tells sink.new)
         (LacksTapeOrPorts (Y.lacks_tape system.now) (Y.lacks_ports system.now config)) result
-        ⊎ HasServed (Y.opens system.now config) (Y.begins system.now) (λ ports ports' tape tape'. Ended
-        (EndsRecorded config.gateway
+        ⊎ HasServed (Y.opens system.now config) (Y.begins system.now) (λ ports ports' tape tape'. EndedSaved
+        (λ end. Serves
         (around (S.tells source.old) (K.tells sink.old) (Y.Ports.tells ports) (Y.Tape.tells tape))
-        (around (S.tells source.new) (K.tells sink.new) (Y.Ports.tells ports') (Y.Tape.tells tape'))) result))) }
+        (around (S.tells source.new) (K.tells sink.new) (Y.Ports.tells ports') (Y.Tape.tells tape'))
+        end gateway gateway') (Y.saves system.now config gateway') result)))) }
 {
     let config = system.read_config()?;
+    let mut gateway = system.begin_gateway(&config)?;
     match session {
-        Session::Replay => told_as(replay(alloc, &config.gateway, source, sink)),
-        Session::Check => told_as(check(alloc, &config.gateway, source, sink)),
-        Session::Serve => perform_serve(system, alloc, &config, source, sink),
+        Session::Replay => {
+            let ended = replay(alloc, &mut gateway, source, sink);
+            end_session(system, &config, &gateway, ended)
+        }
+        Session::Check => {
+            let ended = check(alloc, &mut gateway, source, sink);
+            end_session(system, &config, &gateway, ended)
+        }
+        Session::Serve => perform_serve(system, alloc, &config, &mut gateway, source, sink),
     }
 }

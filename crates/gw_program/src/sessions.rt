@@ -1,35 +1,30 @@
-//! Sessions of a gateway that is opened for them: `replay`, `check` and `serve`. Each has its buffers in a
-//! frame of its own.
+//! Sessions of a gateway: `replay`, `check` and `serve`. Each has its buffers in a frame of its own.
 
 ghost use Rattle.std.specs.Prelude.{◌≡◌, ◌≤◌, ◌-◌, ◌^◌, ◌<◌, None};
-ghost use Rattle.gw_switch.specs.declared.GatewayConfig.{GatewayConfig};
 ghost use Rattle.gw_records.specs.Streams.{CanBegin};
 ghost use Rattle.gw_session.specs.Serve.{around};
-ghost use Rattle.gw_program.specs.Sessions.{Ends, EndsRecorded, Runs, Checks, Lists, checked};
+ghost use Rattle.gw_program.specs.Sessions.{Runs, Serves, Checks, Lists, checked};
 
 use crate::listing::listing;
 use gw_session::{
     Ports, RunFault, Sink, SinkFault, Source, Tape, Totals, run, serve_recorded, write_all,
 };
-use gw_switch::{Gateway, GatewayConfig};
+use gw_switch::Gateway;
 use std::alloc::Global;
 
-/// Acts on the records of a source with a new gateway, and writes what answers them.
+/// Acts on the records of a source with a gateway, and writes what answers them.
 #[inline(never)]
 pub fn replay<S: Source, K: Sink>(
     alloc: Global,
-    config: &GatewayConfig,
+    gateway: &mut Gateway,
     source: &mut S,
     sink: &mut K,
 ) -> Result<Totals, RunFault>
     requires { CanBegin (S.tells source.old) (K.tells sink.old) }
-    ensures { Ends Runs config.now
-        (S.tells source.old) (S.tells source.new) (K.tells sink.old) (K.tells sink.new) result }
+    ensures { Runs (S.tells source.old) (S.tells source.new) (K.tells sink.old) (K.tells sink.new) result
+        gateway.old gateway.new }
 {
-    let Ok(mut gateway) = Gateway::open(alloc, config) else {
-        return Err(RunFault::OutOfMemory);
-    };
-    run(alloc, &mut gateway, source, sink)
+    run(alloc, gateway, source, sink)
 }
 
 // Takes all octets and keeps none, so that no write fails.
@@ -44,25 +39,22 @@ impl Sink for Nowhere {
     }
 }
 
-/// Acts on the records of a source with a new gateway, and writes a line for each circuit as it stands then,
-/// also after a fault.
+/// Acts on the records of a source with a gateway, and writes a line for each circuit as it stands then, also
+/// after a fault.
 #[inline(never)]
 pub fn check<S: Source, K: Sink>(
     alloc: Global,
-    config: &GatewayConfig,
+    gateway: &mut Gateway,
     source: &mut S,
     sink: &mut K,
 ) -> Result<Totals, RunFault>
     requires { CanBegin (S.tells source.old) (K.tells sink.old) }
-    ensures { Ends Checks config.now
-        (S.tells source.old) (S.tells source.new) (K.tells sink.old) (K.tells sink.new) result }
+    ensures { Checks (S.tells source.old) (S.tells source.new) (K.tells sink.old) (K.tells sink.new) result
+        gateway.old gateway.new }
 {
-    let Ok(mut gateway) = Gateway::open(alloc, config) else {
-        return Err(RunFault::OutOfMemory);
-    };
     let mut nowhere = Nowhere;
-    let ended = run(alloc, &mut gateway, source, &mut nowhere);
-    list(&gateway, ended, sink)
+    let ended = run(alloc, gateway, source, &mut nowhere);
+    list(gateway, ended, sink)
 }
 
 // Writes the lines of all circuits after a session that ended so. A fault of the session is told before one
@@ -92,24 +84,21 @@ fn checked(
     Ok(totals)
 }
 
-/// Acts on the records of a source with a new gateway, whose datagrams come and go through ports, and records
-/// on a tape what the gateway takes.
+/// Acts on the records of a source with a gateway, whose datagrams come and go through ports, and records on a
+/// tape what the gateway takes.
 #[inline(never)]
 pub fn serve_through<S: Source, P: Ports, K: Sink, T: Tape>(
     alloc: Global,
-    config: &GatewayConfig,
+    gateway: &mut Gateway,
     ports: &mut P,
     source: &mut S,
     sink: &mut K,
     tape: &mut T,
 ) -> Result<Totals, RunFault>
     requires { CanBegin (S.tells source.old) (K.tells sink.old) }
-    ensures { EndsRecorded config.now
-        (around (S.tells source.old) (K.tells sink.old) (P.tells ports.old) (T.tells tape.old))
-        (around (S.tells source.new) (K.tells sink.new) (P.tells ports.new) (T.tells tape.new)) result }
+    ensures { Serves (around (S.tells source.old) (K.tells sink.old) (P.tells ports.old) (T.tells tape.old))
+        (around (S.tells source.new) (K.tells sink.new) (P.tells ports.new) (T.tells tape.new)) result
+        gateway.old gateway.new }
 {
-    let Ok(mut gateway) = Gateway::open(alloc, config) else {
-        return Err(RunFault::OutOfMemory);
-    };
-    serve_recorded(alloc, &mut gateway, ports, source, sink, tape)
+    serve_recorded(alloc, gateway, ports, source, sink, tape)
 }

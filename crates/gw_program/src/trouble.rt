@@ -6,6 +6,7 @@ ghost use Rattle.gw_program.specs.Status.{trouble_of, fault_status, trouble_stat
 
 use gw_config::ConfigFault;
 use gw_session::RunFault;
+use gw_state::LoadFault;
 use std::io;
 use thiserror::Error;
 
@@ -47,6 +48,15 @@ pub enum Trouble {
     /// The file of the recording is there already, and is not to be written over.
     #[error("the recording is there already: name a new file, or give --record-over")]
     OldRecording,
+    /// The file of a state can't be read.
+    #[error("cannot read the state")]
+    NoState,
+    /// The file has no state of this configuration.
+    #[error("{0}")]
+    State(LoadFault),
+    /// The state can't be saved.
+    #[error("cannot save the state")]
+    NotSaved,
     /// The file says no configuration.
     #[error("{0}")]
     Config(ConfigFault),
@@ -66,21 +76,24 @@ impl Trouble {
         }
     }
 
-    /// The status of the program: 1 at a fault of a session, a socket or a trunk, 2 where the command line, the
-    /// file or the configuration is refused, and 3 for want of memory.
+    /// The status of the program: 1 at a fault of a session, a socket or a trunk and if a state is not saved, 2
+    /// if the command line, a file or the configuration is refused, and 3 for want of memory.
     pub fn status(&self) -> u8
         ensures { result ≡ trouble_status self.now }
     {
         match self {
             Trouble::Session(RunFault::OutOfMemory)
             | Trouble::Config(ConfigFault::OutOfMemory)
+            | Trouble::State(LoadFault::OutOfMemory)
             | Trouble::OutOfMemory => NO_MEMORY,
-            Trouble::Session(_) | Trouble::Socket(_) | Trouble::Trunk => FAULT,
+            Trouble::Session(_) | Trouble::Socket(_) | Trouble::Trunk | Trouble::NotSaved => FAULT,
             Trouble::NotText
             | Trouble::Nothing
             | Trouble::File
             | Trouble::Recording
             | Trouble::OldRecording
+            | Trouble::NoState
+            | Trouble::State(_)
             | Trouble::Config(_) => REFUSED,
         }
     }

@@ -2,23 +2,24 @@
 
 ghost use Rattle.std.specs.Prelude.{◌≡◌, ◌⊎◌, []};
 ghost use Rattle.gw_session.specs.Serve.{around};
-ghost use Rattle.gw_program.specs.Performing.{Ended, NotBegun, LacksTapeOrPorts, HasServed, HasConfig};
-ghost use Rattle.gw_program.specs.Trunks.{EndsTrunk, Untouched};
+ghost use Rattle.gw_program.specs.Performing.{EndedSaved, NotBegun, LacksTapeOrPorts, HasServed, HasConfig};
+ghost use Rattle.gw_program.specs.Sessions.{HasGateway};
+ghost use Rattle.gw_program.specs.Trunks.{CarriesTrunk};
 
-use crate::performing::System;
+use crate::performing::{System, end_session};
 use crate::trouble::Trouble;
 use gw_config::Config;
 use gw_session::{Ports, RunFault, Sink, Source, Tape, Totals};
-use gw_switch::{Gateway, GatewayConfig};
+use gw_switch::Gateway;
 use gw_trunk::{Incoming, Outgoing, TrunkSink, TrunkSource, serve_trunk};
 use std::alloc::Global;
 
-// Serves a trunk and its clients by a new gateway, whose datagrams come and go through ports, and records on
-// a tape what the gateway takes.
+// Serves a trunk and its clients by a gateway, whose datagrams come and go through ports, and records on a tape
+// what the gateway takes.
 #[inline(never)]
 fn carry_trunk<I: Incoming, O: Outgoing, A: Outgoing, P: Ports, T: Tape>(
     alloc: Global,
-    config: &GatewayConfig,
+    gateway: &mut Gateway,
     ports: &mut P,
     source: &mut TrunkSource<I>,
     sink: &mut TrunkSink<O, A>,
@@ -26,26 +27,24 @@ fn carry_trunk<I: Incoming, O: Outgoing, A: Outgoing, P: Ports, T: Tape>(
 ) -> Result<Totals, RunFault>
     requires source { (source.old.failed ≡ 0) × (source.old.reads ≡ 0) × (source.old.log.octets ≡ []) }
     requires sink { (sink.old.failed ≡ 0) × (sink.old.log.octets ≡ []) }
-    ensures { EndsTrunk (Untouched source.old source.new sink.old sink.new) config.now
+    ensures { CarriesTrunk
         (around (⟦<TrunkSource<I> as Source>⟧.tells source.old) (⟦<TrunkSink<O, A> as Sink>⟧.tells sink.old)
         (P.tells ports.old) (T.tells tape.old))
         (around (⟦<TrunkSource<I> as Source>⟧.tells source.new) (⟦<TrunkSink<O, A> as Sink>⟧.tells sink.new)
         (P.tells ports.new) (T.tells tape.new))
         (I.came source.new.incoming) (I.asked source.new.incoming)
-        (O.went sink.new.outgoing) (A.went sink.new.answers) result }
+        (O.went sink.new.outgoing) (A.went sink.new.answers) result gateway.old gateway.new }
 {
-    let Ok(mut gateway) = Gateway::open(alloc, config) else {
-        return Err(RunFault::OutOfMemory);
-    };
-    serve_trunk(alloc, &mut gateway, ports, source, sink, tape)
+    serve_trunk(alloc, gateway, ports, source, sink, tape)
 }
 
-// Serves a trunk by a configuration, on ports and a tape of the system's. The tape is begun before the ports
-// are opened.
+// Serves a trunk by a configuration with a gateway, on ports and a tape of the system's. The tape is begun before
+// the ports are opened.
 fn perform_carry<Y: System, I: Incoming, O: Outgoing, A: Outgoing>(
     system: &Y,
     alloc: Global,
     config: &Config,
+    gateway: &mut Gateway,
     source: &mut TrunkSource<I>,
     sink: &mut TrunkSink<O, A>,
 ) -> Result<Totals, Trouble>
@@ -53,23 +52,25 @@ fn perform_carry<Y: System, I: Incoming, O: Outgoing, A: Outgoing>(
     requires sink { (sink.old.failed ≡ 0) × (sink.old.log.octets ≡ []) }
     ensures { NotBegun source.old source.new sink.old sink.new
         (LacksTapeOrPorts (Y.lacks_tape system.now) (Y.lacks_ports system.now config.now)) result
-        ⊎ HasServed (Y.opens system.now config.now) (Y.begins system.now) (λ ports ports' tape tape'. Ended
-        (EndsTrunk (Untouched source.old source.new sink.old sink.new) config.now.gateway
+        ⊎ HasServed (Y.opens system.now config.now) (Y.begins system.now) (λ ports ports' tape tape'. EndedSaved
+        (λ end. CarriesTrunk
         (around (⟦<TrunkSource<I> as Source>⟧.tells source.old) (⟦<TrunkSink<O, A> as Sink>⟧.tells sink.old)
         (Y.Ports.tells ports) (Y.Tape.tells tape))
         (around (⟦<TrunkSource<I> as Source>⟧.tells source.new) (⟦<TrunkSink<O, A> as Sink>⟧.tells sink.new)
         (Y.Ports.tells ports') (Y.Tape.tells tape'))
         (I.came source.new.incoming) (I.asked source.new.incoming)
-        (O.went sink.new.outgoing) (A.went sink.new.answers)) result) }
+        (O.went sink.new.outgoing) (A.went sink.new.answers) end gateway.old gateway.new)
+        (Y.saves system.now config.now gateway.new) result) }
 {
     let mut tape = system.begin_tape()?;
     let mut ports = system.open_ports(config)?;
-    let ended = carry_trunk(alloc, &config.gateway, &mut ports, source, sink, &mut tape);
+    let ended = carry_trunk(alloc, gateway, &mut ports, source, sink, &mut tape);
     system.tell_end(&tape);
-    ended.map_err(Trouble::Session)
+    end_session(system, config, gateway, ended)
 }
 
-/// Serves a trunk and its clients by the configuration of the system's, on its ports and its tape.
+/// Serves a trunk and its clients by the configuration of the system's with a gateway of its, on its ports and its
+/// tape, and saves the state of the gateway.
 pub fn perform_trunk<Y: System, I: Incoming, O: Outgoing, A: Outgoing>(
     system: &Y,
     alloc: Global,
@@ -80,17 +81,21 @@ pub fn perform_trunk<Y: System, I: Incoming, O: Outgoing, A: Outgoing>(
     requires sink { (sink.old.failed ≡ 0) × (sink.old.log.octets ≡ []) }
     ensures { NotBegun source.old source.new sink.old sink.new (Y.lacks_config system.now) result
         ⊎ HasConfig (Y.reads system.now) (λ config.
+        NotBegun source.old source.new sink.old sink.new (Y.lacks_gateway system.now config) result
+        ⊎ HasGateway (Y.starts system.now config) (λ gateway gateway'.
         NotBegun source.old source.new sink.old sink.new
         (LacksTapeOrPorts (Y.lacks_tape system.now) (Y.lacks_ports system.now config)) result
-        ⊎ HasServed (Y.opens system.now config) (Y.begins system.now) (λ ports ports' tape tape'. Ended
-        (EndsTrunk (Untouched source.old source.new sink.old sink.new) config.gateway
+        ⊎ HasServed (Y.opens system.now config) (Y.begins system.now) (λ ports ports' tape tape'. EndedSaved
+        (λ end. CarriesTrunk
         (around (⟦<TrunkSource<I> as Source>⟧.tells source.old) (⟦<TrunkSink<O, A> as Sink>⟧.tells sink.old)
         (Y.Ports.tells ports) (Y.Tape.tells tape))
         (around (⟦<TrunkSource<I> as Source>⟧.tells source.new) (⟦<TrunkSink<O, A> as Sink>⟧.tells sink.new)
         (Y.Ports.tells ports') (Y.Tape.tells tape'))
         (I.came source.new.incoming) (I.asked source.new.incoming)
-        (O.went sink.new.outgoing) (A.went sink.new.answers)) result)) }
+        (O.went sink.new.outgoing) (A.went sink.new.answers) end gateway gateway')
+        (Y.saves system.now config gateway') result))) }
 {
     let config = system.read_config()?;
-    perform_carry(system, alloc, &config, source, sink)
+    let mut gateway = system.begin_gateway(&config)?;
+    perform_carry(system, alloc, &config, &mut gateway, source, sink)
 }

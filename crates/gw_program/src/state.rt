@@ -1,0 +1,189 @@
+//! The state of a gateway: loaded from a file, and saved to one.
+
+ghost use Rattle.std.specs.Prelude.{◌≡◌, ◌≤◌, ◌<◌, ◌^◌, [], length, IfOk, IfErr, IfNone, OnOk, Ok};
+ghost use Rattle.std.specs.Io.KnownBytes.{Appends};
+ghost use Rattle.gw_records.specs.Streams.{CanCount};
+ghost use Rattle.gw_state.specs.Layout.{state_file};
+ghost use Rattle.gw_program.specs.State.{WasRead, FailsToRead, WasLoaded, FailsToLoad, FailsToSave};
+ghost use Rattle.gw_program.specs.State.{HasBegun, LacksGateway, load_trouble};
+
+use crate::trouble::Trouble;
+use gw_records::read_behind;
+use gw_session::{FromRead, Sink, Source, ToWrite, write_all};
+use gw_state::{LoadFault, load_gateway, state_file};
+use gw_switch::{Gateway, GatewayConfig};
+use std::alloc::Global;
+use std::fs::{self, File, OpenOptions};
+use std::io;
+use std::os::unix::fs::OpenOptionsExt;
+
+// No state is as long: the longest has some 220,000 octets.
+const MOST_OCTETS: usize = 1_048_576;
+
+const BUFFER_LEN: usize = 4096;
+
+// The permissions of a new file, less the umask: others may not read it, since it holds speech.
+const MODE: u32 = 0o640;
+
+// What stands behind the name of a state while it is written.
+const UNFINISHED: &str = ".new";
+
+// Reads all that a source gives. It is given up where it is longer than any state.
+fn read_whole<S: Source>(source: &mut S, octets: &mut Vec<u8>) -> Result<(), Trouble>
+    requires empty { octets.old.items ≡ [] }
+    requires counts { CanCount (S.tells source.old).failures }
+    ensures ok { OnOk result (WasRead (S.tells source.old) (S.tells source.new) octets.new.items) }
+    ensures err { IfErr result (FailsToRead (S.tells source.old) (S.tells source.new)) }
+{
+    let mut buffer = [0u8; BUFFER_LEN];
+    'reading: for turn in 0..MOST_OCTETS {
+        prove!(turn < MOST_OCTETS);
+        let Ok(n) = read_behind(source, &mut buffer, 0) else {
+            return Err(Trouble::NoState);
+        };
+        if n == 0 {
+            return Ok(());
+        }
+        if octets.extend_from_slice(&buffer[..n]).is_err() {
+            return Err(Trouble::OutOfMemory);
+        }
+    }
+    Err(Trouble::NoState)
+}
+
+// What is told where octets are not loaded.
+fn load_trouble(fault: LoadFault) -> Trouble
+    ensures { result ≡ load_trouble fault }
+{
+    match fault {
+        LoadFault::OutOfMemory => Trouble::OutOfMemory,
+        LoadFault::Refused { .. } => Trouble::State(fault),
+    }
+}
+
+/// The gateway of this configuration whose state a source gives up to its end. It has the history of the gateway
+/// that was saved so.
+///
+/// # Errors
+///
+/// [`Trouble::NoState`] if a read failed or there are more octets than a state has, [`Trouble::State`] if the
+/// octets are not a state of this configuration, [`Trouble::OutOfMemory`].
+pub fn load_from<S: Source>(
+    alloc: Global,
+    config: &GatewayConfig,
+    source: &mut S,
+) -> Result<Gateway, Trouble>
+    requires { CanCount (S.tells source.old).failures }
+    ensures ok { IfOk result (WasLoaded config.now (S.tells source.old) (S.tells source.new)) }
+    ensures err { IfErr result (FailsToLoad config.now (S.tells source.old) (S.tells source.new)) }
+{
+    let mut octets = Vec::new(alloc);
+    read_whole(source, &mut octets)?;
+    match load_gateway(alloc, config, octets.as_slice()) {
+        Ok(gateway) => Ok(gateway),
+        Err(fault) => Err(load_trouble(fault)),
+    }
+}
+
+/// Writes the state of a gateway of this configuration to a sink.
+///
+/// # Errors
+///
+/// [`Trouble::NotSaved`] if a write failed: the sink has taken a prefix of the octets. [`Trouble::OutOfMemory`]:
+/// it has taken none.
+pub fn save_to<K: Sink>(
+    alloc: Global,
+    config: &GatewayConfig,
+    gateway: &Gateway,
+    sink: &mut K,
+) -> Result<(), Trouble>
+    requires { CanCount (K.tells sink.old).failures }
+    ensures ok { OnOk result
+        (Appends (K.tells sink.old).taken (K.tells sink.new).taken (state_file config.now gateway.now)) }
+    ensures err { IfErr result
+        (FailsToSave (K.tells sink.old) (K.tells sink.new) (state_file config.now gateway.now)) }
+{
+    let Ok(file) = state_file(alloc, config, gateway) else {
+        return Err(Trouble::OutOfMemory);
+    };
+    match write_all(sink, file.as_slice()) {
+        Ok(()) => Ok(()),
+        Err(_) => Err(Trouble::NotSaved),
+    }
+}
+
+/// The gateway that a session begins with: the one whose state a file has if one is named, else a new one.
+pub fn begin_gateway(
+    rt: &HostRuntime,
+    config: &GatewayConfig,
+    path: Option<&str>,
+) -> Result<Gateway, Trouble>
+    ensures ok { IfOk result (HasBegun config.now path.entry) }
+    ensures err { IfErr result (LacksGateway config.now path.entry) }
+{
+    let Some(path) = path else {
+        return Gateway::open(rt.alloc(), config).map_err(|_| Trouble::OutOfMemory);
+    };
+    match fs::open(rt, path) {
+        Ok(file) => load_from(rt.alloc(), config, &mut FromRead::new(file)),
+        Err(error) => Err(Trouble::of(&error, Trouble::NoState)),
+    }
+}
+
+// The name of a state while it is written.
+fn unfinished(alloc: Global, path: &str) -> Result<String, Trouble> {
+    let name = String::from_str(alloc, path).and_then(|name| {
+        let mut name = name;
+        name.push_str(UNFINISHED)?;
+        Ok(name)
+    });
+    name.map_err(|_| Trouble::OutOfMemory)
+}
+
+// Creates the file of a state, or empties one that was not finished.
+fn create(rt: &HostRuntime, path: &str) -> io::Result<File> {
+    OpenOptions::new()
+        .write(true)
+        .create(true)
+        .truncate(true)
+        .mode(MODE)
+        .open(rt, path)
+}
+
+// Writes the state to a new file, up to the disk.
+fn write_new(
+    rt: &HostRuntime,
+    config: &GatewayConfig,
+    gateway: &Gateway,
+    path: &str,
+) -> Result<(), Trouble> {
+    let file = create(rt, path).map_err(|error| Trouble::of(&error, Trouble::NotSaved))?;
+    save_to(rt.alloc(), config, gateway, &mut ToWrite::new(file))?;
+    let file = OpenOptions::new().write(true).open(rt, path);
+    file.and_then(|file| file.sync_all())
+        .map_err(|error| Trouble::of(&error, Trouble::NotSaved))
+}
+
+/// Saves the state of a gateway to a file, if one is named. It is written beside the file, synced, and put in its
+/// place whole: where that fails an old file stays as it was.
+pub fn keep_gateway(
+    rt: &HostRuntime,
+    config: &GatewayConfig,
+    gateway: &Gateway,
+    path: Option<&str>,
+) -> Result<(), Trouble>
+    ensures { IfNone path.entry (result ≡ Ok tt) }
+{
+    let Some(path) = path else {
+        return Ok(());
+    };
+    let new = unfinished(rt.alloc(), path)?;
+    match write_new(rt, config, gateway, new.as_str()) {
+        Ok(()) => fs::rename(rt, new.as_str(), path)
+            .map_err(|error| Trouble::of(&error, Trouble::NotSaved)),
+        Err(trouble) => {
+            let _ = fs::remove_file(rt, new.as_str());
+            Err(trouble)
+        }
+    }
+}
