@@ -8,3 +8,4 @@ pub mod Report
 pub mod Setup
 pub mod Filters
 pub mod Trunks
+pub mod Requests

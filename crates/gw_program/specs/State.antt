@@ -1,5 +1,5 @@
 -- The state of a gateway, from a source and to a sink (module `state`).
-use Rattle.std.specs.Prelude.{◌≡◌, ◌⊎◌, ◌<◌, ◌≤◌, ◌^◌, ℕ, List, [], length, Option, Some, None, ⊤}
+use Rattle.std.specs.Prelude.{◌≡◌, ◌⊎◌, ◌<◌, ◌≤◌, ◌^◌, ℕ, List, [], length, Option, Some, None, Result, Ok, ⊤}
 use Rattle.std.specs.Io.KnownBytes.{IsAtEnd}
 use Rattle.gw_switch.specs.declared.GatewayConfig.{GatewayConfig}
 use Rattle.gw_switch.specs.declared.gateway.Gateway.{Gateway}
@@ -78,3 +78,8 @@ LacksGateway config path troubles.OutOfMemory = ⊤
 LacksGateway config (Some path) troubles.NoState = ⊤
 LacksGateway config (Some path) (troubles.State fault) = AreRefused config fault
 LacksGateway config _ _ = ⊥
+
+-- where no file is named nothing is saved, and that does not fail
+abbrev pub IsSaved : {X : Type 0} → Option X → Result (Unit {0}) Trouble → Type 0
+IsSaved None saved = saved ≡ Ok tt
+IsSaved (Some path) saved = ⊤

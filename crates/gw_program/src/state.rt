@@ -1,11 +1,11 @@
 //! The state of a gateway: loaded from a file, and saved to one.
 
-ghost use Rattle.std.specs.Prelude.{◌≡◌, ◌≤◌, ◌<◌, ◌^◌, [], length, IfOk, IfErr, IfNone, OnOk, Ok};
+ghost use Rattle.std.specs.Prelude.{◌≡◌, ◌≤◌, ◌<◌, ◌^◌, [], length, IfOk, IfErr, OnOk};
 ghost use Rattle.std.specs.Io.KnownBytes.{Appends};
 ghost use Rattle.gw_records.specs.Streams.{CanCount};
 ghost use Rattle.gw_state.specs.Layout.{state_file};
 ghost use Rattle.gw_program.specs.State.{WasRead, FailsToRead, WasLoaded, FailsToLoad, FailsToSave};
-ghost use Rattle.gw_program.specs.State.{HasBegun, LacksGateway, load_trouble};
+ghost use Rattle.gw_program.specs.State.{HasBegun, LacksGateway, IsSaved, load_trouble};
 
 use crate::trouble::Trouble;
 use gw_records::read_behind;
@@ -172,15 +172,17 @@ pub fn keep_gateway(
     gateway: &Gateway,
     path: Option<&str>,
 ) -> Result<(), Trouble>
-    ensures { IfNone path.entry (result ≡ Ok tt) }
+    ensures { IsSaved path.entry result }
 {
     let Some(path) = path else {
         return Ok(());
     };
     let new = unfinished(rt.alloc(), path)?;
     match write_new(rt, config, gateway, new.as_str()) {
-        Ok(()) => fs::rename(rt, new.as_str(), path)
-            .map_err(|error| Trouble::of(&error, Trouble::NotSaved)),
+        Ok(()) => fs::rename(rt, new.as_str(), path).map_err(|error| Trouble::of(
+            &error,
+            Trouble::NotSaved,
+        )),
         Err(trouble) => {
             let _ = fs::remove_file(rt, new.as_str());
             Err(trouble)

@@ -1,0 +1,187 @@
+-- Commands on new streams.
+use Rattle.std.proofs.Common.{◌≡◌, ◌⊎◌, inl, inr, ℕ, List, [], Option, None, Some, Result, Err, refl}
+use Rattle.std.specs.Prelude.{⊤, option_map}
+use Rattle.gw_config.specs.declared.config.Config.{Config}
+use Rattle.gw_records.specs.declared.outcome.Totals.{Totals}
+use Rattle.gw_switch.specs.declared.GatewayConfig.{GatewayConfig}
+use Rattle.gw_switch.specs.declared.gateway.Gateway.{Gateway}
+use Rattle.gw_records.specs.declared.outcome.RunFault.{RunFault}
+use Rattle.gw_records.specs.Ports.{PortsState}
+use Rattle.gw_records.specs.Streams.{SourceState, SinkState}
+use Rattle.gw_session.specs.Outlet.{no_ports}
+use Rattle.gw_session.specs.Serve.{Around, around}
+use Rattle.gw_session.specs.Tape.{TapeState, no_tape}
+use Rattle.gw_command.specs.declared.command.Session.{Session}
+use Rattle.gw_command.specs.declared.command.Session.TheVariants.{Replay, Check, Serve}
+use Rattle.gw_program.specs.declared.trouble.Trouble.{Trouble}
+use Rattle.gw_program.specs.Performing.{EndedSaved, NotBegun, HasServed, HasConfig, by_session}
+use Rattle.gw_program.specs.Sessions.{HasGateway, Runs, Serves, Checks}
+use Rattle.gw_program.specs.State.{HasBegun, IsSaved}
+use Rattle.gw_program.specs.Trunks.{CarriesTrunk}
+use Rattle.gw_program.specs.Requests.{AreNew, OnNewStreams, ByGateway, DoesSession, HasTrunk, ServesTrunk}
+
+-- what was done on streams to which nothing had happened was done on new streams
+pub on_new : (s s' : SourceState) (k k' : SinkState) {does : Around → Around → Type 0}
+    → does (around s k no_ports no_tape) (around s' k' no_ports no_tape)
+    → s.reads ≡ 0 → s.given ≡ Some [] → s.failures ≡ 0 → k.failures ≡ 0 → OnNewStreams does
+on_new s s' k k' done reads given failures writes = record {
+  before = around s k no_ports no_tape;
+  after = around s' k' no_ports no_tape;
+  new = record { unread = reads; no_octet = given; no_failed_read = failures; no_failed_write = writes };
+  done = done;
+}
+
+-- a trouble is told of streams that nothing was done with
+pub untouched : (load : Option (List ℕ)) (does : Around → Around → Gateway → Gateway → Type 0) (trouble : Trouble)
+    → OnNewStreams (λ a a'. ByGateway a a' (Err trouble) load (does a a'))
+untouched load does trouble =
+    let source : SourceState = record { failures = 0; reads = 0; given = Some []; to_come = None } in
+    let sink : SinkState = record { failures = 0; taken = None } in on_new source source sink sink
+    (inl (record { trouble = trouble; why = tt; told_is = refl; unread = refl; unwritten = refl })) refl refl refl refl
+
+-- why nothing was begun is left out, and what the streams are beside what they tell
+told_untouched : {S K : Type 0} {x x' : S} {y y' : K} {why : Trouble → Type 0} {told : Result Totals Trouble}
+    {s s' : SourceState} {k k' : SinkState} → (x' ≡ x → s' ≡ s) → (y' ≡ y → k' ≡ k) → NotBegun x x' y y' why told
+    → NotBegun s s' k k' (λ _. ⊤) told
+told_untouched f g n = record {
+  trouble = n.trouble;
+  why = tt;
+  told_is = n.told_is;
+  unread = f n.unread;
+  unwritten = g n.unwritten;
+}
+
+-- the path that is named is told as its text
+pub begun_at : {X : Type 0} (f : X → List ℕ) (path : Option X) (config : GatewayConfig) (gateway : Gateway)
+    → HasBegun config path gateway → HasBegun config (option_map f path) gateway
+begun_at f None config gateway begun = begun
+begun_at f (Some path) config gateway begun = begun
+
+pub saved_at : {X : Type 0} (f : X → List ℕ) (path : Option X) (saved : Result (Unit {0}) Trouble)
+    → IsSaved path saved → IsSaved (option_map f path) saved
+saved_at f None saved is = is
+saved_at f (Some path) saved is = is
+
+module _ (s s' : SourceState) (k k' : SinkState) {P T : Type 0} (reads : Config → Type 0) (lacks : Trouble → Type 0)
+    (lacks_gateway lacks_more : Config → Trouble → Type 0) (load save : Option (List ℕ))
+    (starts : Config → Gateway → Type 0) (saves : Config → Gateway → Result (Unit {0}) Trouble → Type 0)
+    (begun : (config : Config) (gateway : Gateway) → starts config gateway → HasBegun config.gateway load gateway)
+    (is_saved : (config : Config) (gateway : Gateway) (saved : Result (Unit {0}) Trouble)
+    → saves config gateway saved → IsSaved save saved)
+    (opens : Config → P → Type 0) (begins : T → Type 0)
+    (ports_tell : P → PortsState) (tape_tells : T → TapeState) {told : Result Totals Trouble}
+  where
+    -- how the state was saved is told of its path
+    saved_told : {ends : Result Totals RunFault → Type 0} (config : Config) (gateway : Gateway)
+        → EndedSaved ends (saves config gateway) told → EndedSaved ends (IsSaved save) told
+    saved_told config gateway e = record {
+      end = e.end;
+      done = e.done;
+      tells = record {
+        saved = e.tells.saved;
+        saves = is_saved config gateway e.tells.saved e.tells.saves;
+        told_is = e.tells.told_is;
+      };
+    }
+
+    -- a session that was done on new streams
+    pub session_done : (session : Session) → NotBegun s s' k k' lacks told
+        ⊎ HasConfig reads (λ config. NotBegun s s' k k' (lacks_gateway config) told
+        ⊎ HasGateway (starts config) (λ gateway gateway'. by_session session
+        (EndedSaved (λ end. Runs s s' k k' end gateway gateway') (saves config gateway') told)
+        (EndedSaved (λ end. Checks s s' k k' end gateway gateway') (saves config gateway') told)
+        (NotBegun s s' k k' (lacks_more config) told
+        ⊎ HasServed (opens config) begins (λ ports ports' tape tape'.
+        EndedSaved (λ end. Serves (around s k (ports_tell ports) (tape_tells tape))
+        (around s' k' (ports_tell ports') (tape_tells tape')) end gateway gateway') (saves config gateway') told))))
+        → s.reads ≡ 0 → s.given ≡ Some [] → s.failures ≡ 0 → k.failures ≡ 0 → DoesSession load save session told
+    session_done session (inl n) a b c d =
+        on_new s s' k k' (inl (told_untouched (λ e. e) (λ e. e) n)) a b c d
+    session_done session (inr h) a b c d = with_config session h.config h.done a b c d
+      where
+        with_gateway : (session : Session) (config : Config) (gateway gateway' : Gateway) → starts config gateway
+            → by_session session
+            (EndedSaved (λ end. Runs s s' k k' end gateway gateway') (saves config gateway') told)
+            (EndedSaved (λ end. Checks s s' k k' end gateway gateway') (saves config gateway') told)
+            (NotBegun s s' k k' (lacks_more config) told
+            ⊎ HasServed (opens config) begins (λ ports ports' tape tape'.
+            EndedSaved (λ end. Serves (around s k (ports_tell ports) (tape_tells tape))
+            (around s' k' (ports_tell ports') (tape_tells tape')) end gateway gateway') (saves config gateway') told))
+            → s.reads ≡ 0 → s.given ≡ Some [] → s.failures ≡ 0 → k.failures ≡ 0
+            → DoesSession load save session told
+        with_gateway Replay config gateway gateway' new e a b c d = on_new s s' k k' (inr (record {
+          config = config;
+          read = tt;
+          done = record { gateway = gateway; gateway' = gateway'; begun = begun config gateway new; done = saved_told config gateway' e };
+        })) a b c d
+        with_gateway Check config gateway gateway' new e a b c d = on_new s s' k k' (inr (record {
+          config = config;
+          read = tt;
+          done = record { gateway = gateway; gateway' = gateway'; begun = begun config gateway new; done = saved_told config gateway' e };
+        })) a b c d
+        with_gateway Serve config gateway gateway' new (inl n) a b c d =
+            on_new s s' k k' (inl (told_untouched (λ e. e) (λ e. e) n)) a b c d
+        with_gateway Serve config gateway gateway' new (inr v) a b c d = record {
+          before = around s k (ports_tell v.ports) (tape_tells v.tape);
+          after = around s' k' (ports_tell v.ports') (tape_tells v.tape');
+          new = record { unread = a; no_octet = b; no_failed_read = c; no_failed_write = d };
+          done = inr (record {
+            config = config;
+            read = tt;
+            done = record { gateway = gateway; gateway' = gateway'; begun = begun config gateway new; done = saved_told config gateway' v.done };
+          });
+        }
+
+        with_config : (session : Session) (config : Config)
+            → NotBegun s s' k k' (lacks_gateway config) told
+            ⊎ HasGateway (starts config) (λ gateway gateway'. by_session session
+            (EndedSaved (λ end. Runs s s' k k' end gateway gateway') (saves config gateway') told)
+            (EndedSaved (λ end. Checks s s' k k' end gateway gateway') (saves config gateway') told)
+            (NotBegun s s' k k' (lacks_more config) told
+            ⊎ HasServed (opens config) begins (λ ports ports' tape tape'.
+            EndedSaved (λ end. Serves (around s k (ports_tell ports) (tape_tells tape))
+            (around s' k' (ports_tell ports') (tape_tells tape')) end gateway gateway') (saves config gateway') told)))
+            → s.reads ≡ 0 → s.given ≡ Some [] → s.failures ≡ 0 → k.failures ≡ 0
+            → DoesSession load save session told
+        with_config session config (inl n) a b c d =
+            on_new s s' k k' (inl (told_untouched (λ e. e) (λ e. e) n)) a b c d
+        with_config session config (inr h) a b c d =
+            with_gateway session config h.gateway h.gateway' h.begun h.done a b c d
+
+    -- a trunk that was served on new streams
+    pub trunk_served : {S K : Type 0} {x x' : S} {y y' : K} (came asked went answered : List ℕ)
+        → NotBegun x x' y y' lacks told ⊎ HasConfig reads (λ config. NotBegun x x' y y' (lacks_gateway config) told
+        ⊎ HasGateway (starts config) (λ gateway gateway'. NotBegun x x' y y' (lacks_more config) told
+        ⊎ HasServed (opens config) begins (λ ports ports' tape tape'. EndedSaved (λ end. CarriesTrunk
+        (around s k (ports_tell ports) (tape_tells tape)) (around s' k' (ports_tell ports') (tape_tells tape'))
+        came asked went answered end gateway gateway') (saves config gateway') told)))
+        → (x' ≡ x → s' ≡ s) → (y' ≡ y → k' ≡ k)
+        → s.reads ≡ 0 → s.given ≡ Some [] → s.failures ≡ 0 → k.failures ≡ 0 → ServesTrunk load save told
+    trunk_served came asked went answered (inl n) f g a b c d = on_new s s' k k' (inl (told_untouched f g n)) a b c d
+    trunk_served came asked went answered (inr h) f g a b c d = elim h.done [
+      | inl n ↦ on_new s s' k k' (inl (told_untouched f g n)) a b c d
+      | inr w ↦ elim w.done [
+        | inl n ↦ on_new s s' k k' (inl (told_untouched f g n)) a b c d
+        | inr v ↦ record {
+          before = around s k (ports_tell v.ports) (tape_tells v.tape);
+          after = around s' k' (ports_tell v.ports') (tape_tells v.tape');
+          new = record { unread = a; no_octet = b; no_failed_read = c; no_failed_write = d };
+          done = inr (record {
+            config = h.config;
+            read = tt;
+            done = record {
+              gateway = w.gateway;
+              gateway' = w.gateway';
+              begun = begun h.config w.gateway w.begun;
+              done = record {
+                came = came;
+                asked = asked;
+                went = went;
+                answered = answered;
+                done = saved_told h.config w.gateway' v.done;
+              };
+            };
+          });
+        }
+      ]
+    ]

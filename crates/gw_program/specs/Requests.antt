@@ -1,0 +1,123 @@
+-- What was done of what the command line asks for (module `requests`).
+use Rattle.std.specs.Prelude.{◌≡◌, ◌⊎◌, ⊤, ℕ, List, [], Option, Some, Result, Err, IfOk, IfErr, MatchResult, codes}
+use Rattle.clap.specs.Words.{Row}
+use Rattle.gw_switch.specs.declared.gateway.Gateway.{Gateway}
+use Rattle.gw_records.specs.declared.outcome.Totals.{Totals}
+use Rattle.gw_session.specs.Serve.{Around}
+use Rattle.gw_command.specs.Command.{IsRequest, text_in}
+use Rattle.gw_command.specs.declared.command.Filter.{Filter}
+use Rattle.gw_command.specs.declared.command.Filter.TheVariants.{Align, Crc4}
+use Rattle.gw_command.specs.declared.command.Job.{Job}
+use Rattle.gw_command.specs.declared.command.Request.{Request}
+use Rattle.gw_command.specs.declared.command.Request.TheVariants as requests
+use Rattle.gw_command.specs.declared.command.Session.{Session}
+use Rattle.gw_program.specs.declared.trouble.Trouble.{Trouble}
+use Rattle.gw_program.specs.declared.trouble.Trouble.TheVariants as troubles
+use Rattle.gw_program.specs.Filters.{DoesFilter, DoesFilterUntil, HasChecked, HasCheckedUntil}
+use Rattle.gw_program.specs.Jobs.{Does, DoesUntil}
+use Rattle.gw_program.specs.Performing.{Ended, EndedSaved, NotBegun, HasConfig, by_session}
+use Rattle.gw_program.specs.Sessions.{HasGateway, Runs, Serves, Checks}
+use Rattle.gw_program.specs.State.{HasBegun, IsSaved}
+use Rattle.gw_program.specs.Trunks.{CarriesTrunk}
+
+-- a subcommand with its options
+abbrev pub Command : Type 0
+Command = Option (List ℕ × List Row)
+
+-- CRC-4 multiframes are to be checked
+abbrev pub AsksCheck : Command → Type 0
+AsksCheck command = text_in (codes "check") command ≡ Some (codes "true")
+
+-- what a request does, of what jobs, filters, the check of CRC-4 multiframes, sessions and the trunk do
+abbrev pub by_request : (Job → Type 0) → (Filter → Type 0) → Type 0 → (Session → Type 0) → Type 0
+    → Command → Request → Type 0
+by_request jobs filters checks sessions trunk command (requests.Job job) = jobs job
+by_request jobs filters checks sessions trunk command (requests.Filter Align) = filters Align
+by_request jobs filters checks sessions trunk command (requests.Filter Crc4) =
+    (AsksCheck command × checks) ⊎ ((¬ AsksCheck command) × filters Crc4)
+by_request jobs filters checks sessions trunk command (requests.Session session) = sessions session
+by_request jobs filters checks sessions trunk command requests.Trunk = trunk
+
+-- what the command asks for was done
+pub record HasRequest (command : Command) (does : Command → Request → Type 0) : Type 0 where
+  pub request : Request
+  pub asked : IsRequest command request
+  pub done : does command request
+
+-- the command asks for nothing, and this is told
+pub record NoRequest (command : Command) (told : Result Totals Trouble) : Type 0 where
+  pub nothing : (request : Request) → ¬ IsRequest command request
+  pub told_is : told ≡ Err troubles.Nothing
+
+-- nothing has happened to the streams: no read, no octet and no failure
+pub record AreNew (a : Around) : Type 0 where
+  pub unread : a.source.reads ≡ 0
+  pub no_octet : a.source.given ≡ Some []
+  pub no_failed_read : a.source.failures ≡ 0
+  pub no_failed_write : a.sink.failures ≡ 0
+
+-- this was done on new streams
+pub record OnNewStreams (does : Around → Around → Type 0) : Type 0 where
+  pub before : Around
+  pub after : Around
+  pub new : AreNew before
+  pub done : does before after
+
+-- what the job told when it was done
+abbrev pub DoesJob : Job → Result Totals Trouble → Type 0
+DoesJob job told = OnNewStreams (λ a a'. Ended (λ end. MatchResult end
+    (Does job a.source a'.source a.sink a'.sink) (DoesUntil job a.source a'.source a.sink a'.sink)) told)
+
+-- what the filter told when it had run
+abbrev pub RunsFilter : Filter → Result Totals Trouble → Type 0
+RunsFilter filter told = OnNewStreams (λ a a'. Ended (λ end. MatchResult end
+    (DoesFilter filter a.source a'.source a.sink a'.sink)
+    (DoesFilterUntil filter a.source a'.source a.sink a'.sink)) told)
+
+-- what was told when CRC-4 multiframes had been checked
+abbrev pub ChecksCrc4 : Result Totals Trouble → Type 0
+ChecksCrc4 told = OnNewStreams (λ a a'. IfOk told (HasChecked a.source a'.source a.sink a'.sink)
+    × IfErr told (HasCheckedUntil a.source a'.source a.sink a'.sink))
+
+-- a trouble is told, and nothing was read or written; or this was done with a gateway that was begun by a
+-- configuration, from a state if one is named
+abbrev pub ByGateway : Around → Around → Result Totals Trouble → Option (List ℕ)
+    → (Gateway → Gateway → Type 0) → Type 0
+ByGateway a a' told load does = NotBegun a.source a'.source a.sink a'.sink (λ _. ⊤) told
+    ⊎ HasConfig (λ _. ⊤) (λ config. HasGateway (HasBegun config.gateway load) does)
+
+-- what the session told when it was done, by the states to load and to save if they are named
+abbrev pub DoesSession : Option (List ℕ) → Option (List ℕ) → Session → Result Totals Trouble → Type 0
+DoesSession load save session told = OnNewStreams (λ a a'. ByGateway a a' told load (λ gateway gateway'.
+    by_session session
+    (EndedSaved (λ end. Runs a.source a'.source a.sink a'.sink end gateway gateway') (IsSaved save) told)
+    (EndedSaved (λ end. Checks a.source a'.source a.sink a'.sink end gateway gateway') (IsSaved save) told)
+    (EndedSaved (λ end. Serves a a' end gateway gateway') (IsSaved save) told)))
+
+-- octets came from a trunk and went to it, clients asked and were answered, and this was done of it
+pub record HasTrunk (does : List ℕ → List ℕ → List ℕ → List ℕ → Type 0) : Type 0 where
+  pub came : List ℕ
+  pub asked : List ℕ
+  pub went : List ℕ
+  pub answered : List ℕ
+  pub done : does came asked went answered
+
+-- what was told when the trunk had been served, by the states to load and to save if they are named
+abbrev pub ServesTrunk : Option (List ℕ) → Option (List ℕ) → Result Totals Trouble → Type 0
+ServesTrunk load save told = OnNewStreams (λ a a'. ByGateway a a' told load (λ gateway gateway'.
+    HasTrunk (λ came asked went answered. EndedSaved
+    (λ end. CarriesTrunk a a' came asked went answered end gateway gateway') (IsSaved save) told)))
+
+-- the state to load and the state to save that the command names
+abbrev pub load_in : Command → Option (List ℕ)
+load_in command = text_in (codes "load") command
+
+abbrev pub save_in : Command → Option (List ℕ)
+save_in command = text_in (codes "save") command
+
+-- what the command asks for was done, and this is told
+abbrev pub Performs : Command → Result Totals Trouble → Type 0
+Performs command told = HasRequest command (by_request (λ job. DoesJob job told)
+    (λ filter. RunsFilter filter told) (ChecksCrc4 told) (λ session. DoesSession (load_in command) (save_in command) session told)
+    (ServesTrunk (load_in command) (save_in command) told))
+    ⊎ NoRequest command told
