@@ -31,7 +31,8 @@ on_new s s' k k' done reads given failures writes = record {
 -- a trouble is told of streams that nothing was done with
 pub untouched : (does : Around → Around → Config → Type 0) (trouble : Trouble)
     → OnNewStreams (λ a a'. ByConfig a a' (Err trouble) (does a a'))
-untouched does trouble = let source : SourceState = record { failures = 0; reads = 0; given = Some []; to_come = None } in
+untouched does trouble =
+    let source : SourceState = record { failures = 0; reads = 0; given = Some []; to_come = None } in
     let sink : SinkState = record { failures = 0; taken = None } in on_new source source sink sink
     (inl (record { trouble = trouble; why = tt; told_is = refl; unread = refl; unwritten = refl })) refl refl refl refl
 

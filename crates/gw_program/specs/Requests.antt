@@ -1,5 +1,6 @@
 -- What was done of what the command line asks for (module `requests`).
-use Rattle.std.specs.Prelude.{◌≡◌, ◌⊎◌, ⊤, ℕ, List, [], Option, Some, Result, Err, IfOk, IfErr, MatchResult, codes}
+use Rattle.std.specs.Prelude.{◌≡◌, ◌⊎◌, ⊤, ℕ, List, [], Option, Some, Result, Err, IfOk, IfErr}
+use Rattle.std.specs.Prelude.{MatchResult, codes}
 use Rattle.clap.specs.Words.{Row}
 use Rattle.gw_config.specs.declared.config.Config.{Config}
 use Rattle.gw_records.specs.declared.outcome.Totals.{Totals}
@@ -100,11 +101,12 @@ pub record HasTrunk (does : List ℕ → List ℕ → List ℕ → List ℕ → 
 -- what was told when the trunk had been served
 abbrev pub ServesTrunk : Result Totals Trouble → Type 0
 ServesTrunk told = OnNewStreams (λ a a'. ByConfig a a' told (λ config. HasTrunk (λ came asked went answered.
-    Ended (EndsTrunk (Untouched a.source a'.source a.sink a'.sink) config.gateway a a' came asked went answered)
-    told)))
+    Ended (EndsTrunk (Untouched a.source a'.source a.sink a'.sink) config.gateway a a'
+    came asked went answered) told)))
 
 -- what the command asks for was done, and this is told
 abbrev pub Performs : Command → Result Totals Trouble → Type 0
 Performs command told = HasRequest command (by_request (λ job. DoesJob job told)
-    (λ filter. RunsFilter filter told) (ChecksCrc4 told) (λ session. DoesSession session told) (ServesTrunk told))
+    (λ filter. RunsFilter filter told) (ChecksCrc4 told) (λ session. DoesSession session told)
+    (ServesTrunk told))
     ⊎ NoRequest command told
