@@ -1,11 +1,10 @@
 -- Octets of commands and codecs, there and back.
-use Rattle.std.proofs.Common.{◌≡◌, ◌≤◌, ℕ, refl, arith}
-use Rattle.std.proofs.lemmas.Bool.Decides.{nat_tests}
+use Rattle.gw_records.proofs.Common.{◌≡◌, ◌≤◌, ℕ, refl, arith, nat_tests, command_of, octet_of_command, codec_of}
+use Rattle.gw_records.proofs.Common.{octet_of_codec}
 use Rattle.q421_line.specs.declared.Cmd.{Cmd}
 use Rattle.q421_line.specs.declared.Cmd.TheVariants as commands
 use Rattle.g726_codec.specs.declared.CodecKind.{CodecKind}
 use Rattle.g726_codec.specs.declared.CodecKind.TheVariants as codecs
-use Rattle.gw_records.specs.Octets.{command_of, octet_of_command, codec_of, octet_of_codec}
 
 -- the octet of a command is read as this command
 pub command_again : (command : Cmd) → command_of (octet_of_command command) ≡ command

@@ -1,19 +1,10 @@
 -- Octets in a buffer.
-use Rattle.std.proofs.Common.{◌≡◌, ◌+◌, ◌-◌, ◌<◌, ◌≤◌, ℕ, true, List, ◌++◌, length, take, drop, sym, ap, ◌∙◌, inl, inr}
-use Rattle.std.proofs.Common.{length-take-le, length-drop, arith}
-use Rattle.std.specs.List.{copy_within}
-use Rattle.std.specs.Prelude.{Some, slice_index}
-use Rattle.gw_records.specs.declared.reader.Reader.{Reader}
-use Rattle.gw_records.specs.Reader.{held}
-use Rattle.std.proofs.lemmas.List.{take_at, take-append-le, drop-take}
+use Rattle.gw_records.proofs.Common.{◌≡◌, ◌+◌, ◌-◌, ◌<◌, ◌≤◌, ℕ, true, List, ◌++◌, length, take, drop, sym, ap, ◌∙◌}
+use Rattle.gw_records.proofs.Common.{inl, inr, length-take-le, length-drop, arith, copy_within, Some, slice_index}
+use Rattle.gw_records.proofs.Common.{Reader, held, take_at, take-append-le, drop-take, paste, take-append-add}
+use Rattle.gw_records.proofs.Common.{nat_tests, common_steps, Kinds, Ending, end_of, is_open, is_cut}
 use Rattle.std.proofs.lemmas.List.Edits.{take-paste}
-use Rattle.std.proofs.Math.Seq.{paste, take-append-add}
-use Rattle.std.proofs.lemmas.Bool.Decides.{nat_tests}
-use Rattle.std.proofs.lemmas.Grind.{common_steps}
-use Rattle.gw_records.specs.declared.records.Kinds.{Kinds}
-use Rattle.gw_records.specs.declared.records.Ending.{Ending}
 use Rattle.gw_records.specs.declared.records.Ending.TheVariants as endings
-use Rattle.gw_records.specs.Records.{end_of, is_open, is_cut}
 use Rattle.gw_records.proofs.Firsts.{found_in}
 
 -- moved to the front

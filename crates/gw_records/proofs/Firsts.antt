@@ -1,19 +1,14 @@
 -- The record that stands first.
-use Rattle.std.proofs.Common.{◌≡◌, ◌≢◌, ◌+◌, ◌*◌, ◌<◌, ◌≤◌, ◌^◌, ◌⊎◌, inl, inr, ℕ, suc, true, false, List, [], ◌∷◌}
-use Rattle.std.proofs.Common.{Bool, cond, Option, Some, None, nat_lt, ◌==◌, SomeIff, Ok, ok_or, length, take}
-use Rattle.std.proofs.Common.{get_or, refl, sym, ◌∙◌, length-take-le, arith}
-use Rattle.std.specs.Prelude.{slice_index}
-use Rattle.std.proofs.lemmas.Bool.Decides.{nat_tests}
-use Rattle.std.proofs.lemmas.Grind.{common_steps}
+use Rattle.gw_records.proofs.Common.{◌≡◌, ◌≢◌, ◌+◌, ◌*◌, ◌<◌, ◌≤◌, ◌^◌, ◌⊎◌, inl, inr, ℕ, suc, true, false, List, []}
+use Rattle.gw_records.proofs.Common.{◌∷◌, Bool, cond, Option, Some, None, nat_lt, ◌==◌, SomeIff, Ok, ok_or, length}
+use Rattle.gw_records.proofs.Common.{take, get_or, refl, sym, ◌∙◌, length-take-le, arith, slice_index, nat_tests}
+use Rattle.gw_records.proofs.Common.{common_steps, Kinds, spelled, IsGood, body_len, has_bad_kind, has_bad_circuit}
+use Rattle.gw_records.proofs.Common.{has_bad_length, has_bad_command, is_cut, end_of, IsCircuit, IsFirst, head_of}
+use Rattle.gw_records.proofs.Common.{named, Ending, command_of, codec_of}
 use Rattle.byteorder.specs.Endian.{big_bytes}
-use Rattle.gw_records.specs.declared.records.Kinds.{Kinds}
 use Rattle.gw_records.specs.declared.records.Head.{Head}
 use Rattle.gw_records.specs.declared.records.Head.TheVariants as heads
-use Rattle.gw_records.specs.Records.{spelled, IsGood, body_len, has_bad_kind, has_bad_circuit, has_bad_length}
-use Rattle.gw_records.specs.Records.{has_bad_command, is_cut, end_of, IsCircuit, IsFirst, head_of, named}
-use Rattle.gw_records.specs.declared.records.Ending.{Ending}
 use Rattle.gw_records.specs.declared.records.Ending.TheVariants as endings
-use Rattle.gw_records.specs.Octets.{command_of, codec_of}
 use Rattle.gw_records.proofs.Again.{octet_of_command_again, octet_of_codec_again}
 
 -- what is known of the tests of end_of, by what they give

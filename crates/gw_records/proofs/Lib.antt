@@ -1,3 +1,5 @@
+pub mod Common
+pub mod ByHand
 pub mod Again
 pub mod Writes
 pub mod Buffers

@@ -1,16 +1,11 @@
 -- Octets are read in one way.
-use Rattle.std.proofs.Common.{◌≡◌, ◌+◌, ◌*◌, ◌/◌, ◌%◌, ℕ, List, [], ◌∷◌, ◌++◌, length, take, drop}
-use Rattle.std.proofs.Common.{refl, sym, ap, ◌∙◌, append_assoc, append-nil, length-append, arith}
-use Rattle.std.specs.Prelude.{Some, None}
-use Rattle.std.specs.List.{flat_map, AllByRecursion}
-use Rattle.std.proofs.Math.Seq.{take-append_seam, drop-append_seam}
-use Rattle.std.proofs.lemmas.Bool.Decides.{nat_tests}
-use Rattle.gw_records.specs.declared.records.Kinds.{Kinds}
-use Rattle.gw_records.specs.declared.records.Ending.{Ending}
-use Rattle.gw_records.specs.Records.{Record, spelled, IsGood, body_len, has_bad_kind, has_bad_circuit, has_bad_length}
-use Rattle.gw_records.specs.Records.{is_cut, has_bad_command, end_of, named, head_of}
+use Rattle.gw_records.proofs.Common.{◌≡◌, ◌+◌, ◌*◌, ◌/◌, ◌%◌, ℕ, List, [], ◌∷◌, ◌++◌, length, take, drop, refl, sym, ap}
+use Rattle.gw_records.proofs.Common.{◌∙◌, append_assoc, append-nil, length-append, arith, Some, None, flat_map}
+use Rattle.gw_records.proofs.Common.{AllByRecursion, take-append_seam, drop-append_seam, nat_tests, Kinds, Ending}
+use Rattle.gw_records.proofs.Common.{Record, spelled, IsGood, body_len, has_bad_kind, has_bad_circuit, has_bad_length}
+use Rattle.gw_records.proofs.Common.{is_cut, has_bad_command, end_of, named, head_of, AtMostOneReading}
+use Rattle.gw_records.proofs.Common.{MoreKeepsRecords}
 use Rattle.gw_records.proofs.Again.{octet_of_command_again, octet_of_codec_again}
-use Rattle.gw_records.specs.Laws.{AtMostOneReading, MoreKeepsRecords}
 
 -- the record that the first octets say
 abbrev said : List ℕ → Record

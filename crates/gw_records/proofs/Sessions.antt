@@ -1,21 +1,15 @@
 -- What sessions have in common that act on one record after another.
-use Rattle.std.proofs.Common.{◌≡◌, ◌+◌, ◌^◌, ◌<◌, ◌≤◌, inl, inr, ℕ, true, List, [], ◌∷◌, ◌++◌, length, drop, refl, sym}
-use Rattle.std.proofs.Common.{ap, ◌∙◌, append_assoc, append-nil, length-append, arith, take-append-drop}
-use Rattle.std.specs.Prelude.{Some, Result, Ok, Err, IfOk, IfErr, IsErrAnd}
-use Rattle.std.specs.List.{flat_map, AllByRecursion}
-use Rattle.std.specs.Io.KnownBytes.{IsAtEnd}
+use Rattle.gw_records.proofs.Common.{◌≡◌, ◌+◌, ◌^◌, ◌<◌, ◌≤◌, inl, inr, ℕ, true, List, [], ◌∷◌, ◌++◌, length, drop}
+use Rattle.gw_records.proofs.Common.{refl, sym, ap, ◌∙◌, append_assoc, append-nil, length-append, arith}
+use Rattle.gw_records.proofs.Common.{take-append-drop, Some, Result, Ok, Err, IfOk, IfErr, IsErrAnd, flat_map}
+use Rattle.gw_records.proofs.Common.{AllByRecursion, IsAtEnd, Reader, Kinds, First, Ending, Record, spelled, IsGood}
+use Rattle.gw_records.proofs.Common.{IsFirst, record_at, end_of, is_open, SourceState, SinkState, Gives, GivesUp, held}
+use Rattle.gw_records.proofs.Common.{Brings, RunsOut, FailsToRead}
 use Rattle.std.proofs.lemmas.List.Concat.{flat_map-append}
 use Rattle.gw_records.specs.declared.outcome.Totals.{Totals}
 use Rattle.gw_records.specs.declared.outcome.RunFault.{RunFault}
-use Rattle.gw_records.specs.declared.reader.Reader.{Reader}
-use Rattle.gw_records.specs.declared.records.Kinds.{Kinds}
-use Rattle.gw_records.specs.declared.records.First.{First}
-use Rattle.gw_records.specs.declared.records.Ending.{Ending}
 use Rattle.gw_records.specs.declared.records.Ending.TheVariants as endings
-use Rattle.gw_records.specs.Records.{Record, spelled, IsGood, IsFirst, record_at, end_of, is_open}
-use Rattle.gw_records.specs.Streams.{SourceState, SinkState, Gives, GivesUp}
 use Rattle.gw_records.specs.Outcome.{answer_of, SessionTo, Ends, EndsAll, EndsUntil, FailsToWrite}
-use Rattle.gw_records.specs.Reader.{held, Brings, RunsOut, FailsToRead}
 use Rattle.gw_records.proofs.Writes.{Gives-none, Gives-join, Gives-end}
 
 abbrev pub made : ℕ → ℕ → ℕ → ℕ → ℕ → Totals
@@ -64,11 +58,11 @@ take_record kinds octets held records f e first =
     let more = flat_map-append spelled records (record_at f held ∷ []) in
     rw (more, append-nil, append_assoc, ← first.whole, take-append-drop) e
 
--- one good record more
-good_more : {X : Type 0} (P : X → Type 0) (xs : List X) (x : X) → AllByRecursion P xs → P x
-    → AllByRecursion P (xs ++ x ∷ [])
-good_more P [] x all p = (p, tt)
-good_more P (y ∷ xs) x all p = (all.0, good_more P xs x all.1 p)
+-- what holds of the items of two lists holds of those of both
+pub All-join : {X : Type 0} (P : X → Type 0) (xs ys : List X) → AllByRecursion P xs → AllByRecursion P ys
+    → AllByRecursion P (xs ++ ys)
+All-join P [] ys p q = q
+All-join P (x ∷ xs) ys p q = (p.0, All-join P xs ys p.1 q)
 
 -- .. of a slice that is held
 pub first_held : {kinds : Kinds} {slice held : List ℕ} (f : First) → slice ≡ held → IsFirst kinds f slice
@@ -86,7 +80,7 @@ record_taken {kinds} {reader = reader} {octets = octets} {records = records} f w
       gives = w.gives;
       whole = take_record kinds octets (held reader) records f w.whole first
           ∙ ap (λ (xs : List ℕ). flat_map spelled (records ++ it ∷ []) ++ xs) (sym passed);
-      good = good_more (IsGood kinds) records it w.good first.good;
+      good = All-join (IsGood kinds) records (it ∷ []) w.good (first.good, tt);
       no_read = w.no_read;
       no_write = kept ∙ w.no_write;
       turns = omega (arith, w.turns, left);
@@ -105,7 +99,7 @@ stops_in {kinds} {reader = reader} {octets = octets} {records = records} f w fir
   begins = record {
     rest = drop f.len (held reader);
     whole = take_record kinds octets (held reader) records f w.whole first;
-    good = good_more (IsGood kinds) records (record_at f (held reader)) w.good first.good;
+    good = All-join (IsGood kinds) records (record_at f (held reader) ∷ []) w.good (first.good, tt);
   };
   begun = begun;
   counted = omega (arith, w.no_write, failed);

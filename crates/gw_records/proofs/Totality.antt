@@ -1,14 +1,8 @@
 -- Each list of octets is read.
-use Rattle.std.proofs.Common.{◌≡◌, ◌+◌, ◌<◌, ◌≤◌, ℕ, zero, suc, Option, Some, None, List}
-use Rattle.std.proofs.Common.{[], ◌∷◌, length, drop, refl, sym, append_assoc, length-drop, take-append-drop, arith}
-use Rattle.std.specs.Prelude.{slice_index}
-use Rattle.std.proofs.lemmas.List.{get_or-drop}
-use Rattle.std.proofs.lemmas.Bool.Decides.{nat_tests}
-use Rattle.gw_records.specs.declared.records.Kinds.{Kinds}
-use Rattle.gw_records.specs.declared.records.Ending.{Ending}
-use Rattle.gw_records.specs.declared.records.First.{First}
-use Rattle.gw_records.specs.Records.{Record, Reads, body_len, is_cut, end_of, IsFirst, record_at}
-use Rattle.gw_records.specs.Laws.{EachIsRead}
+use Rattle.gw_records.proofs.Common.{◌≡◌, ◌+◌, ◌<◌, ◌≤◌, ℕ, zero, suc, Option, Some, None, List, [], ◌∷◌, length, drop}
+use Rattle.gw_records.proofs.Common.{refl, sym, append_assoc, length-drop, take-append-drop, arith, slice_index}
+use Rattle.gw_records.proofs.Common.{get_or-drop, nat_tests, Kinds, Ending, First, Record, Reads, body_len, is_cut}
+use Rattle.gw_records.proofs.Common.{end_of, IsFirst, record_at, EachIsRead}
 use Rattle.gw_records.proofs.Firsts.{good_first, found_in}
 
 -- where octets are no end, a record stands first

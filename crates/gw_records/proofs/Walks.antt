@@ -1,11 +1,6 @@
 -- The machine values of empty structs, for proofs by hand of what sets ghost data (module `log`).
-use Rattle.std.proofs.Common.{List, [], ◌∷◌, refl}
-use seplogic.Ra.Ura.{Ura}
-use mir.Val.{Val, vstruct, vcons, vnil}
-use types.Logic.{Logic}
-use types.Kit.{Goal, Step, step, Item, ‵, ◌$◌, move, fjoin, fpack, feq_i}
-use denote.RattleType.{RattleType, Valss}
-use denote.Steps.{nothing}
+use Rattle.gw_records.proofs.ByHand.{List, [], ◌∷◌, refl, Ura, Val, vstruct, vcons, vnil, Logic, Goal, Step, step, Item}
+use Rattle.gw_records.proofs.ByHand.{‵, ◌$◌, move, fjoin, fpack, feq_i, RattleType, Valss, nothing}
 use denote.Struct.Struct.{Struct, within}
 
 -- a struct by its fields alone: what it owns does not read its name

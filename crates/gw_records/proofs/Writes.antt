@@ -1,13 +1,10 @@
 -- Writes one after another, and what they leave where octets are known.
-use Rattle.std.proofs.Common.{◌+◌, ◌≡◌, ◌-◌, ◌<◌, ◌≤◌, ◌^◌, ◌==◌, ◌&&◌, cond, ℕ, List, [], ◌∷◌, ◌++◌, length, take}
-use Rattle.std.proofs.Common.{drop, Option, refl, sym, append_assoc, append-nil, nat_lt, arith}
-use Rattle.std.proofs.KnownBytes.{Consumes-nil, Consumes-trans}
+use Rattle.gw_records.proofs.Common.{◌+◌, ◌≡◌, ◌-◌, ◌<◌, ◌≤◌, ◌^◌, ◌==◌, ◌&&◌, cond, ℕ, List, [], ◌∷◌, ◌++◌, length}
+use Rattle.gw_records.proofs.Common.{take, drop, Option, refl, sym, append_assoc, append-nil, nat_lt, arith}
+use Rattle.gw_records.proofs.Common.{Consumes-nil, Consumes-trans, common_steps, Appends, length-append, ap, ◌∙◌}
+use Rattle.gw_records.proofs.Common.{SourceState, SinkState, Gives, at_most, AppendsPrefix, AppendsBut, Passes, Breaks}
 -- nothing appended and nothing lost, and two appends that are one
 pub use Rattle.std.proofs.KnownBytes.{Appends-nil as Appends-none, Appends-trans as Appends-join}
-use Rattle.std.proofs.lemmas.Grind.{common_steps}
-use Rattle.std.specs.Io.KnownBytes.{Appends}
-use Rattle.std.proofs.Common.{length-append, ap, ◌∙◌}
-use Rattle.gw_records.specs.Streams.{SourceState, SinkState, Gives, at_most, AppendsPrefix, AppendsBut, Passes, Breaks}
 
 -- what is left after a piece was taken
 pub split_more : (octets written rest : List ℕ) (n : ℕ) → n ≤ length rest → octets ≡ written ++ rest

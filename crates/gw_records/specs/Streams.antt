@@ -77,8 +77,8 @@ pub record AppendsPrefix (old new : Option (List ℕ)) (octets : List ℕ) : Typ
   pub whole : octets ≡ written ++ rest
   pub appended : Appends old new written
 
--- Octets were put, these first ones before the others. A prefix of all was taken: all of the first ones but so
--- many at most.
+-- Octets were put, these first ones before the others. A prefix of all was taken: all of the first ones but
+-- so many at most.
 pub record AppendsBut (late : ℕ) (old new : Option (List ℕ)) (first octets : List ℕ) : Type 0 where
   pub written : List ℕ
   pub rest : List ℕ

@@ -21,8 +21,8 @@ const SEND_FAILED: u8 = 4;
 // Octets that passed without a call.
 const NO_CALL: u8 = 5;
 
-/// Octets that passed, one after another, and those calls of ports with which they passed. It takes no memory,
-/// and its functions do nothing.
+/// Octets that passed, one after another, and those calls of ports with which they passed. It takes no
+/// memory, and its functions do nothing.
 #[derive(Drop)]
 pub struct Log {
     pub ghost octets: { List ℕ },

@@ -60,7 +60,12 @@ pub struct FromRead<R> {
 impl<R: Read> FromRead<R> {
     /// The source of what the reader gives, with no read yet.
     pub fn new(reader: R) -> Self
-        ensures { result ≡ record { reader = reader; failed = 0; reads = 0; log = record { octets = []; calls = [] } } }
+        ensures { result ≡ record {
+          reader = reader;
+          failed = 0;
+          reads = 0;
+          log = record { octets = []; calls = [] };
+        } }
     {
         FromRead {
             reader,

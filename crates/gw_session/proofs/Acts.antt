@@ -5,11 +5,8 @@ use Rattle.gw_session.proofs.Common.{Gateway, Event, Stands, reply_to, Totals, R
 use Rattle.gw_session.proofs.Common.{Appends-none, Passes-join, AppendsPrefix-behind, Spells, counted, Written}
 use Rattle.gw_session.proofs.Common.{written_out, code_of, Act, told, turns_of, events_in, events_of_turns, octet_of}
 use Rattle.gw_session.proofs.Common.{answer_to, packets_for, dropped_for, Takes, spelled_for, written_for, Exchanges}
-use Rattle.gw_session.proofs.Common.{ActsOn, TapeState, Recorded, Output, World, state_of}
-use Rattle.gw_records.specs.Streams.{Puts}
-use Rattle.gw_records.proofs.Writes.{Passes-same, AppendsPrefix-same}
-use Rattle.gw_session.specs.Serve.{sent_with_octets}
-use Rattle.gw_session.specs.Exchange.{Acts}
+use Rattle.gw_session.proofs.Common.{ActsOn, TapeState, Recorded, Output, World, state_of, Puts, Passes-same}
+use Rattle.gw_session.proofs.Common.{AppendsPrefix-same, sent_with_octets, Acts}
 use Rattle.gw_session.specs.declared.tape.OnTape.{OnTape}
 use Rattle.gw_session.proofs.Turns.{PortTrace-none, counted_is}
 
@@ -45,7 +42,8 @@ acts_put spells w w' o out (Err e) on first kept puts = (
 pub trunk_acts : {spells : Spells} (w w' : World) (r n : ℕ) (o : Output) {body front answer out : List ℕ}
     (result : Result (Unit {0}) RunFault)
     → (sent : List ℕ) × (x : Exchanges spells
-    (record w.state { totals = record w.state.totals { records = r; octets = n } }) w'.state w.output o body sent) × (answer ≡ front ++ sent) × Recorded w.tape w'.tape (events_of_turns x.turns)
+    (record w.state { totals = record w.state.totals { records = r; octets = n } }) w'.state w.output o body sent)
+    × (answer ≡ front ++ sent) × Recorded w.tape w'.tape (events_of_turns x.turns)
     → front ≡ 84 ∷ 0 ∷ big_bytes 2 (length body) → out ≡ answer
     → r ≡ min (w.state.totals.records + 1) (2 ^ 64 - 1)
     → n ≡ min (w.state.totals.octets + length body) (2 ^ 64 - 1) → w.state.totals.octets < 2 ^ 64

@@ -4,8 +4,8 @@ use Rattle.gw_session.proofs.Common.{flat_map, flat_map-append, GatewayConfig, E
 use Rattle.gw_session.proofs.Common.{Record, Written, written_out, answers, trunk_in, datagrams_in, code_of, octets_in}
 use Rattle.gw_session.proofs.Common.{packets_in, Act, Turn, events_through, events_in, events_of_turns, coming}
 use Rattle.gw_session.proofs.Common.{arrivals, answer_to, octets_for, packets_for, given_by, written, all_answers}
+use Rattle.gw_session.proofs.Common.{answers_to, command_in, RecordingsAnswerAlike}
 use Rattle.gw_session.specs.Answers as records_of
-use Rattle.gw_session.specs.RecordingLaws.{answers_to, command_in, RecordingsAnswerAlike}
 use Rattle.gw_session.proofs.Cutting.{Splits, given_by-splits, trunk_has, trunk_is, datagrams_are, all_of}
 
 -- what answers acts, by what answers each

@@ -6,13 +6,10 @@ use Rattle.gw_session.proofs.Common.{Record, IsGood, record_at, SinkState, Passe
 use Rattle.gw_session.proofs.Common.{Passes-appended, Passes-empty, Passes-join, Appends-join, AppendsBut-behind}
 use Rattle.gw_session.proofs.Common.{all_kinds, Spells, Act, told, turns_of, turns, events_in, events_through, Follows}
 use Rattle.gw_session.proofs.Common.{but_last, SessionTrace, written_for, written_by, ActsOn, StopsAt, CutTrace}
-use Rattle.gw_session.proofs.Common.{TapeState, State, Output}
-use Rattle.std.proofs.lemmas.List.{drop-take}
+use Rattle.gw_session.proofs.Common.{TapeState, State, Output, drop-take, named, Passes-start, ActTrace}
 use Rattle.gw_records.specs.declared.records.First.{First}
-use Rattle.gw_records.specs.Records.{named}
-use Rattle.gw_records.proofs.Writes.{Passes-start}
-use Rattle.gw_session.specs.Exchange.{ActTrace}
 use Rattle.gw_session.proofs.Turns.{TurnTrace-none, TurnTrace-join, counted-more, octets-append, turns_have_octets}
+use Rattle.gw_session.proofs.Turns.{through-append}
 use Rattle.gw_session.proofs.Taping.{recorded_none, recorded_join}
 
 -- the record that stands first, by its body in what is held
@@ -54,17 +51,6 @@ follows_more {s = s} {acts = acts} p q = record {
       (counted-more s.totals.octets _ _ (length (turns acts)) (length (turns_of q.act)) p.trunk_octets q.octets);
   recorded = rw (← flat_map_more events_in [] acts q.act) (recorded_join _ _ _ _ _ p.recorded q.recorded);
 }
-
--- what is put for one act more
-pub written_more : (spells : Spells) (config : GatewayConfig) (before : List Event) (acts : List Act) (act : Act)
-    → written_by spells config before (acts ++ act ∷ [])
-    ≡ written_by spells config before acts ++ written_for spells config (before ++ events_through acts) act
-written_more spells config before [] act = simp append-nil
-written_more spells config before (a ∷ acts) act = rw (
-  written_more spells config (before ++ events_in a) acts act,
-  append_assoc before (events_in a) (events_through acts),
-  append_assoc,
-)
 
 -- the last of acts is the one that came last
 pub but_last_more : (acts : List Act) (act : Act) → but_last (acts ++ act ∷ []) ≡ acts
@@ -164,7 +150,11 @@ module _ (spells : Spells) {s s' : State} {x y : TapeState} {records : List Reco
         acts = p.acts ++ q.act ∷ [];
         told_are = rw (map_push told p.acts q.act, p.told_are, q.told_is);
         follows = follows_more p.follows q;
-        took = λ config before at. rw (but_last_more p.acts q.act, written_more spells config before p.acts q.act)
+        took = λ config before at. rw (
+          but_last_more p.acts q.act,
+          through-append (written_for spells) config before p.acts (q.act ∷ []),
+          append-nil,
+        )
             (more config (before ++ events_through p.acts) ((p.follows.goes.hears config before at).stands)
             (written_by spells config before (but_last p.acts)) (written_by spells config before p.acts)
             (p.took config before at));

@@ -1,45 +1,65 @@
 -- The names that most modules of this crate cite, passed on from one place. Declares nothing.
-pub use Rattle.std.proofs.Common.{◌≡◌, ◌<◌, ℕ, List, [], ◌++◌, refl, sym, ◌∙◌, append-nil, arith, Option, Result, Ok}
-pub use Rattle.std.proofs.Common.{Err, ◌∷◌, ap, map, flat_map, ◌+◌, ◌≤◌, inl, inr, length, drop, append_assoc, None}
-pub use Rattle.std.proofs.Common.{Some, Bool, true, false, ◌-◌, ◌^◌, cond, min, zero, suc, length-append, add-zero, ◌⊎◌}
-pub use Rattle.std.proofs.Common.{take, ◌==◌, IfErr, get_or}
-pub use Rattle.std.proofs.lemmas.Grind.{common_steps}
-pub use Rattle.std.proofs.lemmas.List.{drop_at, map-append, map_push, flat_map_more, length-map, drop_all, length-take}
-pub use Rattle.std.proofs.lemmas.List.{take_more, take_rest}
-pub use Rattle.std.proofs.lemmas.List.Concat.{flat_map-append}
-pub use Rattle.std.proofs.lemmas.Result.{err_from_is_err_and}
-pub use Rattle.std.specs.Io.KnownBytes.{Appends}
-pub use Rattle.std.specs.List.{AllByRecursion}
-pub use Rattle.std.specs.Prelude.{vec_len}
 pub use Rattle.byteorder.specs.Endian.{big_bytes}
 pub use Rattle.gw_circuit.specs.declared.Dropped.{Dropped}
-pub use Rattle.gw_records.proofs.Writes.{Passes-appended, Passes-empty, Passes-join, Appends-join, AppendsBut-behind}
-pub use Rattle.gw_records.proofs.Writes.{Passes-none, AppendsPrefix-behind, Appends-none}
-pub use Rattle.gw_records.specs.Outcome.{nothing_counted}
-pub use Rattle.gw_records.specs.Ports.{Grows, counted, PortsState, PortCall, Waiting}
-pub use Rattle.gw_records.specs.Records.{Record, IsGood, record_at, spelled, Reads}
-unfoldable pub use Rattle.gw_records.specs.Records.{end_of}
-pub use Rattle.gw_records.specs.Streams.{AppendsPrefix, AppendsBut, at_most, SinkState, Passes, Breaks}
+pub use Rattle.gw_records.proofs.Sessions.{five, goes_up, starts, first_held, record_taken, stops_in, stops_behind}
+pub use Rattle.gw_records.proofs.Sessions.{reads_more, ended, gives_up, ends_so, Stage}
+pub use Rattle.gw_records.proofs.Writes.{Appends-none, Passes-join, AppendsPrefix-behind, Passes-same}
+pub use Rattle.gw_records.proofs.Writes.{AppendsPrefix-same, Passes-appended, Passes-empty, Appends-join}
+pub use Rattle.gw_records.proofs.Writes.{AppendsBut-behind, Passes-start, Passes-none, AppendsBut-same, AppendsBut-more}
+pub use Rattle.gw_records.proofs.Writes.{AppendsPrefix-join, Breaks-waiting}
+pub use Rattle.gw_records.specs.Outcome.{SessionTo, EndsAll, EndsUntil, OrNoMemory, nothing_counted}
+pub use Rattle.gw_records.specs.Ports.{counted, PortsState, PortCall, Grows, KeepsReceives, Waiting, TakesOut}
+pub use Rattle.gw_records.specs.Ports.{NoneWaits, KeepsSends}
+pub use Rattle.gw_records.specs.Reader.{held, work_left}
+pub use Rattle.gw_records.specs.Records.{Record, IsGood, record_at, named, record_of, spelled, Reads}
+unfoldable pub use Rattle.gw_records.specs.Records.{end_of, has_bad_kind, has_bad_circuit, has_bad_length, is_cut}
+unfoldable pub use Rattle.gw_records.specs.Records.{has_bad_command}
+pub use Rattle.gw_records.specs.Streams.{Passes, at_most, Puts, SinkState, Breaks, AppendsBut, AppendsPrefix}
+pub use Rattle.gw_records.specs.Streams.{SourceState}
 pub use Rattle.gw_records.specs.declared.outcome.RunFault.{RunFault}
 pub use Rattle.gw_records.specs.declared.outcome.Totals.{Totals}
 pub use Rattle.gw_records.specs.declared.records.Kinds.{Kinds}
-pub use Rattle.gw_session.specs.Answers.{events, answered, Written, events_of, answers, packets_in, octets_in}
-pub use Rattle.gw_session.specs.Answers.{as_record, trunk_in, datagrams_in, written_out, render, code_of}
-pub use Rattle.gw_session.specs.Exchange.{ComesInTurn, Exchanges, StopsAt, written_by, TraceToWriteError, ActsOn}
-pub use Rattle.gw_session.specs.Exchange.{CutTrace, Receiving, RecordsBehind, Takes}
+pub use Rattle.gw_session.specs.Answers.{Written, written_out, code_of, answers, trunk_in, datagrams_in, octets_in}
+pub use Rattle.gw_session.specs.Answers.{packets_in, events_of, events, answered, as_record, render, packet_in}
+pub use Rattle.gw_session.specs.Answers.{sent_with}
+pub use Rattle.gw_session.specs.Exchange.{Takes, Exchanges, ActsOn, Acts, written_by, StopsAt, CutTrace, ActTrace}
+pub use Rattle.gw_session.specs.Exchange.{ComesInTurn, SendsPacket, OctetTrace, PacketWriteError, TraceToWriteError}
+pub use Rattle.gw_session.specs.Exchange.{Receiving, RecordsBehind, IsGiven, FourCome}
 unfoldable pub use Rattle.gw_session.specs.Exchange.{spelled_for, written_for, most_waiting}
-pub use Rattle.gw_session.specs.Outlet.{Spells}
-pub use Rattle.gw_session.specs.RecordingLaws.{all_answers}
-pub use Rattle.gw_session.specs.Running.{replies_to, is_refusal, all_kinds}
-pub use Rattle.gw_session.specs.Serve.{Act, events_through, packets_for, written, LeavesOut, octets_for, Turn, arrivals}
-pub use Rattle.gw_session.specs.Serve.{coming, events_of_turns, PortTrace, behind_four, FirstFour, InTurn, events_in}
-pub use Rattle.gw_session.specs.Serve.{SessionTrace, told, turns_of, turns, Follows, octet_of, of_circuit, Stop}
-pub use Rattle.gw_session.specs.Serve.{events_of_turn}
-unfoldable pub use Rattle.gw_session.specs.Serve.{given_by, but_last, dropped_for, answer_to}
-pub use Rattle.gw_session.specs.Tape.{Recorded, TapeState, RecordedBut}
-pub use Rattle.gw_session.specs.World.{State, Output, state_of, world_of, World}
+pub use Rattle.gw_session.specs.Outlet.{Spells, in_record, no_ports, silent}
+pub use Rattle.gw_session.specs.RecordingLaws.{all_answers, answers_to, command_in, RecordingsAnswerAlike}
+pub use Rattle.gw_session.specs.RecordingLaws.{RecordingsAreReadBack, RecordedSessionsRunAlike}
+pub use Rattle.gw_session.specs.Running.{all_kinds, replies_to, is_refusal, trunk_octets, run_totals, RunsThrough}
+pub use Rattle.gw_session.specs.Running.{AreFirst, RunsUntilWrite}
+pub use Rattle.gw_session.specs.Serve.{Act, told, turns_of, events_in, events_of_turns, octet_of, packets_for}
+pub use Rattle.gw_session.specs.Serve.{sent_with_octets, Turn, events_through, coming, arrivals, octets_for, written}
+pub use Rattle.gw_session.specs.Serve.{turns, Follows, SessionTrace, events_of_turn, PortTrace, of_circuit, behind_four}
+pub use Rattle.gw_session.specs.Serve.{FirstFour, first_four, Stop, StopsSo, last_receive, LeavesOut, Around, Served}
+pub use Rattle.gw_session.specs.Serve.{ServesAll, ServesUntil, InTurn, served_kinds, IsFew, ComeFirst, IsStopped}
+pub use Rattle.gw_session.specs.Serve.{GatewayTrace, TurnTrace}
+unfoldable pub use Rattle.gw_session.specs.Serve.{answer_to, dropped_for, given_by, but_last}
+pub use Rattle.gw_session.specs.ServeLaws.{ServingIsCutAnywhere, UnmovedCounts, without_datagrams, EventsAreTold}
+pub use Rattle.gw_session.specs.ServeLaws.{DatagramsAreInTurn}
+pub use Rattle.gw_session.specs.Tape.{TapeState, Recorded, RecordedBut, HasEnded, HasLong}
+unfoldable pub use Rattle.gw_session.specs.Tape.{kind_and_circuit}
+pub use Rattle.gw_session.specs.World.{Output, World, state_of, State, world_of, output_of}
 pub use Rattle.gw_switch.specs.Events.{Event, octets}
 unfoldable pub use Rattle.gw_switch.specs.Standing.{Stands}
-pub use Rattle.gw_switch.specs.Whole.{Reply, whole_from, Sending, next_circuit, reply_to}
+pub use Rattle.gw_switch.specs.Whole.{reply_to, Reply, whole_from, Sending, octet_reply, next_circuit, datagram_reply}
+pub use Rattle.gw_switch.specs.Whole.{sending_in}
 pub use Rattle.gw_switch.specs.declared.GatewayConfig.{GatewayConfig}
 pub use Rattle.gw_switch.specs.declared.gateway.Gateway.{Gateway}
+pub use Rattle.std.proofs.Common.{◌≡◌, inl, ◌+◌, ◌-◌, ◌^◌, ◌<◌, ℕ, min, List, [], ◌∷◌, ◌++◌, length, Result, Ok, Err}
+pub use Rattle.std.proofs.Common.{refl, sym, ap, ◌∙◌, append_assoc, arith, append-nil, map, flat_map, ◌⊎◌, inr, ◌≤◌}
+pub use Rattle.std.proofs.Common.{zero, suc, Option, take, drop, length-append, subst, IfErr, get_or, None, Some, Bool}
+pub use Rattle.std.proofs.Common.{true, false, ◌==◌, cond, count_by, take_all, take_at, add-zero, OnOk, is_err}
+pub use Rattle.std.proofs.Common.{zero-add, take-append-drop, rules}
+pub use Rattle.std.proofs.lemmas.Grind.{common_steps}
+pub use Rattle.std.proofs.lemmas.List.{length-map, map_push, flat_map_more, drop-take, drop_at, map-append, length-take}
+pub use Rattle.std.proofs.lemmas.List.{take_more, drop-append-le, append_cancel_left, drop_all, take_rest}
+pub use Rattle.std.proofs.lemmas.List.{nil_from_length}
+pub use Rattle.std.proofs.lemmas.List.Concat.{flat_map-append}
+pub use Rattle.std.proofs.lemmas.Result.{IfOk-weaker, IfErr-weaker, err_from_is_err_and}
+pub use Rattle.std.specs.Io.KnownBytes.{Appends}
+pub use Rattle.std.specs.List.{AllByRecursion}
+pub use Rattle.std.specs.Prelude.{IfOk, ◌≢◌, replicate, MatchResult, vec_len}

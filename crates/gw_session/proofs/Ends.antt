@@ -1,11 +1,8 @@
 -- Ends of sessions, by what is known of them.
-use Rattle.gw_session.proofs.Common.{List, Result, IfErr, Totals, RunFault, Kinds, Record, SinkState}
-use Rattle.std.specs.Prelude.{IfOk}
-use Rattle.std.proofs.lemmas.Result.{IfOk-weaker, IfErr-weaker}
+use Rattle.gw_session.proofs.Common.{List, Result, IfErr, Totals, RunFault, Kinds, Record, SinkState, IfOk, IfOk-weaker}
+use Rattle.gw_session.proofs.Common.{IfErr-weaker, SourceState, SessionTo, EndsAll, EndsUntil, OrNoMemory}
 use Rattle.gw_records.specs.declared.outcome.RunFault.TheVariants as faults
 use Rattle.gw_records.specs.declared.records.Ending.{Ending}
-use Rattle.gw_records.specs.Streams.{SourceState}
-use Rattle.gw_records.specs.Outcome.{SessionTo, EndsAll, EndsUntil, OrNoMemory}
 
 module _ (kinds : Kinds) (a b : SourceState) (c d : SinkState) {P Q : Totals → List Record → Type 0}
     (f : (t : Totals) (rs : List Record) → P t rs → Q t rs)

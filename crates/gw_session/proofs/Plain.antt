@@ -10,15 +10,9 @@ use Rattle.gw_session.proofs.Common.{octet_of, turns_of, turns, events_in, event
 use Rattle.gw_session.proofs.Common.{arrivals, behind_four, FirstFour, PortTrace, Follows, given_by, octets_for}
 use Rattle.gw_session.proofs.Common.{dropped_for, answer_to, but_last, SessionTrace, TapeState, State, state_of}
 use Rattle.gw_session.proofs.Common.{world_of, spelled_for, written_for, written_by, CutTrace, TraceToWriteError}
-use Rattle.std.proofs.Common.{count_by}
-use Rattle.std.proofs.Common.{take_all, take_at}
-use Rattle.gw_records.specs.Records.{record_of}
-use Rattle.gw_records.proofs.Writes.{AppendsBut-same, AppendsBut-more}
-use Rattle.gw_records.proofs.Sessions.{five}
-use Rattle.gw_session.specs.Running.{trunk_octets, run_totals, RunsThrough, AreFirst}
-use Rattle.gw_session.specs.Running.{RunsUntilWrite}
-use Rattle.gw_session.specs.Outlet.{in_record, no_ports}
-use Rattle.gw_session.specs.Serve.{first_four}
+use Rattle.gw_session.proofs.Common.{count_by, take_all, take_at, record_of, AppendsBut-same, AppendsBut-more, five}
+use Rattle.gw_session.proofs.Common.{trunk_octets, run_totals, RunsThrough, AreFirst, RunsUntilWrite, in_record}
+use Rattle.gw_session.proofs.Common.{no_ports, first_four}
 use Rattle.gw_session.proofs.Turns.{PortTrace-join, LeavesOut-all, counted_is}
 use Rattle.gw_session.proofs.Attending.{but_last_more}
 use Rattle.gw_session.proofs.Cutting.{answered_first}
@@ -212,7 +206,8 @@ whole_until records some p =
       stands = λ config before at.
           rw (acts_events p.acts plain, p.told_are, all, ← flat_map_more events_of [] (map told l.0) (told l.1)) at
           ((p.follows.goes.hears config before at).stands);
-      took = λ config before at. AppendsBut-same (ap (λ (xs : List Act). written_by in_record config before (but_last xs)) l.2
+      took = λ config before at. AppendsBut-same
+          (ap (λ (xs : List Act). written_by in_record config before (but_last xs)) l.2
           ∙ ap (written_by in_record config before) (but_last_more l.0 l.1) ∙ all_written config before l.0 early)
           (all_written config before p.acts plain ∙ ap (render_all config before) p.told_are) (p.took config before at);
     }

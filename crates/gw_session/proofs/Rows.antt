@@ -1,14 +1,12 @@
 -- Worked rows, of records and of what is written for them by given replies.
 use Rattle.gw_session.proofs.Common.{◌≡◌, ℕ, List, [], ◌∷◌, ◌++◌, take, refl, arith, Some, None, Ok, Err, map, Reply}
-use Rattle.gw_session.proofs.Common.{Record, Reads, end_of, render, all_kinds}
-use Rattle.std.specs.Prelude.{replicate}
+use Rattle.gw_session.proofs.Common.{Record, Reads, end_of, render, all_kinds, replicate, has_bad_kind, has_bad_circuit}
+use Rattle.gw_session.proofs.Common.{has_bad_length, is_cut, has_bad_command}
 use Rattle.q421_line.specs.declared.LineFault.TheVariants as line
 use Rattle.q421_line.specs.Commands.{fault_number}
 use Rattle.gw_circuit.specs.declared.Dropped.TheVariants as dropped
 use Rattle.gw_circuit.specs.declared.CodecFault.TheVariants as codec
 use Rattle.gw_records.specs.declared.records.Ending.TheVariants as endings
-use Rattle.gw_records.specs.Records.{has_bad_kind, has_bad_circuit, has_bad_length, is_cut}
-use Rattle.gw_records.specs.Records.{has_bad_command}
 
 abbrev seize : Record
 seize = Record.Command 1 1

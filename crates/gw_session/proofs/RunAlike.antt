@@ -3,13 +3,11 @@ use Rattle.gw_session.proofs.Common.{◌≡◌, ◌<◌, ℕ, List, [], ◌++◌
 use Rattle.gw_session.proofs.Common.{Err, Appends, GatewayConfig, Gateway, Event, Stands, Totals, RunFault, Record}
 use Rattle.gw_session.proofs.Common.{AppendsPrefix, AppendsBut, Grows, counted, events, answered, replies_to, Act}
 use Rattle.gw_session.proofs.Common.{events_through, packets_for, given_by, written, but_last, LeavesOut, Recorded}
-use Rattle.gw_session.proofs.Common.{all_answers}
-use Rattle.std.specs.Prelude.{MatchResult}
+use Rattle.gw_session.proofs.Common.{all_answers, MatchResult, Around, Served, ServesAll, ServesUntil}
+use Rattle.gw_session.proofs.Common.{RecordedSessionsRunAlike}
 use Rattle.std.proofs.KnownBytes.{Appends-nil}
 use Rattle.gw_records.specs.declared.outcome.RunFault.TheVariants as faults
 use Rattle.gw_records.specs.declared.records.Ending.TheVariants as endings
-use Rattle.gw_session.specs.Serve.{Around, Served, ServesAll, ServesUntil}
-use Rattle.gw_session.specs.RecordingLaws.{RecordedSessionsRunAlike}
 use Rattle.gw_session.proofs.ReadBack.{read_back}
 use Rattle.gw_session.proofs.AnsweredAlike.{answer_alike}
 use Rattle.gw_session.proofs.Taping.{recorded_none}

@@ -2,9 +2,7 @@
 use Rattle.gw_session.proofs.Common.{◌≡◌, inl, inr, ℕ, List, [], ◌∷◌, ◌++◌, flat_map, refl, arith, GatewayConfig, Event}
 use Rattle.gw_session.proofs.Common.{Totals, Record, SinkState, AppendsBut, Act, events_in, packets_for, written}
 use Rattle.gw_session.proofs.Common.{but_last, SessionTrace, spelled_for, written_for, written_by, TraceToWriteError}
-use Rattle.gw_session.proofs.Common.{TapeState, State}
-use Rattle.gw_session.specs.Outlet.{silent}
-use Rattle.gw_session.specs.World.{output_of}
+use Rattle.gw_session.proofs.Common.{TapeState, State, silent, output_of}
 
 -- packets that put nothing give no octets
 nothing_put : (ps : List (ℕ × List ℕ)) → flat_map silent ps ≡ []

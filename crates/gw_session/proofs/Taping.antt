@@ -4,13 +4,11 @@ use Rattle.gw_session.proofs.Common.{[], ◌∷◌, ◌++◌, length, drop, map,
 use Rattle.gw_session.proofs.Common.{append-nil, arith, Appends, map-append, drop_all, flat_map-append, Event, Record}
 use Rattle.gw_session.proofs.Common.{IsGood, spelled, RunFault, SinkState, AppendsPrefix, Breaks, Appends-none}
 use Rattle.gw_session.proofs.Common.{Appends-join, events, events_of, all_kinds, Turn, of_circuit, arrivals, coming}
-use Rattle.gw_session.proofs.Common.{events_of_turns, RecordsBehind, TapeState, Recorded, RecordedBut}
-use Rattle.std.proofs.Common.{OnOk, is_err}
+use Rattle.gw_session.proofs.Common.{events_of_turns, RecordsBehind, TapeState, Recorded, RecordedBut, OnOk, is_err}
+use Rattle.gw_session.proofs.Common.{AppendsPrefix-join, HasEnded, HasLong}
 use Rattle.std.proofs.lemmas.List.Elements.{Contains-append_left, Contains-append_right, Contains-push}
-use Rattle.gw_records.proofs.Writes.{AppendsPrefix-join}
-use Rattle.gw_session.specs.Tape.{HasEnded, HasLong}
 use Rattle.gw_session.proofs.Receiving.{of_more}
-use Rattle.gw_session.proofs.Turns.{All-join}
+use Rattle.gw_records.proofs.Sessions.{All-join}
 
 -- the tape took nothing of these events
 took_none : (a b : TapeState) (es : List Event) → b.taken ≡ a.taken

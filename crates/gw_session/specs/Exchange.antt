@@ -11,9 +11,9 @@ use Rattle.gw_session.specs.Answers.{code_of, packet_in}
 use Rattle.gw_session.specs.Outlet.{Spells}
 use Rattle.gw_records.specs.Ports.{TakesOut, KeepsSends, KeepsReceives}
 use Rattle.gw_session.specs.Serve.{Act, Turn, told, octet_of, turns_of, events_in, events_of_turns, answer_to}
-use Rattle.gw_session.specs.Serve.{TurnTrace, SessionTrace, PortTrace, Stop, StopsSo, as_call, receives_of, send_of}
-use Rattle.gw_session.specs.Serve.{of_circuit, coming, first_four, behind_four, LeavesOut, packets_for}
-use Rattle.gw_session.specs.Serve.{octets_for, dropped_for}
+use Rattle.gw_session.specs.Serve.{TurnTrace, SessionTrace, PortTrace, Stop, StopsSo, as_call, receives_of}
+use Rattle.gw_session.specs.Serve.{send_of, of_circuit, coming, first_four, behind_four, LeavesOut}
+use Rattle.gw_session.specs.Serve.{packets_for, octets_for, dropped_for, through}
 use Rattle.gw_session.specs.Tape.{TapeState, Recorded, RecordedBut}
 use Rattle.gw_session.specs.World.{State, Output, World}
 
@@ -34,12 +34,10 @@ written_for spells config before act =
 
 -- .. for acts, one after another
 abbrev pub written_by : Spells → GatewayConfig → List Event → List Act → List ℕ
-written_by spells config before [] = []
-written_by spells config before (act ∷ acts) =
-    written_for spells config before act ++ written_by spells config (before ++ events_in act) acts
+written_by spells = through (written_for spells)
 
--- how many octets wait at most when a record was acted on: none if it is answered at once, else as many as the
--- buffer holds
+-- how many octets wait at most when a record was acted on: none if it is answered at once, else as many as
+-- the buffer holds
 unfoldable pub most_waiting : Bool → ℕ
 most_waiting true = 0
 most_waiting false = 65536
@@ -210,8 +208,8 @@ Acts spells w w' r result = MatchResult result
     ⊎ ((octets : List ℕ) × (r ≡ Record.Trunk octets)
     × StopsAt spells w.state w'.state w.output w'.output.sink octets)))
 
--- A session but for the last record, in which a write failed when its first octets were received; at most this
--- many octets waited before it.
+-- A session but for the last record, in which a write failed when its first octets were received; at most
+-- this many octets waited before it.
 pub record CutTrace (late : ℕ) (spells : Spells) (w w' : World) (begun : List Record) : Type 0 where
   pub records : List Record
   pub octets : List ℕ

@@ -11,7 +11,7 @@ use Rattle.gw_session.specs.Answers.{Written, written_out, answers, answered, tr
 use Rattle.gw_session.specs.Answers as records_of
 use Rattle.gw_session.specs.Running.{all_kinds, replies_to, RunsAll}
 use Rattle.gw_session.specs.Serve.{Act, told, events_through, events_in, events_of_turns, octets_for}
-use Rattle.gw_session.specs.Serve.{packets_for, written, LeavesOut, Around, ServesAll, ServesUntil}
+use Rattle.gw_session.specs.Serve.{packets_for, written, through, LeavesOut, Around, ServesAll, ServesUntil}
 use Rattle.gw_session.specs.Tape.{TapeState, Recorded}
 
 -- What was recorded is read as records whose events are the first of those that happened; where the tape has
@@ -35,9 +35,7 @@ answers_to config before (Act.Trunk ts) = Written.Trunk (octets_for config befor
 answers_to config before act = answers (told act) (whole_from config before (events_in act))
 
 abbrev pub all_answers : GatewayConfig → List Event → List Act → List Written
-all_answers config before [] = []
-all_answers config before (act ∷ acts) =
-    answers_to config before act ++ all_answers config (before ++ events_in act) acts
+all_answers = through answers_to
 
 -- the answer to a command or a codec: its circuit, its kind and its code
 abbrev pub command_in : Written → List (ℕ × ℕ × ℕ)
@@ -62,9 +60,9 @@ RecordingsAnswerAlike = (config : GatewayConfig) (before : List Event) (acts : L
     → AnswersAs config before acts records
 
 -- A session that was recorded and a replay of what was recorded. Both gateways stand after the same events.
--- The octets of the trunk and the answers to commands are alike in what both wrote: of the live one a prefix of
--- its answers was taken, and all of them where no write failed. The ports took the datagrams that the replay
--- wrote, but for as many as failed sends.
+-- The octets of the trunk and the answers to commands are alike in what both wrote: of the live one a prefix
+-- of its answers was taken, and all of them where no write failed. The ports took the datagrams that the
+-- replay wrote, but for as many as failed sends.
 pub record RunAlike (config : GatewayConfig) (live replayed : Gateway) (a a' : Around)
     (again again' : SinkState) : Type 0 where
   pub happened : List Event

@@ -49,7 +49,8 @@ pub fn attend<O: Outlet, S: Source, K: Sink, T: Tape>(
         (λ first. Appends (K.tells sink.old).taken (K.tells sink.new).taken))
         (TraceToWriteError (most_waiting session.old.at_once) O.spells
         (world_of (O.tells outlet.old) gateway.old nothing_counted (T.tells tape.old) (K.tells sink.old) [])
-        (λ totals. world_of (O.tells outlet.new) gateway.new totals (T.tells tape.new) (K.tells sink.new) []))) }
+        (λ totals. world_of (O.tells outlet.new) gateway.new totals (T.tells tape.new)
+        (K.tells sink.new) []))) }
 {
     'attending: loop {
         match first_record(kinds, reader.held()) {

@@ -44,8 +44,8 @@ const SERVED: Kinds = Kinds {
 /// The first of [`RunFault::BadKind`], [`RunFault::BadCircuit`], [`RunFault::BadCommand`] and
 /// [`RunFault::Truncated`] that holds of the records; [`RunFault::Read`] where the source failed, or after
 /// 2^62 reads; [`RunFault::Write`] if the sink failed: it has all answers but the last one, and the first
-/// octets of that, and the session stops there; [`RunFault::OutOfMemory`] where memory was refused: nothing is
-/// read, written, received or sent. A fault of the ports is counted, and ends nothing.
+/// octets of that, and the session stops there; [`RunFault::OutOfMemory`] where memory was refused: nothing
+/// is read, written, received or sent. A fault of the ports is counted, and ends nothing.
 pub fn serve<S: Source, P: Ports, K: Sink>(
     alloc: Global,
     gateway: &mut Gateway,

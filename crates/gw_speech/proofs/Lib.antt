@@ -1,3 +1,4 @@
+pub mod Common
 pub mod InPlace
 pub mod PacketLemmas
 pub mod Speech

@@ -1,25 +1,16 @@
 -- The packets of a stream.
-use Rattle.std.proofs.Common.{◌≡◌, ◌+◌, ◌*◌, ◌-◌, ◌%◌, ◌<◌, ◌≤◌, ◌^◌, ℕ, zero, suc, List, [], ◌++◌, length, take}
-use Rattle.std.proofs.Common.{drop, replicate, refl, sym, ap, ◌∙◌, append_assoc, append-nil, length-append}
-use Rattle.std.proofs.Common.{length-drop, length-take, length-take-le, take-append-drop, drop-drop, arith}
-use Rattle.std.proofs.lemmas.Nat.{div-mul-add, mod-mul-add, le-div}
-use Rattle.std.proofs.lemmas.List.{length-replicate, drop-append-le, take-append-le, drop_at}
-use Rattle.std.proofs.lemmas.List.Elements.{All-append, All-drop}
+use Rattle.gw_speech.proofs.Common.{◌≡◌, ◌+◌, ◌*◌, ◌-◌, ◌%◌, ◌<◌, ◌≤◌, ◌^◌, ℕ, zero, suc, List, [], ◌++◌, length, take}
+use Rattle.gw_speech.proofs.Common.{drop, replicate, refl, sym, ap, ◌∙◌, append_assoc, append-nil, length-append}
+use Rattle.gw_speech.proofs.Common.{length-drop, length-take, length-take-le, take-append-drop, drop-drop, arith}
+use Rattle.gw_speech.proofs.Common.{div-mul-add, mod-mul-add, le-div, length-replicate, drop-append-le, take-append-le}
+use Rattle.gw_speech.proofs.Common.{drop_at, All-append, All-drop, All, copy_within, Appends, put_mid, idle_code}
+use Rattle.gw_speech.proofs.Common.{CodecState, OneWordAnOctet, PrefixesComeFirst, SourceState, SinkState, Gives}
+use Rattle.gw_speech.proofs.Common.{GivesUp, Refills, Gives-end, StreamSpec, packet_len, word_bits, words_for}
+use Rattle.gw_speech.proofs.Common.{packet_record, records_from, full_packets, filled, packets, records_of}
+use Rattle.gw_speech.proofs.Common.{full_records_of, header_with, HasEncoded, IsPacket, IsUnderWay, EncodesUntilRead}
 use Rattle.std.proofs.Math.Nat.{div-add-mod, mod-lt, mod-eq_of_lt, mod_self, sub-zero}
-use Rattle.std.specs.List.{All, copy_within}
-use Rattle.std.specs.Io.KnownBytes.{Appends}
-use borrow.Rule.Slice.PartMut.{put_mid}
-use Rattle.e1_g711.specs.Law.{idle_code}
-use Rattle.g726_codec.specs.Kinds.{CodecState}
-use Rattle.g726_codec.specs.Laws.{OneWordAnOctet, PrefixesComeFirst}
-use Rattle.gw_records.specs.Streams.{SourceState, SinkState, Gives, GivesUp, Refills}
 use Rattle.gw_records.proofs.Buffers.{moved}
-use Rattle.gw_records.proofs.Writes.{Gives-end}
-use Rattle.gw_speech.specs.declared.spec.StreamSpec.{StreamSpec}
 use Rattle.gw_speech.specs.declared.encode.Progress.{Progress}
-use Rattle.gw_speech.specs.Encode.{packet_len, word_bits, words_for, packet_record, records_from}
-use Rattle.gw_speech.specs.Encode.{full_packets, filled, packets, records_of, full_records_of, header_with, HasEncoded}
-use Rattle.gw_speech.specs.Encode.{IsPacket, IsUnderWay, EncodesUntilRead}
 use Rattle.gw_speech.proofs.InPlace.{front_is, came_is, window_is, coded_behind}
 
 -- the records of one packet more

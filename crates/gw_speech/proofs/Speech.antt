@@ -1,17 +1,11 @@
 -- The speech of words behind others.
-use Rattle.std.proofs.Common.{◌≡◌, ◌<◌, ℕ, List, [], ◌∷◌, ◌++◌, length, refl, sym, append_assoc, append-nil}
-use Rattle.std.proofs.Common.{take-append-drop}
+use Rattle.gw_speech.proofs.Common.{◌≡◌, ◌<◌, ℕ, List, [], ◌∷◌, ◌++◌, length, refl, sym, append_assoc, append-nil}
+use Rattle.gw_speech.proofs.Common.{take-append-drop, slice_index, drop_at, All-from_get_or, OneWordAnOctet}
+use Rattle.gw_speech.proofs.Common.{PrefixesComeFirst, SpeechIsItsOwnWords, G711, StreamSpec, word_bits, speech_of}
+use Rattle.gw_speech.proofs.Common.{speech_behind}
 use Rattle.std.proofs.Math.Seq.{drop-append_seam}
-use Rattle.std.specs.Prelude.{slice_index}
-use Rattle.std.proofs.lemmas.List.{drop_at}
-use Rattle.std.proofs.lemmas.List.Elements.{All-from_get_or}
-use Rattle.g726_codec.specs.Laws.{OneWordAnOctet, PrefixesComeFirst, SpeechIsItsOwnWords}
-use Rattle.g726_codec.specs.declared.CodecKind.TheVariants.{G711}
 use Rattle.rtp_pack.specs.Payload.{words_of}
 use Rattle.rtp_pack.specs.Laws.{OctetsAreWords as SameOctets}
-use Rattle.gw_speech.specs.declared.spec.StreamSpec.{StreamSpec}
-use Rattle.gw_speech.specs.Encode.{word_bits}
-use Rattle.gw_speech.specs.Decode.{speech_of, speech_behind}
 
 -- what words give behind others is the speech of these words
 speech_is : (s : StreamSpec) (before words octets : List ℕ) → OneWordAnOctet

@@ -1,13 +1,15 @@
 -- Records that are taken one after another.
-use Rattle.std.proofs.Common.{◌≡◌, ◌+◌, ◌-◌, ◌^◌, min, ℕ, true, cond, List, [], ◌∷◌, ◌++◌, take, drop}
-use Rattle.std.proofs.Common.{refl, sym, ap, ◌∙◌, append-nil, length-append, arith}
-use Rattle.std.specs.Prelude.{Option, Some, None, Result, IfOk, IfErr, unwrap_or, count_by, is_none, is_some}
-use Rattle.std.specs.Io.KnownBytes.{IsAtEnd}
+use Rattle.gw_speech.proofs.Common.{◌≡◌, ◌+◌, ◌-◌, ◌^◌, min, ℕ, true, cond, List, [], ◌∷◌, ◌++◌, take, drop, refl, sym}
+use Rattle.gw_speech.proofs.Common.{ap, ◌∙◌, append-nil, length-append, arith, Option, Some, None, Result, IfOk, IfErr}
+use Rattle.gw_speech.proofs.Common.{unwrap_or, count_by, is_none, is_some, IsAtEnd, drop-take, PrefixesComeFirst}
+use Rattle.gw_speech.proofs.Common.{Record, IsGood, IsFirst, is_open, end_of, has_bad_kind, has_bad_length}
+use Rattle.gw_speech.proofs.Common.{has_bad_command, named, record_at, SourceState, SinkState, five, StreamSpec}
+use Rattle.gw_speech.proofs.Common.{datagram_words, record_words, words_in, speech_of, speech_in, only_datagrams}
+use Rattle.gw_speech.proofs.Common.{speech_behind, count_record, decode_totals, DecodesThrough, DecodesAll}
+use Rattle.gw_speech.proofs.Common.{DecodesUntil}
 use Rattle.std.proofs.lemmas.List.Concat.{flat_map-append}
-use Rattle.std.proofs.lemmas.List.{drop-take}
 use Rattle.std.proofs.lemmas.List.Sums.{fold_push}
 use Rattle.std.proofs.lemmas.Bool.Decides.{nat_tests}
-use Rattle.g726_codec.specs.Laws.{PrefixesComeFirst}
 use Rattle.gw_records.specs.declared.records.Head.{Head}
 use Rattle.gw_records.specs.declared.records.Head.TheVariants as heads
 use Rattle.gw_records.specs.declared.records.First.{First}
@@ -15,15 +17,8 @@ use Rattle.gw_records.specs.declared.records.Ending.{Ending}
 use Rattle.gw_records.specs.declared.records.Ending.TheVariants as endings
 use Rattle.gw_records.specs.declared.outcome.Totals.{Totals}
 use Rattle.gw_records.specs.declared.outcome.RunFault.{RunFault}
-use Rattle.gw_records.specs.Records.{Record, IsGood, IsFirst, is_open, end_of, has_bad_kind, has_bad_length}
-use Rattle.gw_records.specs.Records.{has_bad_command, named, record_at}
-use Rattle.gw_records.specs.Streams.{SourceState, SinkState}
 use Rattle.gw_records.specs.Outcome.{answer_of, Ends}
 use Rattle.gw_records.proofs.Firsts.{found_in}
-use Rattle.gw_records.proofs.Sessions.{five}
-use Rattle.gw_speech.specs.declared.spec.StreamSpec.{StreamSpec}
-use Rattle.gw_speech.specs.Decode.{datagram_words, record_words, words_in, speech_of, speech_in, only_datagrams}
-use Rattle.gw_speech.specs.Decode.{speech_behind, count_record, decode_totals, DecodesThrough, DecodesAll, DecodesUntil}
 use Rattle.gw_speech.proofs.Speech.{speech_splits}
 
 -- the words of one record more

@@ -1,8 +1,6 @@
-use Rattle.std.proofs.Common.{◌<◌, [], length, take, arith, length-take-le}
-use Rattle.std.proofs.lemmas.Grind.{common_steps}
-use Rattle.std.proofs.lemmas.Result.{err_from_is_err_and}
+use Rattle.gw_records.proofs.Common.{◌<◌, [], length, take, arith, length-take-le, common_steps, err_from_is_err_and}
+use Rattle.gw_records.proofs.Common.{Appends-kept, Appends-nil, Consumes-kept, Consumes-nil}
 use Rattle.gw_records.proofs.Buffers.{behind}
-use Rattle.std.proofs.KnownBytes.{Appends-kept, Appends-nil, Consumes-kept, Consumes-nil}
 use Rattle.gw_records.proofs.reader.read_behind.Goals as goal
 
 pub returns-clause-gives : goal.returns-clause-gives

@@ -1,4 +1,4 @@
-use Rattle.std.proofs.Common.{arith, sym, ◌∙◌}
+use Rattle.gw_records.proofs.Common.{arith, sym, ◌∙◌}
 use Rattle.gw_records.proofs.Firsts.{kind_left, circuit_is, length_is, good_first, head_told}
 use Rattle.gw_records.proofs.records.first_record.Goals as goal
 

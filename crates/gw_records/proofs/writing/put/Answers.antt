@@ -1,5 +1,4 @@
-use Rattle.std.proofs.Common.{◌∙◌}
-use Rattle.std.proofs.lemmas.Result.{err_from_is_err_and}
+use Rattle.gw_records.proofs.Common.{◌∙◌, err_from_is_err_and}
 use Rattle.gw_records.proofs.Writes.{Passes-after, Breaks-after, Breaks-more}
 use Rattle.gw_records.proofs.writing.put.Goals as goal
 

@@ -1,4 +1,4 @@
-use Rattle.std.proofs.Common.{◌++◌, take, ◌∙◌}
+use Rattle.gw_records.proofs.Common.{◌++◌, take, ◌∙◌}
 use Rattle.gw_records.proofs.Writes.{Appends-join, split_more, took_some}
 use Rattle.gw_records.proofs.writing.write_all.Goals as goal
 

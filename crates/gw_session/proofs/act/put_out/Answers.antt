@@ -1,5 +1,5 @@
 use Rattle.gw_session.proofs.Common.{◌∙◌, arith, most_waiting, err_from_is_err_and, Passes-empty, Passes-appended}
-use Rattle.gw_records.proofs.Writes.{Breaks-waiting}
+use Rattle.gw_session.proofs.Common.{Breaks-waiting}
 use Rattle.gw_session.proofs.act.put_out.Goals as goal
 
 pub returns-in_err-flush-clause-puts : goal.returns-in_err-flush-clause-puts

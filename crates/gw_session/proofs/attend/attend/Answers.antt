@@ -1,8 +1,7 @@
-use Rattle.gw_session.proofs.Common.{inl, ◌++◌, [], ◌∷◌, length, ap, ◌∙◌, refl, length-append, arith, record_at}
+use Rattle.gw_session.proofs.Common.{inl, ◌++◌, [], ◌∷◌, length, ap, ◌∙◌, refl, length-append, arith, record_at, held}
+use Rattle.gw_session.proofs.Common.{goes_up, starts, first_held, record_taken, stops_in, stops_behind, reads_more}
+use Rattle.gw_session.proofs.Common.{ended, gives_up, ends_so}
 use Rattle.gw_records.specs.declared.outcome.RunFault.TheVariants as faults
-use Rattle.gw_records.specs.Reader.{held}
-use Rattle.gw_records.proofs.Sessions.{goes_up, starts, first_held, record_taken, stops_in, stops_behind}
-use Rattle.gw_records.proofs.Sessions.{reads_more, ended, gives_up, ends_so}
 use Rattle.gw_session.proofs.Attending.{record_is, good_in_all, through_none, through_done, through_all, through_on}
 use Rattle.gw_session.proofs.Attending.{waiting_failed, some_records, act_failed}
 use Rattle.gw_session.proofs.attend.attend.Goals as goal

@@ -1,7 +1,5 @@
 use Rattle.gw_session.proofs.Common.{◌≡◌, ◌≤◌, List, ℕ, length, vec_len, Record, Passes, written_by, most_waiting}
-use Rattle.gw_session.proofs.Common.{SessionTrace, nothing_counted, state_of}
-use Rattle.gw_records.specs.Reader.{work_left}
-use Rattle.gw_records.proofs.Sessions.{Stage}
+use Rattle.gw_session.proofs.Common.{SessionTrace, nothing_counted, state_of, work_left, Stage}
 use Rattle.gw_session.proofs.attend.attend.Given as goal
 
 abbrev pub invariant-attending : goal.invariant-attending

@@ -1,6 +1,6 @@
+use Rattle.gw_session.proofs.Common.{most_waiting}
 use Rattle.gw_session.proofs.Ends.{all_as, until_as}
 use Rattle.gw_session.proofs.Silent.{serves, serves_until}
-use Rattle.gw_session.specs.Exchange.{most_waiting}
 use Rattle.gw_session.proofs.serves.serve_recorded.Goals as goal
 
 pub returns : goal.returns

@@ -1,4 +1,4 @@
-use Rattle.std.proofs.Common.{arith}
+use Rattle.gw_session.proofs.Common.{arith}
 use Rattle.gw_session.proofs.Taping.{recorded_long}
 use Rattle.gw_session.proofs.tape.record_datagram.Goals as goal
 

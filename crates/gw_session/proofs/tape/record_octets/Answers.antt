@@ -1,5 +1,4 @@
-use Rattle.gw_session.proofs.Common.{arith, common_steps}
-use Rattle.std.proofs.lemmas.List.{nil_from_length}
+use Rattle.gw_session.proofs.Common.{arith, common_steps, nil_from_length}
 use Rattle.gw_session.proofs.Taping.{recorded_none}
 use Rattle.gw_session.proofs.tape.record_octets.Goals as goal
 

@@ -1,13 +1,8 @@
-use Rattle.std.proofs.Common.{◌++◌, [], ◌∷◌, ◌∙◌}
-use Rattle.std.proofs.lemmas.List.{nil_from_length}
+use Rattle.gw_speech.proofs.Common.{◌++◌, [], ◌∷◌, ◌∙◌, nil_from_length, record_at, held, Passes-start, Passes-empty}
+use Rattle.gw_speech.proofs.Common.{Passes-join, Passes-appended, AppendsPrefix-behind, Breaks-waiting, goes_up, starts}
+use Rattle.gw_speech.proofs.Common.{first_held, record_taken, stops_in, stops_behind, reads_more, ended, gives_up}
+use Rattle.gw_speech.proofs.Common.{words_in}
 use Rattle.gw_records.specs.declared.outcome.RunFault.TheVariants as faults
-use Rattle.gw_records.specs.Records.{record_at}
-use Rattle.gw_records.specs.Reader.{held}
-use Rattle.gw_records.proofs.Writes.{Passes-start, Passes-empty, Passes-join, Passes-appended, AppendsPrefix-behind}
-use Rattle.gw_records.proofs.Writes.{Breaks-waiting}
-use Rattle.gw_records.proofs.Sessions.{goes_up, starts, first_held, record_taken, stops_in, stops_behind}
-use Rattle.gw_records.proofs.Sessions.{reads_more, ended, gives_up}
-use Rattle.gw_speech.specs.Decode.{words_in}
 use Rattle.gw_speech.proofs.Taking.{words_more, decoded_more, words_at, totals_more, decode_ends}
 use Rattle.gw_speech.proofs.decode.decode_stream.Goals as goal
 

@@ -1,9 +1,5 @@
-use Rattle.std.proofs.Common.{◌≡◌, List, ℕ}
-use Rattle.gw_records.specs.Streams.{Passes}
-use Rattle.gw_records.specs.Reader.{work_left}
-use Rattle.gw_records.specs.Records.{Record}
-use Rattle.gw_speech.specs.Decode.{HasDecoded, words_in, speech_in, only_datagrams, decode_totals}
-use Rattle.gw_records.proofs.Sessions.{Stage}
+use Rattle.gw_speech.proofs.Common.{◌≡◌, List, ℕ, Passes, work_left, Record, HasDecoded, words_in, speech_in}
+use Rattle.gw_speech.proofs.Common.{only_datagrams, decode_totals, Stage}
 use Rattle.gw_speech.proofs.decode.decode_stream.Given as goal
 
 abbrev pub invariant-decoding : goal.invariant-decoding

@@ -1,5 +1,4 @@
-use Rattle.std.proofs.Common.{refl}
-use Rattle.gw_records.proofs.Writes.{Passes-none}
+use Rattle.gw_speech.proofs.Common.{refl, Passes-none}
 use Rattle.gw_speech.proofs.Speech.{speech_of_none}
 use Rattle.gw_speech.proofs.decode.put_datagram.Goals as goal
 

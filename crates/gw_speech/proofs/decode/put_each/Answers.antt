@@ -1,9 +1,6 @@
-use Rattle.std.proofs.Common.{◌^◌, ◌<◌, ◌++◌, ◌∷◌, [], ap, sym, refl, ◌∙◌, append_assoc, append-nil}
-use Rattle.std.proofs.lemmas.List.Elements.{All-tail}
-use Rattle.std.proofs.lemmas.Result.{err_from_is_err_and}
-use Rattle.g726_codec.specs.Kinds.{CodecState}
-use Rattle.gw_records.proofs.Writes.{Passes-none, Passes-join, Breaks-join, Breaks-more}
-use Rattle.gw_speech.specs.Encode.{word_bits}
+use Rattle.gw_speech.proofs.Common.{◌^◌, ◌<◌, ◌++◌, ◌∷◌, [], ap, sym, refl, ◌∙◌, append_assoc, append-nil, All-tail}
+use Rattle.gw_speech.proofs.Common.{err_from_is_err_and, CodecState, Passes-none, Passes-join, Breaks-join, Breaks-more}
+use Rattle.gw_speech.proofs.Common.{word_bits}
 use Rattle.gw_speech.proofs.Speech.{speech_of_none, speech_joins, speech_more}
 use Rattle.gw_speech.proofs.decode.put_each.Goals as goal
 

@@ -1,9 +1,5 @@
-use Rattle.std.proofs.Common.{◌≡◌, ◌^◌, ◌<◌, ◌++◌, ℕ, List, []}
-use Rattle.std.specs.List.{All}
-use Rattle.g726_codec.specs.Kinds.{codec_after}
-use Rattle.gw_records.specs.Streams.{Passes}
-use Rattle.gw_speech.specs.Encode.{word_bits}
-use Rattle.gw_speech.specs.Decode.{speech_behind}
+use Rattle.gw_speech.proofs.Common.{◌≡◌, ◌^◌, ◌<◌, ◌++◌, ℕ, List, [], All, codec_after, Passes, word_bits}
+use Rattle.gw_speech.proofs.Common.{speech_behind}
 use Rattle.gw_speech.proofs.decode.put_each.Given as goal
 
 abbrev pub invariant-loop-word : goal.invariant-loop-word

@@ -1,5 +1,4 @@
-use Rattle.std.proofs.lemmas.Result.{err_from_is_err_and}
-use Rattle.gw_records.proofs.Writes.{Breaks-more}
+use Rattle.gw_speech.proofs.Common.{err_from_is_err_and, Breaks-more}
 use Rattle.gw_speech.proofs.decode.put_octet.Goals as goal
 
 pub returns-in_err-flush : goal.returns-in_err-flush

@@ -1,5 +1,4 @@
-use Rattle.std.proofs.Common.{◌≡◌, rules, arith}
-use Rattle.g726_codec.specs.declared.CodecKind.TheVariants.{G711}
+use Rattle.gw_speech.proofs.Common.{◌≡◌, rules, arith, G711}
 use Rattle.gw_speech.proofs.Speech.{speech_of_octets}
 use Rattle.gw_speech.proofs.decode.put_payload.Goals as goal
 

@@ -1,13 +1,8 @@
-use Rattle.std.proofs.Common.{◌+◌, ◌-◌, ◌^◌, ◌<◌, inl, inr, [], ◌++◌, refl, ap, ◌∙◌, length-append, arith}
-use Rattle.std.proofs.lemmas.List.{nil_from_length}
-use Rattle.std.proofs.lemmas.List.Elements.{All-nil}
-use borrow.Rule.Slice.PartMut.{same_len_mid}
-use Rattle.g726_codec.specs.Kinds.{CodecState}
+use Rattle.gw_speech.proofs.Common.{◌+◌, ◌-◌, ◌^◌, ◌<◌, inl, inr, [], ◌++◌, refl, ap, ◌∙◌, length-append, arith}
+use Rattle.gw_speech.proofs.Common.{nil_from_length, All-nil, same_len_mid, CodecState, Appends-none, Appends-join}
+use Rattle.gw_speech.proofs.Common.{Gives-none, Gives-join, Gives-end, Breaks-after, Breaks-more, read_failed, goes_up}
+use Rattle.gw_speech.proofs.Common.{word_bits, full_packets}
 use Rattle.gw_records.specs.declared.outcome.RunFault.TheVariants as faults
-use Rattle.gw_records.proofs.Writes.{Appends-none, Appends-join, Gives-none, Gives-join, Gives-end}
-use Rattle.gw_records.proofs.Writes.{Breaks-after, Breaks-more, read_failed}
-use Rattle.gw_records.proofs.Sessions.{goes_up}
-use Rattle.gw_speech.specs.Encode.{word_bits, full_packets}
 use Rattle.gw_speech.proofs.PacketLemmas.{reads_no_more, coded_way, words_left, window_begins, last_written}
 use Rattle.gw_speech.proofs.encode.encode_stream.Goals as goal
 

@@ -1,5 +1,4 @@
-use Rattle.std.proofs.Common.{◌≡◌, ◌+◌, ◌≤◌, [], length}
-use Rattle.gw_speech.specs.Encode.{IsPacket}
+use Rattle.gw_speech.proofs.Common.{◌≡◌, ◌+◌, ◌≤◌, [], length, IsPacket}
 use Rattle.gw_speech.proofs.PacketLemmas.{Encoding}
 use Rattle.gw_speech.proofs.encode.encode_stream.Given as goal
 

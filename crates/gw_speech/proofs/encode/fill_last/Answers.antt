@@ -1,9 +1,5 @@
-use Rattle.std.proofs.Common.{◌≡◌, ◌-◌, ◌∙◌, ◌<◌, ◌^◌, ℕ, take, drop, replicate, ap, length-take-le}
-use Rattle.std.proofs.Common.{length-drop, arith, rules}
-use Rattle.std.proofs.lemmas.Slice.{between-put_mid}
-use Rattle.std.proofs.lemmas.List.Elements.{All-append}
-use Rattle.e1_g711.specs.Law.{idle_code}
-use Rattle.gw_speech.specs.Encode.{word_bits}
+use Rattle.gw_speech.proofs.Common.{◌≡◌, ◌-◌, ◌∙◌, ◌<◌, ◌^◌, ℕ, take, drop, replicate, ap, length-take-le, length-drop}
+use Rattle.gw_speech.proofs.Common.{arith, rules, between-put_mid, All-append, idle_code, word_bits}
 use Rattle.gw_speech.proofs.InPlace.{coded_behind}
 use Rattle.gw_speech.proofs.PacketLemmas.{filled_way}
 use Rattle.gw_speech.proofs.encode.fill_last.Goals as goal

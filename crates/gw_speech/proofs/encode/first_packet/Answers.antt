@@ -1,5 +1,4 @@
-use Rattle.std.proofs.Common.{◌≡◌, ◌+◌, ◌*◌, ◌%◌, ◌^◌, refl, arith}
-use Rattle.gw_speech.specs.Encode.{packet_len, header_at}
+use Rattle.gw_speech.proofs.Common.{◌≡◌, ◌+◌, ◌*◌, ◌%◌, ◌^◌, refl, arith, packet_len, header_at}
 use Rattle.gw_speech.proofs.encode.first_packet.Goals as goal
 
 pub returns : goal.returns

@@ -1,10 +1,6 @@
-use Rattle.std.proofs.Common.{◌≡◌, ◌+◌, ◌*◌, ◌^◌, ◌<◌, length, refl, ◌∙◌, arith}
-use Rattle.std.proofs.lemmas.List.Elements.{All-drop}
-use Rattle.std.proofs.lemmas.Nat.{le-div}
-use Rattle.std.proofs.lemmas.Result.{err_from_is_err_and}
-use Rattle.gw_records.proofs.Writes.{Passes-start, Passes-join, Passes-appended}
-use Rattle.gw_records.proofs.Writes.{Breaks-join, Breaks-more, Breaks-waiting}
-use Rattle.gw_speech.specs.Encode.{packet_len, word_bits, full_packets}
+use Rattle.gw_speech.proofs.Common.{◌≡◌, ◌+◌, ◌*◌, ◌^◌, ◌<◌, length, refl, ◌∙◌, arith, All-drop, le-div}
+use Rattle.gw_speech.proofs.Common.{err_from_is_err_and, Passes-start, Passes-join, Passes-appended, Breaks-join}
+use Rattle.gw_speech.proofs.Common.{Breaks-more, Breaks-waiting, packet_len, word_bits, full_packets}
 use Rattle.gw_speech.proofs.PacketLemmas.{one_more_packet, first_packets, full_are, next_place}
 use Rattle.gw_speech.proofs.encode.write_packets.Goals as goal
 

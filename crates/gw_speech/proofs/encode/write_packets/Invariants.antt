@@ -1,7 +1,5 @@
-use Rattle.std.proofs.Common.{◌≡◌, ◌+◌, ◌*◌, ◌^◌, ◌<◌, ℕ, length, drop}
-use Rattle.std.specs.List.{All}
-use Rattle.gw_records.specs.Streams.{Passes}
-use Rattle.gw_speech.specs.Encode.{packet_len, word_bits, records_from, IsPacket}
+use Rattle.gw_speech.proofs.Common.{◌≡◌, ◌+◌, ◌*◌, ◌^◌, ◌<◌, ℕ, length, drop, All, Passes, packet_len, word_bits}
+use Rattle.gw_speech.proofs.Common.{records_from, IsPacket}
 use Rattle.gw_speech.proofs.encode.write_packets.Given as goal
 
 abbrev pub invariant-packets : goal.invariant-packets

@@ -1,34 +1,16 @@
 -- `of` makes the empty struct, with the value that its clause names. Only a proof by hand can set ghost data.
-use Rattle.std.proofs.Common.{List, [], ◌∷◌, ◌++◌, refl}
-use seplogic.Ra.Ura.{Ura}
-use mir.Syntax.{Fn, Args, a_type}
-use mir.Val.{Val, vptr}
+use Rattle.gw_records.proofs.ByHand.{List, [], ◌∷◌, ◌++◌, refl, Ura, Fn, Args, a_type, Val, vptr, SProp, ent, Memory}
+use Rattle.gw_records.proofs.ByHand.{Routine, Calls, Loops, WpFn, Tables, Fun, tables, tables_of, WpFn-mono, Logic, ‵}
+use Rattle.gw_records.proofs.ByHand.{raw, ◌⊛◌, prop, ◌$◌, ◌∵◌, !, qed, move, keep, drop, split, fsplit, fjoin, feq_l}
+use Rattle.gw_records.proofs.ByHand.{regoal, suffices, done, agg, enter, returns, and_then, no_more, alloc_all}
+use Rattle.gw_records.proofs.ByHand.{pass_all, free_all, look_at, get, sets, yes, RattleType, owns, RefOf, plain}
+use Rattle.gw_records.proofs.ByHand.{types_at, nothing, owned, alive, Meets, triple_of, entered, says, Stays}
+use Rattle.gw_records.proofs.ByHand.{stay_dropped, walk_of, ends_at, walk_Meets, Goes-dropped}
 use mir.MapTy.{inst_fn}
-use base.Logic.{SProp, ent}
-use prog.Memory.{Memory}
-use prog.Routine.{Routine}
-use prog.Wp.{Calls, Loops, WpFn, Tables}
-use contract.Monad.{Fun}
-use contract.Running.{tables, tables_of}
-use sound.WpLaws.{WpFn-mono}
-use types.Logic.{Logic}
-use types.Kit.{‵, raw, ◌⊛◌, prop, ◌$◌, ◌∵◌, !, qed, move, keep, drop, split, fsplit, fjoin, feq_l, regoal, suffices, done}
-use types.Part.{agg}
-use types.Run.{enter, returns, and_then, no_more}
-use types.ByLocal.{alloc_all, pass_all, free_all, look_at, get, sets}
-use denote.Exit.{yes}
-use denote.RattleType.{RattleType, owns}
-use denote.Builtin.{RefOf}
 use denote.Laws.{Is}
 use denote.Param.{param, layouts}
-use denote.Signature.{plain, types_at}
-use denote.Steps.{nothing, owned}
 use denote.Struct.Laws.{makes}
 use denote.Triple.Clauses.{Clauses, Ended, closing}
-use denote.Triple.Entry.{alive}
-use denote.Triple.Spec.{Meets, triple_of}
-use denote.Triple.Table.{entered}
-use denote.Triple.Walked.{says, Stays, stay_dropped, walk_of, ends_at, walk_Meets, Goes-dropped}
 use Rattle.std.specs.contracts.marker.PhantomData as Mark
 use Rattle.gw_records.proofs.Walks.{none, one, one_made}
 use Rattle.gw_records.specs.contracts.log.AtStart as Start

@@ -1,31 +1,18 @@
 -- `add` does nothing: the borrow is opened, and closed at the octets and calls that its clause names. Only a proof by
 -- hand can set ghost data.
-use Rattle.std.proofs.Common.{ℕ, List, [], ◌∷◌, refl, MutBor}
-use seplogic.Ra.Ura.{Ura}
-use mir.Syntax.{named, w8, w64}
-use mir.Val.{Val, vunit, vptr, vint}
-use base.Logic.{SProp, ent, sep, emp, via, fst∗, id⊢}
+use Rattle.gw_records.proofs.ByHand.{ℕ, List, [], ◌∷◌, refl, MutBor, Ura, named, w8, w64, Val, vunit, vptr, vint, SProp}
+use Rattle.gw_records.proofs.ByHand.{ent, sep, emp, via, fst∗, id⊢, Memory, Routine, Calls, Loops, WpFn, Tables, Logic}
+use Rattle.gw_records.proofs.ByHand.{Fun, tables, tables_of, ‵, ◌⊛◌, ◌$◌, ◌∵◌, !, qed, by, move, keep, drop, use1}
+use Rattle.gw_records.proofs.ByHand.{split, join, fsplit, fsplit3, fjoin, fjoin3, feq_i, suffices, frame, done}
+use Rattle.gw_records.proofs.ByHand.{unit_lit, of_opd, returns, enter, alloc_all, pass_all, free_all, look_at, sets}
+use Rattle.gw_records.proofs.ByHand.{WpFn-mono, owns, plain, opens, closes, on_entry, Meets, triple_of, entered, says}
+use Rattle.gw_records.proofs.ByHand.{Stays, stay_ref, walk_of, AllGo, Goes-ref, Walks, ends_at, walked, walk_Meets, u8}
+use Rattle.gw_records.proofs.ByHand.{usize, yes, stay_none, stay_none_slice, Goes-none, Goes-none_slice, ◌<◌, ◌^◌, ◌++◌}
+use Rattle.gw_records.proofs.ByHand.{length, take}
 use base.Fml.{GName, Lft, Share, ftrue, flft, fobs, fbor}
-use prog.Memory.{Memory}
-use prog.Routine.{Routine}
-use prog.Wp.{Calls, Loops, WpFn, Tables}
-use types.Logic.{Logic}
-use contract.Monad.{Fun}
-use contract.Running.{tables, tables_of}
-use types.Kit.{‵, ◌⊛◌, ◌$◌, ◌∵◌, !, qed, by, move, keep, drop, use1, split, join, fsplit, fsplit3, fjoin, fjoin3, feq_i, suffices, frame, done}
-use types.Run.{unit_lit, of_opd, returns, enter}
 use types.SemTy.{Body}
-use types.ByLocal.{alloc_all, pass_all, free_all, look_at, sets}
-use sound.WpLaws.{WpFn-mono}
-use denote.RattleType.{owns}
 use denote.Memory.{mem}
 use denote.Ref.{MutRef, mut_vals, mut_Tells}
-use denote.Signature.{plain}
-use denote.Steps.{opens, closes}
-use denote.Triple.Entry.{on_entry}
-use denote.Triple.Spec.{Meets, triple_of}
-use denote.Triple.Table.{entered}
-use denote.Triple.Walked.{says, Stays, stay_ref, walk_of, AllGo, Goes-ref, Walks, ends_at, walked, walk_Meets}
 use Rattle.gw_records.specs.declared.log.Log.{Log}
 use Rattle.gw_records.specs.contracts.log.Log as T
 use Rattle.gw_records.specs.contracts.log.Log.add.Key.{name as #it}
@@ -33,12 +20,8 @@ use Rattle.gw_records.specs.contracts.log.Log.add as it
 use Rattle.gw_records.proofs.log.Log.add.Statement as stated
 use Rattle.gw_records.proofs.log.Log.add.Code as code
 use denote.Ref.{Bor}
-use denote.Builtin.{u8, usize}
 use denote.Plain.{uint_vals, uint_Tells}
-use denote.Exit.{yes}
 use denote.Slice.{ShrSlice, slice_val, shr_slice_vals, shr_slice_Tells}
-use denote.Triple.Walked.{stay_none, stay_none_slice, Goes-none, Goes-none_slice}
-use Rattle.std.proofs.Common.{◌<◌, ◌^◌, ◌++◌, length, take}
 use Rattle.gw_records.specs.Ports.{calls_of}
 
 abbrev Arg : Type 0

@@ -1,26 +1,10 @@
 -- `new` makes the empty struct, with the octets and calls that its clause names. Only a proof by hand can set ghost data.
-use mathlib.Core.Path.{refl}
-use mathlib.Core.List.{[], ◌∷◌}
-use seplogic.Ra.Ura.{Ura}
-use mir.Val.{vstruct, vnil}
-use base.Logic.{SProp, ent, emp, via, fst∗}
-use prog.Memory.{Memory}
-use prog.Routine.{Routine}
-use prog.Wp.{Calls, Loops, WpFn, Tables}
-use types.Logic.{Logic}
-use contract.Monad.{Fun}
-use contract.Running.{tables, tables_of}
-use sound.WpLaws.{WpFn-mono}
-use types.Kit.{‵, raw, ◌$◌, ◌∵◌, !, qed, move, suffices, done}
-use types.Run.{no_more, returns, enter}
-use types.Part.{agg}
-use types.ByLocal.{alloc_all, pass_all, free_all, look_at, sets}
-use denote.RattleType.{owns}
+use Rattle.gw_records.proofs.ByHand.{refl, [], ◌∷◌, Ura, vstruct, vnil, SProp, ent, emp, via, fst∗, Memory, Routine}
+use Rattle.gw_records.proofs.ByHand.{Calls, Loops, WpFn, Tables, Logic, Fun, tables, tables_of, WpFn-mono, ‵, raw, ◌$◌}
+use Rattle.gw_records.proofs.ByHand.{◌∵◌, !, qed, move, suffices, done, no_more, returns, enter, agg, alloc_all}
+use Rattle.gw_records.proofs.ByHand.{pass_all, free_all, look_at, sets, owns, on_entry, alive, Meets, triple_of}
+use Rattle.gw_records.proofs.ByHand.{entered, says, Stays, walk_of, Walks, ends_at, walked, walk_Meets}
 use denote.Shadow.{pure_i}
-use denote.Triple.Entry.{on_entry, alive}
-use denote.Triple.Spec.{Meets, triple_of}
-use denote.Triple.Table.{entered}
-use denote.Triple.Walked.{says, Stays, walk_of, Walks, ends_at, walked, walk_Meets}
 use Rattle.gw_records.specs.contracts.log.Log.new.Key.{name as key}
 use Rattle.gw_records.specs.contracts.log.Log.new as f
 use Rattle.gw_records.proofs.log.Log.new.Statement as stated

@@ -1,5 +1,4 @@
-use Rattle.std.proofs.Common.{◌-◌, ℕ, List, take, drop, ap, ◌∙◌, refl, arith}
-use Rattle.gw_records.specs.Reader.{held}
+use Rattle.gw_records.proofs.Common.{◌-◌, ℕ, List, take, drop, ap, ◌∙◌, refl, arith, held}
 use Rattle.gw_records.proofs.Buffers.{moved}
 use Rattle.gw_records.proofs.reader.Reader.compact.Goals as goal
 

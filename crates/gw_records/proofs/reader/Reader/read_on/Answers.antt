@@ -1,4 +1,4 @@
-use Rattle.std.proofs.Common.{arith, sym, ◌∙◌}
+use Rattle.gw_records.proofs.Common.{arith, sym, ◌∙◌}
 use Rattle.gw_records.proofs.Buffers.{open_is_short, held_fits}
 use Rattle.gw_records.proofs.reader.Reader.read_on.Goals as goal
 

@@ -1,7 +1,5 @@
-use Rattle.std.proofs.Common.{◌≤◌, ◌++◌, ℕ, List, length, take, drop, ap, arith, length-take}
-use Rattle.gw_records.specs.Reader.{held}
-use Rattle.std.proofs.lemmas.Result.{err_from_is_err_and}
-use Rattle.std.proofs.lemmas.List.{drop-append-le}
+use Rattle.gw_records.proofs.Common.{◌≤◌, ◌++◌, ℕ, List, length, take, drop, ap, arith, length-take, held}
+use Rattle.gw_records.proofs.Common.{err_from_is_err_and, drop-append-le}
 use Rattle.gw_records.proofs.Buffers.{kept}
 use Rattle.gw_records.proofs.reader.Reader.refill.Goals as goal
 

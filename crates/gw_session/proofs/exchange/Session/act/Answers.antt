@@ -1,7 +1,6 @@
-use Rattle.gw_session.proofs.Common.{refl, Event, Takes, Act, answer_to, given_by, dropped_for}
+use Rattle.gw_session.proofs.Common.{refl, Event, Takes, Act, answer_to, given_by, dropped_for, kind_and_circuit}
 use Rattle.gw_records.specs.Octets.{octet_of_command, octet_of_codec}
 use Rattle.gw_records.proofs.Again.{command_again, codec_again}
-use Rattle.gw_session.specs.Tape.{kind_and_circuit}
 use Rattle.gw_session.proofs.Acts.{one_acts}
 use Rattle.gw_session.proofs.exchange.Session.act.Goals as goal
 
@@ -16,7 +15,8 @@ returns-in-Datagram-clause-acts g c =
     λ config before h. ((given config before h).0, code config before h) in
     rw c.in-Datagram.is (one_acts (Act.Datagram circuit body) _ c.give-code.new.totals _ _ _ _ _ _
     c.put_answer.result refl refl (λ config before. refl) (λ config before. refl) (λ config before. refl) takes
-    c.record-recorded.ensures.on_tape c.give-code.ensures.others c.put_answer.ensures.counts (λ config before h. (given config before h).1)
+    c.record-recorded.ensures.on_tape c.give-code.ensures.others c.put_answer.ensures.counts
+    (λ config before h. (given config before h).1)
     c.put_answer.ensures.puts c.record-recorded.ensures.recorded)
 
 pub returns-in-Command-clause-acts : goal.returns-in-Command-clause-acts

@@ -1,7 +1,6 @@
 use Rattle.gw_session.proofs.Common.{◌≡◌, ◌+◌, ◌<◌, ◌++◌, ◌∷◌, [], ap, sym, refl, ◌∙◌, ℕ, List, length, take, drop}
 use Rattle.gw_session.proofs.Common.{get_or, length-append, arith, length-take, take_rest, take_more}
-use Rattle.gw_session.proofs.Common.{err_from_is_err_and, vec_len}
-use Rattle.std.proofs.Common.{take-append-drop}
+use Rattle.gw_session.proofs.Common.{err_from_is_err_and, vec_len, take-append-drop}
 use Rattle.gw_session.specs.declared.exchange.Session.{Session}
 use Rattle.gw_session.proofs.PacketsSent.{exchange_is, stops_once}
 use Rattle.gw_session.proofs.Exchanging.{heard_none, heard_more, heard_all, stops_after}

@@ -1,5 +1,4 @@
-use Rattle.gw_session.proofs.Common.{sym, ap, refl, append-nil, err_from_is_err_and, Sending, Passes-none}
-use Rattle.gw_switch.specs.Whole.{sending_in}
+use Rattle.gw_session.proofs.Common.{sym, ap, refl, append-nil, err_from_is_err_and, Sending, Passes-none, sending_in}
 use Rattle.gw_session.proofs.PacketsSent.{sends_none}
 use Rattle.gw_session.proofs.exchange.Session.hear.Goals as goal
 

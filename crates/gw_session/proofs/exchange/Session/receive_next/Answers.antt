@@ -1,6 +1,5 @@
 use Rattle.gw_session.proofs.Common.{◌≡◌, inl, inr, ◌<◌, ◌++◌, ◌∷◌, [], refl, ap, ◌∙◌, length, take, arith, ◌-◌, drop}
-use Rattle.gw_session.proofs.Common.{length-append, take_rest, Stop}
-use Rattle.std.proofs.Common.{rules}
+use Rattle.gw_session.proofs.Common.{length-append, take_rest, Stop, rules}
 use Rattle.gw_records.proofs.Buffers.{kept}
 use Rattle.gw_session.proofs.Turns.{Grows-none}
 use Rattle.gw_session.proofs.Receiving.{receiving_none, receiving_more, comes_so, comes_nothing}

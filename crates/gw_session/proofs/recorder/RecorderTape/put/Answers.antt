@@ -1,4 +1,4 @@
-use Rattle.std.proofs.Common.{sym, ◌∙◌}
+use Rattle.gw_session.proofs.Common.{sym, ◌∙◌}
 use Rattle.gw_session.proofs.Taping.{recorded_over, recorded_written}
 use Rattle.gw_session.proofs.recorder.RecorderTape.put.Goals as goal
 

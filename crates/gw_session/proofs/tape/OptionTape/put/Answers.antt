@@ -1,4 +1,4 @@
-use Rattle.std.proofs.Common.{refl}
+use Rattle.gw_session.proofs.Common.{refl}
 use Rattle.gw_session.proofs.Taping.{recorded_over}
 use Rattle.gw_session.proofs.tape.OptionTape.put.Goals as goal
 
