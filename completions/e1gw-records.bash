@@ -12,6 +12,7 @@ _e1gw_tools() {
     e1gw-records) options+=' --from-raw --to-raw --reverse --size --circuit --law' ;;
     e1gw-pcap) options+=' --back --circuit --in' ;;
     e1gw-explain) options+=' --no-sockets' ;;
+    e1gw-exchange) options+=' --again' ;;
   esac
   _e1gw_offer "$options" --size --law 'A mu' --circuit "$(seq -s ' ' 30)"
 }

@@ -123,6 +123,8 @@ def started(asked: argparse.Namespace, parser: argparse.ArgumentParser) -> int:
         parser.error('--all wants a command that is answered at once')
     if asked.all:
         return run_all(words)
+    if asked.command[:1] and asked.command[0] in [name for name, _ in trunks_here()]:
+        parser.error(f'{asked.command[0]} is a trunk: a command goes to one of them, and with --all to each')
     return run(path_of(asked.path), asked.command) if asked.path else overview()
 
 
@@ -135,6 +137,7 @@ def main() -> None:
     asked = parser.parse_args()
     try:
         status = started(asked, parser)
+        sys.stdout.flush()
     except BrokenPipeError:
         os.dup2(os.open(os.devnull, os.O_WRONLY), 1)
         status = 1

@@ -117,6 +117,10 @@ def write_all(asked: argparse.Namespace, plan: Plan) -> None:
         # (two trunks of one machine have each a port for metrics)
         ends.append((asked.tie, plan.other_end(plan.trunk + (plan.host == plan.peer))))
     texts = [(name, text_of(each), options_text(name, each.trunk, asked.device)) for name, each in ends]
+    there = [path for name, _ in ends for ending in ('toml', 'options')
+             if os.path.exists(path := os.path.join(asked.folder, f'{name}.{ending}'))]
+    if there and not asked.over:
+        raise Usage(f'{", ".join(there)}: there already; --over writes over it, and nothing was written')
     for name, text, options in texts:
         path = os.path.join(asked.folder, name)
         write_new(f'{path}.toml', text, asked.over)
@@ -135,10 +139,19 @@ def doors_of(table: dict[str, Any]) -> dict[tuple[str, int], int]:
             if 'local_port' in circuit}
 
 
+def clash_words(path: str, other: str, clashes: list[tuple[int, str, int]]) -> str:
+    """What is said of the circuits of a file, with address and port, that another file has a circuit at."""
+    circuit, door, far = clashes[0]
+    if len(clashes) == 1:
+        return f'{path}, circuit {circuit}: {door} is also the port of {other}, circuit {far}'
+    return (f'{path}: the ports of {len(clashes)} circuits, of circuit {circuit} {door}, are also those of {other}; '
+            f'e1gw-config --trunk N gives each trunk its own')
+
+
 def check_files(paths: list[str]) -> bool:
-    """Prints what is wrong with each, and ports that two of them have; returns whether nothing is. Ports of the
+    """Prints what is wrong with each, and which two have ports in common; returns whether nothing is. Ports of the
     package's example.toml are free, since no unit has that name."""
-    good, taken = True, dict[tuple[str, int], str]()
+    good, taken = True, dict[tuple[str, int], tuple[str, int]]()
     for path in paths:
         if why := config_words(path):
             print(why)
@@ -146,11 +159,14 @@ def check_files(paths: list[str]) -> bool:
             continue
         if os.path.basename(path) == EXAMPLE and len(paths) > 1:
             continue
+        clashes: dict[str, list[tuple[int, str, int]]] = {}
         for (host, port), circuit in doors_of(check(read_octets(path))).items():
-            before = taken.setdefault((host, port), f'{path}, circuit {circuit}')
-            if before != f'{path}, circuit {circuit}':
-                print(f'{path}, circuit {circuit}: {host}:{port} is also the port of {before}')
-                good = False
+            other, far = taken.setdefault((host, port), (path, circuit))
+            if other != path:
+                clashes.setdefault(other, []).append((circuit, f'{host}:{port}', far))
+        for other, found in clashes.items():
+            print(clash_words(path, other, found))
+            good = False
     if good:
         print(f'{len(paths)} configurations have no fault')
     return good

@@ -215,25 +215,25 @@ class Beside(unittest.TestCase):
         support.program()
 
     def goes_on(self, world: World, what: str | None = None) -> None:
-        """A call comes up, and what has ended is told."""
+        """A call comes up, and what has ended is told. The trunk goes on in lock step until then: what ends does so in
+        a process or a thread of its own."""
         aligned(world)
         call(world, 1)
+        until = time.monotonic() + SECONDS
+        while what and world.told()['ended'][what] is None and time.monotonic() < until:
+            world.step()
         ended = world.status()['ended']
         self.assertEqual([name for name, why in ended.items() if why is not None], [what] if what else [])
 
     def test_a_full_disk(self) -> None:
         for option, what in (('--session', 'session'), ('--json', 'json')):
             with self.subTest(option), World(config_of(FOUR), option, '/dev/full') as world:
-                world.step(2)
-                time.sleep(0.2)
                 self.goes_on(world, what)
                 status, said = world.quit()
                 self.assertEqual((status, said.count(f'{what} ended, the calls go on: No space left')), (0, 1))
 
     def test_a_folder_for_metrics_that_is_not_there(self) -> None:
         with World(config_of(FOUR), '--metrics', '@/none/e1gw.prom') as world:
-            world.step(2)
-            time.sleep(0.1)
             self.goes_on(world, 'metrics')
 
     def test_a_recording_that_nobody_reads_any_more(self) -> None:
@@ -241,7 +241,6 @@ class Beside(unittest.TestCase):
             world.step(2)
             found = child(world, 'replay')
             os.kill(found, signal.SIGKILL)
-            time.sleep(0.1)
             self.goes_on(world, 'shadow')
             self.assertTrue(world.status()['stale'])
             self.assertIn('the counts of packets are not those of now', world.ask('status'))

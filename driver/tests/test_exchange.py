@@ -27,6 +27,31 @@ class Typed(unittest.TestCase):
                 finally:
                     exchange.kill()
 
+    def test_another_trunk(self) -> None:
+        """With --again the next one finds it at the same socket, with all circuits idle."""
+        with tempfile.TemporaryDirectory() as folder:
+            path = os.path.join(folder, 'card')
+            words = [sys.executable, '-B', os.path.join(support.TOP, 'examples', 'exchange'), '--again', path]
+            with subprocess.Popen(words, stdin=subprocess.PIPE, stdout=subprocess.DEVNULL) as exchange:
+                try:
+                    assert exchange.stdin
+                    with connected(path) as line:
+                        os.write(exchange.stdin.fileno(), b'seize 3\n')
+                        self.until_seized(line, {3})
+                    with connected(path) as line:
+                        self.assertEqual(pairs(line), {n: IDLE for n in range(1, 16)})
+                finally:
+                    exchange.kill()
+
+    def test_a_socket_that_is_there(self) -> None:
+        """What is in the way is told, with what takes it away."""
+        with tempfile.NamedTemporaryFile() as file:
+            words = [sys.executable, '-B', os.path.join(support.TOP, 'examples', 'exchange'), file.name]
+            done = subprocess.run(words, capture_output=True, text=True, check=False, timeout=30)
+            self.assertEqual((done.returncode, done.stderr),
+                             (1, f'exchange: {file.name}: Address already in use: another exchange waits there, or one '
+                                 f'left it (rm {file.name})\n'))
+
     def typed_at(self, exchange: subprocess.Popen[bytes], path: str) -> None:
         assert exchange.stdin and exchange.stdout
         with connected(path) as line:

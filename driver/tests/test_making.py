@@ -70,6 +70,14 @@ class Made(support.Folder):
         self.assertEqual((status, said), (2, 'rack2.toml, circuit 1: 127.0.0.1:24060 is also the port of rack1.toml, '
                                           'circuit 30\n'))
 
+    def test_a_clash_of_many_is_one_line(self) -> None:
+        """Two trunks with the same number have all ports in common."""
+        self.made('--write', 'rack1')
+        self.made('--write', 'west')
+        self.assertEqual(self.made('--check', 'rack1.toml', 'west.toml')[:2],
+                         (2, 'west.toml: the ports of 30 circuits, of circuit 1 127.0.0.1:24002, are also those of '
+                             'rack1.toml; e1gw-config --trunk N gives each trunk its own\n'))
+
     def test_the_example_of_the_package_has_no_port(self) -> None:
         self.made('--write', 'rack1')
         self.made('--write', 'example')
@@ -82,7 +90,8 @@ class Made(support.Folder):
             file.write('law = "A"\ncodecc = 1\n')
         for words, told in ((['--law', 'mu', '--codec', 'pcma'], 'other law'),
                             (['--first-local', '65500', '--first-peer', '9002'], 'local_port'),
-                            (['--write', 'old'], 'old.toml: File exists'), (['--tie', 'east'], '--tie wants --write'),
+                            (['--write', 'old'], 'old.toml, ./old.options: there already; --over'),
+                            (['--tie', 'east'], '--tie wants --write'),
                             (['--trunk', '65'], '1 to 64'), (['--check', 'none.toml'], 'none.toml: No such file'),
                             (['--check', 'bad.toml'], 'bad.toml:2: codecc is no key here')):
             with self.subTest(words=words):

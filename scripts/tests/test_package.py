@@ -8,24 +8,32 @@ TOP = os.path.dirname(os.path.dirname(os.path.dirname(os.path.abspath(__file__))
 RUNS = '/run/systemd/system'        # is there where systemd runs
 
 
-def asked(script: str, *words: str) -> list[str]:
-    """What a script of the package asks of systemd, with commands in its place that only say what they were given."""
+def run(script: str, words: tuple[str, ...], units: str) -> tuple[list[str], str]:
+    """What a script of the package asks of systemd, with commands in its place that say what they were given, and in
+    which these units run; and what the script prints."""
     with tempfile.TemporaryDirectory() as folder:
         said = os.path.join(folder, 'said')
         for name in ('deb-systemd-invoke', 'systemctl', 'systemd-sysusers', 'rmdir'):
             with open(os.path.join(folder, name), 'w', encoding='ascii') as file:
-                file.write(f'#!/bin/sh\necho {name} "$@" >> {said}\n')
+                file.write(f'#!/bin/sh\necho {name} "$@" >> {said}\n'
+                           f'case "$*" in *list-units*) printf %s "{units}" ;; esac\n')
             os.chmod(file.name, 0o755)
         with open(os.path.join(TOP, 'package', script), encoding='ascii') as file:
             text = file.read()
         if RUNS not in text:
             raise AssertionError(f'{script} does not look whether systemd runs')
-        subprocess.run(['sh', '-c', text.replace(RUNS, folder), script, *words], check=True, timeout=20,
-                       env={**os.environ, 'PATH': f'{folder}:{os.environ["PATH"]}'})
+        done = subprocess.run(['sh', '-c', text.replace(RUNS, folder), script, *words], check=True, timeout=20,
+                              stdout=subprocess.PIPE, text=True,
+                              env={**os.environ, 'PATH': f'{folder}:{os.environ["PATH"]}'})
         if not os.path.exists(said):
-            return []
+            return [], done.stdout
         with open(said, encoding='ascii') as file:
-            return file.read().split()
+            return file.read().split(), done.stdout
+
+
+def asked(script: str, *words: str) -> list[str]:
+    """What a script of the package asks of systemd while none of its units runs."""
+    return run(script, words, '')[0]
 
 
 def purged(folder: str) -> str:
@@ -52,6 +60,14 @@ class Units(unittest.TestCase):
         self.assertEqual(asked('prerm', 'upgrade', '0.2.0'), [])
         self.assertEqual(asked('postrm', 'upgrade', '0.2.0'), [])
         self.assertNotIn('stop', asked('postinst', 'configure', '0.1.0'))
+
+    def test_an_update_names_what_runs_on(self) -> None:
+        """Only where there was a version before, and only while units run."""
+        running = 'e1gw-tie@west.service loaded active running\ne1gw-trunk@west.service loaded active running\n'
+        said = run('postinst', ('configure', '0.0.9'), running)[1]
+        self.assertIn('before: e1gw-tie@west.service e1gw-trunk@west.service', said)
+        self.assertEqual(run('postinst', ('configure', '0.0.9'), '')[1], '')
+        self.assertEqual(run('postinst', ('configure', ''), running)[1], '')
 
     def test_purge_says_what_is_left(self) -> None:
         """Recordings with their size, and each other thing that stays; nothing where nothing does."""

@@ -143,6 +143,9 @@ def drawn(options: argparse.Namespace) -> tuple[str, bool]:
     session = kept(options.session) if options.session and options.session != '-' else Kept(['-'])
     config = options.config or session.config
     if not config:
+        if session.files[0] != '-':
+            with open(session.files[0], 'rb'):      # a path that is wrong has no configuration either
+                pass
         raise Trouble('no configuration: name it by --config')
     if options.session:
         facts, word = gathered(options, session, config)

@@ -95,6 +95,9 @@ def site_of(options: argparse.Namespace, tie: Tie) -> Site:
     context: ssl.SSLContext | None = None
     if options.tls:
         certificate, key, authority = options.tls
+        for path in options.tls:
+            with open(path, 'rb'):      # TLS would not tell which of the three cannot be read
+                pass
         try:
             context = context_of(certificate, key, authority, listens)
         except OSError as fault:

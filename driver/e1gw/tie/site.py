@@ -4,6 +4,7 @@ from __future__ import annotations
 import asyncio
 import functools
 import ipaddress
+import os
 import socket
 import ssl
 from contextlib import ExitStack, suppress
@@ -54,6 +55,13 @@ def context_of(certificate: str, key: str, authority: str, listens: bool) -> ssl
     context.load_cert_chain(certificate, key)
     context.load_verify_locations(authority)
     return context
+
+
+def words_of_no_connection(fault: BaseException, place: str) -> str:
+    """Why there is none: what the system refuses by its name, with the place; all else as it says itself."""
+    if isinstance(fault, OSError) and fault.errno and fault.errno > 0 and not isinstance(fault, ssl.SSLError):
+        return f'{place}: {os.strerror(fault.errno)}'
+    return str(fault) or f'{place}: no answer'
 
 
 def has_name(certificate: dict[str, Any] | None, name: str) -> bool:
@@ -154,7 +162,7 @@ class Site:
                     reader, writer = await asyncio.open_connection(host, port, limit=MOST, **more)
                 await self._hold(reader, writer)
             except (OSError, TimeoutError) as fault:
-                self.hooks.turned_away(str(fault) or 'no answer')
+                self.hooks.turned_away(words_of_no_connection(fault, f'{host}:{port}'))
             await asyncio.sleep(AGAIN)
 
     async def _listen(self, host: str, port: int) -> None:

@@ -7,6 +7,7 @@ import time
 from dataclasses import dataclass, replace
 from typing import Any, Callable, Coroutine
 
+from ..faults import words_of_fault
 from ..lines import IN_CALL, Role, State
 from ..session import Command
 from .circuit import NO_CALL, Circuit, End, Link
@@ -75,7 +76,7 @@ class Tie:
             try:
                 await self._follow()
             except (OSError, EOFError, ValueError, KeyError, TypeError) as fault:
-                why = str(fault) or type(fault).__name__
+                why = words_of_fault(fault, self.options.control) or type(fault).__name__
                 if why != self._why:
                     self.tell('trunk gone', why=why)
                 self._why = why
