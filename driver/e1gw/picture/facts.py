@@ -13,6 +13,7 @@ from collections.abc import Iterator
 from dataclasses import dataclass, field
 from typing import Any
 
+from ..lines import SEIZURE_WAIT
 from .sound import Heard, Turns
 
 SECOND = 256_000            # octets of the trunk
@@ -204,6 +205,7 @@ class Row:
     peer: str = ''
     states: Spans = field(default_factory=lambda: Spans('fault', RANK))
     cells: dict[int, Cell] = field(default_factory=dict)
+    wait: int = SEIZURE_WAIT                    # of a seizure, in milliseconds
     cell: Cell = field(default_factory=Cell)
     commands: dict[tuple[int, Answer], Command] = field(default_factory=dict)
     stream: Stream = field(default_factory=Stream)
