@@ -208,8 +208,8 @@ class Gateway:
 
 
 class Shadow:
-    """An `e1gw replay` by these words over the recording. `answered` is given the octets that it answers, `ended` why it
-    ended."""
+    """An `e1gw replay` by these words over the recording. `answered` is given the octets that it answers, `ended`
+    why it ended."""
 
     def __init__(self, loop: Loop, words: list[str], answered: Callable[[bytes], None], ended: Ended) -> None:
         self.loop, self.answered, self._ended = loop, answered, ended

@@ -200,9 +200,10 @@ def options_of(words: list[str]) -> Options:
         config=asked.config, program=program, name=name, open_trunk=opens,
         most=asked.most or (2048 if asked.pace and not asked.satop else 256), pace=asked.pace / 1000,
         serve=_serve_words(asked), seizure_wait=asked.seizure_wait, reopen=asked.reopen, watch=asked.watch,
-        top=asked.top, control=asked.control, control_mode=asked.control_mode, control_group=asked.control_group, http=http, metrics=asked.metrics,
-        json=asked.json, session=asked.session, calls=asked.calls, keep=keep, gap=asked.gap / 1000, dark=asked.dark,
-        on_loss=on_loss, counts=asked.counts, picture=asked.picture, crc4=crc4)
+        top=asked.top, control=asked.control, control_mode=asked.control_mode, control_group=asked.control_group,
+        http=http, metrics=asked.metrics, json=asked.json, session=asked.session, calls=asked.calls, keep=keep,
+        gap=asked.gap / 1000, dark=asked.dark, on_loss=on_loss, counts=asked.counts, picture=asked.picture,
+        crc4=crc4)
 
 
 def _serve_words(asked: argparse.Namespace) -> list[str]:

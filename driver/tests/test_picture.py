@@ -22,7 +22,7 @@ from e1gw.picture.page import MOST as MOST_OCTETS
 from e1gw.picture.page import draw, numbers
 from e1gw.picture.reading import read
 from e1gw.picture.svg import Scale, apart, clock, duration, runs
-from e1gw.session import OCTETS_A_SECOND, Codec, Kind, codec_record, records_in, spell, trunk_record
+from e1gw.session import OCTETS_A_SECOND, Codec, DatagramRefusal, Kind, codec_record, records_in, spell, trunk_record
 
 # The columns of `e1gw check`: number, role, state, pairs sent and recognised, sent, admitted, refused, codec, type.
 NUMBER, STATE, SENT, ADMITTED, REFUSED = 0, 2, 5, 6, 7
@@ -202,7 +202,7 @@ class BesideTheProgram(unittest.TestCase):
                 for line in listing:
                     row = facts.rows[int(line[NUMBER])]
                     cell = row.count()
-                    refused = sum(seen[0] for seen in cell.refused.values())
+                    refused = sum(seen[0] for seen in cell.refused.values()) + cell.counts.get('repetitions', 0)
                     self.assertEqual([row.states.value, cell.sent, cell.admitted, refused],
                                      [line[STATE], *(int(line[n]) for n in (SENT, ADMITTED, REFUSED))], line)
                 self.causes(facts, answers)
@@ -214,6 +214,9 @@ class BesideTheProgram(unittest.TestCase):
                 told[record.circuit, record.body[1]] = told.get((record.circuit, record.body[1]), 0) + 1
         seen = {(row.number, code): count[0] for row in facts.rows.values()
                 for code, count in row.count().refused.items()}
+        # a repetition is answered as Repeat where nothing comes behind its time
+        seen |= {(row.number, int(DatagramRefusal.REPEAT)): again for row in facts.rows.values()
+                 if (again := row.count().counts.get('repetitions', 0))}
         self.assertEqual(seen, told)
 
     def test_each_trouble_is_found(self) -> None:

@@ -225,8 +225,8 @@ class Row:
     before: Repetitions = field(default_factory=Repetitions)
 
     def came(self, place: int, code: int, head: bytes, length: int, mark: int) -> None:
-        """A datagram that came: its first twelve octets, its length, its mark and how it was answered. A repetition that
-        is refused is counted apart."""
+        """A datagram that came: its first twelve octets, its length, its mark and how it was answered. A repetition
+        that is refused is counted apart."""
         if self.before.is_marked(head, mark) and code:
             self.cell.count('repetitions')
             return
