@@ -16,8 +16,8 @@ _e1gw_options() {
     align) echo '--totals --help' ;;
     crc4) echo '--check --totals --help' ;;
     encode | decode) echo '--law --codec --payload --ptime --ssrc --sequence --timestamp --totals --help' ;;
-    replay | check) echo '--config --totals --help' ;;
-    serve | trunk) echo '--config --record --record-over --repeat --senders --totals --help' ;;
+    replay | check) echo '--config --seizure-wait --totals --help' ;;
+    serve | trunk) echo '--config --record --record-over --repeat --seizure-wait --senders --totals --help' ;;
     '') echo '--help --version' ;;
   esac
 }
@@ -37,7 +37,7 @@ _e1gw() {
     --law | --codec | --ptime | --senders)
       mapfile -t COMPREPLY < <(compgen -W "$(_e1gw_values "$prev")" -- "$cur")
       return ;;
-    --payload | --ssrc | --sequence | --timestamp | --repeat)
+    --payload | --ssrc | --sequence | --timestamp | --repeat | --seizure-wait)
       return ;;
     --config | --record)
       compopt -o filenames 2> /dev/null

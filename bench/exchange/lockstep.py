@@ -1,4 +1,5 @@
-"""Two exchanges of libopenr2, two gateways (`e1gw replay`) and a network between them, in lock step.
+"""Two exchanges of libopenr2, two gateways (`e1gw replay`, or `e1gw serve` for its `--repeat`) and a network between
+them, in lock step.
 
 Time is the octets of the trunk: a step is a multiframe, 2 ms. So the load of the machine changes nothing, and a run
 with the same seed gives the same events."""
@@ -8,6 +9,8 @@ import contextlib
 import heapq
 import os
 import random
+import select
+import socket
 import subprocess
 import sys
 from collections import Counter
@@ -30,22 +33,26 @@ LOOK_STEPS = 10
 SEIZED, ANSWERED, IDLE, CLEARED_BACK = 0b00, 0b01, 0b10, 0b11
 
 
-def config(incoming: Iterable[int], codecs: dict[int, str], prefill: int, ptime: int) -> str:
-    """The configuration of a site. `prefill` is in samples, `ptime` in milliseconds."""
+def config(incoming: Iterable[int], codecs: dict[int, str], prefill: int, ptime: int,
+           ports: dict[int, tuple[int, int]] | None = None) -> str:
+    """The configuration of a site. `prefill` is in samples, `ptime` in milliseconds, `ports` its own and its peer's."""
     text = ['law = "A"\n']
     for n in CIRCUITS:
         role = 'incoming' if n in incoming else 'outgoing'
         payload = 8 if codecs[n] == 'pcma' else 96
         text.append(f'[[circuit]]\nnumber = {n}\nrole = "{role}"\ncodec = "{codecs[n]}"\npayload = {payload}\n'
                     f'ptime = {ptime}\nprefill = {prefill}\n')
+        if ports:
+            text.append(f'local_port = {ports[n][0]}\npeer_port = {ports[n][1]}\n')
     return ''.join(text)
 
 
 class Gateway:
-    """`e1gw replay`: what it sends to the trunk and to the network for each multiframe that it receives."""
+    """`e1gw replay`, or another session by these words: what it sends to the trunk and to the network for each
+    multiframe that it receives."""
 
-    def __init__(self, program: str, path: str) -> None:
-        self._process = subprocess.Popen([program, 'replay', '--config', path], stdin=subprocess.PIPE,
+    def __init__(self, program: str, path: str, words: list[str]) -> None:
+        self._process = subprocess.Popen([program, *words, '--config', path], stdin=subprocess.PIPE,
                                          stdout=subprocess.PIPE)
         assert self._process.stdin and self._process.stdout
         self._input, self._output = self._process.stdin, self._process.stdout
@@ -77,22 +84,56 @@ class Gateway:
         self._output.close()
 
 
-def timestamp_of(datagram: bytes) -> int:
-    """The timestamp (RFC 3550, 5.1)."""
-    return int.from_bytes(datagram[4:8], 'big')
+class Served(Gateway):
+    """`e1gw serve --repeat`: the datagrams go and come over UDP on 127.0.0.1. What the program sends is in the socket
+    before the octets that it answers, and what it is sent before the octets that it is given, so the steps are the
+    same in each run. The refusals of datagrams are not told."""
+
+    def __init__(self, program: str, path: str, ports: dict[int, int], peers: dict[int, socket.socket],
+                 words: list[str]) -> None:
+        super().__init__(program, path, ['serve', *words])
+        self._ports, self._peers = ports, peers
+        self._came = select.poll()
+        self._circuits = {peer.fileno(): n for n, peer in peers.items()}
+        for peer in peers.values():
+            peer.setblocking(False)
+            self._came.register(peer, select.POLLIN)
+
+    def step(self, octets: bytes, datagrams: Iterable[tuple[int, bytes]]) -> tuple[bytes, list[tuple[int, bytes]]]:
+        for circuit, datagram in datagrams:
+            self._peers[circuit].sendto(datagram, ('127.0.0.1', self._ports[circuit]))
+        answered, _ = super().step(octets, ())
+        return answered, [each for file, _ in self._came.poll(0) for each in self._sent(self._circuits[file])]
+
+    def _sent(self, circuit: int) -> Iterator[tuple[int, bytes]]:
+        with contextlib.suppress(BlockingIOError):
+            while True:
+                yield circuit, self._peers[circuit].recv(2048)
+
+    def end(self) -> None:
+        super().end()
+        for peer in self._peers.values():
+            peer.close()
+
+
+def bound() -> tuple[dict[int, int], dict[int, socket.socket]]:
+    """Free ports for the circuits of a gateway, and the sockets of its peers."""
+    every = [socket.socket(socket.AF_INET, socket.SOCK_DGRAM) for _ in range(2 * len(CIRCUITS))]
+    for each in every:
+        each.bind(('127.0.0.1', 0))
+    ports = {n: every[n - 1].getsockname()[1] for n in CIRCUITS}
+    for each in every[:len(CIRCUITS)]:
+        each.close()
+    return ports, dict(zip(CIRCUITS, every[len(CIRCUITS):]))
 
 
 @dataclass
 class Network:
     """One direction. A share `loss` of the datagrams is lost, each by itself, or with `pairs` two in a row of a
-    circuit; each that is not comes after `delay` ms and up to `jitter` ms more. With `repeat` each datagram of a
-    circuit is sent again behind the one that is so many later, as `e1gw serve --repeat` does, if their timestamps
-    follow one another by `words`."""
+    circuit; each that is not comes after `delay` ms and up to `jitter` ms more."""
 
     loss: float = 0.0
     pairs: bool = False
-    repeat: int = 0
-    words: int = 160
     delay: int = 10
     jitter: int = 0
     seed: int = 1
@@ -102,18 +143,7 @@ class Network:
         self._waiting: list[tuple[int, int, int, bytes]] = []
         self._second: set[int] = set()          # circuits whose next datagram is the second of a lost pair
         self._count = 0
-        self._runs: dict[int, list[bytes]] = {}     # the datagrams of a circuit that follow one another
         self.lost = 0
-
-    def _with_repetition(self, circuit: int, datagram: bytes) -> list[bytes]:
-        """A datagram, and behind it the one that is due again."""
-        if not self.repeat:
-            return [datagram]
-        run = self._runs.setdefault(circuit, [])
-        if run and (timestamp_of(datagram) - timestamp_of(run[-1])) % 2 ** 32 != self.words:
-            run.clear()
-        run.append(datagram)
-        return [datagram] if len(run) <= self.repeat else [datagram, run.pop(0)]
 
     def _loses(self, circuit: int) -> bool:
         if circuit in self._second:
@@ -128,9 +158,7 @@ class Network:
         return True
 
     def send(self, step: int, datagrams: Iterable[tuple[int, bytes]]) -> None:
-        repeated = ((circuit, each) for circuit, datagram in datagrams
-                    for each in self._with_repetition(circuit, datagram))
-        for circuit, datagram in repeated:
+        for circuit, datagram in datagrams:
             if self._loses(circuit):
                 self.lost += 1
                 continue
@@ -251,9 +279,22 @@ class Plan:
     jitter: int = 0
     loss: float = 0.0
     pairs: bool = False
-    repeat: int = 0
+    repeat: int | None = None           # of `e1gw serve`; with None the gateways are `e1gw replay`
+    wait: int = 200                     # of a seizure
     seed: int = 1
     options: tuple[str, ...] = ()       # of the exchanges
+
+
+def _gateway_of(program: str, path: str, plan: Plan, incoming: Iterable[int]) -> Gateway:
+    """The gateway of a site, whose configuration is written."""
+    ports, peers = bound() if plan.repeat is not None else ({}, {})
+    both = {n: (ports[n], peer.getsockname()[1]) for n, peer in peers.items()}
+    with open(path, 'w', encoding='utf-8') as file:
+        file.write(config(incoming, plan.codecs, plan.prefill * 8, plan.ptime, both))
+    wait = ['--seizure-wait', str(plan.wait)]
+    if plan.repeat is None:
+        return Gateway(program, path, ['replay', *wait])
+    return Served(program, path, ports, peers, ['--repeat', str(plan.repeat), *wait])
 
 
 @contextlib.contextmanager
@@ -263,11 +304,8 @@ def world_of(folder: str, exchange: str, gateway: str, plan: Plan) -> Iterator[W
     incoming = (plan.west_calls, frozenset(CIRCUITS) - plan.west_calls)
     for k, name in enumerate(('west', 'east')):
         path = os.path.join(folder, f'{name}.toml')
-        with open(path, 'w', encoding='utf-8') as file:
-            file.write(config(incoming[k], plan.codecs, plan.prefill * 8, plan.ptime))
-        sites.append(Site(OpenR2(exchange, *plan.options), Gateway(gateway, path), incoming[k]))
-        networks.append(Network(plan.loss, plan.pairs, plan.repeat, plan.ptime * 8, jitter=plan.jitter,
-                                seed=plan.seed * 2 + k))
+        sites.append(Site(OpenR2(exchange, *plan.options), _gateway_of(gateway, path, plan, incoming[k]), incoming[k]))
+        networks.append(Network(plan.loss, plan.pairs, jitter=plan.jitter, seed=plan.seed * 2 + k))
     world = World((sites[0], sites[1]), (networks[0], networks[1]), plan.tie,
                   plan.codecs if plan.until_answer else None)
     try:

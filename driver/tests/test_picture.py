@@ -22,7 +22,7 @@ from e1gw.picture.page import MOST as MOST_OCTETS
 from e1gw.picture.page import draw, numbers
 from e1gw.picture.reading import read
 from e1gw.picture.svg import Scale, apart, clock, duration, runs
-from e1gw.session import OCTETS_A_SECOND, Codec, Kind, codec_record, records_in, spell, trunk_record
+from e1gw.session import OCTETS_A_SECOND, Codec, DatagramRefusal, Kind, codec_record, records_in, spell, trunk_record
 
 # The columns of `e1gw check`: number, role, state, pairs sent and recognised, sent, admitted, refused, codec, type.
 NUMBER, STATE, SENT, ADMITTED, REFUSED = 0, 2, 5, 6, 7
@@ -31,7 +31,7 @@ FOUND = {'no-datagrams': 'none', 'other-type': 'type', 'other-codec': 'words', '
          'fast-clock': 'clock faster', 'hold': 'source', 'jump': 'jump', 'jitter': 'late', 'stranger': 'source',
          'lost': 'lost', 'burst': 'late', 'gap': 'gap', 'gaps': 'gap', 'double-rate': 'rate', 'slips': 'lost frame',
          'all-ones': 'ones', 'silent-slot': 'silent slot', 'other-law': 'came other', 'other-law-trunk': 'slot other',
-         'silent-peer': 'silent came', 'no-rtp': 'code 2', 'repeated': 'code 13', 'too-long': 'code 15',
+         'silent-peer': 'silent came', 'no-rtp': 'code 2', 'repeated': 'repeated', 'too-long': 'code 15',
          'not-open': 'not open', 'other-order': 'order other', 'unacknowledged': 'unacknowledged'}
 
 
@@ -96,16 +96,23 @@ class Gathered(unittest.TestCase):
     def test_lost_by_sequence_numbers(self) -> None:
         row = Row(3)
         for sequence in (65534, 65535, 2, 1, 3):        # 0 is missing; 1 comes behind 2
-            row.came(0, 0, rtp(sequence, 0, 7)[:12], 172)
+            row.came(0, 0, rtp(sequence, 0, 7)[:12], 172, sequence)
         self.assertEqual(row.cell.lost, 1)
 
     def test_repetitions_hide_no_loss(self) -> None:
         row = Row(3)
         for sequence, code in ((1, 0), (2, 0), (1, 13), (4, 0), (2, 14), (5, 0), (4, 13)):      # 3 is missing
-            row.came(0, code, rtp(sequence, 0, 7)[:12], 172)
+            row.came(0, code, rtp(sequence, 0, 7)[:12], 172, sequence)
         self.assertEqual(row.cell.lost, 1)
-        row.came(0, 0, rtp(3, 0, 7)[:12], 172)          # its repetition comes
+        self.assertEqual((row.cell.counts['repetitions'], row.cell.refused), (3, {}))
+        row.came(0, 0, rtp(3, 0, 7)[:12], 172, 3)       # its repetition comes
         self.assertEqual(row.cell.lost, 0)
+
+    def test_other_octets_are_no_repetition(self) -> None:
+        row = Row(3)
+        for mark, code in ((1, 0), (2, 13)):
+            row.came(0, code, rtp(5, 0, 7)[:12], 172, mark)
+        self.assertEqual((row.cell.counts, row.cell.refused[13][0]), ({}, 1))
 
     def test_states_by_the_signals(self) -> None:
         facts = facts_of(self.call(), [0] * 40)
@@ -195,7 +202,7 @@ class BesideTheProgram(unittest.TestCase):
                 for line in listing:
                     row = facts.rows[int(line[NUMBER])]
                     cell = row.count()
-                    refused = sum(seen[0] for seen in cell.refused.values())
+                    refused = sum(seen[0] for seen in cell.refused.values()) + cell.counts.get('repetitions', 0)
                     self.assertEqual([row.states.value, cell.sent, cell.admitted, refused],
                                      [line[STATE], *(int(line[n]) for n in (SENT, ADMITTED, REFUSED))], line)
                 self.causes(facts, answers)
@@ -207,6 +214,9 @@ class BesideTheProgram(unittest.TestCase):
                 told[record.circuit, record.body[1]] = told.get((record.circuit, record.body[1]), 0) + 1
         seen = {(row.number, code): count[0] for row in facts.rows.values()
                 for code, count in row.count().refused.items()}
+        # a repetition is answered as Repeat where nothing comes behind its time
+        seen |= {(row.number, int(DatagramRefusal.REPEAT)): again for row in facts.rows.values()
+                 if (again := row.count().counts.get('repetitions', 0))}
         self.assertEqual(seen, told)
 
     def test_each_trouble_is_found(self) -> None:

@@ -174,10 +174,10 @@ class Run(Drawn):
         with open(os.path.join(TOP, 'man', 'e1gw-picture.1'), encoding='utf-8') as file:
             described = file.read().split('.Sh OPTIONS')[1]
         items = {f'--{word}' for line in re.findall(r'^\.It Fl .*', described, re.M)
-                 for word in re.findall(r'Fl -([a-z]+)', line)}
+                 for word in re.findall(r'Fl -([a-z-]+)', line)}
         self.assertEqual(items, options)
         with open(os.path.join(TOP, 'completions', 'e1gw-picture.bash'), encoding='utf-8') as file:
-            offered = re.search(r"local options='(.*)'", file.read())
+            offered = re.search(r"local options='([^']*)'", file.read())
         self.assertEqual(set(offered[1].split()) if offered else None, options)
 
     def test_what_cannot_be(self) -> None:

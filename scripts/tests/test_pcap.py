@@ -32,6 +32,15 @@ class Captures(unittest.TestCase):
         times = [struct.unpack_from('<II', made, 24 + at * 57) for at in range(3)]
         self.assertEqual(times, [(0, 0), (1, 0), (1, 500000)])
 
+    def test_repetitions_are_counted(self) -> None:
+        # each again behind the next one, as by --repeat 1
+        first = [datagram(n, 160 * n) for n in range(4)]
+        given = b''.join(first[:2] + first[:1] + first[2:3] + first[1:2] + first[3:] + first[2:3])
+        run = ran(given=given)
+        self.assertEqual(run.stderr, b'pcap: 3 of 7 packets are repetitions\n')
+        back = ran('--back', given=run.stdout)
+        self.assertEqual((back.stdout, back.stderr), (given, run.stderr))
+
     def test_times_past_the_last_second_that_a_capture_can_tell(self) -> None:
         step = 2**31 - 1
         steps = 2**32 * 8000 // step + 2

@@ -95,6 +95,9 @@ const SENDERS_TEXT: &str =
 const REPEAT_TEXT: &str =
     "Datagrams of a circuit after which each is sent again, 0 to 8;\n0 for never";
 
+const SEIZURE_WAIT_TEXT: &str =
+    "Milliseconds after which a seizure that is not acknowledged is\nreleased, 200 to 8000";
+
 // The options.
 #[derive(Clone, Copy)]
 enum Opt {
@@ -113,6 +116,7 @@ enum Opt {
     RecordOver,
     Senders,
     Repeat,
+    SeizureWait,
     Crc4Check,
 }
 
@@ -137,10 +141,16 @@ const OF_A_STREAM: &[Opt] = &[
 ];
 
 // The options of a session of a gateway.
-const OF_A_SESSION: &[Opt] = &[Opt::Config, Opt::Load, Opt::Save, Opt::Totals];
+const OF_A_SESSION: &[Opt] = &[
+    Opt::Config,
+    Opt::Load,
+    Opt::Save,
+    Opt::Totals,
+    Opt::SeizureWait,
+];
 
 // The options of a session whose answers are not written.
-const OF_CHECK: &[Opt] = &[Opt::Config, Opt::Load, Opt::Totals];
+const OF_CHECK: &[Opt] = &[Opt::Config, Opt::Load, Opt::Totals, Opt::SeizureWait];
 
 // The options of a session over UDP.
 const OF_SERVE: &[Opt] = &[
@@ -152,6 +162,7 @@ const OF_SERVE: &[Opt] = &[
     Opt::Totals,
     Opt::Senders,
     Opt::Repeat,
+    Opt::SeizureWait,
 ];
 
 const SUBCOMMANDS: [Subcommand; 8] = [
@@ -329,6 +340,14 @@ fn repeat_option<'a>(alloc: Global) -> Arg<'a> {
         .default_value("0")
 }
 
+// After which time a seizure is released.
+fn seizure_wait_option<'a>(alloc: Global) -> Arg<'a> {
+    option(alloc, "seizure-wait", SEIZURE_WAIT_TEXT)
+        .value_name("MS")
+        .value_parser(value_parser!(u16).range(200..=8000))
+        .default_value("200")
+}
+
 // The option that is meant.
 fn declared<'a>(alloc: Global, option: Opt) -> Arg<'a> {
     match option {
@@ -347,6 +366,7 @@ fn declared<'a>(alloc: Global, option: Opt) -> Arg<'a> {
         Opt::RecordOver => over_option(alloc),
         Opt::Senders => senders_option(alloc),
         Opt::Repeat => repeat_option(alloc),
+        Opt::SeizureWait => seizure_wait_option(alloc),
         Opt::Crc4Check => flag(alloc, "check", CRC4_CHECK_TEXT),
     }
 }

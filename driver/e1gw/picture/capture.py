@@ -10,6 +10,7 @@ from statistics import median
 from typing import Any
 
 from ..lines import law_of
+from ..repetitions import mark_of
 from ..session import OCTETS_A_SECOND, BadPacket, Kind, packet_of, spell
 from .answers import Source, Trouble
 from .facts import BITS, FRAME, HEADER, MOST, WINDOW, Facts, Row, Stream, Wire
@@ -198,7 +199,7 @@ def reckoned(path: str, config: Mapping[str, Any], last: float | None = None, pr
                 facts.turn(place)
                 row = rows[circuits[each.target]]
                 code = _code(row, each.body, place, seen)
-                row.came(place, code, each.body[:12], len(each.body))
+                row.came(place, code, each.body[:12], len(each.body), mark_of(each.body))
                 if not code:
                     listener.came(row, place, each.body)
     listener.look()

@@ -13,6 +13,8 @@ from collections.abc import Iterator
 from dataclasses import dataclass, field
 from typing import Any
 
+from ..lines import SEIZURE_WAIT
+from ..repetitions import Repetitions
 from .sound import Heard, Turns
 
 SECOND = 256_000            # octets of the trunk
@@ -37,7 +39,7 @@ class Cell:
         self.sent = self.admitted = self.lost = self.uneven = 0
         self.low = self.high = self.total = 0               # samples before their turn, of those admitted
         self.refused: dict[int, list[int]] = {}             # code: how many, least and most samples before their turn
-        self.counts: dict[str, int] = {}                    # calls, answers, ..
+        self.counts: dict[str, int] = {}                    # calls, answers, repetitions, ..
         self.heard: dict[str, Heard] = {}                   # by way: what came, its order of words, the time slot
 
     def is_empty(self) -> bool:
@@ -56,6 +58,9 @@ class Cell:
             self.high = margin
         self.total += margin
         self.admitted += 1
+
+    def count(self, name: str) -> None:
+        self.counts[name] = self.counts.get(name, 0) + 1
 
     def refuse(self, code: int, margin: int | None) -> None:
         seen = self.refused.get(code)
@@ -200,6 +205,7 @@ class Row:
     payload: int | None = None
     prefill: int = 0
     ptime: int = 20
+    wait: int = SEIZURE_WAIT                    # of a seizure, in milliseconds
     local: str = ''
     peer: str = ''
     states: Spans = field(default_factory=lambda: Spans('fault', RANK))
@@ -216,9 +222,14 @@ class Row:
     wire: Wire | None = None
     step: int = 0                                       # of the timestamp, where it fits the words of a datagram
     length: int = 0                                     # of such a datagram
+    before: Repetitions = field(default_factory=Repetitions)
 
-    def came(self, place: int, code: int, head: bytes, length: int) -> None:
-        """A datagram that came: its first twelve octets, its length and how it was answered."""
+    def came(self, place: int, code: int, head: bytes, length: int, mark: int) -> None:
+        """A datagram that came: its first twelve octets, its length, its mark and how it was answered. A repetition
+        that is refused is counted apart."""
+        if self.before.is_marked(head, mark) and code:
+            self.cell.count('repetitions')
+            return
         if len(head) < 12:
             self.cell.refuse(code, None)
             return
@@ -297,7 +308,7 @@ class Row:
                 ('unacknowledged', was == 'seized' and state == 'releasing'),
                 ('faults', state == 'fault')):
             if happened:
-                self.cell.counts[name] = self.cell.counts.get(name, 0) + 1
+                self.cell.count(name)
 
     def state_at(self, place: int) -> str:
         """The line's state at a place that is not forgotten."""

@@ -105,7 +105,7 @@ def _moment(facts: Facts, place: int) -> str:
 HINTS = {
     1: 'no RTP: keep-alives or scans', 2: 'no RTP: STUN or scans', 3: 'cut, or no RTP', 4: 'cut, or no RTP',
     5: 'cut, or encrypted (SRTP)',
-    13: 'the sender sends each twice (--repeat), which does no harm, or the network doubles datagrams',
+    13: 'another packet with a sequence number that came already: a second sender, or one that began anew',
     15: 'the sender\'s packets are too long: at most 200 ms',
 }
 
@@ -143,6 +143,17 @@ def _refused(row: Row, whole: Cell) -> Iterator[Finding]:
         elif code == NOT_OPEN and count > 25:
             yield Finding('not open', row.number, f'{part}NotOpen: the path was not open', 'the sender speaks before '
                           'the call is acknowledged, or after its end; a few at each call are usual', False)
+
+
+def _repeated(row: Row, whole: Cell) -> Iterator[Finding]:
+    """Packets that came once more, and were let go."""
+    again = whole.counts.get('repetitions', 0)
+    if again:
+        all_of = again + whole.admitted + sum(seen[0] for seen in whole.refused.values())
+        twice = again <= all_of // 2
+        yield Finding('repeated', row.number, f'{again} of {all_of} packets are repetitions',
+                      'the sender sends each twice (--repeat), or the network doubles them; it does no harm' if twice
+                      else 'the sender sends the same packet again and again', not twice)
 
 
 def _open(row: Row, facts: Facts) -> int:
@@ -227,7 +238,7 @@ def _lines(row: Row, whole: Cell) -> Iterator[Finding]:
     unacknowledged, faults = whole.counts.get('unacknowledged', 0), whole.counts.get('faults', 0)
     if unacknowledged:
         yield Finding('unacknowledged', row.number,
-                      f'a seizure was not acknowledged within 200 ms ({times(unacknowledged)})',
+                      f'a seizure was not acknowledged within {row.wait} ms ({times(unacknowledged)})',
                       'is the circuit incoming there, and its slot the same? No seizure works while there is an alarm')
     if faults:
         yield Finding('fault', row.number, f'the line came to fault {times(faults)}',
@@ -306,6 +317,7 @@ def findings(facts: Facts) -> list[Finding]:
         clocks = list(_clock(row, parts[row.number], found[row.number]))
         out += clocks
         out += _refused(row, whole)
+        out += _repeated(row, whole)
         out += _jitter(row, whole, parts[row.number], bool(clocks or found[row.number]))
         out += _lost(row, whole)
         out += _lines(row, whole)

@@ -168,12 +168,12 @@ class Page:
             rows.append((row.number, row.role, charts.MEANS[states.value], whole.counts.get('calls', 0),
                          whole.counts.get('answers', 0), f'{opened / SECOND:.1f}', whole.sent, whole.admitted,
                          sum(seen[0] for seen in whole.refused.values()), charts.refusals(whole),
-                         max(0, whole.lost), margin,
+                         whole.counts.get('repetitions', 0), max(0, whole.lost), margin,
                          loud(whole.heard, 'order' if 'order' in whole.heard else 'came'), loud(whole.heard, 'slot'),
                          f'{row.codec} {row.payload}', row.local, row.peer))
         return table('Each circuit: counts; ms before their turn; levels, as played / in the other law or order', (
             'circuit', 'role', 'at the end', 'calls', 'answered', 'connected, s', 'sent', 'received', 'discarded',
-            'causes',
+            'causes', 'repetitions',
             'lost', 'least / mean / most ms', 'came, dBm0', 'slot, dBm0', 'codec, type', 'receives at', 'sends to'),
                      rows)
 

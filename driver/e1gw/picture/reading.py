@@ -5,7 +5,8 @@ import re
 from collections import deque
 from typing import Any, Mapping, Protocol
 
-from ..lines import Event, law_of
+from ..lines import SEIZURE_WAIT, WAIT, Event, law_of
+from ..repetitions import mark_of
 from ..session import MULTIFRAME, BadSession, Codec, Command, Fault, Kind, refusal_of
 from .facts import Facts, Row
 from .following import Follower
@@ -36,6 +37,8 @@ def rows_of(config: Mapping[str, Any]) -> dict[int, Row]:
         if 'local_port' in table:
             row.local = f'{config.get("host", "127.0.0.1")}:{table["local_port"]}'
             row.peer = f'{table.get("peer_host", "127.0.0.1")}:{table.get("peer_port", "")}'
+    for row in rows.values():
+        row.wait = config.get(WAIT, SEIZURE_WAIT)
     return rows
 
 
@@ -107,7 +110,8 @@ class Reading:
         self.sends: list[bytes] = []
         self.followed = 0
         self.due = 0                    # where they are followed next
-        self.came: deque[tuple[int, int, int, bytes, int]] = deque()    # place, circuit, code, head, length
+        # place, circuit, code, head, length, mark
+        self.came: deque[tuple[int, int, int, bytes, int, int]] = deque()
         self.sent = dict.fromkeys(facts.rows, 0)
         self.whole = True               # both ended with a whole record
 
@@ -184,7 +188,8 @@ class Reading:
             return False
         if circuit not in self.sent:
             raise self.given.wrong(Fault.BAD_CIRCUIT)
-        self.came.append((self.place, circuit, code, data[at:min(at + 12, after)], after - at))
+        self.came.append((self.place, circuit, code, data[at:min(at + 12, after)], after - at,
+                          mark_of(data[at:after])))
         if not code and after - at > 12:
             row = self.facts.rows[circuit]
             if row.stream.stretch is not None or self.place >= row.stream.came.due:
@@ -248,12 +253,12 @@ class Reading:
         facts, told, came = self.facts, self.told, self.came
         rows = facts.rows
         while came and came[0][0] <= upto:
-            place, circuit, code, head, length = came.popleft()
+            place, circuit, code, head, length, mark = came.popleft()
             while told and told[0]['place'] < place:
                 self._pass_on(told.popleft())
             if place // facts.width != facts.column:
                 facts.turn(place)
-            rows[circuit].came(place, code, head, length)
+            rows[circuit].came(place, code, head, length, mark)
         while told and told[0]['place'] < upto:
             self._pass_on(told.popleft())
         facts.turn(upto)
