@@ -4,6 +4,6 @@
 mod command;
 
 pub use command::{
-    Filter, Job, Request, Session, arguments, asks_check, job_of, path_of, recording_of,
-    records_over, repeat_of, request_of, senders_of, session_of, wants_totals,
+    Filter, Job, Request, Session, arguments, asks_check, control_of, job_of, path_of,
+    recording_of, records_over, repeat_of, request_of, senders_of, session_of, wants_totals,
 };

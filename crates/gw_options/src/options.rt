@@ -91,6 +91,9 @@ const SENDERS_TEXT: &str =
 const REPEAT_TEXT: &str =
     "Datagrams of a circuit after which each is sent again, 0 to 8;\n0 for never";
 
+const CONTROL_TEXT: &str =
+    "Unix socket at which clients connect, who give C, K and E records\nand get R records";
+
 // The options.
 #[derive(Clone, Copy)]
 enum Opt {
@@ -107,6 +110,7 @@ enum Opt {
     RecordOver,
     Senders,
     Repeat,
+    Control,
     Crc4Check,
 }
 
@@ -141,6 +145,17 @@ const OF_SERVE: &[Opt] = &[
     Opt::Totals,
     Opt::Senders,
     Opt::Repeat,
+];
+
+// The options of a trunk in service.
+const OF_TRUNK: &[Opt] = &[
+    Opt::Record,
+    Opt::RecordOver,
+    Opt::Config,
+    Opt::Totals,
+    Opt::Senders,
+    Opt::Repeat,
+    Opt::Control,
 ];
 
 const SUBCOMMANDS: [Subcommand; 8] = [
@@ -178,7 +193,7 @@ const SUBCOMMANDS: [Subcommand; 8] = [
         name: "trunk",
         about: "Octets of a trunk, answered by octets, datagrams over UDP",
         after_help: TRUNK_HELP,
-        options: OF_SERVE,
+        options: OF_TRUNK,
     },
     Subcommand {
         name: "align",
@@ -308,6 +323,11 @@ fn repeat_option<'a>(alloc: Global) -> Arg<'a> {
         .default_value("0")
 }
 
+// Where clients connect.
+fn control_option<'a>(alloc: Global) -> Arg<'a> {
+    option(alloc, "control", CONTROL_TEXT).value_name("SOCKET")
+}
+
 // The option that is meant.
 fn declared<'a>(alloc: Global, option: Opt) -> Arg<'a> {
     match option {
@@ -324,6 +344,7 @@ fn declared<'a>(alloc: Global, option: Opt) -> Arg<'a> {
         Opt::RecordOver => over_option(alloc),
         Opt::Senders => senders_option(alloc),
         Opt::Repeat => repeat_option(alloc),
+        Opt::Control => control_option(alloc),
         Opt::Crc4Check => flag(alloc, "check", CRC4_CHECK_TEXT),
     }
 }

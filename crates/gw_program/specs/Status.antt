@@ -36,5 +36,6 @@ trouble_status troubles.Nothing = 2
 trouble_status troubles.File = 2
 trouble_status troubles.Recording = 2
 trouble_status troubles.OldRecording = 2
+trouble_status troubles.Control = 2
 trouble_status (troubles.Config fault) = config_status fault
 trouble_status troubles.OutOfMemory = 3

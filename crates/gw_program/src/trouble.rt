@@ -47,6 +47,9 @@ pub enum Trouble {
     /// The file of the recording is there already, and is not to be written over.
     #[error("the recording is there already: name a new file, or give --record-over")]
     OldRecording,
+    /// The socket that clients connect to can't be opened.
+    #[error("cannot open the control socket")]
+    Control,
     /// The file says no configuration.
     #[error("{0}")]
     Config(ConfigFault),
@@ -81,6 +84,7 @@ impl Trouble {
             | Trouble::File
             | Trouble::Recording
             | Trouble::OldRecording
+            | Trouble::Control
             | Trouble::Config(_) => REFUSED,
         }
     }
