@@ -324,6 +324,14 @@ pub fn save_of<'m>(matches: &'m ArgMatches<'_>) -> Option<&'m str>
     text_of(matches, "save")
 }
 
+/// The path of the socket that the matches name for clients, the first one, where they name one.
+pub fn control_of<'m>(matches: &'m ArgMatches<'_>) -> Option<&'m str>
+    ensures { option_map (λ path. path.now) result
+        ≡ text_in (codes "control") (subcommand_rows_of matches.now) }
+{
+    text_of(matches, "control")
+}
+
 /// Whether CRC-4 multiframes are to be checked in place of sent.
 pub fn asks_check(matches: &ArgMatches<'_>) -> bool
     ensures yes { text_in (codes "check") (subcommand_rows_of matches.now) ≡ Some (codes "true")

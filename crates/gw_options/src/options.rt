@@ -98,6 +98,9 @@ const REPEAT_TEXT: &str =
 const SEIZURE_WAIT_TEXT: &str =
     "Milliseconds after which a seizure that is not acknowledged is\nreleased, 200 to 8000";
 
+const CONTROL_TEXT: &str =
+    "Unix socket at which clients connect, who give C, K and E records\nand get R records";
+
 // The options.
 #[derive(Clone, Copy)]
 enum Opt {
@@ -117,6 +120,7 @@ enum Opt {
     Senders,
     Repeat,
     SeizureWait,
+    Control,
     Crc4Check,
 }
 
@@ -165,6 +169,20 @@ const OF_SERVE: &[Opt] = &[
     Opt::SeizureWait,
 ];
 
+// The options of a trunk in service.
+const OF_TRUNK: &[Opt] = &[
+    Opt::Record,
+    Opt::RecordOver,
+    Opt::Config,
+    Opt::Load,
+    Opt::Save,
+    Opt::Totals,
+    Opt::Senders,
+    Opt::Repeat,
+    Opt::SeizureWait,
+    Opt::Control,
+];
+
 const SUBCOMMANDS: [Subcommand; 8] = [
     Subcommand {
         name: "encode",
@@ -200,7 +218,7 @@ const SUBCOMMANDS: [Subcommand; 8] = [
         name: "trunk",
         about: "Octets of a trunk, answered by octets, datagrams over UDP",
         after_help: TRUNK_HELP,
-        options: OF_SERVE,
+        options: OF_TRUNK,
     },
     Subcommand {
         name: "align",
@@ -348,6 +366,11 @@ fn seizure_wait_option<'a>(alloc: Global) -> Arg<'a> {
         .default_value("200")
 }
 
+// Where clients connect.
+fn control_option<'a>(alloc: Global) -> Arg<'a> {
+    option(alloc, "control", CONTROL_TEXT).value_name("SOCKET")
+}
+
 // The option that is meant.
 fn declared<'a>(alloc: Global, option: Opt) -> Arg<'a> {
     match option {
@@ -367,6 +390,7 @@ fn declared<'a>(alloc: Global, option: Opt) -> Arg<'a> {
         Opt::Senders => senders_option(alloc),
         Opt::Repeat => repeat_option(alloc),
         Opt::SeizureWait => seizure_wait_option(alloc),
+        Opt::Control => control_option(alloc),
         Opt::Crc4Check => flag(alloc, "check", CRC4_CHECK_TEXT),
     }
 }

@@ -7,7 +7,9 @@ use crate::trouble::Trouble;
 use gw_session::{Recorder, ToWrite, TrunkRecord};
 use std::fs::{self, File, OpenOptions};
 use std::io;
+use std::os::fd::OwnedFd;
 use std::os::unix::fs::OpenOptionsExt;
+use std::os::unix::net::UnixStream;
 
 // The permissions of a new file, less the umask: others may not read it, since it holds the speech of all calls.
 const MODE: u32 = 0o640;
@@ -19,6 +21,8 @@ pub struct Recording<'m> {
     pub path: &'m str,
     /// An old file may be written over.
     pub over: bool,
+    /// A record that cannot be written at once is waited for. Else the recording ends there.
+    pub waits: bool,
 }
 
 /// What is recorded, if something is.
@@ -77,6 +81,25 @@ fn open(rt: &HostRuntime, recording: Recording<'_>) -> Result<File, Trouble> {
     }
 }
 
+// Has each write that would wait fail. (What is set is set of all descriptors of this opening of the file, so it
+// is set through another one, by a type that can set it. What was opened by its path has no others.)
+fn never_wait(file: &File) -> io::Result<()> {
+    let other = UnixStream::from(OwnedFd::from(file.try_clone()?));
+    other.set_nonblocking(true)
+}
+
+// Opens the file of a recording, whose writes wait only if they are to.
+fn open_as_asked(rt: &HostRuntime, recording: Recording<'_>) -> Result<File, Trouble> {
+    let file = open(rt, recording)?;
+    if recording.waits {
+        return Ok(file);
+    }
+    match never_wait(&file) {
+        Ok(()) => Ok(file),
+        Err(error) => Err(Trouble::of(&error, Trouble::Recording)),
+    }
+}
+
 /// Begins a recording, where one is asked for.
 pub fn begin(rt: &HostRuntime, recording: Option<Recording<'_>>) -> Result<Tape, Trouble>
     ensures { IfOk result (λ tape. IsBegun recording.entry
@@ -89,7 +112,7 @@ pub fn begin(rt: &HostRuntime, recording: Option<Recording<'_>>) -> Result<Tape,
     let Ok(room) = Box::new(rt.alloc(), TrunkRecord::new()) else {
         return Err(Trouble::OutOfMemory);
     };
-    let file = open(rt, recording)?;
+    let file = open_as_asked(rt, recording)?;
     Ok(Some(Recorder::new(ToWrite::new(file), room)))
 }
 

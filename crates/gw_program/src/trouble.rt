@@ -57,6 +57,9 @@ pub enum Trouble {
     /// The state can't be saved.
     #[error("cannot save the state")]
     NotSaved,
+    /// The socket that clients connect to can't be opened.
+    #[error("cannot open the control socket")]
+    Control,
     /// The file says no configuration.
     #[error("{0}")]
     Config(ConfigFault),
@@ -94,6 +97,7 @@ impl Trouble {
             | Trouble::OldRecording
             | Trouble::NoState
             | Trouble::State(_)
+            | Trouble::Control
             | Trouble::Config(_) => REFUSED,
         }
     }

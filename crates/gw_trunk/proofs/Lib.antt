@@ -2,4 +2,5 @@ pub mod Passing
 pub mod Cutting
 pub mod Written
 pub mod Carrying
+pub mod Placing
 mod Rows

@@ -1,4 +1,5 @@
 pub mod Device
 pub mod Pieces
 pub mod Bodies
+pub mod Clients
 pub mod Serving

@@ -151,8 +151,8 @@ impl<W: Drop> ToDevice<W> {
     }
 }
 
-// Whether a call is to be made again later.
-fn is_for_later(error: &io::Error) -> bool {
+/// Whether a call is to be made again later.
+pub fn is_for_later(error: &io::Error) -> bool {
     matches!(error.kind(), ErrorKind::WouldBlock | ErrorKind::Interrupted)
 }
 

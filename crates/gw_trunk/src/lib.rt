@@ -2,13 +2,18 @@
 //! that answer as its octets and the answers to clients.
 #![tactic(auto)]
 
+mod client;
+mod clients;
 mod device;
+mod door;
 mod serving;
 mod sink;
 mod source;
 mod waiting;
+mod with_clients;
 
 pub use device::{DeviceFault, FromDevice, Incoming, NoClients, Outgoing, Taken, ToDevice};
 pub use serving::serve_trunk;
 pub use sink::TrunkSink;
 pub use source::TrunkSource;
+pub use with_clients::{WithClients, open_clients};

@@ -1,15 +1,12 @@
 use Rattle.std.proofs.Common.{Some, refl, ap}
 use Rattle.gw_program.proofs.Streams.{trunk_served, untouched, begun_at, saved_at}
-use Rattle.gateway_main.proofs.serve_streams.Goals as goal
+use Rattle.gateway_main.proofs.carry.Goals as goal
 
 pub returns-in_default : goal.returns-in_default
 returns-in_default c = untouched _ _ _
 
 pub returns-in-Err : goal.returns-in-Err
 returns-in-Err c = untouched _ _ _
-
-pub returns-in-Err-open : goal.returns-in-Err-open
-returns-in-Err-open c = untouched _ _ _
 
 pub returns : goal.returns
 returns c = trunk_served _ _ _ _ _ _ _ _ _ _ _ _ (λ config gateway begun. rw (← c.in-Ok.ensures.load)

@@ -1,0 +1,64 @@
+-- The clients of a trunk at their places.
+use Rattle.std.proofs.Common.{◌≡◌, ◌+◌, ◌-◌, ◌%◌, ◌<◌, ◌∷◌, ◌∙◌, ℕ, suc, true, List, []}
+use Rattle.std.proofs.Common.{◌⊎◌, Option, Some, None, length, refl, arith, inl, inr}
+use Rattle.std.specs.List.{list_all}
+use Rattle.std.proofs.lemmas.Bool.{cases_eq}
+use Rattle.gw_trunk.specs.declared.client.Asked.{Asked}
+use Rattle.gw_trunk.specs.declared.client.Asked.TheVariants.{Command, Nothing, End, Gone}
+use Rattle.gw_trunk.specs.declared.client.Client.{Client}
+use Rattle.gw_trunk.specs.Clients.{Keeps, Answers, AllKeep, OnlyAt, at, is_quiet}
+
+-- A client that stays, and then stays or is let go, does so in all.
+pub keeps-trans : (p q r : Option Client) → Keeps p q → Keeps q r → Keeps p r
+keeps-trans p q None a b = tt
+keeps-trans p None (Some r) a b = absurd b
+keeps-trans None (Some q) (Some r) a b = absurd a
+keeps-trans (Some p) (Some q) (Some r) a b = record { gave_is = b.gave_is ∙ a.gave_is; got_is = b.got_is ∙ a.got_is }
+
+-- A client that was asked, gave nothing and did not ask for the end stays or is let go, and has nothing.
+pub asked-none : (asked : Asked) (p p' : Option Client) (room : List ℕ) → Answers asked p p' room
+    → (asked ≡ Nothing) ⊎ (asked ≡ Gone) → Keeps p p' × (is_quiet p' ≡ true)
+asked-none Nothing p p' room a none = a
+asked-none Gone p p' room a none = rw a (tt, refl)
+asked-none (Command n) p p' room a none = elim none [ inl e ↦ cc | inr e ↦ cc ]
+asked-none End p p' room a none = elim none [ inl e ↦ cc | inr e ↦ cc ]
+
+-- All clients stay or are let go where one place changes.
+pub all-kept : (first places places' : List (Option Client)) (place : ℕ) → AllKeep first places
+    → OnlyAt place places places' → Keeps (at places place) (at places' place) → AllKeep first places'
+all-kept first places places' place kept only one = λ k. elim (cases_eq k place) [
+  | inl e ↦ keeps-trans (at first k) (at places k) (at places' k) (kept k) (rw e one)
+  | inr other ↦ rw (only k other) (kept k)
+]
+
+-- One more client was asked and has nothing.
+pub quiet-turn : (n turn : ℕ) (places places' : List (Option Client))
+    → ((j : ℕ) → j < turn → is_quiet (at places ((n % 8 + j) % 8)) ≡ true)
+    → OnlyAt ((n % 8 + turn) % 8) places places' → is_quiet (at places' ((n % 8 + turn) % 8)) ≡ true
+    → (j : ℕ) → j < turn + 1 → is_quiet (at places' ((n % 8 + j) % 8)) ≡ true
+quiet-turn n turn places places' before only now = λ j b. elim (cases_eq ((n % 8 + j) % 8) ((n % 8 + turn) % 8)) [
+  | inl e ↦ rw e now
+  | inr other ↦ elim (cases_eq j turn) [
+    | inl same ↦ rw same now
+    | inr less ↦ rw (only ((n % 8 + j) % 8) other) (before j (omega arith))
+  ]
+]
+
+-- Eight turns reach each place.
+reached : (m k : ℕ) → m < 8 → k < 8 → (m + (k + 8 - m) % 8) % 8 ≡ k
+reached m k a b = omega arith
+
+-- Clients who have nothing, each at its place, are all that have.
+quiet-all : (places : List (Option Client)) → ((k : ℕ) → k < length places → is_quiet (at places k) ≡ true)
+    → list_all is_quiet places ≡ true
+quiet-all [] h = refl
+quiet-all (p ∷ places) h =
+    let first : is_quiet p ≡ true = h 0 (omega arith) in
+    rw first (quiet-all places (λ k b. h (suc k) (omega arith)))
+
+-- After eight turns none has anything.
+pub quiet-round : (n : ℕ) (places : List (Option Client)) → length places ≡ 8
+    → ((j : ℕ) → j < 8 → is_quiet (at places ((n % 8 + j) % 8)) ≡ true) → list_all is_quiet places ≡ true
+quiet-round n places eight turns = quiet-all places (λ k b.
+    let e = reached (n % 8) k (omega arith) (omega arith) in
+    rw e at (turns ((k + 8 - n % 8) % 8) (omega arith)))

@@ -1,0 +1,193 @@
+//! A client of a trunk, who gives commands and takes their answers.
+
+ghost use Rattle.std.specs.Prelude.{◌≡◌, ◌⊎◌, ◌≤◌, ◌++◌, [], false, length, drop, OnOk, OnErr};
+ghost use Rattle.gw_trunk.specs.Clients.{Replies, Stays};
+
+use arrayvec::ArrayVec;
+use gw_records::{Ending, Kinds, Log, first_record};
+use mio::net::UnixStream;
+use std::io::{ErrorKind, Read, Write};
+
+// How many octets of a client are held.
+const ROOM_LEN: usize = 64;
+
+// What a client gives.
+const KINDS: Kinds = Kinds {
+    trunk: false,
+    datagrams: false,
+    commands: true,
+    codecs: true,
+};
+
+// The record that asks for the end of the session: its kind, no circuit, no body.
+const END: [u8; 4] = [0x45, 0, 0, 0];
+
+/// A client is to be let go: it has gone, has sent what is no command, or does not take its answer.
+#[derive(Clone, Copy)]
+pub struct Away;
+
+/// What a client did that was asked.
+#[derive(Clone, Copy)]
+pub enum Asked {
+    /// It gave a record of so many octets.
+    Command(usize),
+    /// It has nothing that is whole.
+    Nothing,
+    /// It asks for the end of the session.
+    End,
+    /// It is to be let go.
+    Gone,
+}
+
+/// A connection that commands come from.
+#[derive(Drop)]
+pub struct Client {
+    stream: UnixStream,
+    held: ArrayVec<u8, 64>,
+    // Whether something may have come since a read found nothing.
+    pub ready: bool,
+    /// How many clients came before it.
+    pub number: u64,
+    /// Whether it has given a record.
+    pub known: bool,
+    /// The records that it gave.
+    pub gave: Log,
+    /// The octets of the answers that it got.
+    pub got: Log,
+}
+
+impl Client {
+    /// A client that may have sent something, and how many came before it.
+    pub fn new(stream: UnixStream, number: u64) -> Client
+        ensures gave { result.gave.octets ≡ [] }
+        ensures got { result.got.octets ≡ [] }
+    {
+        Client {
+            stream,
+            held: ArrayVec::new(),
+            ready: true,
+            number,
+            known: false,
+            gave: Log::new(),
+            got: Log::new(),
+        }
+    }
+
+    /// Something may have come from it.
+    pub fn wake(&mut self)
+        ensures { Stays self.old self.new }
+    {
+        self.ready = true;
+    }
+
+    // Reads once what has come, as far as there is room.
+    fn read_once(&mut self, want: usize) -> Result<(), Away>
+        requires { want ≤ 64 }
+        ensures { Stays self.old self.new }
+    {
+        let mut room = [0u8; ROOM_LEN];
+        match self.stream.read(&mut room[..want]) {
+            Ok(0) => Err(Away),
+            Ok(n) => {
+                let _ = self.held.try_extend_from_slice(&room[..n]);
+                Ok(())
+            }
+            Err(error) => match error.kind() {
+                ErrorKind::WouldBlock => {
+                    self.ready = false;
+                    Ok(())
+                }
+                ErrorKind::Interrupted => Ok(()),
+                _ => Err(Away),
+            },
+        }
+    }
+
+    // Reads what has come, until there is nothing or no room.
+    fn refill(&mut self) -> Result<(), Away>
+        ensures { Stays self.old self.new }
+    {
+        for _turn in 0..ROOM_LEN {
+            let want = self.held.remaining_capacity();
+            if want == 0 || want > ROOM_LEN || !self.ready {
+                return Ok(());
+            }
+            self.read_once(want)?;
+        }
+        Ok(())
+    }
+
+    // Drops the first octets that are held.
+    fn pass(&mut self, len: usize)
+        requires { len ≤ length self.old.held.items }
+        ensures { Stays self.old self.new }
+    {
+        let mut rest = ArrayVec::new();
+        let _ = rest.try_extend_from_slice(&self.held.as_slice()[len..]);
+        self.held = rest;
+    }
+
+    // What it comes to if no record is whole: there is none where all that came was read, and else it has
+    // sent what is none.
+    fn nothing(&self) -> Asked
+        ensures { Replies result self.now self.now [] }
+    {
+        if self.ready {
+            Asked::Gone
+        } else {
+            Asked::Nothing
+        }
+    }
+
+    // Its next record, of those octets that are held.
+    fn next_record(&mut self, room: &mut [u8]) -> Asked
+        ensures { Replies result self.old self.new room.new }
+    {
+        let held = self.held.as_slice();
+        match first_record(&KINDS, held) {
+            Ok(first) => {
+                if first.len > room.len() {
+                    return Asked::Gone;
+                }
+                room[..first.len].copy_from_slice(&held[..first.len]);
+                self.pass(first.len);
+                self.gave.append(room, first.len);
+                self.known = true;
+                Asked::Command(first.len)
+            }
+            Err(Ending::End | Ending::Truncated) => self.nothing(),
+            Err(_) => Asked::Gone,
+        }
+    }
+
+    /// Takes its next record to the front of `room`, if it has a whole one.
+    pub fn ask(&mut self, room: &mut [u8]) -> Asked
+        ensures { Replies result self.old self.new room.new }
+    {
+        if self.refill().is_err() {
+            return Asked::Gone;
+        }
+        let held = self.held.as_slice();
+        if held.len() < END.len() && END.starts_with(held) {
+            return self.nothing();
+        }
+        if held.starts_with(&END) {
+            return Asked::End;
+        }
+        self.next_record(room)
+    }
+
+    /// Gives it an answer. A client that does not take it whole at once is to be let go.
+    pub fn answer(&mut self, answer: &[u8]) -> Result<(), Away>
+        ensures gave { self.new.gave.octets ≡ self.old.gave.octets }
+        ensures ok { OnOk result (self.new.got.octets ≡ self.old.got.octets ++ answer.now) }
+    {
+        match self.stream.write(answer) {
+            Ok(n) if n == answer.len() => {
+                self.got.append(answer, n);
+                Ok(())
+            }
+            _ => Err(Away),
+        }
+    }
+}

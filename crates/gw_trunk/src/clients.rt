@@ -1,0 +1,261 @@
+//! The clients of a trunk, each at its place, and what all is waited for by.
+
+ghost use Rattle.std.specs.Prelude.{◌≡◌, ◌⊎◌, ◌<◌, ◌≤◌, Some, None, true, length, IfSome};
+ghost use Rattle.gw_trunk.specs.Clients.{Answers, Asks, AllKeep, Gets, HasAnswered, Keeps, OnlyAt, at};
+
+use crate::client::{Asked, Client};
+use gw_records::Log;
+use mio::net::{UnixListener, UnixStream};
+use mio::unix::SourceFd;
+use mio::{Events, Interest, Poll, Token};
+use std::io;
+use std::io::Read;
+use std::time::Duration;
+
+// How many clients there may be at once.
+const MOST_CLIENTS: usize = 8;
+
+// How many that knock are let in before the trunk is looked at again.
+const MOST_KNOCKS: usize = 8;
+
+// The longest answer to a record of a client.
+const ANSWER_LEN: usize = 64;
+
+const TRUNK: usize = 0;
+
+const DOOR: usize = 1;
+
+const FIRST_CLIENT: usize = 2;
+
+/// The clients of a Unix socket, and what all is waited for by.
+#[derive(Drop)]
+pub struct Clients {
+    poll: Poll,
+    events: Events,
+    door: UnixListener,
+    knocks: bool,
+    pub places: [Option<Client>; 8],
+    answers: UnixStream,
+    // The octets that came from there.
+    pub answered: Log,
+    // The place of the client whose record was the last one, if its answer is to come.
+    pub asker: Option<usize>,
+    // The place that is asked first.
+    next: usize,
+    // How many clients came.
+    came: u64,
+}
+
+// Asks the client at a place, and lets it go if it is to be.
+fn ask_one(place: &mut Option<Client>, room: &mut [u8]) -> Asked
+    ensures { Answers result place.old place.new room.new }
+{
+    let Some(client) = place else {
+        return Asked::Nothing;
+    };
+    let asked = client.ask(room);
+    if let Asked::Gone = asked {
+        *place = None;
+    }
+    asked
+}
+
+// Asks the client at the place of this number, and none else.
+fn ask_at(places: &mut [Option<Client>; 8], place: usize, room: &mut [u8]) -> Asked
+    requires { place < 8 }
+    ensures answers { Answers result (at places.old place) (at places.new place) room.new }
+    ensures others { OnlyAt place places.old places.new }
+    ensures count { length places.new ≡ length places.old }
+{
+    ask_one(&mut places[place], room)
+}
+
+// Gives the client at a place an answer, and lets it go if it does not take it.
+fn answer_one(place: &mut Option<Client>, answer: &[u8])
+    ensures { Gets place.old place.new answer.now }
+{
+    let Some(client) = place else {
+        return;
+    };
+    if client.answer(answer).is_err() {
+        *place = None;
+    }
+}
+
+// Wakes the client at a place.
+fn wake_one(place: &mut Option<Client>)
+    ensures { Keeps place.old place.new }
+{
+    if let Some(client) = place {
+        client.wake();
+    }
+}
+
+// Notes that something has come for a token.
+fn note(token: usize, knocks: &mut bool, places: &mut [Option<Client>; 8])
+    ensures { AllKeep places.old places.new }
+{
+    if token == DOOR {
+        *knocks = true;
+    }
+    if token >= FIRST_CLIENT && token - FIRST_CLIENT < MOST_CLIENTS {
+        wake_one(&mut places[token - FIRST_CLIENT]);
+    }
+}
+
+// Notes that something has come for each token of these events.
+fn note_all(events: &Events, knocks: &mut bool, places: &mut [Option<Client>; 8])
+    ensures { AllKeep places.old places.new }
+{
+    for event in events.iter() {
+        note(event.token().0, knocks, places);
+    }
+}
+
+// The number of a client who is let go for a new one: of one that never gave a record. Below it there is only
+// a free place.
+fn rank(place: &Option<Client>) -> u64 {
+    match place {
+        None => 0,
+        Some(client) if client.known => u64::MAX,
+        Some(client) => client.number.saturating_add(1),
+    }
+}
+
+// The place of a new client: a free one, else that of the one that is there the longest and never gave a record.
+fn place_for_one(places: &[Option<Client>; 8]) -> Option<usize>
+    ensures { IfSome result (λ place. place < 8) }
+{
+    let mut found = None;
+    let mut least = u64::MAX;
+    for place in 0..MOST_CLIENTS {
+        let rank = rank(&places[place]);
+        if rank < least {
+            found = Some(place);
+            least = rank;
+        }
+    }
+    found
+}
+
+impl Clients {
+    /// Clients who connect to `door`, with none yet, and what a descriptor waits with them. The answers to them
+    /// come from `answers`, which never waits. The error is the system's.
+    pub fn open(
+        rt: &HostRuntime,
+        descriptor: i32,
+        mut door: UnixListener,
+        answers: UnixStream,
+    ) -> io::Result<Clients> {
+        let poll = Poll::new(rt)?;
+        let events = Events::with_capacity(rt.alloc(), 16)?;
+        let registry = poll.registry();
+        // (A regular file can't be waited for, and never has to be.)
+        let _ = registry.register(&mut SourceFd(&descriptor), Token(TRUNK), Interest::READABLE);
+        registry.register(&mut door, Token(DOOR), Interest::READABLE)?;
+        Ok(Clients {
+            poll,
+            events,
+            door,
+            knocks: true,
+            places: [None, None, None, None, None, None, None, None],
+            answers,
+            answered: Log::new(),
+            asker: None,
+            next: 0,
+            came: 0,
+        })
+    }
+
+    // Notes what has come, and waits for it if told to.
+    fn look(&mut self, timeout: Option<Duration>)
+        ensures asker { self.new.asker ≡ self.old.asker }
+        ensures keep { AllKeep self.old.places self.new.places }
+    {
+        if self.poll.poll(&mut self.events, timeout).is_err() {
+            return;
+        }
+        note_all(&self.events, &mut self.knocks, &mut self.places);
+    }
+
+    /// Waits until something may have come, for the trunk or from a client.
+    pub fn wait(&mut self) {
+        if !self.knocks {
+            self.look(None);
+        }
+    }
+
+    /// Gives the answer to the last record of a client to this client, and to no other.
+    pub fn give_answer(&mut self)
+        ensures given { HasAnswered self.old.asker self.old.places self.new.places
+            self.old.answered.octets self.new.answered.octets }
+        ensures asker { self.new.asker ≡ None }
+    {
+        let Some(place) = self.asker else {
+            return;
+        };
+        self.asker = None;
+        let mut room = [0u8; ANSWER_LEN];
+        let Ok(n) = self.answers.read(&mut room) else {
+            return;
+        };
+        if place < MOST_CLIENTS {
+            self.answered.append(&room, n);
+            answer_one(&mut self.places[place], &room[..n]);
+        }
+    }
+
+    // Lets one client in, if one knocks and there is a place.
+    fn let_one_in(&mut self)
+        ensures { self.new.asker ≡ self.old.asker }
+    {
+        let Ok((mut stream, _)) = self.door.accept() else {
+            self.knocks = false;
+            return;
+        };
+        let Some(place) = place_for_one(&self.places) else {
+            return;
+        };
+        let token = Token(FIRST_CLIENT + place);
+        let registry = self.poll.registry();
+        if registry
+            .register(&mut stream, token, Interest::READABLE)
+            .is_ok()
+        {
+            self.places[place] = Some(Client::new(stream, self.came));
+            self.came = self.came.saturating_add(1);
+        }
+    }
+
+    /// Notes what has come, without waiting, and lets in who knocks.
+    pub fn let_in(&mut self)
+        ensures { self.new.asker ≡ self.old.asker }
+    {
+        self.look(Some(Duration::ZERO));
+        for _turn in 0..MOST_KNOCKS {
+            if !self.knocks {
+                return;
+            }
+            self.let_one_in();
+        }
+    }
+
+    /// The next record of a client. They are asked in turn, from behind the one whose record was the last.
+    pub fn ask(&mut self, room: &mut [u8]) -> Asked
+        ensures { Asks result self.old.places self.new.places self.new.asker room.new }
+    {
+        for turn in 0..MOST_CLIENTS {
+            let place = (self.next % MOST_CLIENTS + turn) % MOST_CLIENTS;
+            match ask_at(&mut self.places, place, room) {
+                Asked::Command(n) => {
+                    self.asker = Some(place);
+                    self.next = place + 1;
+                    return Asked::Command(n);
+                }
+                Asked::End => return Asked::End,
+                Asked::Nothing | Asked::Gone => {}
+            }
+        }
+        Asked::Nothing
+    }
+}

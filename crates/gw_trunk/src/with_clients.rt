@@ -1,0 +1,152 @@
+//! A trunk with clients: what comes from a descriptor, and from connections to a Unix socket.
+
+ghost use Rattle.std.specs.Prelude.{◌≡◌, ◌||◌, ◌&&◌, [], true, IfOk};
+ghost use Rattle.std.specs.List.{list_all};
+ghost use Rattle.gw_trunk.specs.Clients.{is_quiet};
+
+use crate::client::Asked;
+use crate::clients::Clients;
+use crate::device::{DeviceFault, Incoming, Taken, ToDevice, is_for_later};
+use crate::door::open_door;
+use gw_records::Log;
+use mio::net::{UnixListener, UnixStream};
+use std::io;
+use std::io::Read;
+use std::os::fd::AsRawFd;
+
+/// A reader of std over a descriptor, and the clients of a Unix socket. A client gives C and K records, and the
+/// answer to a record goes to the client who gave it: it comes from the other end of `answers`. The record of
+/// kind `E`, of circuit 0 and without a body, asks for the end: nothing comes any more then. A client that goes,
+/// sends something else, or does not take an answer at once loses its connection, and nothing else happens.
+#[derive(Drop)]
+pub struct WithClients<R> {
+    reader: R,
+    clients: Clients,
+    // Whether the trunk was read since the last record of a client.
+    turn: bool,
+    // Whether the last read of the trunk found none.
+    empty: bool,
+    // Whether nothing will come any more.
+    ended: bool,
+    log: Log,
+    asked: Log,
+}
+
+impl<R: Drop> WithClients<R> {
+    /// What comes from the reader, whose descriptor this is, and from those who connect to `door`. The answers
+    /// to them come from `answers`, which never waits. The error is the system's.
+    pub fn open(
+        rt: &HostRuntime,
+        reader: R,
+        descriptor: i32,
+        door: UnixListener,
+        answers: UnixStream,
+    ) -> io::Result<WithClients<R>>
+        ensures { IfOk result (λ d. (d.log.octets ≡ []) × (d.asked.octets ≡ [])) }
+    {
+        let clients = Clients::open(rt, descriptor, door, answers)?;
+        Ok(WithClients {
+            reader,
+            clients,
+            turn: false,
+            empty: false,
+            ended: false,
+            log: Log::new(),
+            asked: Log::new(),
+        })
+    }
+}
+
+/// What comes from the reader, whose descriptor this is, and from the clients of the Unix socket at a path; and
+/// what takes the answers to them. An old socket there at which nobody listens is replaced. The error is the
+/// system's.
+pub fn open_clients<R: Drop>(
+    rt: &HostRuntime,
+    reader: R,
+    descriptor: i32,
+    path: &str,
+) -> io::Result<(WithClients<R>, ToDevice<UnixStream>)>
+    ensures incoming { IfOk result (λ both. (both.0.log.octets ≡ []) × (both.0.asked.octets ≡ [])) }
+    ensures answers { IfOk result (λ both. both.1.log.octets ≡ []) }
+{
+    let door = open_door(rt, path)?;
+    let (near, far) = UnixStream::pair(rt)?;
+    let incoming = WithClients::open(rt, reader, descriptor, door, near)?;
+    let end = far.as_raw_fd();
+    let answers = ToDevice::open(rt, far, end)?;
+    Ok((incoming, answers))
+}
+
+impl<R: Read> WithClients<R> {
+    // Notes what a read of the trunk came to.
+    fn note(&mut self, turn: bool, empty: bool, ended: bool)
+        ensures { self.new ≡ record self.old { turn = turn; empty = empty; ended = ended } }
+    {
+        self.turn = turn;
+        self.empty = empty;
+        self.ended = ended;
+    }
+}
+
+impl<R: Read> Incoming for WithClients<R> {
+    ghost came = { λ d. d.log.octets };
+
+    ghost asked = { λ d. d.asked.octets };
+
+    ghost has_ended = { λ d. d.ended ≡ true };
+
+    ghost is_turn = { λ d. d.turn };
+
+    ghost is_empty = { λ d. d.empty };
+
+    ghost is_idle = { λ d. d.ended || d.empty && list_all is_quiet d.clients.places };
+
+    fn read(&mut self, room: &mut [u8]) -> Result<Taken, DeviceFault> {
+        self.clients.give_answer();
+        if self.ended {
+            return Ok(Taken::Ended);
+        }
+        match self.reader.read(room) {
+            Ok(0) => {
+                self.note(true, false, true);
+                Ok(Taken::Ended)
+            }
+            Ok(n) => {
+                self.note(true, false, false);
+                self.log.append(room, n);
+                Ok(Taken::Octets(n))
+            }
+            Err(error) if is_for_later(&error) => {
+                self.note(true, true, false);
+                Ok(Taken::NoneNow)
+            }
+            Err(_) => Err(DeviceFault),
+        }
+    }
+
+    fn command(&mut self, room: &mut [u8]) -> Option<usize> {
+        self.clients.give_answer();
+        if self.ended {
+            return None;
+        }
+        self.clients.let_in();
+        match self.clients.ask(room) {
+            Asked::Command(n) => {
+                self.turn = false;
+                self.asked.append(room, n);
+                Some(n)
+            }
+            Asked::End => {
+                self.ended = true;
+                None
+            }
+            Asked::Nothing | Asked::Gone => None,
+        }
+    }
+
+    fn wait(&mut self) {
+        if !self.ended {
+            self.clients.wait();
+        }
+    }
+}
