@@ -9,7 +9,7 @@ done
 _e1gw_tools() {
   local options=--help
   case ${COMP_WORDS[0]##*/} in
-    e1gw-records) options+=' --from-raw --to-raw --reverse --size --circuit --law' ;;
+    e1gw-records) options+=' --from-raw --to-raw --until --from --reverse --size --circuit --law' ;;
     e1gw-pcap) options+=' --back --circuit --in' ;;
     e1gw-explain) options+=' --no-sockets' ;;
     e1gw-exchange) options+=' --again' ;;

@@ -1,4 +1,4 @@
-# bash completion for e1gw: subcommands, options and their values, and a file for --config and --record.
+# bash completion for e1gw: subcommands, options and their values, and a file for --config, --load, --save and --record.
 
 # The values of an option, or nothing where it takes a number of its own.
 _e1gw_values() {
@@ -16,8 +16,9 @@ _e1gw_options() {
     align) echo '--totals --help' ;;
     crc4) echo '--check --totals --help' ;;
     encode | decode) echo '--law --codec --payload --ptime --ssrc --sequence --timestamp --totals --help' ;;
-    replay | check) echo '--config --seizure-wait --totals --help' ;;
-    serve | trunk) echo '--config --record --record-over --repeat --seizure-wait --senders --totals --help' ;;
+    replay) echo '--config --load --save --seizure-wait --totals --help' ;;
+    check) echo '--config --load --seizure-wait --totals --help' ;;
+    serve | trunk) echo '--config --load --save --record --record-over --repeat --seizure-wait --senders --totals --help' ;;
     '') echo '--help --version' ;;
   esac
 }
@@ -39,7 +40,7 @@ _e1gw() {
       return ;;
     --payload | --ssrc | --sequence | --timestamp | --repeat | --seizure-wait)
       return ;;
-    --config | --record)
+    --config | --load | --save | --record)
       compopt -o filenames 2> /dev/null
       mapfile -t COMPREPLY < <(compgen -f -- "$cur")
       return ;;

@@ -31,6 +31,15 @@ class Printing(unittest.TestCase):
             'D  1 13 octets: payload type 8, sequence 1, timestamp 10, ssrc 7, marker',
             'K  1 g726-32, payload type 96', 'R  1 C refused: 2 NotIdle', 'R  1 K done'])
 
+    def test_cut_in_two(self) -> None:
+        first, second, rest = (bytes.fromhex(text) for text in ('4301000101', '54000100' + 256 * 'D5', '4301000102'))
+        given = first + second + first + second + rest
+        self.assertEqual(ran('--until', '1', given=given).stdout, first + second)
+        self.assertEqual(ran('--from', '1', given=given).stdout, first + second + rest)
+        self.assertEqual(ran('--until', '0', given=given).stdout, b'')
+        self.assertEqual(ran('--from', '0', given=given).stdout, given)
+        self.assertEqual(ran('--from', 'x').returncode, 2)
+
     def test_no_rtp(self) -> None:
         self.assertEqual(ran(given=bytes.fromhex('4401000100')).stdout, b'D  1 1 octets, no RTP: short\n')
 

@@ -164,8 +164,16 @@ fn write_new(
         .map_err(|error| Trouble::of(&error, Trouble::NotSaved))
 }
 
+// Whether nothing is there, or a file that another may replace: no device and no folder.
+fn is_replaced(rt: &HostRuntime, path: &str) -> bool {
+    match fs::metadata(rt, path) {
+        Ok(found) => found.is_file(),
+        Err(_) => true,
+    }
+}
+
 /// Saves the state of a gateway to a file, if one is named. It is written beside the file, synced, and put in its
-/// place whole: where that fails an old file stays as it was.
+/// place whole: if that fails an old file stays as it was.
 pub fn keep_gateway(
     rt: &HostRuntime,
     config: &GatewayConfig,
@@ -177,6 +185,9 @@ pub fn keep_gateway(
     let Some(path) = path else {
         return Ok(());
     };
+    if !is_replaced(rt, path) {
+        return Err(Trouble::NotSaved);
+    }
     let new = unfinished(rt.alloc(), path)?;
     match write_new(rt, config, gateway, new.as_str()) {
         Ok(()) => fs::rename(rt, new.as_str(), path).map_err(|error| Trouble::of(

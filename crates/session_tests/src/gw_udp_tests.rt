@@ -9,7 +9,7 @@ use gw_config::Port;
 use gw_program::serve_through;
 use gw_repeat::Repeating;
 use gw_session::{FromRead, NoTape, Ports, ToWrite};
-use gw_switch::GatewayConfig;
+use gw_switch::{Gateway, GatewayConfig};
 use gw_udp::{Senders, UdpPorts};
 use q421_line::Role;
 use std::alloc::{AllocError, Global};
@@ -70,13 +70,14 @@ fn first_call_over_udp(rt: HostRuntime) -> Result<(), Fail> {
         law: Law::A,
         circuits: [circuit; 30],
     };
+    let mut gateway = Gateway::open(rt.alloc(), &config)?;
     let octets = first_call(rt.alloc())?;
     let mut source = FromRead::new(octets.as_slice());
     let mut sink = ToWrite::new(Vec::new(rt.alloc()));
     assert!(rt;
         serve_through(
             rt.alloc(),
-            &config,
+            &mut gateway,
             &mut ports,
             &mut source,
             &mut sink,
