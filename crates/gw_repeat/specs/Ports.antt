@@ -4,7 +4,7 @@ use Rattle.std.specs.Prelude.{map, flat_map, reverse, take, slice_index, slice_i
 use Rattle.std.specs.VecDeque.{deque_capacity}
 use Rattle.gw_records.specs.Ports.{PortCall, PortsState, Grows, given_by_call, taken_by_call}
 use Rattle.gw_records.specs.Ports.{KeepsReceives}
-use Rattle.gw_repeat.specs.Repetition.{last_run, repetition}
+use Rattle.gw_repeat.specs.Repetition.{last_run, repetition, with_next}
 use Rattle.gw_repeat.specs.declared.packet.Packet.{Packet}
 use Rattle.gw_repeat.specs.declared.held.Held.{Held}
 
@@ -47,6 +47,18 @@ Repeats n words (call ∷ earlier) below = (again : List PortCall) × (rest : Li
 -- the words of a packet of each circuit, by the list for circuits 1 to 30
 abbrev pub words_at : List ℕ → ℕ → ℕ
 words_at words circuit = slice_index words (circuit - 1)
+
+-- the octets of the datagrams of a circuit that are held, the latest first
+abbrev pub held_of : ℕ → List Held → Held → List (List ℕ)
+held_of circuit held d = held_octets (slice_index_or held (circuit - 1) d).packets.items
+
+-- .. with a next datagram of it in front of those that it follows
+abbrev pub run_with : List ℕ → ℕ → List ℕ → List Held → Held → List (List ℕ)
+run_with words circuit datagram held d = with_next (words_at words circuit) datagram (held_of circuit held d)
+
+-- there is room to hold n datagrams of a circuit
+abbrev pub HasRoom : ℕ → ℕ → List Held → Type 0
+HasRoom n circuit held = (d : Held) → n ≤ deque_capacity (slice_index_or held (circuit - 1) d).packets
 
 -- the calls below grew by those that come of a session's
 pub record HasRepeated (n : ℕ) (words : List ℕ) (calls old new : List PortCall) : Type 0 where

@@ -2,13 +2,11 @@
 
 ghost use Rattle.std.specs.Prelude.{◌≡◌, ◌<◌, ◌≤◌, ◌-◌, ◌+◌, [], length, drop, vec_len, slice_index};
 ghost use Rattle.std.specs.Prelude.{slice_index_or, take, ℕ, IfOk, IfSome};
-ghost use Rattle.std.specs.VecDeque.{deque_capacity};
 ghost use Rattle.gw_records.specs.Ports.{Receives, Sends, CountsFault, KeepsSends, KeepsReceives, IfKnown};
 ghost use Rattle.gw_repeat.specs.declared.held.Held.{Held};
 ghost use Rattle.gw_repeat.specs.Words.{HasPacketWords};
-ghost use Rattle.gw_repeat.specs.Repetition.{with_next};
-ghost use Rattle.gw_repeat.specs.Ports.{HasRepeated, IsHeld, AreHeld, SendsAgain, KeepsOthers, held_octets};
-ghost use Rattle.gw_repeat.specs.Ports.{told, words_at};
+ghost use Rattle.gw_repeat.specs.Ports.{HasRepeated, IsHeld, AreHeld, SendsAgain, KeepsOthers, held_of};
+ghost use Rattle.gw_repeat.specs.Ports.{HasRoom, run_with, told};
 
 use crate::held::Held;
 use g704_cas::CircuitNo;
@@ -53,20 +51,15 @@ fn send_due<P: Ports>(
     requires thirty { vec_len held.old ≡ 30 }
     requires some { 0 < count }
     requires few { (d : Held) → length (slice_index_or held.old.items (circuit - 1) d).packets.items ≤ count }
-    requires room { (d : Held)
-        → count ≤ deque_capacity (slice_index_or held.old.items (circuit - 1) d).packets }
+    requires room { HasRoom count circuit held.old.items }
     ensures sends { (d : Held) → SendsAgain (P.tells ports.old) (P.tells ports.new) circuit
-        (drop count (with_next (words_at words.now circuit) datagram.now
-        (held_octets (slice_index_or held.old.items (circuit - 1) d).packets.items))) }
-    ensures own { (d : Held) → held_octets (slice_index_or held.new.items (circuit - 1) d).packets.items
-        ≡ take count (with_next (words_at words.now circuit) datagram.now
-        (held_octets (slice_index_or held.old.items (circuit - 1) d).packets.items)) }
-    ensures room { (d : Held)
-        → count ≤ deque_capacity (slice_index_or held.new.items (circuit - 1) d).packets }
+        (drop count (run_with words.now circuit datagram.now held.old.items d)) }
+    ensures own { (d : Held) → held_of circuit held.new.items d
+        ≡ take count (run_with words.now circuit datagram.now held.old.items d) }
+    ensures room { HasRoom count circuit held.new.items }
     ensures others { KeepsOthers circuit held.old.items held.new.items }
     ensures thirty { vec_len held.new ≡ 30 }
-    ensures some { 1 ≤ circuit }
-    ensures within { circuit ≤ 30 }
+    ensures in_range { (1 ≤ circuit) × (circuit ≤ 30) }
 {
     let place = usize::from(circuit.get()) - 1;
     if let Some(again) = held[place].keep(count, words[place], datagram) {

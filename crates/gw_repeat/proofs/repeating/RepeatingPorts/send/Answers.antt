@@ -8,8 +8,8 @@ invariant_of-self g c = record {
   thirty = c.send_due.ensures.thirty;
   are_held = rw c.sent.ensures (held_more c.args.self.now.count c.args.self.now.words c.args.circuit c.args.datagram.now
       c.send-sent.result c.args.self.now.log.calls c.args.self.now.held.items c.send_due.new.held.items
-      c.if-self-gt0.true c.send_due.ensures.some c.args.self.now.are_held c.send_due.ensures.own c.send_due.ensures.room
-      c.send_due.ensures.others);
+      c.if-self-gt0.true c.send_due.ensures.in_range.0 c.args.self.now.are_held c.send_due.ensures.own
+      c.send_due.ensures.room c.send_due.ensures.others);
   repeated = ∥∥₁_map c.args.self.now.repeated (λ known. rw c.sent.ensures (repeated_due c.args.self.now.count
       c.args.self.now.words c.args.self.now.log.calls c.args.circuit c.args.datagram.now c.send-sent.result
       (g.P.Ports.tells c.args.self.now.opened.value).calls (g.P.Ports.tells c.args.self.now.ports)
@@ -21,7 +21,7 @@ invariant_of-self g c = record {
       (held_at c.args.self.now.count c.args.self.now.words c.args.circuit c.args.self.now.log.calls
       c.args.self.now.held.items
       (one_of c.args.self.now.held.items (omega (arith, c.args.self.now.thirty, c.args.self.now.held.ok)))
-      c.send_due.ensures.some c.send_due.ensures.within
+      c.send_due.ensures.in_range.0 c.send_due.ensures.in_range.1
       c.args.self.now.are_held)
       (c.send_due.ensures.sends
       (one_of c.args.self.now.held.items (omega (arith, c.args.self.now.thirty, c.args.self.now.held.ok))))));
