@@ -1,4 +1,4 @@
-# bash completion for e1gw: subcommands, options and their values, and a file for --config and --record.
+# bash completion for e1gw: subcommands, options and their values, and a file for --config, --control and --record.
 
 # The values of an option, or nothing where it takes a number of its own.
 _e1gw_values() {
@@ -17,7 +17,8 @@ _e1gw_options() {
     crc4) echo '--check --totals --help' ;;
     encode | decode) echo '--law --codec --payload --ptime --ssrc --sequence --timestamp --totals --help' ;;
     replay | check) echo '--config --totals --help' ;;
-    serve | trunk) echo '--config --record --record-over --repeat --senders --totals --help' ;;
+    serve) echo '--config --record --record-over --repeat --senders --totals --help' ;;
+    trunk) echo '--config --control --record --record-over --repeat --senders --totals --help' ;;
     '') echo '--help --version' ;;
   esac
 }
@@ -39,7 +40,7 @@ _e1gw() {
       return ;;
     --payload | --ssrc | --sequence | --timestamp | --repeat)
       return ;;
-    --config | --record)
+    --config | --control | --record)
       compopt -o filenames 2> /dev/null
       mapfile -t COMPREPLY < <(compgen -f -- "$cur")
       return ;;
