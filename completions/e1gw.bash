@@ -1,4 +1,4 @@
-# bash completion for e1gw: subcommands, options and their values, and a file for --config, --load, --save and --record.
+# bash completion for e1gw: subcommands, options and their values, and a file for the options that name one.
 
 # The values of an option, or nothing where it takes a number of its own.
 _e1gw_values() {
@@ -18,7 +18,10 @@ _e1gw_options() {
     encode | decode) echo '--law --codec --payload --ptime --ssrc --sequence --timestamp --totals --help' ;;
     replay) echo '--config --load --save --seizure-wait --totals --help' ;;
     check) echo '--config --load --seizure-wait --totals --help' ;;
-    serve | trunk) echo '--config --load --save --record --record-over --repeat --seizure-wait --senders --totals --help' ;;
+    serve)
+      echo '--config --load --save --record --record-over --repeat --seizure-wait --senders --totals --help' ;;
+    trunk)
+      echo '--config --load --save --control --record --record-over --repeat --seizure-wait --senders --totals --help' ;;
     '') echo '--help --version' ;;
   esac
 }
@@ -40,7 +43,7 @@ _e1gw() {
       return ;;
     --payload | --ssrc | --sequence | --timestamp | --repeat | --seizure-wait)
       return ;;
-    --config | --load | --save | --record)
+    --config | --load | --save | --control | --record)
       compopt -o filenames 2> /dev/null
       mapfile -t COMPREPLY < <(compgen -f -- "$cur")
       return ;;

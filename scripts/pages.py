@@ -247,8 +247,8 @@ def main():
     lines = page('e1gw.1')
     compare_options(lines)
     for option, about in described(lines).items():
-        if option not in {'check', 'config', 'record', 'record-over', 'seizure-wait', 'senders', 'totals', 'help',
-                          'version'}:
+        if option not in {'check', 'config', 'control', 'load', 'record', 'record-over', 'save', 'seizure-wait',
+                          'senders', 'totals', 'help', 'version'}:
             compare_values(option, about)
     compare_payloads()
     compare_options_passed_over(lines)

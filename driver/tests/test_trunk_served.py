@@ -13,14 +13,18 @@ import tempfile
 import termios
 import time
 import unittest
-from typing import Iterator
+from types import TracebackType
+from typing import Iterator, Sequence
 
 from . import support
-from e1gw.session import Kind, records_in, trunk_record
+from e1gw.session import Codec, Command, CommandRefusal, Kind, codec_record, command_record, records_in, spell
+from e1gw.session import trunk_record
 from exchange import ACKNOWLEDGED, IDLE, SEIZED
 
 CONFIG = 'law = "A"\n' + ''.join(f'[[circuit]]\nnumber = {c}\nrole = "incoming"\n' for c in range(1, 31))
 PIPE = 65_536               # the octets that a pipe of Linux holds
+END = spell(0x45, 0, b'')   # asks for the end of the session
+ANSWER_LENGTH = 6
 SECONDS = 20
 
 
@@ -46,8 +50,8 @@ def read_all(end: socket.socket, length: int) -> bytes:
     return got
 
 
-class Served(unittest.TestCase):
-    """A configuration of thirty circuits without ports, and a seizure of each."""
+class Configured(unittest.TestCase):
+    """A configuration of thirty circuits without ports."""
 
     def setUp(self) -> None:
         folder = tempfile.TemporaryDirectory()
@@ -60,6 +64,10 @@ class Served(unittest.TestCase):
     def serves(self, *words: str) -> list[str]:
         """The words of a trunk in service."""
         return [support.program(), 'trunk', '--config', self.config, *words]
+
+
+class Served(Configured):
+    """A trunk without clients, and a seizure of each circuit."""
 
     def seizures(self) -> tuple[bytes, bytes]:
         """What an exchange sends that seizes all circuits once it hears the gateway, and what comes back."""
@@ -141,6 +149,183 @@ class Served(unittest.TestCase):
             fcntl.ioctl(pipe, termios.FIONREAD, held)
             time.sleep(0.001)
         self.assertEqual(held[0], PIPE)
+
+
+class Trunk:
+    """A trunk in service over a socket pair, and the socket that its clients connect to."""
+
+    def __init__(self, words: Sequence[str], control: str, passed: tuple[int, ...] = ()) -> None:
+        self.control = control
+        self.here, there = socket.socketpair()
+        self.here.settimeout(SECONDS)
+        there.setblocking(False)
+        self.serving = subprocess.Popen(words, stdin=there, stdout=there, stderr=subprocess.PIPE, pass_fds=passed)
+        there.close()
+
+    def __enter__(self) -> Trunk:
+        return self
+
+    def __exit__(self, kind: type[BaseException] | None, error: BaseException | None,
+                 trace: TracebackType | None) -> None:
+        self.here.close()
+        assert self.serving.stderr
+        self.serving.stderr.close()
+        self.serving.kill()
+        self.serving.wait()
+
+    def passes(self, octets: bytes) -> bytes:
+        """What comes back for these octets."""
+        self.here.sendall(octets)
+        return read_all(self.here, len(octets))
+
+    def client(self) -> socket.socket:
+        """A client, of a trunk that has begun."""
+        client = socket.socket(socket.AF_UNIX)
+        client.settimeout(SECONDS)
+        client.connect(self.control)
+        return client
+
+    def ends(self) -> tuple[int, str]:
+        """The status and what was told, once no more octets come."""
+        self.here.shutdown(socket.SHUT_WR)
+        return self.ended()
+
+    def ended(self) -> tuple[int, str]:
+        """The status and what was told, of a trunk that ends."""
+        assert self.serving.stderr
+        told = self.serving.stderr.read().decode()
+        return self.serving.wait(SECONDS), told
+
+
+def blocks(circuits: Sequence[int]) -> bytes:
+    """Commands that block circuits."""
+    return b''.join(command_record(circuit, Command.BLOCK) for circuit in circuits)
+
+
+def answers_of(client: socket.socket, count: int) -> list[tuple[int, bytes]]:
+    """The circuits and the bodies of so many answers that come to a client."""
+    return [(record.circuit, record.body) for record in records_in(read_all(client, count * ANSWER_LENGTH))]
+
+
+class Clients(Configured):
+    """Clients of a trunk, in lock step: a client's answer is read before anything else is sent."""
+
+    def setUp(self) -> None:
+        super().setUp()
+        self.control = os.path.join(os.path.dirname(self.config), 'control')
+
+    def trunk(self, *words: str, passed: tuple[int, ...] = ()) -> Trunk:
+        """A trunk that has begun."""
+        trunk = Trunk(self.serves('--control', self.control, *words), self.control, passed)
+        self.addCleanup(trunk.__exit__, None, None, None)
+        self.assertEqual(len(trunk.passes(bytes(64))), 64)
+        return trunk
+
+    def refused(self, circuits: Sequence[int]) -> list[tuple[int, bytes]]:
+        """Answers that these circuits are not idle: no exchange is heard."""
+        return [(circuit, bytes([Kind.COMMAND, CommandRefusal.NOT_IDLE])) for circuit in circuits]
+
+    def test_each_client_gets_its_own_answers(self) -> None:
+        trunk = self.trunk()
+        with trunk.client() as one, trunk.client() as other:
+            for first in (1, 4, 7):
+                mine, others = range(first, first + 3), range(first + 10, first + 13)
+                one.sendall(blocks(mine))
+                other.sendall(blocks(others))
+                self.assertEqual(answers_of(other, 3), self.refused(others))
+                self.assertEqual(len(trunk.passes(bytes(512))), 512)
+                self.assertEqual(answers_of(one, 3), self.refused(mine))
+            one.sendall(codec_record(1, Codec.G711, 8))
+            self.assertEqual(answers_of(one, 1), [(1, bytes([Kind.CODEC, 0]))])
+            self.assertEqual(trunk.ends()[0], 0)
+            self.assertEqual((one.recv(1), other.recv(1)), (b'', b''))
+
+    def test_a_command_in_pieces(self) -> None:
+        trunk = self.trunk()
+        with trunk.client() as client:
+            for octet in blocks([5]):
+                client.sendall(bytes([octet]))
+                self.assertEqual(len(trunk.passes(bytes(32))), 32)
+            self.assertEqual(answers_of(client, 1), self.refused([5]))
+
+    def test_rubbish_ends_its_own_connection(self) -> None:
+        trunk = self.trunk()
+        for rubbish in (b'help\n', trunk_record(b'ab'), command_record(31, Command.BLOCK), END[:2] + b'xx'):
+            with self.subTest(rubbish=rubbish), trunk.client() as good, trunk.client() as bad:
+                bad.sendall(rubbish)
+                self.assertEqual(self.closed(bad), b'')
+                good.sendall(blocks([3]))
+                self.assertEqual(answers_of(good, 1)[0][0], 3)
+                self.assertEqual(len(trunk.passes(bytes(512))), 512)
+
+    def closed(self, client: socket.socket) -> bytes:
+        """What comes to a client before its connection ends."""
+        got = b''
+        try:
+            while more := client.recv(4096):
+                got += more
+        except ConnectionResetError:
+            pass
+        return got
+
+    def test_one_that_leaves_in_the_middle_of_a_record(self) -> None:
+        trunk = self.trunk()
+        with trunk.client() as good:
+            for _ in range(20):
+                with trunk.client() as bad:
+                    bad.sendall(blocks([9])[:3])
+                self.assertEqual(len(trunk.passes(bytes(512))), 512)
+            good.sendall(blocks([3]))
+            self.assertEqual(answers_of(good, 1), self.refused([3]))
+
+    def test_one_that_never_reads(self) -> None:
+        trunk = self.trunk()
+        with trunk.client() as good, trunk.client() as bad:
+            with self.assertRaises(OSError):
+                for _ in range(100_000):
+                    bad.sendall(blocks([9]))
+            good.sendall(blocks([3]))
+            self.assertEqual(answers_of(good, 1), self.refused([3]))
+            self.assertEqual(len(trunk.passes(bytes(512))), 512)
+
+    def test_more_clients_than_there_are_places(self) -> None:
+        trunk = self.trunk()
+        clients = [trunk.client() for _ in range(8)]
+        for circuit, client in enumerate(clients, 1):
+            self.addCleanup(client.close)
+            client.sendall(blocks([circuit]))
+            self.assertEqual(answers_of(client, 1), self.refused([circuit]))
+        with trunk.client() as ninth:
+            self.assertEqual(self.closed(ninth), b'')
+        clients[0].sendall(blocks([11]))
+        self.assertEqual(answers_of(clients[0], 1), self.refused([11]))
+
+    def test_end_here(self) -> None:
+        trunk = self.trunk('--totals')
+        with trunk.client() as client:
+            client.sendall(blocks([7]) + END)
+            self.assertEqual(answers_of(client, 1), self.refused([7]))
+            status, told = trunk.ended()
+        self.assertEqual(status, 0)
+        self.assertIn('octets 64\n', told)
+        self.assertEqual(len(self.trunk().passes(bytes(512))), 512)
+
+    def test_a_socket_that_is_taken(self) -> None:
+        self.trunk()
+        with Trunk(self.serves('--control', self.control), self.control) as second:
+            self.assertEqual(second.ended(), (2, 'cannot open the control socket\n'))
+        with Trunk(self.serves('--control', self.config), self.control) as third:
+            self.assertEqual(third.ended(), (2, 'cannot open the control socket\n'))
+        self.assertEqual(os.stat(self.control).st_mode & 0o777, 0o660)
+
+    def test_a_recording_that_nobody_reads(self) -> None:
+        out, into = os.pipe()
+        self.addCleanup(os.close, out)
+        trunk = self.trunk('--record', f'/dev/fd/{into}', passed=(into,))
+        os.close(into)
+        for _ in range(2 * PIPE // 2048):
+            self.assertEqual(len(trunk.passes(bytes(2048))), 2048)
+        self.assertEqual(trunk.ends(), (0, 'recording ended: a write failed\n'))
 
 
 if __name__ == '__main__':
