@@ -21,7 +21,8 @@ _e1gw_options() {
     serve)
       echo '--config --load --save --record --record-over --repeat --seizure-wait --senders --totals --help' ;;
     trunk)
-      echo '--config --load --save --control --record --record-over --repeat --seizure-wait --senders --totals --help' ;;
+      echo '--config --load --save --control --record --record-over --repeat --seizure-wait --senders' \
+        '--totals --help' ;;
     '') echo '--help --version' ;;
   esac
 }

@@ -57,6 +57,7 @@ pub begun_at : {X : Type 0} (f : X → List ℕ) (path : Option X) (config : Gat
 begun_at f None config gateway begun = begun
 begun_at f (Some path) config gateway begun = begun
 
+-- where nothing is to be saved is told as its text
 pub saved_at : {X : Type 0} (f : X → List ℕ) (path : Option X) (saved : Result (Unit {0}) Trouble)
     → IsSaved path saved → IsSaved (option_map f path) saved
 saved_at f None saved is = is
