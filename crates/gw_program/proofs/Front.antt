@@ -3,12 +3,15 @@ use Rattle.std.proofs.Common.{◌≡◌, ℕ, ◌<◌, ◌≤◌, ◌++◌, List
 use Rattle.std.proofs.Common.{Option, Some, None, Result, Err, refl, sym, ap, ◌∙◌, arith}
 use Rattle.std.specs.Prelude.{IfSome, IfErr, Ok, option_map}
 use Rattle.std.specs.declared.io.Error.{Error}
+use Rattle.std.specs.declared.io.ErrorKind as kinds_of
+use Rattle.std.specs.declared.io.ErrorKind.TheVariants as errors
 use Rattle.std.proofs.lemmas.Bool.{lt-ltb, ltb-true, ltb-false}
 use Rattle.std.proofs.lemmas.List.{take_all, length-take}
 use Rattle.gw_config.specs.declared.config.Config.{Config}
 use Rattle.gw_config.specs.declared.fault.Kind.TheVariants as kinds
 use Rattle.gw_config.specs.Octets.{meaning_of_octets, at_top}
 use Rattle.gw_program.specs.Setup.{Says, FailsToRead}
+use Rattle.gw_program.specs.Status.{trouble_of}
 use Rattle.gw_program.specs.declared.trouble.Trouble.{Trouble}
 use Rattle.gw_program.specs.declared.trouble.Trouble.TheVariants as troubles
 
@@ -48,3 +51,9 @@ pub read_whole : (fails : Error → Type 0) (r : Result Config Trouble) → IfEr
 read_whole fails (Ok config) h = tt
 read_whole fails (Err troubles.File) h = absurd h.1
 read_whole fails (Err _) h = tt
+
+-- what is told of a read that failed: an error of the system, or want of memory
+pub read_failed : (fails : Error → Type 0) (error : Error) (kind : kinds_of.ErrorKind) → fails error
+    → FailsToRead fails (trouble_of kind troubles.File)
+read_failed fails error errors.OutOfMemory p = tt
+read_failed fails error _ p = (error, p)

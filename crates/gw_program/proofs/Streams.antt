@@ -18,7 +18,7 @@ use Rattle.gw_program.specs.Performing.{EndedSaved, NotBegun, HasServed, HasConf
 use Rattle.gw_program.specs.Sessions.{HasGateway, Runs, Serves, Checks}
 use Rattle.gw_program.specs.State.{HasBegun, IsSaved}
 use Rattle.gw_program.specs.Trunks.{CarriesTrunk}
-use Rattle.gw_program.specs.Requests.{AreNew, OnNewStreams, ByGateway, DoesSession, HasTrunk, ServesTrunk}
+use Rattle.gw_program.specs.Requests.{OnNewStreams, ByGateway, DoesSession, ServesTrunk}
 
 -- what was done on streams to which nothing had happened was done on new streams
 pub on_new : (s s' : SourceState) (k k' : SinkState) {does : Around → Around → Type 0}
