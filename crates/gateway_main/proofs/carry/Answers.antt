@@ -3,13 +3,13 @@ use Rattle.gw_program.proofs.Streams.{trunk_served, untouched, begun_at, saved_a
 use Rattle.gateway_main.proofs.carry.Goals as goal
 
 pub returns-in_default : goal.returns-in_default
-returns-in_default c = untouched _ _ _
+returns-in_default g c = untouched _ _ _
 
 pub returns-in-Err : goal.returns-in-Err
-returns-in-Err c = untouched _ _ _
+returns-in-Err g c = untouched _ _ _
 
 pub returns : goal.returns
-returns c = trunk_served _ _ _ _ _ _ _ _ _ _ _ _ (λ config gateway begun. rw (← c.in-Ok.ensures.load)
+returns g c = trunk_served _ _ _ _ _ _ _ _ _ _ _ _ (λ config gateway begun. rw (← c.in-Ok.ensures.load)
     (begun_at (λ path. path.now) c.in-Ok.system.load config.gateway gateway begun)) (λ config gateway saved is. rw (← c.in-Ok.ensures.save)
     (saved_at (λ path. path.now) c.in-Ok.system.save saved is)) _ _ _ _ _ _ _ _ c.perform_trunk.ensures (λ e. rw e refl) (λ e. rw e refl)
     c.new-source.ensures.reads (ap Some c.new-source.ensures.log)
