@@ -19,7 +19,7 @@ from typing import Iterator, Sequence
 from . import support
 from e1gw.session import Codec, Command, CommandRefusal, Kind, codec_record, command_record, records_in, spell
 from e1gw.session import trunk_record
-from exchange import ACKNOWLEDGED, IDLE, SEIZED
+from exchange import ACKNOWLEDGED, ANSWERED, IDLE, SEIZED
 
 CONFIG = 'law = "A"\n' + ''.join(f'[[circuit]]\nnumber = {c}\nrole = "incoming"\n' for c in range(1, 31))
 PIPE = 65_536               # the octets that a pipe of Linux holds
@@ -326,6 +326,74 @@ class Clients(Configured):
         for _ in range(2 * PIPE // 2048):
             self.assertEqual(len(trunk.passes(bytes(2048))), 2048)
         self.assertEqual(trunk.ends(), (0, 'recording ended: a write failed\n'))
+
+
+class GoesOn(Configured):
+    """A trunk whose program ends at a client's word, and goes on in another one on the same device."""
+
+    def setUp(self) -> None:
+        super().setUp()
+        folder = os.path.dirname(self.config)
+        self.control, self.state = os.path.join(folder, 'control'), os.path.join(folder, 'state')
+        self.here, self.there = socket.socketpair()
+        self.addCleanup(self.here.close)
+        self.addCleanup(self.there.close)
+        self.here.settimeout(SECONDS)
+        self.there.setblocking(False)
+        self.exchange = support.Exchange()
+        self.given: list[bytes] = []
+        self.back = b''
+
+    def send(self, multiframes: int) -> int:
+        """Gives the device so much, and returns how many octets they are."""
+        octets = b''.join(self.exchange.multiframe() for _ in range(multiframes))
+        self.given.append(trunk_record(octets))
+        self.here.sendall(octets)
+        return len(octets)
+
+    def take(self, length: int) -> None:
+        """Takes so many octets that came back."""
+        back = read_all(self.here, length)
+        self.back += back
+        self.exchange.hear(back)
+
+    def commands(self, client: socket.socket, command: Command) -> None:
+        """Gives a command to each circuit, and sees it done."""
+        for circuit in range(1, 31):
+            self.given.append(command_record(circuit, command))
+            client.sendall(self.given[-1])
+            self.assertEqual(answers_of(client, 1), [(circuit, bytes([Kind.COMMAND, 0]))])
+
+    def serve_once(self, load: bool, waiting: int, command: Command | None) -> int:
+        """One program, up to its end, which comes while octets wait. Returns how many."""
+        words = self.serves('--control', self.control, '--save', self.state, *(['--load', self.state] if load else []))
+        serving = subprocess.Popen(words, stdin=self.there, stdout=self.there)
+        self.addCleanup(serving.wait)
+        self.addCleanup(serving.kill)
+        self.take(waiting)
+        for _ in range(25):
+            self.take(self.send(1))
+        with socket.socket(socket.AF_UNIX) as client:
+            client.settimeout(SECONDS)
+            client.connect(self.control)
+            if command:
+                self.commands(client, command)
+            client.sendall(END)
+            waiting = self.send(3)
+            self.assertEqual(serving.wait(SECONDS), 0)
+        return waiting
+
+    def test_not_an_octet_is_lost(self) -> None:
+        waiting = 0
+        for turn, (pairs, command) in enumerate(((IDLE, None), (SEIZED, None), (SEIZED, Command.ANSWER),
+                                                 (SEIZED, None), (SEIZED, Command.CLEAR_BACK), (IDLE, None))):
+            self.exchange.pairs = dict.fromkeys(range(1, 31), pairs)
+            waiting = self.serve_once(turn > 0, waiting, command)
+            if command is Command.CLEAR_BACK:
+                self.assertEqual(set(self.exchange.signals.values()), {ANSWERED})
+        whole = octets_in(support.run('replay', '--config', self.config, given=b''.join(self.given)))
+        self.assertEqual(self.back, whole[:len(self.back)])
+        self.assertEqual(len(self.back), len(whole) - waiting)
 
 
 if __name__ == '__main__':

@@ -10,8 +10,9 @@ use std::test::Fail;
 // file or no gateway, and nothing else happens.
 #[test]
 fn state_with_ample_memory(rt: HostRuntime) -> Result<(), Fail> {
-    let circuit = CircuitConfig::new(Role::Outgoing, CodecKind::G711, 8, 20, 0, 1, 0, 0)
-        .ok_or("no configuration")?;
+    let circuit = CircuitConfig::new(Role::Outgoing, CodecKind::G711, 8, 20, 0, 1, 0, 0).ok_or(
+        "no configuration",
+    )?;
     let config = GatewayConfig {
         law: Law::A,
         circuits: [circuit; 30],
