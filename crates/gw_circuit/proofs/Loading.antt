@@ -142,7 +142,7 @@ same-circuit one other law config line speech clock sequence sent received dropp
 
 -- a circuit with a new line, and speech that begins anew, stands before its first item
 pub stands-cleared : (c : Circuit) (law : Law) (config : CircuitConfig) (items : List Item) (l : Line) (s : Speech)
-    → Stands c law config items → line.Stands l c.config.role c.config.seizure_wait []
+    → Stands c law config items → line.Stands l c.config.role []
     → Speaks s c.law (record { kind = c.config.codec; payload_type = c.config.payload_type }) (packet_size c.config)
     c.config.prefill [] [] → c.config.sequence < 2 ^ 16
     → Stands (record {
@@ -162,7 +162,7 @@ stands-cleared c law config items l s stands at speaks small =
 
 -- so does a circuit that stands there, with these parts
 with-parts : (c : Circuit) (law : Law) (config : CircuitConfig) (l : Line) (s : Speech) → Stands c law config []
-    → line.Stands l config.role config.seizure_wait []
+    → line.Stands l config.role []
     → Speaks s law (coding_after law config []) (packet_size config) config.prefill [] []
     → Stands (with_parts c l s) law config []
 unfolding Stands
@@ -181,7 +181,7 @@ with-parts c law config l s keeps at speaks = record {
 
 -- the same where its line was read already
 pub stands-reset : (k c : Circuit) (law : Law) (config : CircuitConfig) (l : Line) (s : Speech)
-    → k ≡ record c { line = k.line } → Stands c law config [] → line.Stands l k.config.role k.config.seizure_wait []
+    → k ≡ record c { line = k.line } → Stands c law config [] → line.Stands l k.config.role []
     → Speaks s k.law (coding_after law config []) (packet_size config) config.prefill [] []
     → Stands (with_parts k l s) law config []
 stands-reset k c law config l s is stands at speaks =

@@ -34,11 +34,9 @@ config = record {
   ssrc = 9;
   sequence = 0;
   timestamp = 0;
-  seizure_wait = 100;
   type_fits = omega arith;
   ptime_fits = record { least = omega arith; most = omega arith; whole = refl };
   prefill_fits = omega arith;
-  wait_fits = (omega arith, omega arith);
 }
 
 -- ten signals with this nibble

@@ -5,8 +5,3 @@ use Rattle.rtp_pack.specs.PacketTime.{IsPacketTime}
 -- a payload type of seven bits (RFC 3550, 5.1), a packet time, and a prefill that the playout has room for
 abbrev pub IsWithinLimits : ℕ → ℕ → ℕ → Type 0
 IsWithinLimits payload_type ptime prefill = (payload_type ≤ 127) × IsPacketTime ptime × (prefill ≤ 1600)
-
--- How many signals a seizure may wait for its acknowledgement. (Our choice: one comes every 2 ms, so it is 200
--- ms, as is usual on cables, to 8 s, which is enough for two satellite links and an exchange that is slow.)
-abbrev pub IsSeizureWait : ℕ → Type 0
-IsSeizureWait signals = (100 ≤ signals) × (signals ≤ 4000)

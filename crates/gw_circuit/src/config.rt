@@ -2,12 +2,10 @@
 
 ghost use Rattle.std.specs.Prelude.{◌≡◌, ◌≤◌, ◌<◌, ◌%◌, ◌↔◌, IsSome, IfSome};
 ghost use Rattle.rtp_pack.specs.PacketTime.{IsPacketTime};
-ghost use Rattle.gw_circuit.specs.Configuration.{IsWithinLimits, IsSeizureWait};
-
-mod waiting;
+ghost use Rattle.gw_circuit.specs.Configuration.{IsWithinLimits};
 
 use g726_codec::CodecKind;
-use q421_line::{Role, SEIZURE_WAIT};
+use q421_line::Role;
 use rtp_playout::MAX_PREFILL;
 
 // Payload types have seven bits (RFC 3550, 5.1).
@@ -32,18 +30,14 @@ pub struct CircuitConfig {
     pub sequence: u16,
     /// The timestamp of the first slot.
     pub timestamp: u32,
-    /// How many signals, one every 2 ms, a seizure waits for its acknowledgement: 100 to 4,000, which are 0.2
-    /// to 8 s.
-    pub seizure_wait: u16,
     ghost type_fits: { payload_type < 128 },
     ghost ptime_fits: { IsPacketTime ptime },
     ghost prefill_fits: { prefill ≤ 1600 },
-    ghost wait_fits: { IsSeizureWait seizure_wait },
 }
 
 impl CircuitConfig {
     /// A configuration with these values, or None unless the payload type is at most 127, a packet lasts 10,
-    /// 20 or 30 ms, and the prefill is at most 1600. A seizure waits 100 signals.
+    /// 20 or 30 ms, and the prefill is at most 1600.
     pub fn new(
         role: Role,
         codec: CodecKind,
@@ -58,7 +52,6 @@ impl CircuitConfig {
         ensures holds { IfSome result (λ c. (c.role ≡ role) × (c.codec ≡ codec)
             × (c.payload_type ≡ payload_type) × (c.ptime ≡ ptime) × (c.prefill ≡ prefill)
             × (c.ssrc ≡ ssrc) × (c.sequence ≡ sequence) × (c.timestamp ≡ timestamp)) }
-        ensures wait { IfSome result (λ c. c.seizure_wait ≡ 100) }
     {
         if payload_type > MAX_PAYLOAD_TYPE
             || prefill > MAX_PREFILL
@@ -75,7 +68,6 @@ impl CircuitConfig {
             ssrc,
             sequence,
             timestamp,
-            seizure_wait: SEIZURE_WAIT,
         })
     }
 }

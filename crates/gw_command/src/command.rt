@@ -7,8 +7,7 @@ ghost use Rattle.gw_speech.specs.declared.spec.StreamSpec.{StreamSpec};
 ghost use Rattle.gw_command.specs.Command.{law_name, codec_name, job_name, job_spec, usual_payload};
 ghost use Rattle.gw_command.specs.Command.{IsStream, IsJob, IsSession, session_name};
 ghost use Rattle.gw_command.specs.Command.{IsFilter, filter_name, IsTrunk, IsRequest, text_in};
-ghost use Rattle.gw_command.specs.Command.{SaysNumberIn, IsWaitOf, SaysWait};
-ghost use Rattle.gw_circuit.specs.Configuration.{IsSeizureWait};
+ghost use Rattle.gw_command.specs.Command.{SaysNumberIn};
 ghost use Rattle.gw_command.specs.declared.command.Filter.{Filter};
 ghost use Rattle.gw_command.specs.declared.command.Job.{Job};
 ghost use Rattle.gw_command.specs.declared.command.Request.{Request};
@@ -268,46 +267,20 @@ pub fn repeat_of(matches: &ArgMatches<'_>) -> Option<u8>
     options.get_one("repeat")
 }
 
-// The wait of a seizure in signals, one of which comes every 2 ms, by its time in ms; None unless the time is
-// 200 to 8,000. A time between two signals is that of the later one.
-fn signals_of(ms: u16) -> Option<u16>
-    ensures wait { IfSome result (IsWaitOf ms) }
-    ensures none { IfNone result ((signals : ℕ) → ¬ IsWaitOf ms signals) }
-    ensures in_range { IfSome result IsSeizureWait }
-{
-    if ms < 200 || ms > 8000 {
-        return None;
-    }
-    Some((ms + 1) / 2)
-}
-
-/// How many signals, one every 2 ms, a seizure waits for its acknowledgement, by the first time in ms that the
-/// matches name.
-pub fn seizure_wait_of(matches: &ArgMatches<'_>) -> Option<u16>
-    ensures found { IfSome result (SaysWait (subcommand_rows_of matches.now)) }
-    ensures none { IfNone result ((signals : ℕ) → ¬ SaysWait (subcommand_rows_of matches.now) signals) }
-    ensures in_range { IfSome result IsSeizureWait }
-{
-    let ms = seizure_ms_of(matches)?;
-    signals_of(ms)
-}
-
-// The first time of `--seizure-wait`.
-fn seizure_ms_of(matches: &ArgMatches<'_>) -> Option<u16>
-    ensures found { IfSome result (SaysNumberIn 16 (codes "seizure-wait") (subcommand_rows_of matches.now)) }
-    ensures none { IfNone result ((n : ℕ)
-        → ¬ SaysNumberIn 16 (codes "seizure-wait") (subcommand_rows_of matches.now) n) }
-{
-    let (_, options) = matches.subcommand()?;
-    options.get_one("seizure-wait")
-}
-
 /// The path of the recording that the matches name, the first one, where they name one.
 pub fn recording_of<'m>(matches: &'m ArgMatches<'_>) -> Option<&'m str>
     ensures { option_map (λ path. path.now) result
         ≡ text_in (codes "record") (subcommand_rows_of matches.now) }
 {
     text_of(matches, "record")
+}
+
+/// The path of the socket that the matches name for clients, the first one, where they name one.
+pub fn control_of<'m>(matches: &'m ArgMatches<'_>) -> Option<&'m str>
+    ensures { option_map (λ path. path.now) result
+        ≡ text_in (codes "control") (subcommand_rows_of matches.now) }
+{
+    text_of(matches, "control")
 }
 
 /// The path of the state that a session begins with, the first one, if the matches name one.
@@ -322,14 +295,6 @@ pub fn save_of<'m>(matches: &'m ArgMatches<'_>) -> Option<&'m str>
     ensures { option_map (λ path. path.now) result ≡ text_in (codes "save") (subcommand_rows_of matches.now) }
 {
     text_of(matches, "save")
-}
-
-/// The path of the socket that the matches name for clients, the first one, where they name one.
-pub fn control_of<'m>(matches: &'m ArgMatches<'_>) -> Option<&'m str>
-    ensures { option_map (λ path. path.now) result
-        ≡ text_in (codes "control") (subcommand_rows_of matches.now) }
-{
-    text_of(matches, "control")
 }
 
 /// Whether CRC-4 multiframes are to be checked in place of sent.

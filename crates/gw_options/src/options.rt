@@ -95,9 +95,6 @@ const SENDERS_TEXT: &str =
 const REPEAT_TEXT: &str =
     "Datagrams of a circuit after which each is sent again, 0 to 8;\n0 for never";
 
-const SEIZURE_WAIT_TEXT: &str =
-    "Milliseconds after which a seizure that is not acknowledged is\nreleased, 200 to 8000";
-
 const CONTROL_TEXT: &str =
     "Unix socket at which clients connect, who give C, K and E records\nand get R records";
 
@@ -119,7 +116,6 @@ enum Opt {
     RecordOver,
     Senders,
     Repeat,
-    SeizureWait,
     Control,
     Crc4Check,
 }
@@ -145,16 +141,10 @@ const OF_A_STREAM: &[Opt] = &[
 ];
 
 // The options of a session of a gateway.
-const OF_A_SESSION: &[Opt] = &[
-    Opt::Config,
-    Opt::Load,
-    Opt::Save,
-    Opt::Totals,
-    Opt::SeizureWait,
-];
+const OF_A_SESSION: &[Opt] = &[Opt::Config, Opt::Load, Opt::Save, Opt::Totals];
 
 // The options of a session whose answers are not written.
-const OF_CHECK: &[Opt] = &[Opt::Config, Opt::Load, Opt::Totals, Opt::SeizureWait];
+const OF_CHECK: &[Opt] = &[Opt::Config, Opt::Load, Opt::Totals];
 
 // The options of a session over UDP.
 const OF_SERVE: &[Opt] = &[
@@ -166,7 +156,6 @@ const OF_SERVE: &[Opt] = &[
     Opt::Totals,
     Opt::Senders,
     Opt::Repeat,
-    Opt::SeizureWait,
 ];
 
 // The options of a trunk in service.
@@ -179,7 +168,6 @@ const OF_TRUNK: &[Opt] = &[
     Opt::Totals,
     Opt::Senders,
     Opt::Repeat,
-    Opt::SeizureWait,
     Opt::Control,
 ];
 
@@ -358,14 +346,6 @@ fn repeat_option<'a>(alloc: Global) -> Arg<'a> {
         .default_value("0")
 }
 
-// After which time a seizure is released.
-fn seizure_wait_option<'a>(alloc: Global) -> Arg<'a> {
-    option(alloc, "seizure-wait", SEIZURE_WAIT_TEXT)
-        .value_name("MS")
-        .value_parser(value_parser!(u16).range(200..=8000))
-        .default_value("200")
-}
-
 // Where clients connect.
 fn control_option<'a>(alloc: Global) -> Arg<'a> {
     option(alloc, "control", CONTROL_TEXT).value_name("SOCKET")
@@ -389,7 +369,6 @@ fn declared<'a>(alloc: Global, option: Opt) -> Arg<'a> {
         Opt::RecordOver => over_option(alloc),
         Opt::Senders => senders_option(alloc),
         Opt::Repeat => repeat_option(alloc),
-        Opt::SeizureWait => seizure_wait_option(alloc),
         Opt::Control => control_option(alloc),
         Opt::Crc4Check => flag(alloc, "check", CRC4_CHECK_TEXT),
     }

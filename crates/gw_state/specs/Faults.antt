@@ -21,9 +21,9 @@ kind_number kinds.Config = 5
 kind_number kinds.Value = 6
 kind_number kinds.Left = 7
 
--- the mark, the version, the configuration and the check sum have 4, 1, 541 and 32 octets
+-- the mark, the version, the configuration and the check sum have 4, 1, 481 and 32 octets
 abbrev pub least : ℕ
-least = 578
+least = 518
 
 -- octets that are long enough begin so
 pub record Begins (front octets : List ℕ) : Type 0 where
@@ -64,7 +64,7 @@ pub record DiffersAt (head octets : List ℕ) (place : ℕ) : Type 0 where
 pub record IsOther (config : GatewayConfig) (front : List ℕ) (number : ℕ) : Type 0 where
   pub place : ℕ
   pub differs : DiffersAt (state_head config) front place
-  pub number_is : number ≡ (place + 12) / 18
+  pub number_is : number ≡ (place + 10) / 16
 
 -- memory was refused, or the configuration is another
 abbrev pub DiffersFirst : GatewayConfig → List ℕ → LoadFault → Type 0

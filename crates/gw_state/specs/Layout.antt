@@ -29,10 +29,10 @@ role_octet Incoming = 1
 abbrev pub saved_start : ℕ → ℕ → ℕ → List ℕ
 saved_start ssrc sequence timestamp = four_octets ssrc ++ two_octets sequence ++ four_octets timestamp
 
--- how a circuit is set up: 18 octets
+-- how a circuit is set up: 16 octets
 unfoldable pub saved_settings : CircuitConfig → List ℕ
 saved_settings c = role_octet c.role ∷ kind_number c.codec ∷ c.payload_type ∷ c.ptime
-    ∷ two_octets c.prefill ++ saved_start c.ssrc c.sequence c.timestamp ++ two_octets c.seizure_wait
+    ∷ two_octets c.prefill ++ saved_start c.ssrc c.sequence c.timestamp
 
 -- the law, and how circuits 1 to 30 are set up
 abbrev pub saved_config : GatewayConfig → List ℕ

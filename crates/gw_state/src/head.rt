@@ -68,13 +68,12 @@ fn append_settings(out: &mut Vec<u8>, circuit: &CircuitConfig) -> Result<(), All
     ];
     out.extend_from_slice(&first)?;
     append_u16(out, circuit.prefill)?;
-    append_start(out, circuit)?;
-    append_u16(out, circuit.seizure_wait)
+    append_start(out, circuit)
 }
 
 fn append_all(out: &mut Vec<u8>, circuits: &[CircuitConfig; 30]) -> Result<(), AllocError>
     ensures octets { OnOk result (out.new.items ≡ out.old.items ++ flat_map saved_settings circuits.now) }
-    ensures len { OnOk result (length out.new.items ≡ length out.old.items + 540) }
+    ensures len { OnOk result (length out.new.items ≡ length out.old.items + 480) }
 {
     for circuit in circuits.iter() {
         append_settings(out, circuit)?;
@@ -86,7 +85,7 @@ fn append_all(out: &mut Vec<u8>, circuits: &[CircuitConfig; 30]) -> Result<(), A
 #[tactic(auto, unfolding(crate::specs::Layout::state_head))]
 pub(crate) fn state_head(alloc: Global, config: &GatewayConfig) -> Result<Vec<u8>, AllocError>
     ensures octets { IfOk result (λ head. head.items ≡ state_head config.now) }
-    ensures len { IfOk result (λ head. length head.items ≡ 546) }
+    ensures len { IfOk result (λ head. length head.items ≡ 486) }
 {
     let mut head = Vec::new(alloc);
     head.extend_from_slice(&MARK)?;

@@ -18,7 +18,7 @@ use sha2::{Digest, Sha256};
 use std::alloc::Global;
 
 // The octets of the least state.
-const LEAST: usize = 578;
+const LEAST: usize = 518;
 
 // The octets of a check sum.
 const SUM_LEN: usize = 32;
@@ -86,7 +86,7 @@ fn state_of<'o>(
         None => Ok(&front[head.len()..]),
         Some(place) => Err(LoadFault::Refused {
             kind: StateKind::Config,
-            at: ((place + 12) / 18) as u8,
+            at: ((place + 10) / 16) as u8,
         }),
     }
 }

@@ -49,11 +49,9 @@ spare_config = record {
   ssrc = 0;
   sequence = 0;
   timestamp = 0;
-  seizure_wait = 100;
   type_fits = lit< tt;
   ptime_fits = record { least = lit≤ tt; most = lit≤ tt; whole = refl };
   prefill_fits = lit≤ tt;
-  wait_fits = (lit≤ tt, lit≤ tt);
 }
 
 -- the configuration of a circuit, 1 to 30

@@ -2,7 +2,7 @@ use Cmd::*;
 use Role::*;
 use State::*;
 use g704_cas::Nibble;
-use q421_line::{Cmd, Line, LineFault, Role, SEIZURE_WAIT, State};
+use q421_line::{Cmd, Line, LineFault, Role, State};
 use saved_octets::Octets;
 use std::process::Abort;
 use std::test::Fail;
@@ -61,28 +61,6 @@ fn outgoing_call(rt: HostRuntime) {
         assert_eq!(rt; line.state(), state);
     }
     assert_eq!(rt; line.command(Answer), Err(LineFault::WrongRole));
-}
-
-// A wait of 1,000 signals, which are 2 s.
-#[test]
-fn seizure_waits_longer(rt: HostRuntime) -> Result<(), Fail> {
-    let mut line = Line::with_wait(Outgoing, 1_000);
-    let _sent = give(&rt, &mut line, Heard(0b1001, 10));
-    let _none = give(&rt, &mut line, Asked(Seize));
-    for _multiframe in 0..999u16 {
-        assert_eq!(rt; line.signal(Nibble::new(0b1001)).get(), 0b0001);
-    }
-    assert_eq!(rt; line.state(), Seized);
-    let mut room = Vec::new(rt.alloc());
-    line.save(&mut room)?;
-    assert_eq!(rt; room.as_slice(), [1, 3, 231, 2, 10, 2].as_slice());
-    assert_eq!(rt;
-        Line::load(Outgoing, 1_000, &mut Octets::new(&room)),
-        Some(line)
-    );
-    assert_eq!(rt; line.signal(Nibble::new(0b1001)).get(), 0b1001);
-    assert_eq!(rt; line.state(), Releasing);
-    Ok(())
 }
 
 #[test]
@@ -296,33 +274,27 @@ fn line_as_octets(rt: HostRuntime) -> Result<(), Fail> {
     let mut room = Vec::new(rt.alloc());
     let mut line = Line::new(Outgoing);
     let rows = [
-        (Heard(0b1001, 9), [7, 0, 0, 2, 9, 4]),
-        (Heard(0b1001, 1), [0, 0, 0, 2, 10, 2]),
-        (Asked(Seize), [1, 0, 0, 2, 10, 2]),
-        (Heard(0b1101, 3), [1, 0, 3, 3, 3, 2]),
-        (Heard(0b1101, 7), [2, 0, 0, 3, 10, 3]),
+        (Heard(0b1001, 9), [7, 0, 2, 9, 4]),
+        (Heard(0b1001, 1), [0, 0, 2, 10, 2]),
+        (Asked(Seize), [1, 0, 2, 10, 2]),
+        (Heard(0b1101, 3), [1, 3, 3, 3, 2]),
+        (Heard(0b1101, 7), [2, 0, 3, 10, 3]),
     ];
     for (step, octets) in rows {
         let _sent = give(&rt, &mut line, step);
         room.clear();
         line.save(&mut room)?;
         assert_eq!(rt; room.as_slice(), octets.as_slice());
-        assert_eq!(rt;
-            Line::load(Outgoing, SEIZURE_WAIT, &mut Octets::new(&octets)),
-            Some(line)
-        );
+        assert_eq!(rt; Line::load(Outgoing, &mut Octets::new(&octets)), Some(line));
     }
     assert_eq!(rt;
-        Line::load(Incoming, 100, &mut Octets::new(&[8, 0, 0, 4, 0, 4])),
+        Line::load(Incoming, &mut Octets::new(&[8, 0, 4, 0, 4])),
         None
     );
     assert_eq!(rt;
-        Line::load(Incoming, 100, &mut Octets::new(&[7, 0, 0, 5, 0, 4])),
+        Line::load(Incoming, &mut Octets::new(&[7, 0, 5, 0, 4])),
         None
     );
-    assert_eq!(rt;
-        Line::load(Incoming, 100, &mut Octets::new(&[7, 0, 0, 4, 0])),
-        None
-    );
+    assert_eq!(rt; Line::load(Incoming, &mut Octets::new(&[7, 0, 4, 0])), None);
     Ok(())
 }

@@ -19,7 +19,7 @@ pub recognised-by_ten : PairsAreRecognisedByTen
 unfolding recognised
 recognised-by_ten = (refl, recognised-replicate, recognised-short)
 
--- no seizure lasts as many signals as its wait has
+-- no seizure lasts a hundred signals
 pub seizure-released : SeizuresAreReleased
 seizure-released = seizure-short
 
@@ -31,9 +31,9 @@ outcome-refused line (Err other) fault refused = refl
 
 -- a refused command leaves the signalling as it was
 pub signalling-refused : RefusedCommandsChangeNothing
-signalling-refused role wait items asked fault refused =
-    signalling-push role wait items (command asked)
-    ∙ outcome-refused (signalling role wait items) (command_outcome role asked (signalling role wait items).state) fault refused
+signalling-refused role items asked fault refused =
+    signalling-push role items (command asked)
+    ∙ outcome-refused (signalling role items) (command_outcome role asked (signalling role items).state) fault refused
 
 -- a nibble that is sent is four bits
 pub sent_nibble-fits : SentPairsFit

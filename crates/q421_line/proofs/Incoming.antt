@@ -50,16 +50,16 @@ next_by-of state None h = h
 next_by-of state (Some pair) h = next-of state pair h
 
 -- nor does the count of a seizure, which there is none of
-count-of : (wait : ℕ) (pairs : List ℕ) (before after : State) (seized_for : ℕ) → IsOfIncoming before → IsOfIncoming after
-    → IsOfIncoming (after_count wait pairs before after seized_for).state
-count-of wait pairs Idle after seized_for b a = a
-count-of wait pairs Acked after seized_for b a = a
-count-of wait pairs Answered after seized_for b a = a
-count-of wait pairs ClearedBack after seized_for b a = a
-count-of wait pairs Blocked after seized_for b a = a
-count-of wait pairs Fault after seized_for b a = a
-count-of wait pairs Seized after seized_for b a = absurd b
-count-of wait pairs Releasing after seized_for b a = absurd b
+count-of : (pairs : List ℕ) (before after : State) (seized_for : ℕ) → IsOfIncoming before → IsOfIncoming after
+    → IsOfIncoming (after_count pairs before after seized_for).state
+count-of pairs Idle after seized_for b a = a
+count-of pairs Acked after seized_for b a = a
+count-of pairs Answered after seized_for b a = a
+count-of pairs ClearedBack after seized_for b a = a
+count-of pairs Blocked after seized_for b a = a
+count-of pairs Fault after seized_for b a = a
+count-of pairs Seized after seized_for b a = absurd b
+count-of pairs Releasing after seized_for b a = absurd b
 
 -- nor does a command
 outcome-of : (asked : Cmd) (state : State) → IfOk (command_outcome Incoming asked state) IsOfIncoming
@@ -83,25 +83,24 @@ after-of line (Ok state) h o = o
 after-of line (Err fault) h o = h
 
 -- nor does an item
-item-of : (wait : ℕ) (line : Signalling) (item : Item) → IsOfIncoming line.state
-    → IsOfIncoming (after_item Incoming wait line item).state
-item-of wait line (signal heard) h =
+item-of : (line : Signalling) (item : Item) → IsOfIncoming line.state
+    → IsOfIncoming (after_item Incoming line item).state
+item-of line (signal heard) h =
     let pairs : List ℕ = with_heard line.pairs heard in
-    count-of wait pairs line.state _ line.seized_for h (next_by-of line.state (recognised pairs) h)
-item-of wait line (command asked) h =
+    count-of pairs line.state _ line.seized_for h (next_by-of line.state (recognised pairs) h)
+item-of line (command asked) h =
     after-of line (command_outcome Incoming asked line.state) h (outcome-of asked line.state)
 
 -- nor do many
-items-of : (wait : ℕ) (line : Signalling) (items : List Item) → IsOfIncoming line.state
-    → IsOfIncoming (fold (after_item Incoming wait) line items).state
-items-of wait line [] h = h
-items-of wait line (item ∷ items) h =
-    items-of wait (after_item Incoming wait line item) items (item-of wait line item h)
+items-of : (line : Signalling) (items : List Item) → IsOfIncoming line.state
+    → IsOfIncoming (fold (after_item Incoming) line items).state
+items-of line [] h = h
+items-of line (item ∷ items) h = items-of (after_item Incoming line item) items (item-of line item h)
 
 -- an incoming line is never Seized or Releasing
-pub incoming-never : (wait : ℕ) (items : List Item)
-    → ((signalling Incoming wait items).state ≢ Seized) × ((signalling Incoming wait items).state ≢ Releasing)
+pub incoming-never : (items : List Item)
+    → ((signalling Incoming items).state ≢ Seized) × ((signalling Incoming items).state ≢ Releasing)
 unfolding signalling
-incoming-never wait items =
-    let h : IsOfIncoming (fold (after_item Incoming wait) at_first items).state = items-of wait at_first items tt in
+incoming-never items =
+    let h : IsOfIncoming (fold (after_item Incoming) at_first items).state = items-of at_first items tt in
     ((λ is. subst IsOfIncoming is h), (λ is. subst IsOfIncoming is h))

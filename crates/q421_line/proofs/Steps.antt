@@ -18,15 +18,15 @@ use Rattle.q421_line.specs.Signalling.{with_heard, next_by, after_count, is_seiz
 use Rattle.q421_line.specs.Line.{HasHeard, Stands}
 
 -- one item more
-pub signalling-push : (role : Role) (wait : ℕ) (items : List Item) (item : Item)
-    → signalling role wait (items ++ item ∷ []) ≡ after_item role wait (signalling role wait items) item
+pub signalling-push : (role : Role) (items : List Item) (item : Item)
+    → signalling role (items ++ item ∷ []) ≡ after_item role (signalling role items) item
 unfolding signalling
-signalling-push role wait items item = fold_push (after_item role wait) at_first items item
+signalling-push role items item = fold_push (after_item role) at_first items item
 
 -- a signal leaves the known pairs as they were with it
-pairs-counted : (wait : ℕ) (pairs : List ℕ) (before after : State) (seized_for : ℕ)
-    → (after_count wait pairs before after seized_for).pairs ≡ pairs
-pairs-counted wait pairs before after seized_for = go (is_seized before && is_seized after) (nat_le wait (seized_for + 1))
+pairs-counted : (pairs : List ℕ) (before after : State) (seized_for : ℕ)
+    → (after_count pairs before after seized_for).pairs ≡ pairs
+pairs-counted pairs before after seized_for = go (is_seized before && is_seized after) (nat_le 100 (seized_for + 1))
   where
     go : (stays released : Bool) → ◌≡◌ {A = List ℕ} (cond {A = Signalling} stays
         (cond released (record { pairs = pairs; state = Releasing; seized_for = 0 })
@@ -37,78 +37,74 @@ pairs-counted wait pairs before after seized_for = go (is_seized before && is_se
     go false released = refl
 
 -- the line stands after a signal
-pub stands-signal : (old : Line) (role : Role) (wait : ℕ) (items : List Item) (heard : Option ℕ) (recognition : Recognition)
+pub stands-signal : (old : Line) (role : Role) (items : List Item) (heard : Option ℕ) (recognition : Recognition)
     (next state : State) (seized_for : ℕ)
-    → Stands old role wait items
-    → HasHeard recognition (with_heard (signalling role wait items).pairs heard)
+    → Stands old role items
+    → HasHeard recognition (with_heard (signalling role items).pairs heard)
     → next ≡ next_by old.role old.state recognition.recognised
-    → state ≡ (after_count old.wait (with_heard (signalling role wait items).pairs heard) old.state next old.seized_for).state
+    → state ≡ (after_count (with_heard (signalling role items).pairs heard) old.state next old.seized_for).state
     → seized_for
-    ≡ (after_count old.wait (with_heard (signalling role wait items).pairs heard) old.state next old.seized_for).seized_for
-    → Stands (record { role = old.role; wait = old.wait; state = state; seized_for = seized_for; recognition = recognition }) role wait
+    ≡ (after_count (with_heard (signalling role items).pairs heard) old.state next old.seized_for).seized_for
+    → Stands (record { role = old.role; state = state; seized_for = seized_for; recognition = recognition }) role
     (items ++ signal heard ∷ [])
-stands-signal old role wait items heard recognition next state seized_for stands has_heard is_next is_state is_seized_for =
-    let before : Signalling = signalling role wait items in
+stands-signal old role items heard recognition next state seized_for stands has_heard is_next is_state is_seized_for =
+    let before : Signalling = signalling role items in
     let pairs : List ℕ = with_heard before.pairs heard in
     let next_is : next ≡ next_by role before.state (recognised pairs) = is_next
     ∙ ap (λ r. next_by r old.state recognition.recognised) stands.role_is
     ∙ ap (λ s. next_by role s recognition.recognised) stands.state_is
     ∙ ap (λ p. next_by role before.state p) has_heard.recognised_is in
-    let same : after_count old.wait pairs old.state next old.seized_for ≡ after_item role wait before (signal heard)
-    = ap (λ w. after_count w pairs old.state next old.seized_for) stands.wait_is
-    ∙ ap (λ s. after_count wait pairs s next old.seized_for) stands.state_is
-    ∙ ap (λ s. after_count wait pairs before.state s old.seized_for) next_is
-    ∙ ap (λ n. after_count wait pairs before.state (next_by role before.state (recognised pairs)) n) stands.seized_for_is in
-    let whole : after_count old.wait pairs old.state next old.seized_for ≡ signalling role wait (items ++ signal heard ∷ [])
-    = same ∙ sym (signalling-push role wait items (signal heard)) in
-    let kept : pairs ≡ (signalling role wait (items ++ signal heard ∷ [])).pairs
-    = sym (pairs-counted old.wait pairs old.state next old.seized_for) ∙ ap (λ (z : Signalling). z.pairs) whole in
+    let same : after_count pairs old.state next old.seized_for ≡ after_item role before (signal heard)
+    = ap (λ s. after_count pairs s next old.seized_for) stands.state_is
+    ∙ ap (λ s. after_count pairs before.state s old.seized_for) next_is
+    ∙ ap (λ n. after_count pairs before.state (next_by role before.state (recognised pairs)) n) stands.seized_for_is in
+    let whole : after_count pairs old.state next old.seized_for ≡ signalling role (items ++ signal heard ∷ [])
+    = same ∙ sym (signalling-push role items (signal heard)) in
+    let kept : pairs ≡ (signalling role (items ++ signal heard ∷ [])).pairs
+    = sym (pairs-counted pairs old.state next old.seized_for) ∙ ap (λ (z : Signalling). z.pairs) whole in
     record {
       role_is = stands.role_is;
-      wait_is = stands.wait_is;
       state_is = is_state ∙ ap (λ (z : Signalling). z.state) whole;
       seized_for_is = is_seized_for ∙ ap (λ (z : Signalling). z.seized_for) whole;
       heard = subst (λ known. HasHeard recognition known) kept has_heard;
     }
 
 -- what a command leads to, by the fields
-outcome-is : (old : Line) (role : Role) (wait : ℕ) (items : List Item) (asked : Cmd) → Stands old role wait items
-    → command_outcome role asked (signalling role wait items).state ≡ command_outcome old.role asked old.state
-outcome-is old role wait items asked stands =
+outcome-is : (old : Line) (role : Role) (items : List Item) (asked : Cmd) → Stands old role items
+    → command_outcome role asked (signalling role items).state ≡ command_outcome old.role asked old.state
+outcome-is old role items asked stands =
     ap (λ s. command_outcome role asked s) (sym stands.state_is)
     ∙ ap (λ r. command_outcome r asked old.state) (sym stands.role_is)
 
 -- the line stands after a command that is obeyed
-pub stands-obeyed : (old : Line) (role : Role) (wait : ℕ) (items : List Item) (asked : Cmd) (state : State) → Stands old role wait items
+pub stands-obeyed : (old : Line) (role : Role) (items : List Item) (asked : Cmd) (state : State) → Stands old role items
     → Ok state ≡ command_outcome old.role asked old.state
-    → Stands (record { role = old.role; wait = old.wait; state = state; seized_for = 0; recognition = old.recognition }) role wait
+    → Stands (record { role = old.role; state = state; seized_for = 0; recognition = old.recognition }) role
     (items ++ command asked ∷ [])
-stands-obeyed old role wait items asked state stands is_outcome =
-    let before : Signalling = signalling role wait items in
+stands-obeyed old role items asked state stands is_outcome =
+    let before : Signalling = signalling role items in
     let whole : ◌≡◌ {A = Signalling} (record { pairs = before.pairs; state = state; seized_for = 0 })
-    (signalling role wait (items ++ command asked ∷ []))
-    = sym (signalling-push role wait items (command asked)
-    ∙ ap (λ z. after_outcome before z) (outcome-is old role wait items asked stands ∙ sym is_outcome)) in
+    (signalling role (items ++ command asked ∷ []))
+    = sym (signalling-push role items (command asked)
+    ∙ ap (λ z. after_outcome before z) (outcome-is old role items asked stands ∙ sym is_outcome)) in
     record {
       role_is = stands.role_is;
-      wait_is = stands.wait_is;
       state_is = ap (λ (z : Signalling). z.state) whole;
       seized_for_is = ap (λ (z : Signalling). z.seized_for) whole;
       heard = subst (λ known. HasHeard old.recognition known) (ap (λ (z : Signalling). z.pairs) whole) stands.heard;
     }
 
 -- the line stands after a command that is refused, as it was
-pub stands-refused : (old : Line) (role : Role) (wait : ℕ) (items : List Item) (asked : Cmd) (fault : LineFault)
-    → Stands old role wait items
-    → Err fault ≡ command_outcome old.role asked old.state → Stands old role wait (items ++ command asked ∷ [])
-stands-refused old role wait items asked fault stands is_outcome =
-    let before : Signalling = signalling role wait items in
-    let whole : before ≡ signalling role wait (items ++ command asked ∷ [])
-    = sym (signalling-push role wait items (command asked)
-    ∙ ap (λ z. after_outcome before z) (outcome-is old role wait items asked stands ∙ sym is_outcome)) in
+pub stands-refused : (old : Line) (role : Role) (items : List Item) (asked : Cmd) (fault : LineFault)
+    → Stands old role items
+    → Err fault ≡ command_outcome old.role asked old.state → Stands old role (items ++ command asked ∷ [])
+stands-refused old role items asked fault stands is_outcome =
+    let before : Signalling = signalling role items in
+    let whole : before ≡ signalling role (items ++ command asked ∷ [])
+    = sym (signalling-push role items (command asked)
+    ∙ ap (λ z. after_outcome before z) (outcome-is old role items asked stands ∙ sym is_outcome)) in
     record {
       role_is = stands.role_is;
-      wait_is = stands.wait_is;
       state_is = stands.state_is ∙ ap (λ (z : Signalling). z.state) whole;
       seized_for_is = stands.seized_for_is ∙ ap (λ (z : Signalling). z.seized_for) whole;
       heard = subst (λ known. HasHeard old.recognition known) (ap (λ (z : Signalling). z.pairs) whole) stands.heard;

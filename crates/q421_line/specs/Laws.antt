@@ -1,4 +1,4 @@
--- Laws of line signals (ITU-T Q.421), of every role, wait, state and list of signals and commands.
+-- Laws of line signals (ITU-T Q.421), of every role, state and list of signals and commands.
 use Rattle.std.specs.Prelude.{◌≡◌, ◌≢◌, ℕ, ◌<◌, ◌≤◌, List, [], ◌∷◌, ◌++◌, length, map, take, replicate}
 use Rattle.std.specs.Prelude.{Option, Some, None, Err}
 use Rattle.q421_line.specs.declared.Role.{Role}
@@ -22,19 +22,19 @@ PairsAreRecognisedByTen = (recognised [] ≡ None)
 
 -- a command that is refused leaves a line's signalling as it was
 abbrev pub RefusedCommandsChangeNothing : Type 0
-RefusedCommandsChangeNothing = (role : Role) (wait : ℕ) (items : List Item) (asked : Cmd) (fault : LineFault)
-    → told_of (command_outcome role asked (signalling role wait items).state) ≡ Err fault
-    → signalling role wait (items ++ command asked ∷ []) ≡ signalling role wait items
+RefusedCommandsChangeNothing = (role : Role) (items : List Item) (asked : Cmd) (fault : LineFault)
+    → told_of (command_outcome role asked (signalling role items).state) ≡ Err fault
+    → signalling role (items ++ command asked ∷ []) ≡ signalling role items
 
 -- the line is Seized after these items, and stays so with each of these signals
-abbrev pub IsSeizedThrough : Role → ℕ → List Item → List (Option ℕ) → Type 0
-IsSeizedThrough role wait items signals = (count : ℕ) → count ≤ length signals
-    → (signalling role wait (items ++ map signal (take count signals))).state ≡ Seized
+abbrev pub IsSeizedThrough : Role → List Item → List (Option ℕ) → Type 0
+IsSeizedThrough role items signals = (count : ℕ) → count ≤ length signals
+    → (signalling role (items ++ map signal (take count signals))).state ≡ Seized
 
--- no seizure lasts as many signals as the line's wait has, whatever is heard in them
+-- no seizure lasts a hundred signals, whatever is heard in them
 abbrev pub SeizuresAreReleased : Type 0
-SeizuresAreReleased = (role : Role) (wait : ℕ) (items : List Item) (signals : List (Option ℕ)) → 0 < wait
-    → IsSeizedThrough role wait items signals → length signals < wait
+SeizuresAreReleased = (role : Role) (items : List Item) (signals : List (Option ℕ))
+    → IsSeizedThrough role items signals → length signals < 100
 
 -- what is sent in a state is four bits
 abbrev pub SentPairsFit : Type 0
@@ -42,5 +42,5 @@ SentPairsFit = (role : Role) (state : State) → sent_nibble (sent_pair role sta
 
 -- only an outgoing line seizes and releases
 abbrev pub IncomingIsNeverSeized : Type 0
-IncomingIsNeverSeized = (wait : ℕ) (items : List Item)
-    → ((signalling Incoming wait items).state ≢ Seized) × ((signalling Incoming wait items).state ≢ Releasing)
+IncomingIsNeverSeized = (items : List Item)
+    → ((signalling Incoming items).state ≢ Seized) × ((signalling Incoming items).state ≢ Releasing)

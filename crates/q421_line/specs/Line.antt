@@ -13,11 +13,9 @@ pub record HasHeard (recognition : Recognition) (pairs : List ℕ) : Type 0 wher
   pub run_is : (pair : ℕ) → recognition.latest ≡ Some pair → recognition.run ≡ min 10 (run_of pair pairs)
   pub recognised_is : recognition.recognised ≡ recognised pairs
 
--- A line of this role and with this wait stands after these signals and commands: its fields are those of its
--- signalling.
-pub record Stands (line : Line) (role : Role) (wait : ℕ) (items : List Item) : Type 0 where
+-- A line of this role stands after these signals and commands: its fields are those of its signalling.
+pub record Stands (line : Line) (role : Role) (items : List Item) : Type 0 where
   pub role_is : line.role ≡ role
-  pub wait_is : line.wait ≡ wait
-  pub state_is : line.state ≡ (signalling role wait items).state
-  pub seized_for_is : line.seized_for ≡ (signalling role wait items).seized_for
-  pub heard : HasHeard line.recognition (signalling role wait items).pairs
+  pub state_is : line.state ≡ (signalling role items).state
+  pub seized_for_is : line.seized_for ≡ (signalling role items).seized_for
+  pub heard : HasHeard line.recognition (signalling role items).pairs

@@ -39,20 +39,22 @@ abbrev pub is_seized : State → Bool
 is_seized Seized = true
 is_seized state = false
 
--- A line that was and stays Seized has been so for one signal more, and is released by the last of its wait.
-abbrev pub after_count : ℕ → List ℕ → State → State → ℕ → Signalling
-after_count wait pairs before after seized_for =
+-- A line that was and stays Seized has been so for one signal more, and is released by the hundredth. (A
+-- choice: a hundred signals, one every 2 ms, are 200 ms without an acknowledgement, ten times what it takes
+-- to be recognised.)
+abbrev pub after_count : List ℕ → State → State → ℕ → Signalling
+after_count pairs before after seized_for =
     if is_seized before && is_seized after
-    then (if nat_le wait (seized_for + 1)
+    then (if nat_le 100 (seized_for + 1)
     then record { pairs = pairs; state = Releasing; seized_for = 0 }
     else record { pairs = pairs; state = Seized; seized_for = seized_for + 1 })
     else record { pairs = pairs; state = after; seized_for = 0 }
 
 -- a signal: the nibble may make a pair recognised; a recognised pair gives the next state, with every signal
-abbrev pub after_signal : Role → ℕ → Signalling → Option ℕ → Signalling
-after_signal role wait line heard =
+abbrev pub after_signal : Role → Signalling → Option ℕ → Signalling
+after_signal role line heard =
     let pairs = with_heard line.pairs heard in
-    after_count wait pairs line.state (next_by role line.state (recognised pairs)) line.seized_for
+    after_count pairs line.state (next_by role line.state (recognised pairs)) line.seized_for
 
 -- a command that is not refused gives the next state; a refused one changes nothing
 abbrev pub after_outcome : Signalling → Result State LineFault → Signalling
@@ -60,16 +62,15 @@ after_outcome line (Err fault) = line
 after_outcome line (Ok state) = record { pairs = line.pairs; state = state; seized_for = 0 }
 
 -- one item more
-abbrev pub after_item : Role → ℕ → Signalling → Item → Signalling
-after_item role wait line (signal heard) = after_signal role wait line heard
-after_item role wait line (command asked) = after_outcome line (command_outcome role asked line.state)
+abbrev pub after_item : Role → Signalling → Item → Signalling
+after_item role line (signal heard) = after_signal role line heard
+after_item role line (command asked) = after_outcome line (command_outcome role asked line.state)
 
 -- a line has heard nothing at first, and begins in Fault (our choice: it takes no call before the other end
 -- is heard)
 abbrev pub at_first : Signalling
 at_first = record { pairs = []; state = Fault; seized_for = 0 }
 
--- The signalling of a line of this role after a list of signals and commands. The wait is the number of the
--- signal by which a seizure without acknowledgement is released.
-unfoldable pub signalling : Role → ℕ → List Item → Signalling
-signalling role wait items = fold (after_item role wait) at_first items
+-- the signalling of a line of this role after a list of signals and commands
+unfoldable pub signalling : Role → List Item → Signalling
+signalling role items = fold (after_item role) at_first items

@@ -10,7 +10,7 @@ pub fn pairs_are_recognised_by_ten()
     ensures { PairsAreRecognisedByTen }
 {}
 
-/// No seizure lasts as many signals as the line's wait has, whatever is heard in them.
+/// No seizure lasts a hundred signals, whatever is heard in them.
 pub fn seizures_are_released()
     ensures { SeizuresAreReleased }
 {}

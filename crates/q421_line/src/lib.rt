@@ -14,7 +14,7 @@ mod signalling;
 mod tables;
 
 pub use pairs::Pair;
-pub use signalling::{Line, SEIZURE_WAIT};
+pub use signalling::Line;
 
 /// At which end of a circuit a line is. Circuits are one-way.
 #[derive(Clone, Copy, Debug, PartialEq, Eq)]

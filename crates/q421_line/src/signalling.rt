@@ -14,9 +14,8 @@ use crate::recognition::Recognition;
 use crate::{Cmd, LineFault, Role, State, tables};
 use g704_cas::Nibble;
 
-/// The wait of a line that is given none, in signals: one every 2 ms, they take 200 ms (our choice: ten times
-/// what it takes an acknowledgement to be recognised).
-pub const SEIZURE_WAIT: u16 = 100;
+// A seizure without acknowledgement is released by its hundredth signal: one every 2 ms, they take 200 ms.
+const RELEASED_AFTER: u8 = 100;
 
 /// The line signals of one circuit at one end of it (ITU-T Q.421).
 ///
@@ -32,30 +31,19 @@ pub const SEIZURE_WAIT: u16 = 100;
 #[derive(Clone, Copy, Debug, PartialEq, Eq)]
 pub struct Line {
     role: Role,
-    // The number of the signal by which a seizure without acknowledgement is released.
-    wait: u16,
     state: State,
     // How many signals the present seizure has lasted; 0 in every state but `Seized`.
-    seized_for: u16,
+    seized_for: u8,
     recognition: Recognition,
 }
 
 impl Line {
-    /// A line in this role that has heard nothing. It begins in `Fault`. A seizure waits for its
-    /// acknowledgement as long as 100 signals take.
+    /// A line in this role that has heard nothing. It begins in `Fault`.
     pub fn new(role: Role) -> Self
-        ensures { Stands result role 100 [] }
-    {
-        Line::with_wait(role, SEIZURE_WAIT)
-    }
-
-    /// The same with a wait of so many signals, one of which comes every 2 ms.
-    pub fn with_wait(role: Role, wait: u16) -> Self
-        ensures { Stands result role wait [] }
+        ensures { Stands result role [] }
     {
         Line {
             role,
-            wait,
             state: State::Fault,
             seized_for: 0,
             recognition: Recognition::new(),
@@ -64,18 +52,18 @@ impl Line {
 
     /// The line's turn to signal, which comes once in a multiframe of 2 ms: takes the nibble that was heard
     /// since the one before, if any, and answers the nibble that is sent. The pair that is recognised leads
-    /// to the next state, with every signal. A seizure that is not acknowledged by the last signal of its
-    /// wait is released.
+    /// to the next state, with every signal. A seizure that is not acknowledged by its hundredth signal is
+    /// released.
     pub fn signal(&mut self, heard: Option<Nibble>) -> Nibble
-        ensures sent { (role : Role) (wait : ℕ) (items : List Item) → Stands self.old role wait items
-            → result ≡ sent_nibble (sent_pair role (signalling role wait (items ++ signal heard ∷ [])).state) }
-        ensures stands { (role : Role) (wait : ℕ) (items : List Item) → Stands self.old role wait items
-            → Stands self.new role wait (items ++ signal heard ∷ []) }
+        ensures sent { (role : Role) (items : List Item) → Stands self.old role items
+            → result ≡ sent_nibble (sent_pair role (signalling role (items ++ signal heard ∷ [])).state) }
+        ensures stands { (role : Role) (items : List Item) → Stands self.old role items
+            → Stands self.new role (items ++ signal heard ∷ []) }
         ensures in_range { result < 16 }
     {
         self.recognition.hear(heard);
         let next = next_by(self.role, self.state, self.recognition.recognised());
-        let (state, seized_for) = count_seizure(self.wait, self.state, next, self.seized_for);
+        let (state, seized_for) = count_seizure(self.state, next, self.seized_for);
         self.state = state;
         self.seized_for = seized_for;
         self.sent().nibble()
@@ -84,10 +72,10 @@ impl Line {
     /// Does what an operator asks. `WrongRole` where the command is for the other role, and else the
     /// command's own fault where the state is none for it. A refused command changes nothing.
     pub fn command(&mut self, asked: Cmd) -> Result<(), LineFault>
-        ensures answer { (role : Role) (wait : ℕ) (items : List Item) → Stands self.old role wait items
-            → result ≡ told_of (command_outcome role asked (signalling role wait items).state) }
-        ensures stands { (role : Role) (wait : ℕ) (items : List Item) → Stands self.old role wait items
-            → Stands self.new role wait (items ++ command asked ∷ []) }
+        ensures answer { (role : Role) (items : List Item) → Stands self.old role items
+            → result ≡ told_of (command_outcome role asked (signalling role items).state) }
+        ensures stands { (role : Role) (items : List Item) → Stands self.old role items
+            → Stands self.new role (items ++ command asked ∷ []) }
         ensures err { OnErr result (self.new ≡ self.old) }
     {
         self.state = tables::command_outcome(self.role, asked, self.state)?;
@@ -97,32 +85,32 @@ impl Line {
 
     /// The state.
     pub fn state(&self) -> State
-        ensures { (role : Role) (wait : ℕ) (items : List Item) → Stands self.now role wait items
-            → result ≡ (signalling role wait items).state }
+        ensures { (role : Role) (items : List Item) → Stands self.now role items
+            → result ≡ (signalling role items).state }
     {
         self.state
     }
 
     /// The pair that is sent in the present state, also between a command and the next signal.
     pub fn sent(&self) -> Pair
-        ensures { (role : Role) (wait : ℕ) (items : List Item) → Stands self.now role wait items
-            → result ≡ sent_pair role (signalling role wait items).state }
+        ensures { (role : Role) (items : List Item) → Stands self.now role items
+            → result ≡ sent_pair role (signalling role items).state }
     {
         tables::sent_pair(self.role, self.state)
     }
 
     /// The pair that is recognised: `None` until the first is, and never again.
     pub fn recognised(&self) -> Option<Pair>
-        ensures { (role : Role) (wait : ℕ) (items : List Item) → Stands self.now role wait items
-            → result ≡ recognised (signalling role wait items).pairs }
+        ensures { (role : Role) (items : List Item) → Stands self.now role items
+            → result ≡ recognised (signalling role items).pairs }
     {
         self.recognition.recognised()
     }
 
     /// Whether the speech path is open: from the acknowledgement of a seizure to the end of the call.
     pub fn open(&self) -> bool
-        ensures { (role : Role) (wait : ℕ) (items : List Item) → Stands self.now role wait items
-            → result ≡ is_open (signalling role wait items).state }
+        ensures { (role : Role) (items : List Item) → Stands self.now role items
+            → result ≡ is_open (signalling role items).state }
     {
         tables::is_open(self.state)
     }
@@ -140,14 +128,14 @@ fn next_by(role: Role, state: State, recognised: Option<Pair>) -> State
 
 // After a signal that leads from one state to another: the state, and how many signals its seizure has
 // lasted.
-fn count_seizure(wait: u16, before: State, after: State, seized_for: u16) -> (State, u16)
-    ensures state { (pairs : List ℕ) → result.0 ≡ (after_count wait pairs before after seized_for).state }
+fn count_seizure(before: State, after: State, seized_for: u8) -> (State, u8)
+    ensures state { (pairs : List ℕ) → result.0 ≡ (after_count pairs before after seized_for).state }
     ensures seized_for { (pairs : List ℕ)
-        → result.1 ≡ (after_count wait pairs before after seized_for).seized_for }
+        → result.1 ≡ (after_count pairs before after seized_for).seized_for }
 {
     use State::*;
     match (before, after) {
-        (Seized, Seized) if seized_for < wait.saturating_sub(1) => (Seized, seized_for + 1),
+        (Seized, Seized) if seized_for < RELEASED_AFTER - 1 => (Seized, seized_for + 1),
         (Seized, Seized) => (Releasing, 0),
         _ => (after, 0),
     }

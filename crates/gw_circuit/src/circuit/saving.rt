@@ -4,7 +4,7 @@ ghost use Rattle.std.specs.Prelude.{◌≡◌, ◌<◌, ◌^◌, ◌++◌, [], �
 ghost use Rattle.e1_g711.specs.declared.Law.{Law};
 ghost use Rattle.q421_line.specs.declared.signalling.Line.{Line};
 ghost use Rattle.q421_line.specs.Line as line;
-ghost use Rattle.q421_line.specs.Saved.{saved_line, LineFits};
+ghost use Rattle.q421_line.specs.Saved.{saved_line, PairsFit};
 ghost use Rattle.gw_circuit.specs.declared.config.CircuitConfig.{CircuitConfig};
 ghost use Rattle.gw_circuit.specs.declared.circuit.Circuit.{Circuit};
 ghost use Rattle.gw_circuit.specs.Items.{Item};
@@ -66,7 +66,7 @@ impl Circuit {
     {
         self.speech
             .change(self.law, self.config.codec, self.config.payload_type);
-        self.line = Line::with_wait(self.config.role, self.config.seizure_wait);
+        self.line = Line::new(self.config.role);
         self.clock = 0;
         self.sequence = self.first_sequence();
         self.sent_count = 0;
@@ -97,7 +97,7 @@ impl Circuit {
         let numbers = load_numbers(octets)?;
         self.load_line(octets)?;
         if self.speech.load(self.law, octets).is_none() {
-            self.line = Line::with_wait(self.config.role, self.config.seizure_wait);
+            self.line = Line::new(self.config.role);
             return None;
         }
         self.clock = numbers.clocks.clock;
@@ -111,30 +111,29 @@ impl Circuit {
     // Reads a saved line into this circuit; None if the octets are not those of a line, whose line is then new.
     fn load_line(&mut self, octets: &mut Octets<'_>) -> Option<()>
         ensures loaded { (line : Line) (rest : List ℕ) → line.role ≡ self.old.config.role
-            → line.wait ≡ self.old.config.seizure_wait → LineFits line → octets.old ≡ saved_line line ++ rest
+            → PairsFit line.recognition → octets.old ≡ saved_line line ++ rest
             → (result ≡ Some tt) × (self.new.line ≡ line) × (octets.new ≡ rest) }
         ensures read { IfSome result (λ done. octets.old ≡ saved_line self.new.line ++ octets.new) }
         ensures rest { self.new ≡ record self.old { line = self.new.line } }
-        ensures none { IfNone result (line.Stands self.new.line
-            self.old.config.role self.old.config.seizure_wait []) }
+        ensures none { IfNone result (line.Stands self.new.line self.old.config.role []) }
     {
-        let (line, loaded) = load_line(self.config.role, self.config.seizure_wait, octets);
+        let (line, loaded) = load_line(self.config.role, octets);
         self.line = line;
         if loaded { Some(()) } else { None }
     }
 }
 
 // A saved line, and that it is one; else a new line.
-fn load_line(role: Role, wait: u16, octets: &mut Octets<'_>) -> (Line, bool)
-    ensures loaded { (line : Line) (rest : List ℕ) → line.role ≡ role → line.wait ≡ wait
-        → LineFits line → octets.old ≡ saved_line line ++ rest
+fn load_line(role: Role, octets: &mut Octets<'_>) -> (Line, bool)
+    ensures loaded { (line : Line) (rest : List ℕ) → line.role ≡ role → PairsFit line.recognition
+        → octets.old ≡ saved_line line ++ rest
         → (result.0 ≡ line) × (result.1 ≡ true) × (octets.new ≡ rest) }
     ensures read { result.1 ≡ true → octets.old ≡ saved_line result.0 ++ octets.new }
-    ensures none { result.1 ≡ false → line.Stands result.0 role wait [] }
+    ensures none { result.1 ≡ false → line.Stands result.0 role [] }
 {
-    match Line::load(role, wait, octets) {
+    match Line::load(role, octets) {
         Some(line) => (line, true),
-        None => (Line::with_wait(role, wait), false),
+        None => (Line::new(role), false),
     }
 }
 

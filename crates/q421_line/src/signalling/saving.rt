@@ -3,46 +3,36 @@
 ghost use Rattle.std.specs.Prelude.{◌≡◌, ◌++◌, ◌∷◌, ℕ, List, OnOk, IfSome, Some};
 ghost use Rattle.q421_line.specs.declared.State.{State};
 ghost use Rattle.q421_line.specs.declared.signalling.Line.{Line};
-ghost use Rattle.q421_line.specs.Saved.{saved_line, state_number, LineFits};
+ghost use Rattle.q421_line.specs.Saved.{saved_line, state_number, PairsFit};
 
 use crate::recognition::Recognition;
 use crate::{Line, Role, State};
-use saved_octets::{Octets, append_u8, append_u16};
+use saved_octets::Octets;
 use std::alloc::AllocError;
 
 impl Line {
     /// Appends the octets of the line.
     pub fn save(&self, out: &mut Vec<u8>) -> Result<(), AllocError>
         ensures octets { OnOk result (out.new.items ≡ out.old.items ++ saved_line self.now) }
-        ensures fits { LineFits self.now }
+        ensures fits { PairsFit self.now.recognition }
     {
-        self.fits();
-        append_u8(out, state_number(self.state))?;
-        append_u16(out, self.seized_for)?;
+        self.recognition.fits();
+        out.extend_from_slice(&[state_number(self.state), self.seized_for])?;
         self.recognition.save(out)
     }
 
-    // Each number has its width.
-    fn fits(&self)
-        ensures { LineFits self.now }
-    {
-        let _seized_for = self.seized_for;
-        self.recognition.fits();
-    }
-
-    /// Reads a saved line, and gives it this role and this wait; None if the octets are not those of a line.
-    pub fn load(role: Role, wait: u16, octets: &mut Octets<'_>) -> Option<Line>
-        ensures loaded { (line : Line) (rest : List ℕ) → line.role ≡ role → line.wait ≡ wait
-            → LineFits line → octets.old ≡ saved_line line ++ rest → (result ≡ Some line) × (octets.new ≡ rest) }
+    /// Reads a saved line, and gives it this role; None if the octets are not those of a line.
+    pub fn load(role: Role, octets: &mut Octets<'_>) -> Option<Line>
+        ensures loaded { (line : Line) (rest : List ℕ) → line.role ≡ role → PairsFit line.recognition
+            → octets.old ≡ saved_line line ++ rest → (result ≡ Some line) × (octets.new ≡ rest) }
         ensures read { IfSome result (λ line. octets.old ≡ saved_line line ++ octets.new) }
-        ensures role { IfSome result (λ line. (line.role ≡ role) × (line.wait ≡ wait)) }
+        ensures role { IfSome result (λ line. line.role ≡ role) }
     {
         let state = load_state(octets)?;
-        let seized_for = octets.read_u16()?;
+        let seized_for = octets.read_u8()?;
         let recognition = Recognition::load(octets)?;
         Some(Line {
             role,
-            wait,
             state,
             seized_for,
             recognition,

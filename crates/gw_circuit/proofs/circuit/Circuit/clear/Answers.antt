@@ -8,7 +8,7 @@ pub returns-clause-stands : goal.returns-clause-stands
 returns-clause-stands c = λ law config items stands.
     let keeps = keeps-of c.args.self.now law config items stands in
     rw c.first_sequence-self.ensures.value
-    (stands-cleared c.args.self.now law config items c.with_wait-self.result c.change.new.self stands c.with_wait-self.ensures
+    (stands-cleared c.args.self.now law config items c.new-self.result c.change.new.self stands c.new-self.ensures
     (c.change.ensures (coding_after law config items) (packet_size c.args.self.now.config)
     c.args.self.now.config.prefill (heard_in law config items) (calls_in law config items)
     (rw (keeps.law_is, keeps.config_is) keeps.speech))

@@ -24,8 +24,7 @@ returns-in_err-load_line-clause-loaded c = λ other law config items before rest
     let first = c.in_ok-numbers.ensures.loaded other (saved_line other.line ++ (saved_speech other.speech ++ rest))
     fits.numbers (e ∙ circuit-octets other rest) in
     let role = theirs.line.role_is ∙ sym (ap (λ (k : CircuitConfig). k.role) ours.config_is) in
-    let wait = theirs.line.wait_is ∙ sym (ap (λ (k : CircuitConfig). k.seizure_wait) ours.config_is) in
-    let told = c.in_err-load_line.ensures.loaded other.line (saved_speech other.speech ++ rest) role wait fits.line first.1 in
+    let told = c.in_err-load_line.ensures.loaded other.line (saved_speech other.speech ++ rest) role fits.line first.1 in
     absurd (cc told.0)
 
 pub returns-in_err-load_line-clause-none : goal.returns-in_err-load_line-clause-none
@@ -49,8 +48,7 @@ returns-then-is_none-clause-loaded c = λ other law config items before rest sta
     let first = c.in_ok-numbers.ensures.loaded other (saved_line other.line ++ (saved_speech other.speech ++ rest))
     fits.numbers (e ∙ circuit-octets other rest) in
     let role = theirs.line.role_is ∙ sym (ap (λ (k : CircuitConfig). k.role) ours.config_is) in
-    let wait = theirs.line.wait_is ∙ sym (ap (λ (k : CircuitConfig). k.seizure_wait) ours.config_is) in
-    let second = c.in_ok-load_line.ensures.loaded other.line (saved_speech other.speech ++ rest) role wait fits.line first.1 in
+    let second = c.in_ok-load_line.ensures.loaded other.line (saved_speech other.speech ++ rest) role fits.line first.1 in
     let law_is = ap (λ (k : Circuit). k.law) c.in_ok-load_line.ensures.rest ∙ ours.law_is in
     let speech_is = ap (λ (k : Circuit). k.speech) c.in_ok-load_line.ensures.rest in
     let third = c.load.ensures.loaded other.speech (coding_after law config items) (coding_after law config [])
@@ -65,8 +63,8 @@ returns-then-is_none-clause-none c = λ law config items stands.
     let ours = keeps-of c.clear.new.self law config [] cleared in
     let law_is = ap (λ (k : Circuit). k.law) c.in_ok-load_line.ensures.rest ∙ ours.law_is in
     let speech_is = ap (λ (k : Circuit). k.speech) c.in_ok-load_line.ensures.rest in
-    stands-reset c.load_line.new.self c.clear.new.self law config c.with_wait-self.result c.load.new.self
-    c.in_ok-load_line.ensures.rest cleared c.with_wait-self.ensures
+    stands-reset c.load_line.new.self c.clear.new.self law config c.new-self.result c.load.new.self
+    c.in_ok-load_line.ensures.rest cleared c.new-self.ensures
     (none-says c.load.result _ c.is_none.result
     (c.load.ensures.none (coding_after law config []) (packet_size config) config.prefill (heard_in law config [])
     (calls_in law config []) (rw (speech_is, law_is) ours.speech)) c.is_none.ensures c.if-is_none.true)
@@ -79,8 +77,7 @@ returns-clause-loaded c = λ other law config items before rest stands fits mine
     let first = c.in_ok-numbers.ensures.loaded other (saved_line other.line ++ (saved_speech other.speech ++ rest))
     fits.numbers (e ∙ circuit-octets other rest) in
     let role = theirs.line.role_is ∙ sym (ap (λ (k : CircuitConfig). k.role) ours.config_is) in
-    let wait = theirs.line.wait_is ∙ sym (ap (λ (k : CircuitConfig). k.seizure_wait) ours.config_is) in
-    let second = c.in_ok-load_line.ensures.loaded other.line (saved_speech other.speech ++ rest) role wait fits.line first.1 in
+    let second = c.in_ok-load_line.ensures.loaded other.line (saved_speech other.speech ++ rest) role fits.line first.1 in
     let law_is = ap (λ (k : Circuit). k.law) c.in_ok-load_line.ensures.rest ∙ ours.law_is in
     let speech_is = ap (λ (k : Circuit). k.speech) c.in_ok-load_line.ensures.rest in
     let third = c.load.ensures.loaded other.speech (coding_after law config items) (coding_after law config [])

@@ -5,12 +5,12 @@ use Rattle.q421_line.proofs.Steps.{stands-signal}
 use Rattle.q421_line.proofs.signalling.Line.signal.Goals as goal
 
 pub returns-clause-stands : goal.returns-clause-stands
-returns-clause-stands c role wait items stands =
-    stands-signal c.args.self.now role wait items c.args.heard c.hear.new.self c.next_by-next.result _ _
+returns-clause-stands c role items stands =
+    stands-signal c.args.self.now role items c.args.heard c.hear.new.self c.next_by-next.result _ _
     stands (c.hear.ensures _ stands.heard)
     (c.next_by-next.ensures ∙ ap (λ pair. next_by c.args.self.now.role c.args.self.now.state pair) c.recognised.ensures)
     (c.count_seizure-state.ensures.state _) (c.count_seizure-state.ensures.seized_for _)
 
 pub returns-clause-sent : goal.returns-clause-sent
-returns-clause-sent c role wait items stands =
-    c.nibble.ensures.value ∙ ap sent_nibble (c.sent.ensures role wait _ (returns-clause-stands c role wait items stands))
+returns-clause-sent c role items stands =
+    c.nibble.ensures.value ∙ ap sent_nibble (c.sent.ensures role _ (returns-clause-stands c role items stands))
