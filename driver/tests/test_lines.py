@@ -9,7 +9,7 @@ from typing import Any
 
 from . import support
 from e1gw import session
-from e1gw.lines import Lines, with_wait
+from e1gw.lines import Lines
 from e1gw.session import Codec, Command, Kind
 
 SESSIONS = int(os.environ.get('E1GW_SESSIONS', '8'))
@@ -87,15 +87,6 @@ class Tables(unittest.TestCase):
         self.assertEqual(trunk.lines.status()['circuits'][0]['unacknowledged'], 1)
         states = [event['state'] for event in trunk.events if event['event'] == 'state' and event['circuit'] == 1]
         self.assertEqual(states, ['idle', 'seized', 'releasing', 'idle'])
-
-    def test_a_seizure_waits_as_long_as_is_asked_for(self) -> None:
-        trunk = Trunk(with_wait({'law': 'A'}, 2000))
-        trunk.send(1, IDLE)
-        trunk.lines.command(1, Command.SEIZE)
-        trunk.go(999)
-        self.assertEqual(trunk.state(1), 'seized')
-        trunk.go(2)
-        self.assertEqual(trunk.state(1), 'idle')
 
     def test_a_pair_is_recognised_at_its_tenth(self) -> None:
         trunk = Trunk()

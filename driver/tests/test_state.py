@@ -171,14 +171,14 @@ class Refused(support.Folder):
 
     def test_layout(self) -> None:
         self.assertEqual(self.state[:6], b'E1GS\1\0')
-        self.assertEqual(self.state[6:24], struct.pack('>BBBBHIHIH', 1, 1, 97, 20, 160, 1, 0, 0, 100))
-        self.assertEqual(self.state[6 + 9 * 18:6 + 10 * 18], struct.pack('>BBBBHIHIH', 0, 0, 8, 20, 160, 10, 0, 0, 100))
+        self.assertEqual(self.state[6:22], struct.pack('>BBBBHIHI', 1, 1, 97, 20, 160, 1, 0, 0))
+        self.assertEqual(self.state[6 + 9 * 16:6 + 10 * 16], struct.pack('>BBBBHIHI', 0, 0, 8, 20, 160, 10, 0, 0))
         self.assertEqual(self.state[-32:], hashlib.sha256(self.state[:-32]).digest())
 
     def test_values(self) -> None:
         """With a right check sum each octet is one that the trunk or a circuit can have, or its place is told."""
         rng, faults = random.Random(5), set()
-        for place in [546, *(rng.randrange(546, len(self.state) - 32) for _ in range(60))]:
+        for place in [486, *(rng.randrange(486, len(self.state) - 32) for _ in range(60))]:
             octets = bytearray(self.state[:-32])
             octets[place] ^= rng.randrange(1, 256)
             status, told = self.loaded(bytes(octets) + hashlib.sha256(octets).digest())
@@ -188,13 +188,13 @@ class Refused(support.Folder):
         self.assertIn('state 6 Value', faults)
         for change, told in ((lambda octets: octets + b'\0', 'state 7 Left at 0\n'),
                              (lambda octets: octets[:-1], 'state 6 Value at 30\n'),
-                             (lambda octets: octets[:546], 'state 6 Value at 0\n')):
+                             (lambda octets: octets[:486], 'state 6 Value at 0\n')):
             octets = change(self.state[:-32])
             self.assertEqual(self.loaded(octets + hashlib.sha256(octets).digest()), (2, told))
 
     def test_cut(self) -> None:
         self.assertEqual(self.loaded(b''), (2, 'state 1 Short at 0\n'))
-        self.assertEqual(self.loaded(self.state[:577]), (2, 'state 1 Short at 0\n'))
+        self.assertEqual(self.loaded(self.state[:517]), (2, 'state 1 Short at 0\n'))
         self.assertEqual(self.loaded(self.state[:-1]), (2, 'state 4 Sum at 0\n'))
 
     def test_other_octets(self) -> None:
@@ -211,8 +211,6 @@ class Refused(support.Folder):
         self.assertEqual(self.loaded(self.state, self.write('mu.toml', config_of('mu'))), (2, 'state 5 Config at 0\n'))
         other = self.write('other.toml', config_of('A', prefill=161))
         self.assertEqual(self.loaded(self.state, other), (2, 'state 5 Config at 7\n'))
-        self.assertEqual(self.told('--config', self.config, '--load', self.path('state'), '--seizure-wait', '300'),
-                         (2, 'state 5 Config at 1\n'))
 
     def test_no_file(self) -> None:
         self.assertEqual(self.told('--config', self.config, '--load', self.path('none')),
