@@ -1,106 +1,16 @@
-"""Sources of a session's octets, and the answers to it where there are none at hand."""
+"""The answers to a session where there are none at hand: those of `e1gw replay`."""
 from __future__ import annotations
 
-import json
 import os
 import queue
 import shutil
 import subprocess
 import threading
 from collections.abc import Iterator
-from dataclasses import dataclass
-from typing import IO, Any
 
-PIECE = 1 << 16
+from ..kept import PIECE, Source, Trouble, pieces
+
 WAITING = 256               # pieces: more than a gateway holds back before it answers
-
-
-class Trouble(Exception):
-    """Why there is no picture, in words."""
-
-
-ENDINGS = ('.e1gw', '.e1gw.zst', '.rec', '.rec.zst')
-
-
-@dataclass
-class Kept:
-    """The files of a session, and what stands beside the first of them."""
-    files: list[str]
-    config: str | None = None
-    begin: float | None = None          # seconds since 1970
-    middle: bool = False                # it does not begin where the gateway did
-    slips: list[tuple[int, float]] | None = None        # place from its begin, and seconds; None where nobody noted
-
-
-def kept(path: str) -> Kept:
-    """A session in one file, or what the driver has kept in a folder."""
-    if not os.path.isdir(path):
-        return _told(Kept([path]))
-    every = {name for name in os.listdir(path) if name.endswith(ENDINGS)}
-    # While one is packed both are there, and the packed one is not whole.
-    names = sorted(name for name in every if not name.endswith('.zst') or name.removesuffix('.zst') not in every)
-    trunks = {name.rpartition('-')[0] for name in names}
-    if not names:
-        raise Trouble(f'{path} holds no session (files of NAME.e1gw)')
-    if len(trunks) > 1:
-        raise Trouble(f'{path} holds sessions of several trunks: {", ".join(sorted(trunks))}')
-    files = [os.path.join(path, name) for name in names]
-    begun = [n for n, file in enumerate(files) if beside(file).get('begins') == 'start']
-    return _told(Kept(files[begun[-1] if begun else 0:]))
-
-
-def beside(path: str) -> dict[str, Any]:
-    """What the driver has written beside a file that it keeps."""
-    front = next((path.removesuffix(ending) for ending in ENDINGS if path.endswith(ending)), path)
-    try:
-        with open(f'{front}.json', encoding='utf-8') as file:
-            about = json.load(file)
-        return about if isinstance(about, dict) else {}
-    except (OSError, ValueError):
-        return {}
-
-
-def _told(session: Kept) -> Kept:
-    about = beside(session.files[0])
-    session.config = about.get('config')
-    session.begin = about.get('time')
-    session.middle = about.get('begins') == 'middle'
-    if 'place' in about:
-        session.slips = [(place - about['place'], seconds) for file in session.files
-                         for place, seconds in beside(file).get('slips', ())]
-    return session
-
-
-def pieces(file: IO[bytes]) -> Iterator[bytes]:
-    read = getattr(file, 'read1', file.read)
-    while piece := read(PIECE):
-        yield piece
-
-
-def octets_of(path: str) -> Iterator[bytes]:
-    """The octets of a file, unpacked where it is packed by zstd, or has been since it was found."""
-    if not os.path.exists(path) and os.path.exists(f'{path}.zst'):
-        path = f'{path}.zst'
-    if not path.endswith('.zst'):
-        with open(path, 'rb') as file:
-            yield from pieces(file)
-        return
-    if not shutil.which('zstd'):
-        raise Trouble(f'{path} is packed, and zstd is not installed')
-    with open(path, 'rb') as packed, subprocess.Popen(
-            ['zstd', '-dcq'], stdin=packed, stdout=subprocess.PIPE, stderr=subprocess.DEVNULL) as process:
-        assert process.stdout
-        yield from pieces(process.stdout)
-
-
-class Source:
-    """Octets that come in pieces, read as from a file."""
-
-    def __init__(self, octets: Iterator[bytes]) -> None:
-        self.octets = octets
-
-    def read(self, size: int = -1, /) -> bytes:
-        return next(self.octets, b'')
 
 
 def program_of(named: str | None) -> str:
@@ -117,15 +27,17 @@ def program_of(named: str | None) -> str:
 
 
 class Replayed:
-    """What `e1gw replay` answers to octets that are read here in the same pieces.
+    """What `e1gw replay` answers to octets that are read here in the same pieces, from the state in a file on if one is
+    named.
 
     A thread gives each piece to the program once it waits to be read here, so neither of the two waits for ever."""
 
-    def __init__(self, program: str, config: str, octets: Iterator[bytes]) -> None:
+    def __init__(self, program: str, config: str, octets: Iterator[bytes], state: str = '') -> None:
         self.queue: queue.Queue[bytes] = queue.Queue(WAITING)
         self.fault: BaseException | None = None
+        load = ['--load', state] if state else []
         try:
-            self.process = subprocess.Popen([program, 'replay', '--config', config], stdin=subprocess.PIPE,
+            self.process = subprocess.Popen([program, 'replay', '--config', config, *load], stdin=subprocess.PIPE,
                                             stdout=subprocess.PIPE, stderr=subprocess.PIPE)
         except OSError as fault:
             raise Trouble(f'{program}: {fault.strerror}') from fault

@@ -9,10 +9,10 @@ from collections.abc import Iterable, Iterator, Mapping
 from statistics import median
 from typing import Any
 
+from ..kept import Source, Trouble
 from ..lines import law_of
 from ..repetitions import mark_of
 from ..session import OCTETS_A_SECOND, BadPacket, Kind, packet_of, spell
-from .answers import Source, Trouble
 from .facts import BITS, FRAME, HEADER, MOST, WINDOW, Facts, Row, Stream, Wire
 from .listening import Listener
 from .packets import Datagram, datagrams

@@ -8,10 +8,11 @@ import re
 import sys
 from collections.abc import Iterator
 
+from ..kept import Kept, Source, Trouble, kept, octets_of, pieces
 from ..lines import read_config
 from ..raw import raw_words_of
 from ..session import OCTETS_A_SECOND, BadSession
-from .answers import Kept, Replayed, Source, Trouble, kept, octets_of, pieces, program_of
+from .answers import Replayed, program_of
 from .capture import merged, reckoned
 from .facts import Facts
 from .page import draw

@@ -1,0 +1,121 @@
+"""Sessions that were kept: a file, or a folder of a driver, what stands beside each file, and the octets."""
+from __future__ import annotations
+
+import json
+import os
+import shutil
+import subprocess
+from collections.abc import Iterator
+from dataclasses import dataclass
+from typing import IO, Any
+
+PIECE = 1 << 16
+ENDINGS = ('.e1gw', '.e1gw.zst', '.rec', '.rec.zst')
+
+
+class Trouble(Exception):
+    """Why something can't be read or drawn, in words."""
+
+
+@dataclass
+class Kept:
+    """The files of a session, and what stands beside the first of them."""
+    files: list[str]
+    config: str | None = None
+    begin: float | None = None          # seconds since 1970
+    middle: bool = False                # it does not begin where the gateway did
+    slips: list[tuple[int, float]] | None = None        # place from its begin, and seconds; None where nobody noted
+    place: int = 0                      # where on the trunk it begins
+    state: str = ''                     # the file of what the gateway was then; none for a new one
+
+
+def kept(path: str, last: int | None = None) -> Kept:
+    """A session in one file, or what the driver has kept in a folder. Of a folder the last so many octets of the trunk
+    are enough, if the driver has kept what the gateway was before them."""
+    if not os.path.isdir(path):
+        return _told(Kept([path]))
+    every = {name for name in os.listdir(path) if name.endswith(ENDINGS)}
+    # While one is packed both are there, and the packed one is not whole.
+    names = sorted(name for name in every if not name.endswith('.zst') or name.removesuffix('.zst') not in every)
+    trunks = {name.rpartition('-')[0] for name in names}
+    if not names:
+        raise Trouble(f'{path} holds no session (files of NAME.e1gw)')
+    if len(trunks) > 1:
+        raise Trouble(f'{path} holds sessions of several trunks: {", ".join(sorted(trunks))}')
+    files = [os.path.join(path, name) for name in names]
+    begun = [n for n, file in enumerate(files) if beside(file).get('begins') == 'start']
+    files = files[begun[-1] if begun else 0:]
+    return _told(Kept(files[_enough(files, last):] if last else files))
+
+
+def _enough(files: list[str], last: int) -> int:
+    """With which of the files to begin for the last so many octets: all before it may be left out."""
+    end = beside(files[-1]).get('place', 0)
+    found = [n for n, file in enumerate(files) if state_of(file) and beside(file).get('place', end) + last <= end]
+    return found[-1] if found else 0
+
+
+def front_of(path: str) -> str:
+    """The path of a file that is kept, without its ending."""
+    return next((path.removesuffix(ending) for ending in ENDINGS if path.endswith(ending)), path)
+
+
+def state_of(path: str) -> str:
+    """The file of what the gateway was when a file begins that the driver keeps; an empty text if there is none."""
+    state = f'{front_of(path)}.state'
+    return state if os.path.exists(state) else ''
+
+
+def beside(path: str) -> dict[str, Any]:
+    """What the driver has written beside a file that it keeps."""
+    try:
+        with open(f'{front_of(path)}.json', encoding='utf-8') as file:
+            about = json.load(file)
+        return about if isinstance(about, dict) else {}
+    except (OSError, ValueError):
+        return {}
+
+
+def _told(session: Kept) -> Kept:
+    about = beside(session.files[0])
+    session.config = about.get('config')
+    session.begin = about.get('time')
+    session.middle = about.get('begins') == 'middle'
+    session.place = about.get('place', 0)
+    session.state = state_of(session.files[0]) if session.middle else ''
+    if 'place' in about:
+        session.slips = [(place - about['place'], seconds) for file in session.files
+                         for place, seconds in beside(file).get('slips', ())]
+    return session
+
+
+def pieces(file: IO[bytes]) -> Iterator[bytes]:
+    read = getattr(file, 'read1', file.read)
+    while piece := read(PIECE):
+        yield piece
+
+
+def octets_of(path: str) -> Iterator[bytes]:
+    """The octets of a file, unpacked where it is packed by zstd, or has been since it was found."""
+    if not os.path.exists(path) and os.path.exists(f'{path}.zst'):
+        path = f'{path}.zst'
+    if not path.endswith('.zst'):
+        with open(path, 'rb') as file:
+            yield from pieces(file)
+        return
+    if not shutil.which('zstd'):
+        raise Trouble(f'{path} is packed, and zstd is not installed')
+    with open(path, 'rb') as packed, subprocess.Popen(
+            ['zstd', '-dcq'], stdin=packed, stdout=subprocess.PIPE, stderr=subprocess.DEVNULL) as process:
+        assert process.stdout
+        yield from pieces(process.stdout)
+
+
+class Source:
+    """Octets that come in pieces, read as from a file."""
+
+    def __init__(self, octets: Iterator[bytes]) -> None:
+        self.octets = octets
+
+    def read(self, size: int = -1, /) -> bytes:
+        return next(self.octets, b'')
