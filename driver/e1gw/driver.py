@@ -10,6 +10,7 @@ import time
 from collections import deque
 from typing import Any
 
+from .behind import Behind
 from .calls import Calls, to_calls
 from .clock import TICK, Clock, Finding
 from .control import Client, Console, Say, listen_unix, seat
@@ -35,7 +36,7 @@ from .sockets import Tables
 from .trunks import Trunk
 
 # what may end without the calls
-BESIDE = ('shadow', 'recording', 'session', 'json', 'calls', 'metrics', 'picture', 'pages')
+BESIDE = ('shadow', 'recording', 'session', 'states', 'json', 'calls', 'metrics', 'picture', 'pages')
 REOPEN_MOST = 30.0              # seconds between two tries to open the trunk
 SELDOM = 5                      # ticks between two looks at what is to become of calls
 
@@ -110,7 +111,8 @@ class Driver:
             return None, None
         if options.keep is None:
             return to_file('session', options.session, self._note), None
-        ring = Ring(options.session, options.name, options.config, options.keep)
+        behind = Behind(options.program, failed=functools.partial(self._note, 'states'))
+        ring = Ring(options.session, options.name, options.config, options.keep, behind)
         return Outlet('session', ring.write, self._note, ring.close, ring.open, options.session), ring
 
     def _open_pictures(self) -> tuple[Pictures | None, socket.socket | None]:

@@ -6,20 +6,17 @@ import itertools
 import json
 import os
 import re
-import shutil
-import subprocess
-import threading
 import time
 from collections import deque
 from dataclasses import dataclass, field
 from typing import Any
 
+from .behind import RECORDS, Behind, forget
 from .outlets import write_all
 
 UNITS = {'s': 1, 'm': 60, 'h': 3600, 'd': 86400}
 FILES = 12                  # into so many files the time that is kept is cut
 MOST_EARLIER = 3 * FILES    # files of earlier runs
-RECORDS = '.e1gw'
 MOST_SLIPS = 1000           # that are noted beside a file
 NEW = os.O_WRONLY | os.O_CREAT | os.O_EXCL | os.O_CLOEXEC
 FRESH = os.O_WRONLY | os.O_CREAT | os.O_TRUNC | os.O_CLOEXEC
@@ -33,10 +30,11 @@ def seconds_of(text: str) -> int:
     return int(number) * UNITS[unit]
 
 
-def sum_of(path: str) -> str:
-    """The SHA-256 sum of a file."""
-    with open(path, 'rb') as file:
-        return hashlib.sha256(file.read()).hexdigest()
+def hold(octets: bytes) -> int:
+    """A descriptor of these octets, which stay as they are whatever becomes of the file that they came from."""
+    file = os.memfd_create('e1gw.toml')
+    write_all(file, octets)
+    return file
 
 
 @dataclass
@@ -46,12 +44,16 @@ class Ring:
     A file is NAME-TIME.e1gw, and beside it NAME-TIME.json says the sum of the configuration, the time, the place on the
     trunk, whether the file begins where the session began or in the middle of it, and where octets of the trunk were
     lost: each slip's place and seconds, which the octets themselves do not show. Nothing here trusts the clock of
-    the day: it may be set at any time, and tells no more than a name."""
+    the day: it may be set at any time, and tells no more than a name.
+
+    NAME-TIME.state is what the gateway was when the file begins, so that it replays as it was. The first file of a
+    ring begins with a gateway that is new, and has none."""
 
     folder: str
     name: str
     config: str
     keep: int
+    behind: Behind = field(default_factory=Behind)
     _file: int = -1
     _front: str = ''        # the path of the file that is written, without its ending
     _due: float = 0.0
@@ -65,9 +67,12 @@ class Ring:
     def open(self) -> None:
         """Makes the folder, and looks at what is in it."""
         os.makedirs(self.folder, mode=0o750, exist_ok=True)
-        self._sum = sum_of(self.config)
+        with open(self.config, 'rb') as file:
+            config = file.read()
+        self._sum = hashlib.sha256(config).hexdigest()
+        if self.behind.program:
+            self.behind.config = hold(config)
         self._each = max(5, self.keep // FILES)
-        self._zstd = shutil.which('zstd')
         self._earlier.extend(_fronts_in(self.folder, self.name))
 
     def write(self, octets: bytes) -> None:
@@ -93,8 +98,7 @@ class Ring:
 
     def _next(self, place: int) -> None:
         self._finish()
-        if self._front and self._zstd:
-            threading.Thread(target=_compress, args=(self._zstd, f'{self._front}{RECORDS}'), daemon=True).start()
+        whole = self._front
         self._about = {'config': os.path.abspath(self.config), 'config_sha256': self._sum,
                        'time': round(time.time(), 3), 'place': place,
                        'begins': 'start' if self._began is None else 'middle'}
@@ -103,6 +107,8 @@ class Ring:
         self._own.append(self._front)
         with open(os.open(f'{self._front}.json', NEW, 0o640), 'w', encoding='utf-8') as file:
             file.write(json.dumps(self._about) + '\n')
+        if whole:
+            self.behind.put(whole, self._front)
         now = time.monotonic()
         self._began = now if self._began is None else self._began
         self._due = now + self._each
@@ -127,7 +133,7 @@ class Ring:
 
 def _fronts_in(folder: str, name: str) -> list[str]:
     """The files of a ring of this name that are there, without their endings, in the order of their names."""
-    is_one = re.compile(rf'({re.escape(name)}-\d{{8}}T\d{{6}}Z(?:_\d+)?)\.(?:e1gw|json)').match
+    is_one = re.compile(rf'({re.escape(name)}-\d{{8}}T\d{{6}}Z(?:_\d+)?)\.(?:e1gw|json|state)').match
     fronts = {found[1] for each in os.listdir(folder) if (found := is_one(each))}
     return [os.path.join(folder, front) for front in sorted(fronts)]
 
@@ -147,7 +153,7 @@ def _open_fresh(front: str) -> tuple[int, str]:
 
 
 def _drop(front: str) -> None:
-    """Takes a file away, and what says what it is behind it. (What is compressed has to find its part gone first.)"""
+    """Takes a file away, and what says what it is behind it. (What works on it has to find its part gone first.)"""
     for ending in (f'{RECORDS}.part', f'{RECORDS}.zst', RECORDS, '.json.part', '.json'):
         try:
             os.unlink(f'{front}{ending}')
@@ -155,21 +161,7 @@ def _drop(front: str) -> None:
             pass
         except OSError:
             return
-
-
-def _compress(zstd: str, path: str) -> None:
-    """Compresses a file that is whole, as the least of the machine's work."""
-    part = f'{path}.part'
-    try:
-        done = subprocess.run(['nice', '-n', '19', zstd, '-q', '-f', path, '-o', part], stdin=subprocess.DEVNULL,
-                              stderr=subprocess.DEVNULL, start_new_session=True, check=False, umask=0o027)
-        if done.returncode == 0:
-            os.rename(part, f'{path}.zst')
-            os.unlink(path)
-        else:
-            os.unlink(part)
-    except OSError:
-        pass
+    forget(front)
 
 
 def put_file(path: str, text: bytes) -> None:

@@ -17,6 +17,15 @@ def put_behind(process: int, nice: int) -> None:
         pass
 
 
+def put_last(process: int) -> None:
+    """Gives a process what all others leave of a processor."""
+    put_behind(process, 19)
+    try:
+        os.sched_setscheduler(process, os.SCHED_IDLE, os.sched_param(0))
+    except OSError:
+        pass
+
+
 class Writer:
     """Octets on the way into a pipe that may be full."""
 

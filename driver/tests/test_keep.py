@@ -11,7 +11,7 @@ from typing import Callable
 from unittest import mock
 
 from . import support
-from e1gw import keep
+from e1gw import behind, keep
 
 assert support.TOP
 KEPT = 60           # seconds, in files of five
@@ -33,16 +33,16 @@ class Rings(support.Folder):
         self.passed, self.day = 1000.0, 1_800_000_000.0
         clock = types.SimpleNamespace(monotonic=lambda: self.passed, time=lambda: self.day, strftime=time.strftime,
                                       gmtime=lambda: time.gmtime(self.day))
-        for each in (mock.patch.object(keep, 'time', clock), mock.patch.object(keep.threading, 'Thread', Now)):
+        threads = types.SimpleNamespace(Thread=Now)
+        for each in (mock.patch.object(keep, 'time', clock), mock.patch.object(behind, 'threading', threads)):
             each.start()
             self.addCleanup(each.stop)
         self.zstd = ''
 
     def play(self, seconds: int, steps: dict[int, float] | None = None, first: int = 0) -> None:
         """A session of so many seconds, a line for each, while the clock of the day is set by these steps."""
-        ring = keep.Ring(self.ring, 'we.st', self.config, KEPT)
+        ring = keep.Ring(self.ring, 'we.st', self.config, KEPT, behind.Behind(zstd=self.zstd or None))
         ring.open()
-        ring._zstd = self.zstd or None
         for second in range(first, first + seconds):
             ring.places.append(second)
             ring.write(b'%d\n' % second)
@@ -106,9 +106,8 @@ class Rings(support.Folder):
         self.assertEqual(self.kept(), list(range(99 - keep.MOST_EARLIER, 100)))
 
     def test_slips_are_noted_beside_their_file(self) -> None:
-        ring = keep.Ring(self.ring, 'west', self.config, KEPT)
+        ring = keep.Ring(self.ring, 'west', self.config, KEPT, behind.Behind(zstd=None))
         ring.open()
-        ring._zstd = None
         for second in range(3 * EACH):
             if second in (1, 2, 7):
                 ring.slips.append((second, 0.25))
