@@ -10,7 +10,7 @@ from __future__ import annotations
 import tomllib
 from dataclasses import dataclass, field
 from enum import StrEnum
-from typing import Any, Callable, Mapping
+from typing import Any, Callable, Iterable, Mapping
 
 from .session import CIRCUITS, FRAME, MULTIFRAME, OCTETS_A_SECOND, SAMPLES_A_SECOND, Codec, Command
 
@@ -190,6 +190,18 @@ def lines_of(config: Mapping[str, Any]) -> dict[int, Line]:
     return lines
 
 
+@dataclass(frozen=True)
+class Standing:
+    """What a circuit is at a moment."""
+
+    circuit: int
+    state: State
+    sent: int
+    recognised: int | None
+    codec: str
+    payload: int
+
+
 def _both(value: bool) -> dict[Alignment, bool]:
     return dict.fromkeys(Alignment, value)
 
@@ -272,6 +284,16 @@ class Lines:
     def alarm(self) -> bool:
         """Whether the gateway sends an alarm."""
         return any(self.alarms.values())
+
+    def begin(self, place: int, circuits: Iterable[Standing]) -> None:
+        """Follows from this place of the trunk on, with circuits that are this. What is sent tells the alarms."""
+        self.place, self.alarms = place, _both(False)
+        for each in circuits:
+            line = self.lines[each.circuit]
+            line.state, line.sent, line.recognised = each.state, each.sent, each.recognised
+            line.codec, line.payload = each.codec, each.payload
+            line.last, line.times = each.recognised, RECOGNISED
+            line.since, line.opened = place, place if each.state in OPEN else None
 
     # ---- the trunk ----
 

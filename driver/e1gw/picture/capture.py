@@ -20,6 +20,7 @@ from .reading import Stream as Records
 from .reading import rows_of
 
 NEAR = 101                  # datagrams that were sent by which the times of the capture are laid on the trunk
+PACKET = 1600               # samples that a datagram has at most: the first one may begin before the session
 SILENCE = 2 * OCTETS_A_SECOND       # after which what comes is another call, where no line tells
 
 
@@ -29,19 +30,20 @@ def ports(config: Mapping[str, Any]) -> dict[int, int]:
 
 
 class Clock:
-    """When the trunk's first octet was, by the times at which the gateway's datagrams left: the last word of one that
-    begins with timestamp s and has n words was heard in frame s + n."""
+    """When the session's first octet was, by the times at which the gateway's datagrams left: the last word of one that
+    begins with timestamp s and has n words was heard in frame s + n. So many octets of the trunk were before it."""
 
-    def __init__(self, config: Mapping[str, Any], begin: float | None = None) -> None:
+    def __init__(self, config: Mapping[str, Any], begin: float | None = None, before: int = 0) -> None:
         self.tables = {table['number']: table for table in config.get('circuit', [])}
         self.near: deque[float] = deque(maxlen=NEAR)
-        self.begin = begin
+        self.begin, self.before = begin, before // FRAME
 
     def sent(self, circuit: int, datagram: Datagram) -> None:
         if len(datagram.body) < 12:
             return
         table = self.tables[circuit]
-        stamp = HEADER(datagram.body[:12])[3] - table.get('timestamp', 0) & 0xFFFF_FFFF
+        stamp = HEADER(datagram.body[:12])[3] - table.get('timestamp', 0) - self.before
+        stamp = (stamp + PACKET & 0xFFFF_FFFF) - PACKET
         self.near.append(datagram.time - (stamp + 8 * table.get('ptime', 20)) * FRAME / OCTETS_A_SECOND)
         if len(self.near) % 10 == 1 or self.begin is None:
             self.begin = median(self.near)
@@ -93,10 +95,10 @@ def is_rtp(body: bytes) -> bool:
     return len(body) >= 12 and body[0] >> 6 == 2 and not 72 <= body[1] & 127 <= 76
 
 
-def arrivals(path: str, config: Mapping[str, Any], begin: float | None,
-             facts: Facts) -> Iterator[tuple[int, int, bytes]]:
+def arrivals(path: str, config: Mapping[str, Any], begin: float | None, facts: Facts,
+             before: int = 0) -> Iterator[tuple[int, int, bytes]]:
     """Place on the trunk, circuit and body of each datagram of a capture that came."""
-    circuits, clock, ways = ports(config), Clock(config, begin), Ways(facts, config)
+    circuits, clock, ways = ports(config), Clock(config, begin, before), Ways(facts, config)
     with open(path, 'rb') as file:
         for datagram in datagrams(file):
             ways.note(datagram, clock.place(datagram.time))
@@ -108,9 +110,9 @@ def arrivals(path: str, config: Mapping[str, Any], begin: float | None,
                 yield clock.place(datagram.time), circuits[datagram.target], datagram.body
 
 
-def first_begin(path: str, config: Mapping[str, Any]) -> float | None:
-    """When the trunk's first octet was, by the first datagrams that were sent; None where the capture has none."""
-    circuits, clock = ports(config), Clock(config)
+def first_begin(path: str, config: Mapping[str, Any], before: int = 0) -> float | None:
+    """When the session's first octet was, by the first datagrams that were sent; None where the capture has none."""
+    circuits, clock = ports(config), Clock(config, before=before)
     with open(path, 'rb') as file:
         for datagram in datagrams(file):
             if datagram.source in circuits and not datagram.answer:
@@ -121,16 +123,16 @@ def first_begin(path: str, config: Mapping[str, Any]) -> float | None:
 
 
 def merged(octets: Iterator[bytes], path: str, config: Mapping[str, Any], facts: Facts,
-           begin: float | None = None) -> tuple[Iterator[bytes], float]:
-    """A session with the datagrams of a capture, each at its place on the trunk, and when the session began. Where they
-    go to and come from is noted in the facts."""
+           begin: float | None = None, before: int = 0) -> tuple[Iterator[bytes], float]:
+    """A session with the datagrams of a capture, each at its place on the trunk, and when the session began, which so
+    many octets of the trunk were before. Where they go to and come from is noted in the facts."""
     if not ports(config):
         raise Trouble('the configuration has no local_port, so nothing tells the circuits of a capture')
-    begin = first_begin(path, config) if begin is None else begin
+    begin = first_begin(path, config, before) if begin is None else begin
     if begin is None:
         raise Trouble('the capture has no datagram that the gateway sent, so nothing tells when the session began: '
                       'say it by --begin')
-    return _merged(Source(octets), arrivals(path, config, begin, facts)), begin
+    return _merged(Source(octets), arrivals(path, config, begin, facts, before)), begin
 
 
 def _merged(source: Source, came: Iterable[tuple[int, int, bytes]]) -> Iterator[bytes]:

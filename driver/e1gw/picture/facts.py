@@ -9,10 +9,11 @@ from __future__ import annotations
 import enum
 import struct
 from collections import Counter
-from collections.abc import Iterator
+from collections.abc import Iterable, Iterator
 from dataclasses import dataclass, field
 from typing import Any
 
+from ..lines import Standing
 from ..repetitions import Repetitions
 from .sound import Heard, Turns
 
@@ -341,6 +342,18 @@ class Facts:
         self.law = 'A'                      # of the trunk
         self.strays: Counter[tuple[str, int]] = Counter()       # that came to ports of no circuit: from, to
         self.port_faults = 0
+        self.under_way: list[int] = []      # circuits with a call that was up when the session began
+
+    def began(self, place: int, circuits: Iterable[Standing]) -> None:
+        """The session begins at this place, in the first column, with circuits that are this."""
+        self.place = self.start = place
+        for which in self.alarms:
+            self.alarms[which] = Spans(False, (True, False))
+        for each in circuits:
+            row = self.rows[each.circuit]
+            row.states, row.codec, row.payload = Spans(str(each.state), RANK), each.codec, each.payload
+            if each.state in OPEN:
+                self.under_way.append(row.number)
 
     def turn(self, place: int) -> None:
         """The trunk has come to a place."""

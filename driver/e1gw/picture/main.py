@@ -13,6 +13,7 @@ from ..lines import read_config
 from ..raw import raw_words_of
 from ..session import OCTETS_A_SECOND, BadSession
 from .answers import Replayed, program_of
+from .begun import Begun, begun
 from .capture import merged, reckoned
 from .facts import Facts
 from .page import draw
@@ -104,28 +105,58 @@ def port_faults(path: str) -> int:
     return int(told[-1])
 
 
-def gathered(options: argparse.Namespace, session: Kept, config: str) -> tuple[Facts, str]:
-    """What is drawn of a session, and a word on how it ended."""
-    facts = Facts(rows_of(read_config(config)), int(options.last * OCTETS_A_SECOND) if options.last else None)
-    facts.slips = session.slips
+def facts_of(options: argparse.Namespace, session: Kept, config: str, place: int) -> tuple[Facts, Iterator[bytes]]:
+    """What is known of a session before it is read, and its octets, the first of which is at this place."""
+    facts = Facts(rows_of(read_config(config)), span_of(options))
+    facts.slips = session.slips and [(place + at, seconds) for at, seconds in session.slips]
     octets = given(session)
-    facts.begin = options.begin if options.begin is not None else session.begin
+    begin = options.begin if options.begin is not None else session.begin
     if options.capture:
-        octets, facts.begin = merged(octets, options.capture, read_config(config), facts, facts.begin)
+        octets, begin = merged(octets, options.capture, read_config(config), facts, begin, session.place)
         facts.told = 'placed by the times of the capture'
+    facts.begin = None if begin is None else begin - place / OCTETS_A_SECOND
+    return facts, octets
+
+
+def gathered(options: argparse.Namespace, session: Kept, config: str, known: Begun | None) -> tuple[Facts, str]:
+    """What is drawn of a session, and a word on how it ended. It begins with a gateway that is known, or new."""
+    facts, octets = facts_of(options, session, config, known.place if known else 0)
     if options.answers:
         with open(options.answers, 'rb') as answers:
             reading = Reading(facts, read_config(config), Source(octets), answers, options.program)
             reading.read()
         return facts, '' if reading.whole else 'it ends inside a record, or its answers do'
     program = program_of(options.program)
-    replayed = Replayed(program, config, octets)
+    replayed = Replayed(program, config, octets, session.state if known else '')
     fault = ''
     try:
-        Reading(facts, read_config(config), replayed.given, replayed.answered, program).read()
+        Reading(facts, read_config(config), replayed.given, replayed.answered, program, known).read()
     except BadSession as bad:
         fault = str(bad)
     return facts, replayed.end() or fault
+
+
+def span_of(options: argparse.Namespace) -> int | None:
+    """The octets of the trunk that are to be shown, where it is not all of them."""
+    return int(options.last * OCTETS_A_SECOND) if options.last else None
+
+
+def session_of(options: argparse.Namespace) -> tuple[Kept, Begun | None, str]:
+    """The session that was named, what the gateway was when it began, and what is to be said of that. If nothing tells
+    what the gateway was, the session is read as if the gateway had begun there."""
+    if not options.session or options.session == '-':
+        return Kept(['-']), None, ''
+    whole, told = kept(options.session), []
+    if options.answers or not (options.config or whole.config):
+        return whole, None, MIDDLE if whole.middle else ''
+    for session in (kept(options.session, span_of(options)), whole):
+        if not session.middle:
+            return session, None, '; '.join(told)
+        known, why = begun(session, program_of(options.program), options.config or session.config or '')
+        if known:
+            return session, known, '; '.join(told)
+        told += [why] * (why not in told)
+    return whole, None, '; '.join([*told, MIDDLE])
 
 
 def failure_of(word: str, session: Kept) -> str:
@@ -141,7 +172,7 @@ def drawn(options: argparse.Namespace) -> tuple[str, bool]:
     """The page that was asked for, and whether its session is whole."""
     if not options.session and not options.capture:
         raise Trouble('no session was named, and no capture')
-    session = kept(options.session) if options.session and options.session != '-' else Kept(['-'])
+    session, known, middle = session_of(options)
     config = options.config or session.config
     if not config:
         if session.files[0] != '-':
@@ -149,7 +180,7 @@ def drawn(options: argparse.Namespace) -> tuple[str, bool]:
                 pass
         raise Trouble('no configuration: name it by --config')
     if options.session:
-        facts, word = gathered(options, session, config)
+        facts, word = gathered(options, session, config, known)
     else:
         facts, word = reckoned(options.capture, read_config(config), options.last, options.program), ''
     facts.port_faults = port_faults(options.totals) if options.totals else 0
@@ -157,7 +188,7 @@ def drawn(options: argparse.Namespace) -> tuple[str, bool]:
     title = options.title or f'e1gw: {name if name != "-" else "a session"}'
     failure = failure_of(word, session)
     notes = [f'{failure or word}; what was before it is drawn'] if word else []
-    notes += [MIDDLE] if session.middle else []
+    notes += [middle] if middle else []
     for note in notes:
         print(f'e1gw-picture: {note}', file=sys.stderr)
     return draw(facts, title, options.circuits, notes=notes), not failure

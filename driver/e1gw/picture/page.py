@@ -144,6 +144,10 @@ class Page:
                'the prefill, the tinted field the window of 400 ms or what of it is drawn. &#9660; Late, &#9650; Full; '
                'others stand in rows of their own. A slope is a difference of clocks, a band is jitter, a '
                'step is a gap.</p>')
+        if self.facts.under_way:
+            out += (f'<p class="note">Calls were up when the session began (circuits {numbers(self.facts.under_way)}): '
+                    'of the first of them that each circuit has it is counted from its first datagram, as if that had '
+                    'come just the prefill before its turn.</p>')
         if not (self.troubled or self.even):
             return out + '<p>No datagrams came. (A session that was kept of <code>serve</code> may hold none: give a ' \
                          'capture.)</p>'

@@ -8,6 +8,7 @@ from typing import Any, Mapping, Protocol
 from ..lines import Event, law_of
 from ..repetitions import mark_of
 from ..session import MULTIFRAME, BadSession, Codec, Command, Fault, Kind, refusal_of
+from .begun import Begun
 from .facts import Facts, Row
 from .following import Follower
 from .listening import Listener
@@ -95,7 +96,7 @@ class Reading:
     """A session as it is read. Datagrams wait until the octets before them were followed."""
 
     def __init__(self, facts: Facts, config: Mapping[str, Any], given: Readable | None = None,
-                 answered: Readable | None = None, program: str | None = None) -> None:
+                 answered: Readable | None = None, program: str | None = None, begun: Begun | None = None) -> None:
         self.facts = facts
         facts.law = law_of(config)
         self.listener = Listener(facts, program)
@@ -112,6 +113,15 @@ class Reading:
         self.came: deque[tuple[int, int, int, bytes, int, int]] = deque()
         self.sent = dict.fromkeys(facts.rows, 0)
         self.whole = True               # both ended with a whole record
+        if begun:
+            self._begin(begun)
+
+    def _begin(self, begun: Begun) -> None:
+        """Begins with what the gateway was."""
+        self.lines.begin(begun.place, begun.circuits)
+        self.facts.began(begun.place, begun.circuits)
+        self.place = self.followed = begun.place
+        self.due = begun.place + MULTIFRAME
 
     def read(self) -> None:
         """Reads all of it, or up to where one of the two ends. BadSession at what is no record."""

@@ -1,0 +1,55 @@
+"""What a gateway was when a piece of a ring began: the circuits of the state that stands beside it."""
+from __future__ import annotations
+
+import os
+import subprocess
+from dataclasses import dataclass
+
+from ..kept import Kept, Trouble
+from ..lines import Standing, State
+from ..session import MULTIFRAME
+
+COLUMNS = 10                # of the listing: number, role, state, two pairs, three counts, codec, payload type
+
+
+@dataclass(frozen=True)
+class Begun:
+    """Where in a multiframe that the gateway sends the piece begins, and its circuits."""
+    place: int
+    circuits: list[Standing]
+
+
+def standing_of(line: str) -> Standing:
+    """A circuit as a line of the listing has it. Trouble if it is none."""
+    words = line.split()
+    try:
+        if len(words) != COLUMNS:
+            raise ValueError
+        recognised = None if words[4] == '--' else int(words[4], 2)
+        return Standing(int(words[0]), State(words[2]), int(words[3], 2), recognised, words[8], int(words[9]))
+    except ValueError:
+        raise Trouble(f'e1gw check lists what is no circuit: {line}') from None
+
+
+def listed(state: str, program: str, config: str) -> list[Standing]:
+    """The circuits of a state, as `e1gw check` lists them. Trouble if it refuses the state."""
+    words = [program, 'check', '--config', config, '--load', state]
+    try:
+        done = subprocess.run(words, stdin=subprocess.DEVNULL, stdout=subprocess.PIPE, stderr=subprocess.PIPE,
+                              check=False)
+    except OSError as fault:
+        raise Trouble(f'{program}: {fault.strerror}') from fault
+    if done.returncode:
+        told = done.stderr.decode(errors='replace').strip()
+        raise Trouble(told.splitlines()[-1] if told else f'e1gw check: status {done.returncode}')
+    return [standing_of(line) for line in done.stdout.decode().splitlines()]
+
+
+def begun(session: Kept, program: str, config: str) -> tuple[Begun | None, str]:
+    """What the gateway was when a session began that begins in the middle, or why that is not known."""
+    if not session.state:
+        return None, f'{os.path.basename(session.files[0])} has no state beside it'
+    try:
+        return Begun(session.place % MULTIFRAME, listed(session.state, program, config)), ''
+    except Trouble as trouble:
+        return None, f'{session.state} is not used ({trouble})'

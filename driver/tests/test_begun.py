@@ -1,0 +1,166 @@
+"""A picture of a piece of a ring that begins in a call."""
+from __future__ import annotations
+
+import argparse
+import os
+import random
+import re
+import subprocess
+import unittest
+from typing import Iterator
+
+from . import support
+from .picture_made import Made, Sender, coded, packets
+from .test_behind import Ringed, octets_in
+from .world import SECONDS
+from e1gw import lines
+from e1gw.kept import Kept, kept
+from e1gw.picture.begun import begun
+from e1gw.picture.facts import Facts
+from e1gw.picture.main import gathered
+from e1gw.session import OCTETS_A_SECOND, Kind, trunk_record
+
+PICTURE = os.path.join(support.TOP, 'driver', 'e1gw-picture')
+
+
+def divided(records: Iterator[bytes], rng: random.Random) -> Iterator[bytes]:
+    """The same with each record of the trunk in two, so that no piece has to begin with a frame."""
+    for record in records:
+        if record[0] == Kind.TRUNK:
+            at = rng.randrange(5, len(record))
+            yield trunk_record(record[4:at])
+            yield trunk_record(record[at:])
+        else:
+            yield record
+
+
+class Drawn(Ringed):
+    """What is drawn of a piece that begins in a call."""
+
+    def setUp(self) -> None:
+        super().setUp()
+        made = Made(4.0, {3: {'prefill': 320}, 4: {'prefill': 320, 'codec': 'g726-32', 'payload': 96}})
+        made.call(3, 0.1, 3.8)
+        made.call(4, 3.2, 3.7, 0.1)
+        made.speech = coded('A')
+        made.senders.append(Sender(3, 0.25, 3.8, payloads=packets(coded('A'))))
+        self.text, self.rng = made.config(), random.Random(1)
+        self.config = self.write('trunk.toml', self.text)
+        self.records = list(divided(made.given(), self.rng))
+        whole = len(self.records)
+        pieces = [self.records[whole * n // 4:whole * (n + 1) // 4] for n in range(4)]
+        self.keep(pieces, self.config)
+        self.places = [octets_in(self.records[:whole * n // 4]) for n in range(4)]
+
+    def facts(self, session: Kept) -> Facts:
+        """What is gathered of a session."""
+        options = argparse.Namespace(capture=None, answers=None, program=self.program, begin=None, last=None)
+        known = begun(session, self.program, self.config)[0] if session.state else None
+        facts, word = gathered(options, session, self.config, known)
+        self.assertEqual(word, '')
+        return facts
+
+    def drawn(self, *words: str) -> tuple[str, str]:
+        """The page, and what was said."""
+        done = subprocess.run([PICTURE, '--program', self.program, *words], stdout=subprocess.PIPE,
+                              stderr=subprocess.PIPE, check=False, timeout=SECONDS)
+        self.assertEqual(done.returncode, 0, done.stderr.decode())
+        return done.stdout.decode(), done.stderr.decode()
+
+    def test_a_call_that_was_up(self) -> None:
+        whole = self.facts(Kept([self.write('whole.rec', b''.join(self.records))]))
+        for number, path in enumerate(self.files('.e1gw')[1:], 1):
+            place = self.places[number]
+            part, before = self.facts(kept(path)), place - place % 512
+            row, same = part.rows[3], whole.rows[3]
+            self.assertEqual(part.under_way, [3])
+            end = part.place + before
+            shown = row.states.between(part.start, part.place)
+            self.assertEqual(list(same.states.between(place, end)),
+                             [(first + before, last + before, state) for first, last, state in shown])
+            self.assertFalse([on for spans in part.alarms.values() for _, _, on in spans.between(0, part.place) if on])
+            self.assertEqual(row.count().refused, {})
+
+    def test_the_last_piece(self) -> None:
+        part, session = self.facts(kept(self.files('.e1gw')[-1])), self.records[len(self.records) * 3 // 4:]
+        given = b''.join(session)
+        state = self.files('.state')[-1]
+        listed = support.run('check', '--config', self.config, '--load', state).split(b'\n')[2].split()
+        after = support.run('check', '--config', self.config, '--load', state, given=given).split(b'\n')[2].split()
+        count = part.rows[3].count()
+        self.assertEqual([count.sent, count.admitted], [int(after[n]) - int(listed[n]) for n in (5, 6)])
+        self.assertGreater(count.admitted, 20)
+        self.assertGreater(count.heard['came'].own + count.heard['slot'].own, 0)    # speech, in the law of the trunk
+        self.assertEqual(part.rows[4].count().counts, {'calls': 1, 'answers': 1})
+
+    def test_the_page(self) -> None:
+        page, said = self.drawn(self.files('.e1gw')[-1])
+        self.assertEqual(said, '')
+        self.assertIn('1 call, 1 answered, 1 connected before', page)
+        self.assertIn('Calls were up when the session began (circuits 3)', page)
+        self.assertNotIn('discarded as NotOpen', page)
+
+    def test_the_last_part_of_a_folder(self) -> None:
+        """It begins with the last piece that is far enough from the end."""
+        for last, files in ((0.5, 2), (1.5, 3), (2.5, 4), (100, 4)):
+            self.assertEqual(len(kept(self.ring, int(last * OCTETS_A_SECOND)).files), files)
+        page, said = self.drawn('--last', '1s', self.ring)
+        self.assertEqual(said, '')
+        whole, _ = self.drawn('--last', '1s', '--config', self.config, self.write('whole.rec', b''.join(self.records)))
+        told = re.findall(r'packets: [^<]*', page)
+        self.assertEqual(told, re.findall(r'packets: [^<]*', whole))
+        self.assertIn('1 connected before', page)
+        for path in self.files('.state'):
+            os.unlink(path)
+        self.assertEqual(len(kept(self.ring, OCTETS_A_SECOND).files), 4)
+        self.assertEqual(self.drawn('--last', '1s', self.ring)[1], '')
+
+    def test_no_state(self) -> None:
+        path, state = self.files('.e1gw')[-1], self.files('.state')[-1]
+        with open(state, 'rb') as file:
+            octets = file.read()
+        os.unlink(state)
+        page, said = self.drawn(path)
+        self.assertIn(f'e1gw-picture: {os.path.basename(path)} has no state beside it; the session begins in the '
+                      'middle', said)
+        notes = re.compile('<p><b>.*?</b></p>')
+        today = notes.sub('', page)
+        self.assertIn('NotOpen', today)
+        other = self.write('other.toml', self.text.replace('320', '321'))
+        for broken, config, told in ((octets[:-1], self.config, 'state 4 Sum at 0'),
+                                     (b'', self.config, 'state 1 Short at 0'), (octets, other, 'state 5 Config at 3')):
+            with open(state, 'wb') as file:
+                file.write(broken)
+            page, said = self.drawn('--config', config, path)
+            self.assertIn(f'{state} is not used ({told}', said)
+            self.assertIn('the session begins in the middle', said)
+            self.assertEqual(len(said.splitlines()), 1)
+            if config == self.config:
+                self.assertEqual(notes.sub('', page), today)
+
+    def test_a_state_that_is_refused_leaves_the_whole_folder(self) -> None:
+        for state in self.files('.state'):
+            with open(state, 'r+b') as file:
+                file.truncate(600)
+        page, said = self.drawn('--last', '1s', self.ring)
+        self.assertIn('state 4 Sum at 0', said)
+        self.assertNotIn('begins in the middle', said)      # it is read from its first piece on
+        self.assertIn('1 connected before', page)
+
+
+class Lines(unittest.TestCase):
+    """Following from the middle."""
+
+    def test_begins_in_the_middle(self) -> None:
+        followed = lines.Lines({})
+        standing = lines.Standing(3, lines.State.ANSWERED, 0, 1, 'g726-32', 96)
+        followed.begin(5 * 512 + 7, [standing])
+        status = followed.status()
+        row = status['circuits'][2]
+        self.assertEqual([row[key] for key in ('state', 'sent', 'recognised', 'codec', 'payload', 'for')],
+                         ['answered', '00', '01', 'g726-32', 96, 0])
+        self.assertEqual((status['octets'], followed.alarm()), (5 * 512 + 7, False))
+
+
+if __name__ == '__main__':
+    unittest.main()
