@@ -1,5 +1,6 @@
 """scripts/records over sessions whose octets are written out here."""
 import os
+import shutil
 import subprocess
 import sys
 import tempfile
@@ -47,6 +48,32 @@ class Printing(unittest.TestCase):
         ended = ran(given=bytes.fromhex('54000002D5'))
         self.assertEqual((ended.returncode, ended.stdout), (1, b''))
         self.assertIn(b'4 Truncated', ended.stderr)
+
+
+class Kept(unittest.TestCase):
+    """Files that a driver keeps."""
+
+    def setUp(self) -> None:
+        folder = tempfile.TemporaryDirectory()
+        self.addCleanup(folder.cleanup)
+        self.path = os.path.join(folder.name, 'west-20261125T101500Z.e1gw')
+        with open(self.path, 'wb') as file:
+            file.write(bytes.fromhex('54000002D5D5 540000010B'))
+        with open(self.path.replace('.e1gw', '.json'), 'w', encoding='ascii') as file:
+            file.write('{"place": 256000, "begins": "middle"}')
+
+    def test_places_are_those_of_the_trunk(self) -> None:
+        lines = ['T    2 octets, from place 256000 on', 'T    1 octets, from place 256002 on']
+        self.assertEqual(ran(self.path).stdout.decode().splitlines(), lines)
+        with open(self.path, 'rb') as file:
+            self.assertIn('from place 0 on', ran(given=file.read()).stdout.decode())
+        self.assertEqual(ran('--from', '0', self.path).stdout, bytes.fromhex('54000002D5D5 540000010B'))
+
+    @unittest.skipUnless(shutil.which('zstd'), 'no zstd')
+    def test_compressed(self) -> None:
+        subprocess.run(['zstd', '-q', '--rm', self.path], check=True)
+        self.assertIn('from place 256002 on', ran(f'{self.path}.zst').stdout.decode())
+        self.assertEqual(ran('--to-raw', f'{self.path}.zst').stdout, b'\xd5\xd5\x0b')
 
 
 class Octets(unittest.TestCase):
