@@ -266,7 +266,7 @@ class Keeper:
         shadow = run.shadow
         assert shadow
         if shadow.ended():
-            self.wanted = f'the shadow {shadow.words()}'
+            self.wanted = f'the shadow {run.shadow_words()}'
         elif shadow.stopped() or run.is_behind():
             self.wanted = 'the shadow stood still'
             shadow.signal(signal.SIGKILL)
@@ -319,7 +319,7 @@ class Keeper:
         state, lost, self.wanted = run.followed(), LOST, ''
         self.octets += run.octets('shadow')
         if not state:
-            self._say(Journal.ERROR, f'{self.why}, and its shadow {shadow.words()}: no state is known')
+            self._say(Journal.ERROR, f'{self.why}, and its shadow {run.shadow_words()}: no state is known')
             lost = ANEW
         if self.ending:
             return self._finish(0, self.ending, state)

@@ -244,14 +244,23 @@ class Run:
 
     def says(self) -> list[str]:
         """What the program has said since this was last asked, its totals left out."""
-        lines = [f'{word} {rest}' for word, rest in self._lines('program') if word not in TOTALS]
+        lines = self._told('program')
         new, self._said = lines[self._said:], len(lines)
         return new
+
+    def _told(self, name: str) -> list[str]:
+        return [f'{word} {rest}' for word, rest in self._lines(name) if word not in TOTALS]
 
     def last_words(self) -> str:
         """How the program ended: what it has said, or its status."""
         said = '; '.join(self.says())
         return f'says: {said}' if said else self.program.words()
+
+    def shadow_words(self) -> str:
+        """How the shadow ended."""
+        assert self.shadow
+        said = '; '.join(self._told('shadow'))
+        return f'says: {said}' if said else self.shadow.words()
 
     def octets(self, name: str) -> int:
         """How many octets of the trunk the program or the shadow took, once it has ended."""

@@ -453,6 +453,43 @@ class Handovers(Kept):
         self.assertIn('WATCHDOG=1', told)
 
 
+class Fifos(support.Folder):
+    """A trunk that is a pair of FIFOs, without a control socket."""
+
+    def read(self, name: str) -> str:
+        with open(self.path(name), encoding='utf-8') as file:
+            return file.read()
+
+    def test_goes_on(self) -> None:
+        support.program()
+        config = self.write('trunk.toml', 'law = "A"\n')
+        for name in ('in', 'out'):
+            os.mkfifo(self.path(name))
+        told = open(self.path('told'), 'wb')
+        self.addCleanup(told.close)
+        keeper = subprocess.Popen([sys.executable, '-B', LAUNCHER, '--program', support.program(), '--config', config,
+                                   '--in', self.path('in'), '--out', self.path('out')], stderr=told)
+        self.addCleanup(keeper.wait)
+        self.addCleanup(keeper.terminate)
+        with open(self.path('in'), 'wb', buffering=0) as into, open(self.path('out'), 'rb', buffering=0) as out:
+            exchange = support.Exchange()
+            for turn in range(3):
+                while len(found := GOES_ON.findall(self.read('told'))) <= turn:
+                    self.assertIsNone(keeper.poll())
+                    time.sleep(0.002)
+                for _ in range(30):
+                    into.write(exchange.multiframe())
+                    self.assertTrue(select.select([out], [], [], SECONDS)[0])
+                    exchange.hear(out.read(MULTIFRAME))
+                if turn == 0:
+                    os.kill(int(found[-1][0]), signal.SIGKILL)
+                elif turn == 1:
+                    keeper.send_signal(signal.SIGHUP)
+            self.assertFalse(exchange.remote_alarms)
+            into.close()
+            self.assertEqual(keeper.wait(SECONDS), 0)
+
+
 class Ends(Kept):
     """How a keeper ends."""
 
