@@ -141,8 +141,8 @@ class Journal:
     ERROR, WARNING, NOTICE, INFO = 3, 4, 5, 6
     MOST, MINUTE = 20, 60.0
 
-    def __init__(self, file: int = 2, clock: Callable[[], float] = time.monotonic) -> None:
-        self._outlet, self._clock = to_descriptor('standard error', file), clock
+    def __init__(self, file: int = 2, clock: Callable[[], float] = time.monotonic, name: str = 'e1gw-trunk') -> None:
+        self._outlet, self._clock, self._name = to_descriptor('standard error', file), clock, name
         self._levels = _is_journal(file)
         self._kinds: dict[str, _Kind] = {}
 
@@ -168,7 +168,7 @@ class Journal:
                     self._put(found.level, f'{kind}: .. and {found.left} more in the last minute')
 
     def _put(self, level: int, text: str) -> None:
-        front = f'<{level}>' if self._levels else 'e1gw-trunk: '
+        front = f'<{level}>' if self._levels else f'{self._name}: '
         self._outlet.put(f'{front}{text}\n'.encode(errors='replace'))
 
     def close(self) -> None:

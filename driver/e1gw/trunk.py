@@ -12,9 +12,7 @@ from __future__ import annotations
 
 import argparse
 import functools
-import ipaddress
 import os
-import shutil
 import subprocess
 import sys
 from typing import Callable, NoReturn
@@ -34,28 +32,12 @@ from .lines import law_of, read_config
 from .loop import Loop
 from .options import Options
 from .outlets import Journal, hold_descriptors
+from .programs import SENDERS, program_of, senders_of
 from .trunks import Trunk, host_and_port, open_files, open_tcp, open_unix
-
-TOP = os.path.dirname(os.path.dirname(os.path.dirname(os.path.abspath(__file__))))
-
-
-SENDERS = {'any': 'datagrams of any sender are received (--senders any)',
-           'host': 'datagrams are received from the address of peer_host alone (--senders host)',
-           'peer': 'datagrams are received from peer_host and peer_port alone (--senders peer)'}
 
 
 class Usage(Exception):
     """What is wrong with the command line."""
-
-
-def program_of(asked: str | None) -> str:
-    """The program that is named, or that of this repository, or the one on the path."""
-    build = os.path.join(TOP, 'scripts', 'build')
-    if asked or os.environ.get('E1GW'):
-        return asked or os.environ['E1GW']
-    if os.path.exists(build):
-        return subprocess.run([build], stdout=subprocess.PIPE, check=True, text=True).stdout.strip()
-    return shutil.which('e1gw') or 'e1gw'
 
 
 def trunk_of(asked: argparse.Namespace) -> Callable[..., Trunk]:
@@ -206,16 +188,6 @@ def _serve_words(asked: argparse.Namespace) -> list[str]:
     """The options that the gateway gets."""
     return (['--totals'] * asked.totals + ['--repeat', str(asked.repeat)] * (asked.repeat > 0)
             + ['--senders', asked.senders or senders_of(asked.config)])
-
-
-def senders_of(config: str) -> str:
-    """Whose datagrams are received if nothing is asked for: `host` if each peer_host is an address, else `any`."""
-    try:
-        for circuit in read_config(config).get('circuit', []):
-            ipaddress.ip_address(circuit.get('peer_host', '127.0.0.1'))
-    except (OSError, ValueError, TypeError, AttributeError):    # a name; what is no configuration is told later
-        return 'any'
-    return 'host'
 
 
 def _serve(options: Options, journal: Journal) -> int:

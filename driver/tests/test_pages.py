@@ -6,7 +6,7 @@ import subprocess
 import unittest
 
 from . import support
-from e1gw import control, ctl, trunk
+from e1gw import control, ctl, keeping, trunk
 
 
 def page(name: str) -> str:
@@ -24,15 +24,15 @@ def offered(command: str, *words: str) -> set[str]:
 
 class Pages(unittest.TestCase):
     def test_options(self) -> None:
-        options = {word for action in trunk.parser()._actions for word in action.option_strings
-                   if word.startswith('--')}
-        text = page('e1gw-trunk.1')
-        synopsis, described = text.split('.Sh DESCRIPTION')
-        named = {f'--{word}' for word in re.findall(r'(?:Fl|\|) -([\w-]+)', synopsis)}
-        items = {f'--{word}' for line in re.findall(r'^\.It Fl .*', described, re.M)
-                 for word in re.findall(r'(?:Fl|,) -([\w-]+)', line)}
-        self.assertEqual((named, items), (options, options))
-        self.assertEqual(offered('e1gw-trunk', '--'), options)
+        for command, parser in (('e1gw-trunk', trunk.parser()), ('e1gw-keep', keeping.parser())):
+            options = {word for action in parser._actions for word in action.option_strings if word.startswith('--')}
+            text = page(f'{command}.1')
+            synopsis, described = text.split('.Sh DESCRIPTION')
+            named = {f'--{word}' for word in re.findall(r'(?:Fl|\|) -([\w-]+)', synopsis)}
+            items = {f'--{word}' for line in re.findall(r'^\.It Fl .*', described, re.M)
+                     for word in re.findall(r'(?:Fl|,) -([\w-]+)', line)}
+            self.assertEqual((named, items), (options, options))
+            self.assertEqual(offered(command, '--'), options)
 
     def test_commands(self) -> None:
         commands = {*control.COMMANDS, 'codec', 'status', 'events', 'on-loss', 'quit', 'help'}
@@ -48,8 +48,9 @@ class Pages(unittest.TestCase):
     def test_where_the_socket_of_a_name_is(self) -> None:
         self.assertEqual(ctl.path_of('trunk1'), '/run/e1gw/trunk1/control')
         self.assertIn(ctl.path_of('NAME'), page('e1gw-ctl.1'))
-        with open(f'{support.TOP}/system/e1gw-trunk@.service', encoding='utf-8') as file:
-            self.assertIn('--control /run/e1gw/%i/control', file.read())
+        for unit in ('e1gw-trunk', 'e1gw-keep'):
+            with open(f'{support.TOP}/system/{unit}@.service', encoding='utf-8') as file:
+                self.assertIn('--control /run/e1gw/%i/control', file.read())
 
 
 if __name__ == '__main__':

@@ -1,0 +1,17 @@
+# bash completion for e1gw-keep: options, files and the values of those that have some.
+
+_e1gw_keep() {
+  local cur=${COMP_WORDS[COMP_CWORD]} prev=${COMP_WORDS[COMP_CWORD - 1]}
+  local options='--config --program --in --out --unix --tcp --control --state --folder --senders --repeat --help'
+  COMPREPLY=()
+  case $prev in
+    --config | --program | --in | --out | --unix | --control | --state | --folder)
+      compopt -o filenames 2> /dev/null
+      mapfile -t COMPREPLY < <(compgen -f -- "$cur") ;;
+    --senders) mapfile -t COMPREPLY < <(compgen -W 'any host peer' -- "$cur") ;;
+    --repeat | --tcp) ;;
+    *) mapfile -t COMPREPLY < <(compgen -W "$options" -- "$cur") ;;
+  esac
+}
+
+complete -F _e1gw_keep e1gw-keep

@@ -1,0 +1,410 @@
+"""The keeper of a trunk: holds its descriptors, runs `e1gw trunk` on them and the shadow beside it, and begins either
+again from what the other one knows. No octet of the trunk passes through it."""
+from __future__ import annotations
+
+import json
+import os
+import select
+import signal
+import sys
+import time
+from dataclasses import dataclass
+from enum import Enum, auto
+from typing import Any, Callable
+
+from .beside import DEATHS, GRACE, Deaths, Retired, Standby, Trial
+from .outlets import Journal
+from .places import point, store
+from .running import Process, Run, Version, open_version, spawn, unlink
+from .systemd import Notify
+
+KEPT = 'E1GW_KEPT'          # the variable that leads through an exec
+LOST = ', what it had in hand is lost: 2048 octets (8 ms) at most'
+ANEW = '; all calls begin anew'
+APART, MOST_APART = 1.0, 60.0       # seconds between two handovers for a shadow that has ended
+QUICK = 5.0                 # seconds within which a shadow that ends has the next one wait longer
+SOON = 0.2                  # seconds after which the next program is started, to wait
+SIGNALS = (signal.SIGTERM, signal.SIGINT, signal.SIGHUP, signal.SIGUSR2, signal.SIGCHLD)
+
+
+@dataclass
+class Asked:
+    """What the keeper was asked for. `words` are further options of the program for a configuration."""
+
+    program: str
+    config: str
+    words: Callable[[str], list[str]]
+    control: str | None
+    state: str | None
+    folder: str
+
+
+class Phase(Enum):
+    BEGINS = auto()         # a program was started, and has not answered
+    UP = auto()
+    ENDS = auto()           # it was asked to end behind what it has read
+    SAVES = auto()          # it has died; its shadow saves
+    PAUSED = auto()
+    OVER = auto()
+
+
+class Keeper:
+    """One trunk. Each turn looks at all that may have happened, and does what follows from it."""
+
+    def __init__(self, asked: Asked, journal: Journal, notify: Notify, trunk: tuple[int, int]) -> None:
+        self.asked, self.journal, self.notify, self.trunk = asked, journal, notify, trunk
+        self.number = self.octets = 0           # of what was begun; octets of the trunk that programs have taken
+        self.version: Version
+        self.before: Version | None = None      # the version to go back to, until a program of the new one is up
+        self.run: Run
+        self.standby, self.retired, self.trial, self.deaths = Standby(self._new_run), Retired(), Trial(), Deaths()
+        self.phase, self.status = Phase.BEGINS, 0
+        self.wanted = self.ending = ''          # why a handover is wanted, and why the keeper ends
+        self.reload_wanted = self.exec_wanted = self.was_up = False
+        self.why = self.lost = ''               # of the run that begins
+        self.silent = self.up = self.due = self.deadline = 0.0
+        self._apart = APART
+        self._phases: dict[Phase, Callable[[float], None]] = {
+            Phase.BEGINS: self._begins, Phase.UP: self._is_there, Phase.ENDS: self._ends, Phase.SAVES: self._saves,
+            Phase.PAUSED: self._paused}
+        self._wake = self._catch_signals()
+
+    # ---- what is waited for ----
+
+    def _catch_signals(self) -> int:
+        reads, writes = os.pipe()
+        for end in (reads, writes):
+            os.set_blocking(end, False)
+        signal.set_wakeup_fd(writes, warn_on_full_buffer=False)
+        for number in SIGNALS:
+            signal.signal(number, lambda which, _: self._caught(which))
+        signal.signal(signal.SIGUSR1, signal.SIG_IGN)
+        signal.pthread_sigmask(signal.SIG_SETMASK, [])
+        return reads
+
+    def _caught(self, number: int) -> None:
+        if number in (signal.SIGTERM, signal.SIGINT):
+            self.ending = self.ending or f'signal {number}'
+        self.reload_wanted |= number == signal.SIGHUP
+        self.exec_wanted |= number == signal.SIGUSR2
+
+    def _processes(self) -> list[Process]:
+        waits = self.standby.run
+        found = [self.run.program, self.run.shadow, waits and waits.program, self.trial.process,
+                 *(run.shadow for run in self.retired.runs)]
+        return [process for process in found if process and process.status is None and process.file >= 0]
+
+    def _wait(self) -> None:
+        poll = select.poll()
+        for file in (self._wake, self.run.hello(), *(process.file for process in self._processes())):
+            if file >= 0:
+                poll.register(file, select.POLLIN)
+        poll.poll(self._patience())
+        try:
+            os.read(self._wake, 4096)
+        except BlockingIOError:
+            pass
+        for process in self._processes():
+            process.ended()
+
+    def _patience(self) -> float:
+        """Milliseconds until all is looked at again although nothing has come."""
+        if self.phase is Phase.BEGINS and self.run.hello() < 0:
+            return 1
+        if self.standby.run and not self.standby.ready():
+            return 5
+        return 500 if self.phase is Phase.UP and not (self.wanted or self.retired.runs) else 50
+
+    def turn(self) -> None:
+        """Waits until something has happened, and does what follows."""
+        self._wait()
+        now = time.monotonic()
+        self.notify.alive(now)
+        self.retired.look(now)
+        self.trial.look()
+        if self.phase in self._phases:
+            self._phases[self.phase](now)
+
+    def work(self) -> int:
+        """Carries the trunk until its end; returns the status."""
+        while self.phase is not Phase.OVER:
+            try:
+                self.turn()
+            except OSError as fault:        # nothing of the keeper's ends a call
+                self._say(Journal.ERROR, f'the keeper goes on: {fault}')
+                time.sleep(0.1)
+        self.notify.tell('STOPPING=1')
+        self.standby.drop(0.0)
+        until = time.monotonic() + GRACE
+        while self.retired.runs and time.monotonic() < until + GRACE:
+            time.sleep(0.002)
+            self.retired.look(time.monotonic())
+        if self.asked.control:
+            unlink(self.asked.control)
+        return self.status
+
+    def _say(self, level: int, text: str) -> None:
+        self.journal.line(level, text)
+
+    # ---- a program begins ----
+
+    def _version_of_now(self) -> Version:
+        asked = self.asked
+        self.number += 1
+        return open_version(asked.program, asked.config, asked.words(asked.config),
+                            os.path.join(asked.folder, f'config.{self.number}'))
+
+    def _new_run(self, version: Version, state: str | None, waits: bool) -> Run:
+        self.number += 1
+        folder = os.path.join(self.asked.folder, str(self.number))
+        control = f'{self.asked.control or os.path.join(self.asked.folder, "control")}.{self.number}'
+        return Run(folder, control, version, self.trunk, state, waits)
+
+    def start(self, state: str | None) -> None:
+        """Begins with the program and the configuration of now, from a state if there is one."""
+        self.version = self._version_of_now()
+        self.begin(state, f'begins{state and " with what was saved" or ""}', '')
+
+    def begin(self, state: str | None, why: str, lost: str) -> None:
+        """Begins a program from a state."""
+        self.why, self.lost, self.phase = why, lost, Phase.BEGINS
+        self.run = self.standby.begin(self.version, state)
+
+    def _begins(self, now: float) -> None:
+        if self.run.program.ended():
+            self._never_up(self.run)
+        elif self.run.program.stopped():
+            self.run.program.signal(signal.SIGKILL)
+        elif self.run.answers():
+            self._is_up()
+
+    def _is_up(self) -> None:
+        run, now, path = self.run, time.monotonic(), self.asked.control
+        shadow = run.follow()
+        if path:
+            point(path, run.control)
+        if self.asked.state and not self.was_up:
+            unlink(self.asked.state)
+        again = f'; clients of {path} connect again' if path and self.was_up else ''
+        after = f' goes on after {(now - self.silent) * 1000:.0f} ms' if self.was_up else ' carries the trunk'
+        behind = f' behind octet {self.octets}' if self.octets else ''
+        self._say(Journal.WARNING if self.lost else Journal.NOTICE,
+                  f'{self.why}: program {run.program.pid}{after}{behind}{self.lost}; shadow {shadow.pid}{again}')
+        self._pass_on(run)
+        self.notify.ready(f'program {run.program.pid}, shadow {shadow.pid}')
+        if self.before and run.version is self.version:
+            self.before.close()
+            self.before = None
+        self.phase, self.was_up, self.up = Phase.UP, True, now
+        self.standby.due = now + SOON
+
+    def _pass_on(self, run: Run) -> None:
+        """Tells what the program says."""
+        for line in run.says():
+            self._say(Journal.INFO, f'program: {line}')
+
+    def _never_up(self, run: Run) -> None:
+        """A program ended before it answered."""
+        words, state, status = run.last_words(), run.state, run.program.status or 1
+        if self.ending or not (self.was_up or state):
+            return self._finish(0 if self.ending else max(1, status), self.ending or f'the program {words}', state)
+        if self.before and run.version is self.version:
+            self._go_back(words)
+            self.begin(state, self.why, self.lost)
+        elif words.startswith('says: state ') or not self.was_up:
+            self._say(Journal.ERROR, f'the program {words}: the trunk begins without a state')
+            self.begin(None, self.why, ANEW)
+        else:
+            self._again(state, f'the program {words}', self.lost)
+        self.retired.add(run)
+
+    def _again(self, state: str | None, why: str, lost: str) -> None:
+        """Another program after one that died."""
+        pause = self.deaths.died(time.monotonic())
+        if pause is not None:
+            self._say(Journal.ERROR, f'{why}, {DEATHS} times in a short time: the trunk begins without a state'
+                      + (f', in {pause:g} s' if pause else ''))
+            state, lost = None, ANEW
+        self.why, self.lost = why, lost
+        if pause:
+            self.phase, self.due = Phase.PAUSED, time.monotonic() + pause
+        else:
+            self.begin(state, why, lost)
+
+    def _paused(self, now: float) -> None:
+        if self.ending:
+            self._finish(0, self.ending, None)
+        elif now >= self.due:
+            self.begin(None, self.why, self.lost)
+
+    # ---- a program is up ----
+
+    def _is_there(self, now: float) -> None:
+        run = self.run
+        if run.program.ended():
+            return self._died(now)
+        if run.program.stopped():
+            self._say(Journal.WARNING, 'the program was stopped by a signal, and is killed')
+            return run.program.signal(signal.SIGKILL)
+        if self.ending:
+            return self._hand_over(now)
+        if not self.wanted:
+            self._look_at_shadow(run, now)
+        if said := self.standby.look(now, self.version):
+            self._say(Journal.WARNING, f'the program that waits for a state {said}')
+            if self.before:
+                self._go_back(said)
+        if self.wanted and now >= self.due and self.standby.ready():
+            self._hand_over(now)
+        elif not self.wanted and not self.trial.process:
+            if self.reload_wanted:
+                self._reload()
+            elif self.exec_wanted and not self.retired.runs:
+                self._try_exec()
+
+    def _look_at_shadow(self, run: Run, now: float) -> None:
+        shadow = run.shadow
+        assert shadow
+        if shadow.ended():
+            self.wanted = f'the shadow {run.shadow_words()}'
+        elif shadow.stopped() or run.is_behind():
+            self.wanted = 'the shadow stood still'
+            shadow.signal(signal.SIGKILL)
+        else:
+            return
+        if now - self.up > QUICK:
+            self._apart = APART
+        self.due, self._apart = self.up + self._apart, min(MOST_APART, 2 * self._apart)
+
+    def _hand_over(self, now: float) -> None:
+        self.phase, self.silent, self.deadline = Phase.ENDS, now, now + GRACE
+        self.run.ask_end()
+
+    def _ends(self, now: float) -> None:
+        run = self.run
+        if not run.program.ended():
+            if now > self.deadline:
+                run.program.signal(signal.SIGKILL)
+            return
+        if run.program.status != 0 or not run.saved():
+            return self._died(now)
+        self.octets += run.octets('program')
+        self._pass_on(run)
+        why, self.wanted = self.wanted, ''
+        if self.ending:
+            return self._finish(0, self.ending, run.saved())
+        self.begin(run.saved(), why, '')
+        self.retired.add(run)
+
+    def _died(self, now: float) -> None:
+        """The program has ended by itself, or was killed."""
+        run, self.silent = self.run, now
+        words = run.last_words()
+        if run.program.status == 0 or words.startswith(('says: fault 5 ', 'says: fault 6 ')):
+            self.octets += run.octets('program')
+            why = f': the program {words}' if run.program.status else ''
+            return self._finish(run.program.status or 0, f'the trunk has ended{why}', run.saved())
+        self.why = f'the program {words}'
+        (run.shadow or run.follow()).signal(signal.SIGCONT)
+        self.phase, self.deadline = Phase.SAVES, now + GRACE
+        self._saves(now)
+
+    def _saves(self, now: float) -> None:
+        run, shadow = self.run, self.run.shadow
+        assert shadow
+        if not shadow.ended():
+            if now > self.deadline:
+                shadow.signal(signal.SIGKILL)
+            return
+        state, lost, self.wanted = run.followed(), LOST, ''
+        self.octets += run.octets('shadow')
+        if not state:
+            self._say(Journal.ERROR, f'{self.why}, and its shadow {run.shadow_words()}: no state is known')
+            lost = ANEW
+        if self.ending:
+            return self._finish(0, self.ending, state)
+        self._again(state, self.why, lost)
+        self.retired.add(run)
+
+    # ---- reload and exec ----
+
+    def _reload(self) -> None:
+        """Tries the program and the configuration of now."""
+        self.reload_wanted = False
+        self.notify.reloading()
+        try:
+            version = self._version_of_now()
+            words = ['check', '--config', version.config, *(['--load', self.run.state] if self.run.state else [])]
+            self.trial.begin(lambda files: version.spawn(words, files),
+                             lambda status, said: self._reload_tried(version, status, said))
+        except OSError as fault:
+            self._not_reloaded(str(fault))
+
+    def _reload_tried(self, version: Version, status: int, said: str) -> None:
+        if status:
+            version.close()
+            return self._not_reloaded(said)
+        self.before, self.version = self.version, version
+        self.standby.drop(0.0)
+        self.wanted, self.due = 'reload', 0.0
+
+    def _go_back(self, words: str) -> None:
+        """To the version that there was."""
+        assert self.before
+        self.version.close()
+        self.version, self.before, self.wanted = self.before, None, ''
+        self._not_reloaded(words)
+
+    def _not_reloaded(self, words: str) -> None:
+        from .explain import config_words
+        why = config_words(self.asked.config) if words.startswith('config ') else None
+        self._say(Journal.ERROR, f'reload: refused, the trunk goes on as it was: {words}{why and f": {why}" or ""}')
+        self.notify.ready(f'program {self.run.program.pid}')
+
+    def _try_exec(self) -> None:
+        """Tries the keeper's program of now, before this one gives way to it."""
+        self.exec_wanted = False
+        words = [sys.executable, '-B', sys.argv[0], '--help']
+        self.trial.begin(lambda files: spawn(words[0], words, files), self._exec_tried)
+
+    def _exec_tried(self, status: int, said: str) -> None:
+        if status:
+            self._say(Journal.ERROR, f'the keeper stays as it was: the new one says: {said}')
+        elif self.phase is Phase.UP and not self.wanted and not self.retired.runs:
+            self._exec()
+        else:
+            self.exec_wanted = True
+
+    def _exec(self) -> None:
+        """Another keeper in place of this one, with its number, its descriptors and its children."""
+        self._say(Journal.NOTICE, f'the keeper gives way to {sys.argv[0]}; program {self.run.program.pid} goes on')
+        self.standby.drop(0.0)
+        signal.pthread_sigmask(signal.SIG_BLOCK, SIGNALS)
+        self.journal.close()
+        for file in self.trunk:
+            os.set_inheritable(file, True)
+        os.environ[KEPT] = json.dumps({'trunk': self.trunk, 'folder': self.asked.folder, 'number': self.number,
+                                       'octets': self.octets, 'run': self.run.kept()})
+        os.execv(sys.executable, [sys.executable, *sys.orig_argv[1:]])
+
+    def take_up(self, kept: dict[str, Any]) -> None:
+        """Goes on where the keeper before left."""
+        self.number, self.octets = kept['number'], kept['octets']
+        self.run = Run.taken_up(kept['run'])
+        self.version = self.run.version
+        self.phase, self.was_up, self.up = Phase.UP, True, time.monotonic()
+        self._say(Journal.NOTICE, f'the keeper was replaced; program {self.run.program.pid} goes on')
+        self.notify.ready(f'program {self.run.program.pid}')
+
+    # ---- the end ----
+
+    def _finish(self, status: int, why: str, state: str | None) -> None:
+        self.phase, self.status = Phase.OVER, status
+        self._say(Journal.ERROR if status else Journal.INFO, f'ends: {why}, behind octet {self.octets}')
+        if self.asked.state and state:
+            try:
+                store(state, self.asked.state)
+            except OSError as fault:
+                self._say(Journal.ERROR, f'the state is not saved: {fault}')
+                self.status = 1
+        self.retired.add(self.run)

@@ -1,0 +1,139 @@
+"""Keeps an E1 trunk in service: runs `e1gw trunk` on a device, and begins it again, with all calls up, whatever ends.
+
+The program carries the octets by itself. Its shadow, `e1gw replay` over all that the program takes, is in the same
+state. If the program dies the shadow saves that state and another program goes on with it, at most 20 ms later on a
+machine that is not busy. A reload (SIGHUP) takes the program and the configuration of now, and loses no octet.
+
+Signals: SIGHUP reload; SIGUSR2 another keeper in place of this one; SIGTERM, SIGINT end.
+Statuses: 0 ended as asked, or with the trunk's input; 1 the trunk or the program failed; 2 the command line or the
+configuration.
+"""
+from __future__ import annotations
+
+import argparse
+import json
+import os
+import shutil
+import subprocess
+import sys
+from typing import Callable, NoReturn
+
+from .faults import Parser, number, options_words, words_of_fault
+from .gateway import ConfigRefused, check_config
+from .keeper import KEPT, Asked, Keeper
+from .outlets import Journal, hold_descriptors
+from .places import folder_of, is_taken
+from .programs import SENDERS, program_of, senders_of
+from .systemd import Notify
+from .trunks import Stream, host_and_port, open_files, open_tcp, open_unix
+
+
+class Usage(Exception):
+    """What is wrong with the command line."""
+
+
+def parser() -> argparse.ArgumentParser:
+    """The options."""
+    about, _, rest = (__doc__ or '').partition('\n\n')
+    words = Parser(prog='e1gw-keep', description=f'{about}\n\n{rest}',
+                   formatter_class=argparse.RawDescriptionHelpFormatter)
+    words.add_argument('--config', metavar='FILE', required=True, help='the configuration, e1gw.toml(5)')
+    words.add_argument('--program', metavar='E1GW', help='the program [default: that of this repository, or e1gw]')
+    words.add_argument('--in', dest='input', metavar='FILE', help='a device, file or FIFO to read the trunk from')
+    words.add_argument('--out', metavar='FILE', help='one to write the trunk to, opened after --in; may be the same')
+    words.add_argument('--unix', metavar='PATH', help='a Unix stream socket to connect to, in place of the two')
+    words.add_argument('--tcp', metavar='HOST:PORT', help='a TCP socket to connect to, in place of the two')
+    words.add_argument('--control', metavar='SOCKET', help='a Unix socket for commands, e1gw(1)')
+    words.add_argument('--state', metavar='FILE', help='the state is saved there at the end, and loaded at the start '
+                       'if it is there')
+    words.add_argument('--folder', metavar='DIR', help='where tapes and states are, in memory [default: '
+                       'RUNTIME_DIRECTORY, or /dev/shm]')
+    words.add_argument('--senders', choices=('any', 'host', 'peer'), help='whose datagrams are received, e1gw(1) '
+                       '[default: host if each peer_host is an address, else any]')
+    words.add_argument('--repeat', type=number(0, 8), default=0, metavar='N',
+                       help='sends each datagram again behind the N-th after it, 0 to 8 [default: 0, never]')
+    return words
+
+
+def trunk_of(asked: argparse.Namespace) -> Callable[[], Stream]:
+    """What opens the trunk that was asked for."""
+    if bool(asked.input) + bool(asked.out) == 1 or sum(map(bool, (asked.unix, asked.tcp, asked.input))) != 1:
+        raise Usage('a trunk is --in and --out, or --unix, or --tcp')
+    if asked.tcp:
+        try:
+            host, port = host_and_port(asked.tcp)
+        except ValueError as fault:
+            raise Usage(str(fault)) from None
+        return lambda: open_tcp(host, port)
+    return (lambda: open_unix(asked.unix)) if asked.unix else (lambda: open_files(asked.input, asked.out))
+
+
+def program_words(asked: argparse.Namespace, config: str) -> list[str]:
+    """The options that the program gets."""
+    return ['--senders', asked.senders or senders_of(config)] + ['--repeat', str(asked.repeat)] * (asked.repeat > 0)
+
+
+def _asked_of(words: argparse.Namespace, folder: str) -> Asked:
+    program = shutil.which(program_of(words.program)) or program_of(words.program)
+    return Asked(os.path.abspath(program), words.config, lambda config: program_words(words, config), words.control,
+                 words.state, folder)
+
+
+def _start(words: argparse.Namespace, journal: Journal) -> Keeper:
+    """A keeper that has opened its trunk and begun."""
+    opens = trunk_of(words)
+    asked = _asked_of(words, '')
+    check_config(asked.program, words.config)
+    if words.control and is_taken(words.control):
+        raise Usage(f'--control {words.control}: somebody listens there, or something else has this name')
+    journal.line(Journal.INFO, SENDERS[program_words(words, words.config)[1]])
+    trunk = opens()
+    asked.folder = folder_of(words.folder)
+    keeper = Keeper(asked, journal, Notify(), (trunk.reads, trunk.writes))
+    state = None
+    if words.state and os.path.exists(words.state):
+        state = os.path.join(asked.folder, 'loaded')
+        shutil.copyfile(words.state, state)
+    keeper.start(state)
+    return keeper
+
+
+def _take_up(words: argparse.Namespace, journal: Journal, kept: str) -> Keeper:
+    """The keeper that goes on where the one before it left."""
+    found = json.loads(kept)
+    for file in found['trunk']:
+        os.set_inheritable(file, False)
+    keeper = Keeper(_asked_of(words, found['folder']), journal, Notify(), (found['trunk'][0], found['trunk'][1]))
+    keeper.take_up(found)
+    return keeper
+
+
+def _keep(words: list[str], journal: Journal) -> int:
+    kept = os.environ.pop(KEPT, None)
+    asked = parser().parse_args(words)
+    keeper = _take_up(asked, journal, kept) if kept else _start(asked, journal)
+    try:
+        return keeper.work()
+    finally:
+        shutil.rmtree(keeper.asked.folder, ignore_errors=True)
+
+
+def main(words: list[str] | None = None) -> NoReturn:
+    hold_descriptors()
+    sys.setswitchinterval(0.001)
+    journal = Journal(name='e1gw-keep')
+    status = 2
+    try:
+        status = _keep(sys.argv[1:] if words is None else words, journal)
+    except Usage as fault:
+        journal.line(Journal.ERROR, f'{fault}; see e1gw-keep --help{options_words()}')
+    except ConfigRefused as fault:
+        from .explain import config_words
+        journal.line(Journal.ERROR, str(fault))
+        if why := config_words(parser().parse_args(words).config):
+            journal.line(Journal.ERROR, why)
+    except (OSError, subprocess.CalledProcessError) as fault:
+        journal.line(Journal.ERROR, words_of_fault(fault))
+    journal.close()
+    # A thread may still wait for who reads standard error; nothing waits for it.
+    os._exit(status)

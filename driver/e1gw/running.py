@@ -1,0 +1,324 @@
+"""One run of `e1gw trunk` on a trunk's descriptors, and its shadow: `e1gw replay` over the tape of that run.
+
+The two are joined by a FIFO that the kernel alone carries. By theorem the shadow is in the state of the program, so
+what it saves when the tape ends is what another program goes on with."""
+from __future__ import annotations
+
+import fcntl
+import os
+import shutil
+import signal
+import socket
+import sys
+import termios
+from dataclasses import asdict, dataclass
+from typing import Any, Mapping, Sequence
+
+from .session import Kind, spell
+
+TAPE_ROOM = 1 << 20         # octets: two seconds of thirty calls
+STATE_ROOM = 1 << 18        # of a pipe that gives a state, which has some 220,000 at most
+END = spell(0x45, 0, b'')   # asks for the end of the session
+# Another codec whose payload type none may have: it is refused, changes nothing, and its answer says that all runs.
+HELLO = spell(Kind.CODEC, 1, b'\1\1')
+TOTALS = ('records', 'octets', 'datagrams', 'dropped', 'port_faults')
+STATE_FILE = 3              # the descriptor at which a program that waits is given its state
+
+
+class Process:
+    """A child: its number, and a descriptor that is readable once it has ended."""
+
+    def __init__(self, pid: int) -> None:
+        self.pid, self.file = pid, os.pidfd_open(pid)
+        self.status: int | None = None      # negative for a signal
+
+    def ended(self) -> bool:
+        """Whether it has ended; its status is known then."""
+        if self.status is None and (found := os.waitid(os.P_PIDFD, self.file, os.WEXITED | os.WNOHANG)):
+            self.status = found.si_status if found.si_code == os.CLD_EXITED else -found.si_status
+        return self.status is not None
+
+    def stopped(self) -> bool:
+        """Whether a signal has stopped it since this was last asked."""
+        return self.status is None and os.waitid(os.P_PIDFD, self.file, os.WSTOPPED | os.WNOHANG) is not None
+
+    def signal(self, number: int) -> None:
+        if self.status is None:
+            os.kill(self.pid, number)       # not waited for yet, so the number is its own
+
+    def words(self) -> str:
+        """How it ended."""
+        assert self.status is not None
+        if self.status >= 0:
+            return f'ended with status {self.status}'
+        return f'ended by signal {-self.status} ({signal.Signals(-self.status).name})'
+
+    def kill(self) -> None:
+        """Ends it, and waits until it has."""
+        while not self.ended():
+            self.signal(signal.SIGKILL)
+            os.waitid(os.P_PIDFD, self.file, os.WEXITED | os.WNOWAIT)
+
+    def close(self) -> None:
+        if self.file >= 0:
+            os.close(self.file)
+            self.file = -1
+
+
+@dataclass(frozen=True)
+class Version:
+    """A program and a configuration as they were at one moment: later changes of their files change neither."""
+
+    program: str
+    file: int               # a descriptor of the program
+    config: str             # a copy
+    words: list[str]        # further options of e1gw trunk
+
+    def path(self) -> str:
+        """What is executed: the file, as long as it is the same one."""
+        try:
+            if os.path.samestat(os.stat(self.program), os.fstat(self.file)):
+                return self.program
+        except OSError:
+            pass
+        return f'/proc/self/fd/{self.file}'
+
+    def spawn(self, words: Sequence[str], files: Mapping[int, int]) -> Process:
+        """Starts the program with these words."""
+        return spawn(self.path(), [self.program, *words], files)
+
+    def close(self) -> None:
+        os.close(self.file)
+        unlink(self.config)
+
+
+def spawn(path: str, words: Sequence[str], files: Mapping[int, int]) -> Process:
+    """Starts a process. `files` says which descriptor of the keeper becomes which of it; it has no others."""
+    moves = [(os.POSIX_SPAWN_DUP2, ours, theirs) for theirs, ours in sorted(files.items())]
+    return Process(os.posix_spawn(path, list(words), os.environ, file_actions=moves, setsid=True, setsigmask=[]))
+
+
+def open_version(program: str, config: str, words: Sequence[str], copy: str) -> Version:
+    """The program and the configuration of now; the configuration is copied."""
+    file = os.open(program, os.O_RDONLY)
+    try:
+        shutil.copyfile(config, copy)
+        # (above the descriptors that a program is given)
+        return Version(program, fcntl.fcntl(file, fcntl.F_DUPFD_CLOEXEC, STATE_FILE + 1), copy, list(words))
+    finally:
+        os.close(file)
+
+
+class Run:
+    """A program and its shadow. `folder` is their own; `control` is where the program listens. It begins with the state
+    of a file, or with none. One that `waits` has read the configuration, and touches the trunk once `give` has given
+    it a state."""
+
+    def __init__(self, folder: str, control: str, version: Version, trunk: tuple[int, int], state: str | None,
+                 waits: bool) -> None:
+        self.folder, self.control, self.version = folder, control, version
+        self.tape = self._state = -1
+        self._hello: socket.socket | None = None
+        self.is_up = False
+        self._said = 0                      # lines of the program that were told
+        self.shadow: Process | None = None
+        os.mkdir(folder, 0o700)
+        self.state = self._own(state)       # the file of the state that it begins with
+        self._open_tape()
+        files = dict(enumerate(trunk))
+        words = ['trunk', '--config', version.config, '--control', control, '--record', self.path('tape'),
+                 '--save', self.path('saved'), '--totals', *version.words]
+        if waits:
+            files[STATE_FILE], self._state = os.pipe()
+            _widen(self._state, STATE_ROOM)
+        if waits or self.state:
+            words += ['--load', f'/dev/fd/{STATE_FILE}' if waits else str(self.state)]
+        try:
+            self.program = self._spawn(words, files, 'program')
+        finally:
+            if waits:
+                os.close(files[STATE_FILE])
+
+    def _own(self, state: str | None) -> str | None:
+        """Takes a state into its folder."""
+        if state:
+            os.replace(state, self.path('begun'))
+        return self.path('begun') if state else None
+
+    def _open_tape(self) -> None:
+        os.mkfifo(self.path('tape'), 0o600)
+        self.tape = os.open(self.path('tape'), os.O_RDONLY | os.O_NONBLOCK)     # before who writes to it
+        os.set_blocking(self.tape, True)
+        _widen(self.tape, TAPE_ROOM)
+
+    def _spawn(self, words: Sequence[str], files: dict[int, int], name: str) -> Process:
+        told = os.open(self.path(name), os.O_WRONLY | os.O_CREAT | os.O_APPEND, 0o600)
+        try:
+            return self.version.spawn(words, {**files, 2: told})
+        finally:
+            os.close(told)
+
+    def path(self, name: str) -> str:
+        return os.path.join(self.folder, name)
+
+    def give(self, state: str) -> bool:
+        """Gives a run that waits the state of this file, and returns whether it was taken whole."""
+        self.state = self.path('begun')
+        self._own(state)
+        with open(self.state, 'rb') as file:
+            octets = file.read()
+        os.set_blocking(self._state, False)
+        try:
+            taken = os.write(self._state, octets)
+        except (BlockingIOError, BrokenPipeError):
+            taken = 0
+        os.close(self._state)
+        self._state = -1
+        return taken == len(octets)
+
+    def connected(self) -> bool:
+        """Whether the program listens. From then on a place among its clients is the keeper's."""
+        if self._hello is None:
+            line = socket.socket(socket.AF_UNIX)
+            line.setblocking(False)
+            try:
+                line.connect(self.control)
+                line.send(HELLO)
+            except OSError:
+                line.close()
+                return False
+            self._hello = line
+        return True
+
+    def answers(self) -> bool:
+        """Whether the program carries the trunk: it has answered."""
+        if not self.is_up and self.connected():
+            assert self._hello
+            try:
+                self.is_up = len(self._hello.recv(len(HELLO))) > 0
+            except OSError:
+                pass
+        return self.is_up
+
+    def hello(self) -> int:
+        """What is readable when it answers."""
+        return self._hello.fileno() if self._hello and not self.is_up else -1
+
+    def follow(self) -> Process:
+        """Starts the shadow."""
+        words = ['replay', '--config', self.version.config, '--save', self.path('followed'), '--totals']
+        words += ['--load', self.state] if self.state else []
+        nowhere = os.open(os.devnull, os.O_WRONLY)
+        try:
+            self.shadow = self._spawn(words, {0: self.tape, 1: nowhere}, 'shadow')
+            return self.shadow
+        finally:
+            os.close(nowhere)
+
+    def saved(self) -> str | None:
+        """The file of the state that the program saved at its end, if it did."""
+        return self.path('saved') if os.path.exists(self.path('saved')) else None
+
+    def followed(self) -> str | None:
+        """The file of the state that the shadow saved at its end, if it did."""
+        path = self.path('followed')
+        return path if self.shadow and self.shadow.status == 0 and os.path.exists(path) else None
+
+    def ask_end(self) -> None:
+        """Asks the program to end behind what it has read."""
+        assert self._hello
+        try:
+            self._hello.send(END)
+        except OSError:
+            self.program.signal(signal.SIGKILL)
+
+    def is_behind(self) -> bool:
+        """Whether half of the tape's room waits for the shadow."""
+        waiting = int.from_bytes(fcntl.ioctl(self.tape, termios.FIONREAD, bytes(4)), sys.byteorder)
+        return 2 * waiting > fcntl.fcntl(self.tape, fcntl.F_GETPIPE_SZ)
+
+    def _lines(self, name: str) -> list[tuple[str, str]]:
+        """What the program or the shadow has said, each line as its first word and the rest."""
+        with open(self.path(name), encoding='utf-8', errors='replace') as file:
+            return [(word, rest) for word, _, rest in (line.partition(' ') for line in file.read().splitlines())]
+
+    def says(self) -> list[str]:
+        """What the program has said since this was last asked, its totals left out."""
+        lines = self._told('program')
+        new, self._said = lines[self._said:], len(lines)
+        return new
+
+    def _told(self, name: str) -> list[str]:
+        return [f'{word} {rest}' for word, rest in self._lines(name) if word not in TOTALS]
+
+    def last_words(self) -> str:
+        """How the program ended: what it has said, or its status."""
+        said = '; '.join(self.says())
+        return f'says: {said}' if said else self.program.words()
+
+    def shadow_words(self) -> str:
+        """How the shadow ended."""
+        assert self.shadow
+        said = '; '.join(self._told('shadow'))
+        return f'says: {said}' if said else self.shadow.words()
+
+    def octets(self, name: str) -> int:
+        """How many octets of the trunk the program or the shadow took, once it has ended."""
+        return sum(int(rest) for word, rest in self._lines(name) if word == 'octets')
+
+    def close(self) -> None:
+        """Gives back what the keeper holds of it, but for processes that go on."""
+        for file in (self.tape, self._state):
+            if file >= 0:
+                os.close(file)
+        self.tape = self._state = -1
+        if self._hello:
+            self._hello.close()
+        self.program.close()
+
+    def remove(self) -> None:
+        """Takes its files away."""
+        if self.shadow:
+            self.shadow.close()
+        shutil.rmtree(self.folder, ignore_errors=True)
+        unlink(self.control)
+
+    # ---- through an exec of the keeper ----
+
+    def kept(self) -> dict[str, Any]:
+        """A run that is up, as plain values. Its descriptors outlive an exec from now on."""
+        assert self._hello and self.shadow
+        hello = self._hello.fileno()
+        for file in (self.tape, hello, self.version.file):
+            os.set_inheritable(file, True)
+        return {'folder': self.folder, 'control': self.control, 'version': asdict(self.version), 'tape': self.tape,
+                'hello': hello, 'state': self.state, 'program': self.program.pid, 'shadow': self.shadow.pid,
+                'said': self._said}
+
+    @classmethod
+    def taken_up(cls, kept: Mapping[str, Any]) -> Run:
+        """The run that was kept through an exec."""
+        run = cls.__new__(cls)
+        run.folder, run.control, run.version = kept['folder'], kept['control'], Version(**kept['version'])
+        run.tape, run.state, run._state, run.is_up, run._said = kept['tape'], kept['state'], -1, True, kept['said']
+        run.program, run.shadow = Process(kept['program']), Process(kept['shadow'])
+        for file in (run.tape, kept['hello'], run.version.file):
+            os.set_inheritable(file, False)
+        run._hello = socket.socket(fileno=kept['hello'])
+        return run
+
+
+def _widen(file: int, room: int) -> None:
+    """Gives a pipe room, as far as the kernel lets it."""
+    try:
+        fcntl.fcntl(file, fcntl.F_SETPIPE_SZ, room)
+    except OSError:
+        pass
+
+
+def unlink(path: str) -> None:
+    """Takes a file away, if it is there."""
+    try:
+        os.unlink(path)
+    except OSError:
+        pass

@@ -1,0 +1,548 @@
+"""A trunk behind its keeper: its program and its shadow are killed, stopped and replaced with calls up.
+
+It goes in lock step, in records of one multiframe: the exchange waits for what comes back, or for the keeper to say
+that another program goes on. What it hears is what one uncut replay of all records gives."""
+from __future__ import annotations
+
+import contextlib
+import fcntl
+import os
+import random
+import re
+import select
+import signal
+import socket
+import subprocess
+import sys
+import tempfile
+import termios
+import threading
+import time
+import unittest
+
+from . import support
+from .world import free_ports
+from e1gw.beside import DEATHS, MOST_PAUSE, WITHIN, Deaths
+from e1gw.running import HELLO
+from e1gw.session import MULTIFRAME, Command, Kind, command_record, packet_of, records_in, trunk_record
+from exchange import ACKNOWLEDGED, ANSWERED, SEIZED
+
+LAUNCHER = os.path.join(support.TOP, 'driver', 'e1gw-keep')
+SECONDS = 60
+CIRCUITS = range(1, 31)
+GOES_ON = re.compile(r'program (\d+) (?:goes on|carries)(.*?); shadow (\d+)')
+
+
+class Device:
+    """A Unix socket that the keeper opens as its trunk, and the exchange at the other end of it."""
+
+    def __init__(self, folder: str) -> None:
+        self.path = os.path.join(folder, 'card')
+        self.door = socket.socket(socket.AF_UNIX)
+        self.door.bind(self.path)
+        self.door.listen(1)
+        self.door.settimeout(SECONDS)
+        self.exchange = support.Exchange()
+        self.speech = random.Random(5)
+        self.line = self.door
+
+    def accept(self) -> None:
+        self.line = self.door.accept()[0]
+        self.line.settimeout(SECONDS)
+
+    def multiframe(self) -> bytes:
+        """The next one, with speech in each circuit."""
+        for circuit in CIRCUITS:
+            self.exchange.speech[circuit] = bytearray(self.speech.randbytes(16))
+        return self.exchange.multiframe()
+
+    def read(self, length: int) -> bytes:
+        got, until = b'', time.monotonic() + SECONDS
+        while len(got) < length:
+            if not select.select([self.line], [], [], 1.0)[0]:
+                self._knock(until)
+                continue
+            piece = self.line.recv(length - len(got))
+            if not piece:
+                raise EOFError
+            got += piece
+        return got
+
+    def _knock(self, until: float) -> None:
+        """A client wakes the program. (Octets that come while it looks for clients are read when more come, which in
+        lock step they do not.)"""
+        if time.monotonic() > until:
+            raise TimeoutError
+        with socket.socket(socket.AF_UNIX) as line, contextlib.suppress(OSError):
+            line.connect(os.path.join(os.path.dirname(self.path), 'control'))
+
+    def all_read(self) -> None:
+        """Returns once the other end has read all that was sent."""
+        until = time.monotonic() + SECONDS
+        while int.from_bytes(fcntl.ioctl(self.line, termios.TIOCOUTQ, bytes(4)), sys.byteorder):
+            if time.monotonic() > until:
+                raise AssertionError('the device is not read')
+            time.sleep(0.001)
+
+    def close(self) -> None:
+        self.line.close()
+        self.door.close()
+
+
+class Peers:
+    """Where the packets of all circuits go: one socket, which knows a circuit by the port that it sends from."""
+
+    def __init__(self) -> None:
+        self.socket = socket.socket(socket.AF_INET, socket.SOCK_DGRAM)
+        self.socket.setsockopt(socket.SOL_SOCKET, socket.SO_RCVBUF, 8 << 20)
+        self.socket.bind(('127.0.0.1', 0))
+        self.socket.setblocking(False)
+        self.circuits = {port: circuit for circuit, port in zip(CIRCUITS, free_ports(30))}
+        self.packets: dict[int, list[bytes]] = {circuit: [] for circuit in CIRCUITS}
+
+    def config(self, **of_seven: int) -> str:
+        """Odd circuits are incoming, even ones outgoing. Circuit 7 has these keys beside."""
+        text, peer = 'law = "A"\n', self.socket.getsockname()[1]
+        for port, circuit in self.circuits.items():
+            keys = {'number': circuit, 'role': f'"{"incoming" if circuit % 2 else "outgoing"}"', 'local_port': port,
+                    'peer_port': peer, **(of_seven if circuit == 7 else {})}
+            text += '[[circuit]]\n' + ''.join(f'{key} = {value}\n' for key, value in keys.items())
+        return text
+
+    def take(self) -> None:
+        while True:
+            try:
+                datagram, (_, port) = self.socket.recvfrom(65_536)
+            except BlockingIOError:
+                return
+            self.packets[self.circuits[port]].append(datagram)
+
+
+class Kept(support.Folder):
+    """A keeper with a device, thirty calls, and what was given and heard."""
+
+    def setUp(self) -> None:
+        support.program()
+        super().setUp()
+        self.chance = random.Random(self.id())
+        self.device, self.peers = Device(self.folder), Peers()
+        self.addCleanup(self.device.close)
+        self.addCleanup(self.peers.socket.close)
+        self.config = self.write('trunk.toml', self.peers.config())
+        self.given: list[bytes] = []            # what the gateway was given, in the order in which it took it
+        self.heard: list[bytes | None] = []     # the answer to each record of the trunk, or None where it is lost
+        self.told_from = 0
+        self.program = self.shadow = 0
+
+    def starts(self, *options: str, **around: str) -> None:
+        """Starts a keeper, which opens the device."""
+        told = open(self.path('told'), 'ab')
+        self.addCleanup(told.close)
+        memory = tempfile.TemporaryDirectory(dir='/dev/shm' if os.path.isdir('/dev/shm') else None)
+        self.addCleanup(memory.cleanup)
+        words = [sys.executable, '-B', LAUNCHER, '--program', support.program(), '--config', self.config, '--unix',
+                 self.device.path, '--control', self.path('control'), '--folder', memory.name, *options]
+        self.keeper = subprocess.Popen(words, stderr=told, stdin=subprocess.DEVNULL, env={**os.environ, **around})
+        self.addCleanup(self._end)
+        self.device.accept()
+        self.goes_on()
+
+    def _end(self) -> None:
+        """Ends what a failed test leaves."""
+        if self.keeper.poll() is None:
+            self.keeper.terminate()
+            try:
+                self.keeper.wait(5)
+            except subprocess.TimeoutExpired:
+                self.keeper.kill()
+                self.keeper.wait()
+                for pid in (self.program, self.shadow):
+                    with contextlib.suppress(ProcessLookupError):
+                        os.kill(pid, signal.SIGKILL)
+
+    # ---- what the keeper says ----
+
+    def told(self) -> str:
+        with open(self.path('told'), encoding='utf-8') as file:
+            return file.read()
+
+    def awaits(self, pattern: str | re.Pattern[str]) -> re.Match[str]:
+        """What the keeper says next that is so."""
+        until = time.monotonic() + SECONDS
+        while not (found := re.compile(pattern).search(self.told(), self.told_from)):
+            if time.monotonic() > until or self.keeper.poll() is not None:
+                raise AssertionError(f'not said: {pattern}\n{self.told()}')
+            time.sleep(0.002)
+        self.told_from = found.end()
+        return found
+
+    def goes_on(self) -> str:
+        """Waits for the next program. What is said of it."""
+        found = self.awaits(GOES_ON)
+        self.program, self.shadow = int(found[1]), int(found[3])
+        return found[2]
+
+    # ---- the trunk ----
+
+    def step(self, count: int = 1) -> None:
+        """Multiframes to and fro."""
+        for _ in range(count):
+            self.take(self.send())
+
+    def send(self, count: int = 1) -> int:
+        """Sends multiframes that are not waited for yet."""
+        for _ in range(count):
+            octets = self.device.multiframe()
+            self.device.line.sendall(octets)
+            self.given.append(trunk_record(octets))
+        return count
+
+    def take(self, count: int) -> None:
+        """Takes the answers to so many."""
+        for _ in range(count):
+            back = self.device.read(MULTIFRAME)
+            self.heard.append(back)
+            self.device.exchange.hear(back)
+            self.peers.take()
+
+    def client(self) -> socket.socket:
+        line = socket.socket(socket.AF_UNIX)
+        line.settimeout(SECONDS)
+        line.connect(self.path('control'))
+        return line
+
+    def commands(self, circuits: range, command: Command) -> None:
+        """Gives a command to each of these circuits, and sees it done."""
+        with self.client() as line:
+            for circuit in circuits:
+                self.given.append(command_record(circuit, command))
+                line.sendall(self.given[-1])
+                self.assertEqual(line.recv(6)[4:], bytes([Kind.COMMAND, 0]), (circuit, command))
+
+    def calls(self) -> None:
+        """Thirty calls: the exchange seizes the odd circuits, the operator the even ones."""
+        pairs = self.device.exchange.pairs
+        self.step(40)
+        pairs.update((circuit, SEIZED) for circuit in CIRCUITS if circuit % 2)
+        self.commands(CIRCUITS[1::2], Command.SEIZE)
+        self.step(20)
+        pairs.update((circuit, ACKNOWLEDGED) for circuit in CIRCUITS[1::2])
+        self.commands(CIRCUITS[::2], Command.ANSWER)
+        self.step(20)
+        pairs.update((circuit, ANSWERED) for circuit in CIRCUITS[1::2])
+        self.step(20)
+        self.assertEqual(self.device.exchange.signals, self.up())
+
+    def up(self) -> dict[int, int]:
+        """The signals of thirty calls."""
+        return {circuit: ANSWERED if circuit % 2 else SEIZED for circuit in CIRCUITS}
+
+    # ---- what must hold ----
+
+    def uncut(self) -> tuple[list[bytes], dict[int, list[bytes]]]:
+        """What one replay of all that was given answers: records of the trunk, and packets by circuit."""
+        octets: list[bytes] = []
+        packets: dict[int, list[bytes]] = {circuit: [] for circuit in CIRCUITS}
+        for record in records_in(support.run('replay', '--config', self.config, given=b''.join(self.given))):
+            if record.kind is Kind.TRUNK:
+                octets.append(record.body)
+            elif record.kind is Kind.DATAGRAM:
+                packets[record.circuit].append(record.body)
+        return octets, packets
+
+    def as_uncut(self) -> None:
+        """All that was heard and received is what the uncut session gives, but for what is lost; all calls are up."""
+        octets, packets = self.uncut()
+        self.assertEqual(len(octets), len(self.heard))
+        for place, (mine, its) in enumerate(zip(self.heard, octets)):
+            if mine is not None:
+                self.assertEqual(mine, its, f'record {place}')
+        lost = self.heard.count(None)
+        self.peers.take()
+        for circuit in CIRCUITS:
+            mine, its = self.peers.packets[circuit], packets[circuit]
+            self.assertLessEqual(len(its) - len(mine), lost)
+            self.assertEqual(mine, [packet for packet in its if packet in set(mine)], f'circuit {circuit}')
+            numbers = [packet_of(packet).sequence for packet in its]
+            self.assertEqual(numbers, list(range(numbers[0], numbers[0] + len(numbers))))
+        self.assertEqual(self.device.exchange.signals, self.up())
+        self.assertFalse(self.device.exchange.remote_alarms)
+
+    def ends(self) -> None:
+        self.keeper.terminate()
+        self.assertEqual(self.keeper.wait(SECONDS), 0, self.told())
+        self.assertFalse(os.path.lexists(self.path('control')))
+
+
+class Failures(Kept):
+    """What happens to the program and its shadow."""
+
+    def killed(self, number: int) -> None:
+        """The program is sent a signal at any moment behind a record, and another one goes on."""
+        before = sum(len(record.body) for record in records_in(b''.join(self.given)) if record.kind is Kind.TRUNK)
+        self.send()
+        for _ in range(self.chance.randrange(0, 400)):
+            pass
+        os.kill(self.program, number)
+        said = self.goes_on()
+        self.assertIn('octets (8 ms) at most', said)
+        taken = int(said.split('behind octet ')[1].split(',')[0])
+        self.assertIn(taken, (before, before + MULTIFRAME))
+        back = self.settled()
+        self.assertIn(len(back), (0, MULTIFRAME))
+        if back:
+            self.heard.append(back)
+            self.device.exchange.hear(back)
+        elif taken == before:
+            self.given.pop()            # it was read and never known
+        else:
+            self.heard.append(None)     # it was known, and its answer is lost
+
+    def settled(self) -> bytes:
+        """What has come back, once all that was sent is read and answered: a client's answer comes behind that."""
+        self.device.all_read()
+        with self.client() as line:
+            line.sendall(HELLO)
+            self.assertEqual(len(line.recv(6)), 6)
+        self.device.line.setblocking(False)
+        try:
+            return self.device.line.recv(65_536)
+        except BlockingIOError:
+            return b''
+        finally:
+            self.device.line.settimeout(SECONDS)
+
+    def test_program_killed(self) -> None:
+        self.starts()
+        self.calls()
+        for _ in range(3):
+            for _ in range(DEATHS - 1):
+                self.killed(signal.SIGKILL)
+                self.step(self.chance.randrange(1, 60))
+            time.sleep(WITHIN)          # one more in this time is taken for a state that does harm
+        self.as_uncut()
+        self.ends()
+
+    def test_program_ended_and_stopped(self) -> None:
+        self.starts()
+        self.calls()
+        for number in (signal.SIGTERM, signal.SIGSEGV, signal.SIGSTOP):
+            self.killed(number)
+            self.step(self.chance.randrange(1, 60))
+        self.as_uncut()
+
+    def test_shadow(self) -> None:
+        """Its death, and that it stands still, lose nothing."""
+        self.starts()
+        self.calls()
+        for number in (signal.SIGKILL, signal.SIGSTOP, signal.SIGTERM):
+            waiting = self.send(2)
+            os.kill(self.shadow, number)
+            waiting += self.send(2)
+            self.take(waiting)
+            self.assertIn('goes on', 'goes on' + self.goes_on())
+            self.step(self.chance.randrange(1, 60))
+        self.assertNotIn('at most', self.told())
+        self.as_uncut()
+
+    def test_both(self) -> None:
+        """If both are killed no state is known: the calls end, the trunk does not."""
+        self.starts()
+        self.calls()
+        os.kill(self.shadow, signal.SIGSTOP)
+        os.kill(self.shadow, signal.SIGKILL)
+        os.kill(self.program, signal.SIGKILL)
+        self.awaits('no state is known|the shadow ended')
+        if 'no state is known' in self.told():
+            self.assertIn('all calls begin anew', self.goes_on())
+        self.ends()
+
+
+class Handovers(Kept):
+    """What an operator asks for."""
+
+    def test_reload(self) -> None:
+        self.starts()
+        self.calls()
+        for _ in range(3):
+            waiting, before = self.send(2), self.program
+            self.keeper.send_signal(signal.SIGHUP)
+            waiting += self.send(2)
+            self.take(waiting)
+            self.goes_on()
+            self.assertNotEqual(self.program, before)
+            self.step(self.chance.randrange(1, 60))
+        self.assertNotIn('at most', self.told())
+        self.as_uncut()
+        self.ends()
+
+    def test_configurations(self) -> None:
+        """One that is none, and one with another circuit 7: all others go on."""
+        self.starts()
+        self.calls()
+        program = self.program
+        with open(self.config, encoding='ascii') as file:
+            right = file.read()
+        self.write('trunk.toml', right + 'x = 1\n')
+        self.keeper.send_signal(signal.SIGHUP)
+        self.awaits('reload: refused.*config 2 UnknownKey at 30: .*trunk.toml')
+        self.step(10)
+        os.kill(program, 0)
+        self.write('trunk.toml', self.peers.config(prefill=400))
+        self.keeper.send_signal(signal.SIGHUP)
+        self.awaits('reload: (refused.* at 7|program)')
+        self.step(60)
+        for circuit, pair in self.up().items():
+            if circuit != 7:
+                self.assertEqual(self.device.exchange.signals[circuit], pair, circuit)
+        self.write('trunk.toml', right)
+
+    def test_keeper_replaced(self) -> None:
+        """Another keeper in its place holds what it held."""
+        self.starts()
+        self.calls()
+        program = self.program
+        for _ in range(2):
+            waiting = self.send(2)
+            self.keeper.send_signal(signal.SIGUSR2)
+            self.awaits('the keeper was replaced')
+            self.take(waiting + self.send(2))
+            self.step(20)
+        os.kill(program, 0)
+        os.kill(self.shadow, signal.SIGKILL)
+        self.goes_on()
+        self.step(30)
+        self.keeper.send_signal(signal.SIGHUP)
+        self.goes_on()
+        self.step(30)
+        self.as_uncut()
+        self.ends()
+
+    def test_end_and_start(self) -> None:
+        """Another keeper begins with the state that the first one left."""
+        self.starts('--state', self.path('state'))
+        self.calls()
+        for _ in range(2):
+            self.ends()
+            self.assertTrue(os.path.exists(self.path('state')))
+            self.device.line.close()
+            self.starts('--state', self.path('state'))
+            self.assertFalse(os.path.exists(self.path('state')))
+            self.step(40)
+        self.as_uncut()
+
+    def test_what_is_told_to_systemd(self) -> None:
+        told: list[str] = []
+        with socket.socket(socket.AF_UNIX, socket.SOCK_DGRAM) as systemd:
+            systemd.bind(self.path('notify'))
+            systemd.settimeout(SECONDS)
+
+            def hear() -> None:
+                while not told or told[-1] != 'STOPPING=1':
+                    told.extend(systemd.recv(4096).decode().split('\n'))
+            hears = threading.Thread(target=hear)
+            hears.start()
+            self.starts(NOTIFY_SOCKET=self.path('notify'), WATCHDOG_USEC='1000000')
+            self.step(20)
+            self.keeper.send_signal(signal.SIGHUP)
+            self.goes_on()
+            self.ends()
+            hears.join(SECONDS)
+        self.assertEqual([line for line in told if line in ('READY=1', 'RELOADING=1')],
+                         ['READY=1', 'RELOADING=1', 'READY=1'])
+        self.assertIn('WATCHDOG=1', told)
+
+
+class Fifos(support.Folder):
+    """A trunk that is a pair of FIFOs, without a control socket."""
+
+    def read(self, name: str) -> str:
+        with open(self.path(name), encoding='utf-8') as file:
+            return file.read()
+
+    def test_goes_on(self) -> None:
+        support.program()
+        config = self.write('trunk.toml', 'law = "A"\n')
+        for name in ('in', 'out'):
+            os.mkfifo(self.path(name))
+        told = open(self.path('told'), 'wb')
+        self.addCleanup(told.close)
+        keeper = subprocess.Popen([sys.executable, '-B', LAUNCHER, '--program', support.program(), '--config', config,
+                                   '--in', self.path('in'), '--out', self.path('out')], stderr=told)
+        self.addCleanup(keeper.wait)
+        self.addCleanup(keeper.terminate)
+        with open(self.path('in'), 'wb', buffering=0) as into, open(self.path('out'), 'rb', buffering=0) as out:
+            exchange = support.Exchange()
+            for turn in range(3):
+                while len(found := GOES_ON.findall(self.read('told'))) <= turn:
+                    self.assertIsNone(keeper.poll())
+                    time.sleep(0.002)
+                for _ in range(30):
+                    into.write(exchange.multiframe())
+                    self.assertTrue(select.select([out], [], [], SECONDS)[0])
+                    exchange.hear(out.read(MULTIFRAME))
+                if turn == 0:
+                    os.kill(int(found[-1][0]), signal.SIGKILL)
+                elif turn == 1:
+                    keeper.send_signal(signal.SIGHUP)
+            self.assertFalse(exchange.remote_alarms)
+            into.close()
+            self.assertEqual(keeper.wait(SECONDS), 0)
+
+
+class Ends(Kept):
+    """How a keeper ends."""
+
+    def test_trunk_ends(self) -> None:
+        self.starts()
+        self.step(20)
+        self.device.line.shutdown(socket.SHUT_WR)
+        self.assertEqual(self.keeper.wait(SECONDS), 0)
+        self.assertIn(f'the trunk has ended, behind octet {20 * MULTIFRAME}', self.told())
+
+    def refused(self, *options: str) -> str:
+        """What a keeper says that refuses its command line or configuration."""
+        done = subprocess.run([sys.executable, '-B', LAUNCHER, '--program', support.program(), *options],
+                              stderr=subprocess.PIPE, stdin=subprocess.DEVNULL, timeout=SECONDS)
+        self.assertEqual(done.returncode, 2)
+        return done.stderr.decode()
+
+    def test_refusals(self) -> None:
+        unix = ('--unix', self.device.path)
+        self.assertIn('a trunk is', self.refused('--config', self.config))
+        self.assertIn('a trunk is', self.refused('--config', self.config, *unix, '--tcp', '127.0.0.1:7'))
+        self.assertIn('HOST:PORT', self.refused('--config', self.config, '--tcp', '7'))
+        self.assertIn('No such file', self.refused('--config', self.config, '--unix', self.path('none')))
+        other = self.write('other.toml', 'law = "B"\n')
+        self.assertIn('config 5 OutOfRange at 0', self.refused('--config', other, *unix))
+        self.assertIn('somebody listens', self.refused('--config', self.config, *unix, '--control', self.config))
+        self.assertIn('somebody listens', self.refused('--config', self.config, *unix, '--control', self.device.path))
+
+    def test_program_that_never_answers(self) -> None:
+        """A port that is taken: the circuit and the cause are told, and the status is 1."""
+        port = next(iter(self.peers.circuits))
+        with socket.socket(socket.AF_INET, socket.SOCK_DGRAM) as taken:
+            taken.bind(('127.0.0.1', port))
+            done = subprocess.run([sys.executable, '-B', LAUNCHER, '--program', support.program(), '--config',
+                                   self.config, '--unix', self.device.path], stderr=subprocess.PIPE, timeout=SECONDS)
+        self.assertEqual(done.returncode, 1)
+        self.assertIn('socket 1', done.stderr.decode())
+
+    def test_deaths(self) -> None:
+        """Five deaths in two seconds are too many; then there are pauses, up to ten seconds, until one has lived."""
+        deaths, now = Deaths(), 100.0
+        self.assertEqual([deaths.died(now + place * 0.1) for place in range(DEATHS)], [None] * (DEATHS - 1) + [0.0])
+        pauses, now = [0.0], now + 0.5
+        for _ in range(9):
+            pause = deaths.died(now)
+            assert pause is not None
+            pauses.append(pause)
+            now += pause + 0.01
+        self.assertEqual(pauses, [0.0, 0.5, 1.0, 2.0, 4.0, 8.0, *[MOST_PAUSE] * 4])
+        self.assertIsNone(deaths.died(now + 100))
+        slow = Deaths()
+        self.assertEqual([slow.died(place * 0.6) for place in range(20)], [None] * 20)
+
+
+if __name__ == '__main__':
+    unittest.main()
