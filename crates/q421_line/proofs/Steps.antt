@@ -69,7 +69,8 @@ stands-signal old role items heard recognition next state seized_for stands has_
     ∙ ap (λ s. next_by role s recognition.recognised) stands.state_is
     ∙ ap (λ p. next_by role before.state p) has_heard.recognised_is in
     let most : ℕ = before.released_after in
-    let same : after_count old.released_after pairs old.state next old.seized_for ≡ after_item role before (signal heard)
+    let same : after_count old.released_after pairs old.state next old.seized_for
+    ≡ after_item role before (signal heard)
     = ap (λ n. after_count n pairs old.state next old.seized_for) stands.released_after_is
     ∙ ap (λ s. after_count most pairs s next old.seized_for) stands.state_is
     ∙ ap (λ s. after_count most pairs before.state s old.seized_for) next_is

@@ -55,7 +55,8 @@ SeizuresAreReleasedByTheHundredth = (role : Role) (items : List Item) (signals :
 -- a wait changes nothing of a line's signalling but when a seizure is released
 abbrev pub WaitsChangeNothingElse : Type 0
 WaitsChangeNothingElse = (role : Role) (items : List Item) (signals : ℕ)
-    → signalling role (items ++ wait signals ∷ []) ≡ record (signalling role items) { released_after = signals }
+    → signalling role (items ++ wait signals ∷ [])
+    ≡ record (signalling role items) { released_after = signals }
 
 -- what is sent in a state is four bits
 abbrev pub SentPairsFit : Type 0
