@@ -91,8 +91,8 @@ ByGateway a a' told load asks does = NotBegun a.source a'.source a.sink a'.sink 
 -- that is asked for
 abbrev pub DoesSession : Option (List ℕ) → Option (List ℕ) → (Option ℕ → Type 0) → Session
     → Result Totals Trouble → Type 0
-DoesSession load save asks session told = OnNewStreams (λ a a'. ByGateway a a' told load asks (λ gateway gateway'.
-    by_session session
+DoesSession load save asks session told = OnNewStreams (λ a a'. ByGateway a a' told load asks
+    (λ gateway gateway'. by_session session
     (EndedSaved (λ end. Runs a.source a'.source a.sink a'.sink end gateway gateway') (IsSaved save) told)
     (EndedSaved (λ end. Checks a.source a'.source a.sink a'.sink end gateway gateway') (IsSaved save) told)
     (EndedSaved (λ end. Serves a a' end gateway gateway') (IsSaved save) told)))
@@ -107,7 +107,8 @@ pub record HasTrunk (does : List ℕ → List ℕ → List ℕ → List ℕ → 
 
 -- what was told when the trunk had been served, by the states to load and to save if they are named, and the
 -- wait that is asked for
-abbrev pub ServesTrunk : Option (List ℕ) → Option (List ℕ) → (Option ℕ → Type 0) → Result Totals Trouble → Type 0
+abbrev pub ServesTrunk : Option (List ℕ) → Option (List ℕ) → (Option ℕ → Type 0) → Result Totals Trouble
+    → Type 0
 ServesTrunk load save asks told = OnNewStreams (λ a a'. ByGateway a a' told load asks (λ gateway gateway'.
     HasTrunk (λ came asked went answered. EndedSaved
     (λ end. CarriesTrunk a a' came asked went answered end gateway gateway') (IsSaved save) told)))

@@ -142,8 +142,8 @@ fn waiting(gateway: Gateway, wait: Option<u16>) -> Gateway
 }
 
 /// The gateway that a session begins with: the one whose state a file has if one is named, else a new one. A
-/// seizure that is not acknowledged is released by the signal of it that `wait` says; if it says none, by the one
-/// that the state says, and by the hundredth in a new gateway.
+/// seizure that is not acknowledged is released by the signal of it that `wait` says; if it says none, by the
+/// one that the state says, and by the hundredth in a new gateway.
 pub fn begin_gateway(
     rt: &HostRuntime,
     config: &GatewayConfig,

@@ -48,7 +48,8 @@ pub fn serve_trunk<I: Incoming, O: Outgoing, A: Outgoing, P: Ports, T: Tape>(
         gateway.old gateway.new) }
     ensures carries { (config : GatewayConfig) (before : List Event) → Stands config gateway.old before
         → ∥ Carried config before gateway.new (T.tells tape.old) (T.tells tape.new)
-        (I.came source.new.incoming) (I.asked source.new.incoming) (O.went sink.new.outgoing) (A.went sink.new.answers) result ∥₁ }
+        (I.came source.new.incoming) (I.asked source.new.incoming) (O.went sink.new.outgoing)
+        (A.went sink.new.answers) result ∥₁ }
 {
     serve_recorded(alloc, gateway, ports, source, sink, tape)
 }

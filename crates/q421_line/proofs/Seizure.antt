@@ -10,7 +10,7 @@ use Rattle.q421_line.specs.declared.State.TheVariants.{ClearedBack, Releasing, B
 use Rattle.q421_line.specs.declared.LineFault.{LineFault}
 use Rattle.q421_line.specs.Recognition.{recognised}
 use Rattle.q421_line.specs.Commands.{command_outcome}
-use Rattle.q421_line.specs.Signalling.{Item, signal, command, wait, Signalling, signalling, at_first, counted}
+use Rattle.q421_line.specs.Signalling.{Item, signal, command, wait, Signalling, signalling, at_first, with_count}
 use Rattle.q421_line.specs.Signalling.{after_item, after_outcome, with_heard, next_by, after_count}
 use Rattle.q421_line.specs.Laws.{IsSeizedThrough, waits, wait_after}
 use Rattle.q421_line.specs.Laws.{SeizuresAreReleased, SeizuresAreReleasedByTheHundredth}
@@ -55,10 +55,10 @@ count-up : (most : ℕ) (pairs : List ℕ) (after : State) (seized_for : ℕ)
 count-up most pairs Seized seized_for stays = go (nat_le most (seized_for + 1)) refl stays
   where
     go : (released : Bool) → nat_le most (seized_for + 1) ≡ released
-        → (cond {A = Signalling} released (counted most pairs Releasing 0)
-        (counted most pairs Seized (seized_for + 1))).state ≡ Seized
-        → GoesUp most seized_for (cond {A = Signalling} released (counted most pairs Releasing 0)
-        (counted most pairs Seized (seized_for + 1)))
+        → (cond {A = Signalling} released (with_count most pairs Releasing 0)
+        (with_count most pairs Seized (seized_for + 1))).state ≡ Seized
+        → GoesUp most seized_for (cond {A = Signalling} released (with_count most pairs Releasing 0)
+        (with_count most pairs Seized (seized_for + 1)))
     go true is stays = cc
     go false is stays =
         record { up = refl; below = omega (arith, leb-false most (seized_for + 1) is); same = refl }

@@ -12,7 +12,7 @@ use Rattle.q421_line.specs.declared.recognition.Recognition.{Recognition}
 use Rattle.q421_line.specs.declared.signalling.Line.{Line}
 use Rattle.q421_line.specs.Recognition.{recognised}
 use Rattle.q421_line.specs.Commands.{command_outcome}
-use Rattle.q421_line.specs.Signalling.{Item, signal, command, wait, Signalling, signalling, at_first, counted}
+use Rattle.q421_line.specs.Signalling.{Item, signal, command, wait, Signalling, signalling, at_first, with_count}
 use Rattle.q421_line.specs.Signalling.{after_item, after_outcome}
 use Rattle.q421_line.specs.Signalling.{with_heard, next_by, after_count, is_seized}
 use Rattle.q421_line.specs.Line.{HasHeard, Stands}
@@ -30,8 +30,8 @@ pairs-counted most pairs before after seized_for =
     go (is_seized before && is_seized after) (nat_le most (seized_for + 1))
   where
     go : (stays released : Bool) → ◌≡◌ {A = List ℕ} (cond {A = Signalling} stays
-        (cond released (counted most pairs Releasing 0) (counted most pairs Seized (seized_for + 1)))
-        (counted most pairs after 0)).pairs pairs
+        (cond released (with_count most pairs Releasing 0) (with_count most pairs Seized (seized_for + 1)))
+        (with_count most pairs after 0)).pairs pairs
     go true true = refl
     go true false = refl
     go false released = refl
@@ -43,8 +43,8 @@ most-counted most pairs before after seized_for =
     go (is_seized before && is_seized after) (nat_le most (seized_for + 1))
   where
     go : (stays released : Bool) → ◌≡◌ {A = ℕ} (cond {A = Signalling} stays
-        (cond released (counted most pairs Releasing 0) (counted most pairs Seized (seized_for + 1)))
-        (counted most pairs after 0)).released_after most
+        (cond released (with_count most pairs Releasing 0) (with_count most pairs Seized (seized_for + 1)))
+        (with_count most pairs after 0)).released_after most
     go true true = refl
     go true false = refl
     go false released = refl
@@ -104,7 +104,7 @@ pub stands-obeyed : (old : Line) (role : Role) (items : List Item) (asked : Cmd)
     → Stands (record old { state = state; seized_for = 0 }) role (items ++ command asked ∷ [])
 stands-obeyed old role items asked state stands is_outcome =
     let before : Signalling = signalling role items in
-    let whole : counted before.released_after before.pairs state 0 ≡ signalling role (items ++ command asked ∷ [])
+    let whole : with_count before.released_after before.pairs state 0 ≡ signalling role (items ++ command asked ∷ [])
     = sym (signalling-push role items (command asked)
     ∙ ap (λ z. after_outcome before z) (outcome-is old role items asked stands ∙ sym is_outcome)) in
     record {

@@ -42,9 +42,9 @@ abbrev pub is_seized : State → Bool
 is_seized Seized = true
 is_seized state = false
 
--- the signalling with these known pairs, this state and this count of signals
-abbrev pub counted : ℕ → List ℕ → State → ℕ → Signalling
-counted released_after pairs state seized_for = record {
+-- the signalling with this wait, these known pairs, this state and this count of signals
+abbrev pub with_count : ℕ → List ℕ → State → ℕ → Signalling
+with_count released_after pairs state seized_for = record {
   pairs = pairs;
   state = state;
   seized_for = seized_for;
@@ -57,9 +57,9 @@ abbrev pub after_count : ℕ → List ℕ → State → State → ℕ → Signal
 after_count released_after pairs before after seized_for =
     if is_seized before && is_seized after
     then (if nat_le released_after (seized_for + 1)
-    then counted released_after pairs Releasing 0
-    else counted released_after pairs Seized (seized_for + 1))
-    else counted released_after pairs after 0
+    then with_count released_after pairs Releasing 0
+    else with_count released_after pairs Seized (seized_for + 1))
+    else with_count released_after pairs after 0
 
 -- a signal: the nibble may make a pair recognised; a recognised pair gives the next state, with every signal
 abbrev pub after_signal : Role → Signalling → Option ℕ → Signalling
@@ -71,7 +71,7 @@ after_signal role line heard =
 -- a command that is not refused gives the next state; a refused one changes nothing
 abbrev pub after_outcome : Signalling → Result State LineFault → Signalling
 after_outcome line (Err fault) = line
-after_outcome line (Ok state) = counted line.released_after line.pairs state 0
+after_outcome line (Ok state) = with_count line.released_after line.pairs state 0
 
 -- one item more
 abbrev pub after_item : Role → Signalling → Item → Signalling
@@ -83,7 +83,7 @@ after_item role line (wait signals) = record line { released_after = signals }
 -- is heard). It releases a seizure by its hundredth signal. (A choice: a hundred signals, one every 2 ms, are
 -- 200 ms without an acknowledgement, ten times what it takes to be recognised.)
 abbrev pub at_first : Signalling
-at_first = counted 100 [] Fault 0
+at_first = with_count 100 [] Fault 0
 
 -- the signalling of a line of this role after a list of signals, commands and waits
 unfoldable pub signalling : Role → List Item → Signalling
