@@ -14,6 +14,7 @@ from collections import deque
 from dataclasses import dataclass, field
 from typing import Any
 
+from .lines import SEIZURE_WAIT, WAIT
 from .outlets import write_all
 
 UNITS = {'s': 1, 'm': 60, 'h': 3600, 'd': 86400}
@@ -52,6 +53,7 @@ class Ring:
     name: str
     config: str
     keep: int
+    wait: int = SEIZURE_WAIT        # of a seizure, in milliseconds
     _file: int = -1
     _front: str = ''        # the path of the file that is written, without its ending
     _due: float = 0.0
@@ -97,7 +99,7 @@ class Ring:
             threading.Thread(target=_compress, args=(self._zstd, f'{self._front}{RECORDS}'), daemon=True).start()
         self._about = {'config': os.path.abspath(self.config), 'config_sha256': self._sum,
                        'time': round(time.time(), 3), 'place': place,
-                       'begins': 'start' if self._began is None else 'middle'}
+                       WAIT: self.wait, 'begins': 'start' if self._began is None else 'middle'}
         stamp = time.strftime('%Y%m%dT%H%M%SZ', time.gmtime())
         self._file, self._front = _open_fresh(os.path.join(self.folder, f'{self.name}-{stamp}'))
         self._own.append(self._front)

@@ -11,6 +11,8 @@ from collections.abc import Iterator
 from dataclasses import dataclass
 from typing import IO, Any
 
+from ..lines import SEIZURE_WAIT, WAIT, wait_words
+
 PIECE = 1 << 16
 WAITING = 256               # pieces: more than a gateway holds back before it answers
 
@@ -27,6 +29,7 @@ class Kept:
     """The files of a session, and what stands beside the first of them."""
     files: list[str]
     config: str | None = None
+    wait: int = SEIZURE_WAIT            # of a seizure, in milliseconds
     begin: float | None = None          # seconds since 1970
     middle: bool = False                # it does not begin where the gateway did
     slips: list[tuple[int, float]] | None = None        # place from its begin, and seconds; None where nobody noted
@@ -63,6 +66,7 @@ def beside(path: str) -> dict[str, Any]:
 def _told(session: Kept) -> Kept:
     about = beside(session.files[0])
     session.config = about.get('config')
+    session.wait = about.get(WAIT, SEIZURE_WAIT)
     session.begin = about.get('time')
     session.middle = about.get('begins') == 'middle'
     if 'place' in about:
@@ -121,12 +125,12 @@ class Replayed:
 
     A thread gives each piece to the program once it waits to be read here, so neither of the two waits for ever."""
 
-    def __init__(self, program: str, config: str, octets: Iterator[bytes]) -> None:
+    def __init__(self, program: str, config: str, wait: int, octets: Iterator[bytes]) -> None:
         self.queue: queue.Queue[bytes] = queue.Queue(WAITING)
         self.fault: BaseException | None = None
         try:
-            self.process = subprocess.Popen([program, 'replay', '--config', config], stdin=subprocess.PIPE,
-                                            stdout=subprocess.PIPE, stderr=subprocess.PIPE)
+            self.process = subprocess.Popen([program, 'replay', '--config', config, *wait_words(wait)],
+                                            stdin=subprocess.PIPE, stdout=subprocess.PIPE, stderr=subprocess.PIPE)
         except OSError as fault:
             raise Trouble(f'{program}: {fault.strerror}') from fault
         assert self.process.stdout

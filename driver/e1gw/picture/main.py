@@ -8,7 +8,8 @@ import re
 import sys
 from collections.abc import Iterator
 
-from ..lines import read_config
+from ..faults import number
+from ..lines import read_config, with_wait
 from ..raw import raw_words_of
 from ..session import OCTETS_A_SECOND, BadSession
 from .answers import Kept, Replayed, Source, Trouble, kept, octets_of, pieces, program_of
@@ -83,6 +84,8 @@ def parser() -> argparse.ArgumentParser:
     words.add_argument('--last', type=seconds, metavar='TIME', help='the last part of the session alone, as 60s or 5m')
     words.add_argument('--circuits', type=circuits, metavar='LIST', help='these circuits alone, as 1,2,7 or 3-9')
     words.add_argument('--begin', type=moment, metavar='TIME', help='when the session began, in UTC')
+    words.add_argument('--seizure-wait', type=number(200, 8000), metavar='MS',
+                       help='as of the gateway [default: that of the kept session, or 200]')
     words.add_argument('--title', metavar='WORDS', help='the title of the page')
     words.add_argument('--program', metavar='E1GW', help='the program [default: that of this repository, or e1gw]')
     return words
@@ -105,23 +108,25 @@ def port_faults(path: str) -> int:
 
 def gathered(options: argparse.Namespace, session: Kept, config: str) -> tuple[Facts, str]:
     """What is drawn of a session, and a word on how it ended."""
-    facts = Facts(rows_of(read_config(config)), int(options.last * OCTETS_A_SECOND) if options.last else None)
+    wait = options.seizure_wait or session.wait
+    tables = with_wait(read_config(config), wait)
+    facts = Facts(rows_of(tables), int(options.last * OCTETS_A_SECOND) if options.last else None)
     facts.slips = session.slips
     octets = given(session)
     facts.begin = options.begin if options.begin is not None else session.begin
     if options.capture:
-        octets, facts.begin = merged(octets, options.capture, read_config(config), facts, facts.begin)
+        octets, facts.begin = merged(octets, options.capture, tables, facts, facts.begin)
         facts.told = 'placed by the times of the capture'
     if options.answers:
         with open(options.answers, 'rb') as answers:
-            reading = Reading(facts, read_config(config), Source(octets), answers, options.program)
+            reading = Reading(facts, tables, Source(octets), answers, options.program)
             reading.read()
         return facts, '' if reading.whole else 'it ends inside a record, or its answers do'
     program = program_of(options.program)
-    replayed = Replayed(program, config, octets)
+    replayed = Replayed(program, config, wait, octets)
     fault = ''
     try:
-        Reading(facts, read_config(config), replayed.given, replayed.answered, program).read()
+        Reading(facts, tables, replayed.given, replayed.answered, program).read()
     except BadSession as bad:
         fault = str(bad)
     return facts, replayed.end() or fault
