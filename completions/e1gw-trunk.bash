@@ -2,10 +2,10 @@
 
 _e1gw_trunk() {
   local cur=${COMP_WORDS[COMP_CWORD]} prev=${COMP_WORDS[COMP_CWORD - 1]}
-  local options='--config --name --program --repeat --senders --totals --in --out --unix --tcp --satop --clear --align
-    --crc4 --pace --most --reopen --satop-size --satop-jitter --satop-rtp --satop-fill --satop-clock --control
-    --control-mode --control-group --on-loss --http --picture --metrics --json --watch --top --no-counts --session
-    --calls --keep --gap --dark --help'
+  local options='--config --name --program --repeat --seizure-wait --senders --totals --in --out --unix --tcp --satop
+    --clear --align --crc4 --pace --most --reopen --satop-size --satop-jitter --satop-rtp --satop-fill --satop-clock
+    --control --control-mode --control-group --on-loss --http --picture --metrics --json --watch --top --no-counts
+    --session --calls --keep --gap --dark --help'
   COMPREPLY=()
   case $prev in
     --config | --program | --in | --out | --unix | --control | --metrics | --json | --session | --calls)
@@ -16,8 +16,8 @@ _e1gw_trunk() {
     --senders) mapfile -t COMPREPLY < <(compgen -W 'any host peer' -- "$cur") ;;
     --on-loss) mapfile -t COMPREPLY < <(compgen -W 'keep clear block' -- "$cur") ;;
     --control-group) mapfile -t COMPREPLY < <(compgen -g -- "$cur") ;;
-    --name | --repeat | --tcp | --satop | --pace | --most | --satop-size | --satop-jitter | --satop-rtp | \
-      --control-mode | --http | --picture | --keep | --gap | --dark) ;;
+    --name | --repeat | --seizure-wait | --tcp | --satop | --pace | --most | --satop-size | --satop-jitter | \
+      --satop-rtp | --control-mode | --http | --picture | --keep | --gap | --dark) ;;
     *) mapfile -t COMPREPLY < <(compgen -W "$options" -- "$cur") ;;
   esac
 }

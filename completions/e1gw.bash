@@ -16,10 +16,13 @@ _e1gw_options() {
     align) echo '--totals --help' ;;
     crc4) echo '--check --totals --help' ;;
     encode | decode) echo '--law --codec --payload --ptime --ssrc --sequence --timestamp --totals --help' ;;
-    replay) echo '--config --load --save --totals --help' ;;
-    check) echo '--config --load --totals --help' ;;
-    serve) echo '--config --load --save --record --record-over --repeat --senders --totals --help' ;;
-    trunk) echo '--config --load --save --control --record --record-over --repeat --senders --totals --help' ;;
+    replay) echo '--config --load --save --seizure-wait --totals --help' ;;
+    check) echo '--config --load --seizure-wait --totals --help' ;;
+    serve)
+      echo '--config --load --save --record --record-over --repeat --seizure-wait --senders --totals --help' ;;
+    trunk)
+      echo '--config --load --save --control --record --record-over --repeat --seizure-wait --senders' \
+        '--totals --help' ;;
     '') echo '--help --version' ;;
   esac
 }
@@ -39,7 +42,7 @@ _e1gw() {
     --law | --codec | --ptime | --senders)
       mapfile -t COMPREPLY < <(compgen -W "$(_e1gw_values "$prev")" -- "$cur")
       return ;;
-    --payload | --ssrc | --sequence | --timestamp | --repeat)
+    --payload | --ssrc | --sequence | --timestamp | --repeat | --seizure-wait)
       return ;;
     --config | --load | --save | --control | --record)
       compopt -o filenames 2> /dev/null

@@ -115,7 +115,7 @@ def compare_values(option, lines):
 
 
 def compare_senders(folder):
-    """The senders of the page are those that serve and the completion have."""
+    """The senders of the page are those that serve and the completion have, and the least and the most wait too."""
     listed = values(described(page('e1gw.1'))['senders'])
     expect('completion of --senders', completed('serve', '--senders', ''), listed)
     config = os.path.join(folder, 'senders.toml')
@@ -123,6 +123,8 @@ def compare_senders(folder):
         file.write('law = "A"\n')
     for who, status in [*((who, 0) for who in sorted(listed)), ('none', 2)]:
         expect(f'serve --senders {who}', run('serve', '--config', config, '--senders', who)[0], status)
+    for wait, status in (('200', 0), ('8000', 0), ('199', 2), ('8001', 2)):
+        expect(f'check --seizure-wait {wait}', run('check', '--config', config, '--seizure-wait', wait)[0], status)
 
 
 def compare_payloads():
@@ -245,8 +247,8 @@ def main():
     lines = page('e1gw.1')
     compare_options(lines)
     for option, about in described(lines).items():
-        if option not in {'check', 'config', 'control', 'load', 'record', 'record-over', 'save', 'senders', 'totals',
-                          'help', 'version'}:
+        if option not in {'check', 'config', 'control', 'load', 'record', 'record-over', 'save', 'seizure-wait',
+                          'senders', 'totals', 'help', 'version'}:
             compare_values(option, about)
     compare_payloads()
     compare_options_passed_over(lines)

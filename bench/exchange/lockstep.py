@@ -280,6 +280,7 @@ class Plan:
     loss: float = 0.0
     pairs: bool = False
     repeat: int | None = None           # of `e1gw serve`; with None the gateways are `e1gw replay`
+    wait: int = 200                     # of a seizure
     seed: int = 1
     options: tuple[str, ...] = ()       # of the exchanges
 
@@ -290,9 +291,10 @@ def _gateway_of(program: str, path: str, plan: Plan, incoming: Iterable[int]) ->
     both = {n: (ports[n], peer.getsockname()[1]) for n, peer in peers.items()}
     with open(path, 'w', encoding='utf-8') as file:
         file.write(config(incoming, plan.codecs, plan.prefill * 8, plan.ptime, both))
+    wait = ['--seizure-wait', str(plan.wait)]
     if plan.repeat is None:
-        return Gateway(program, path, ['replay'])
-    return Served(program, path, ports, peers, ['--repeat', str(plan.repeat)])
+        return Gateway(program, path, ['replay', *wait])
+    return Served(program, path, ports, peers, ['--repeat', str(plan.repeat), *wait])
 
 
 @contextlib.contextmanager

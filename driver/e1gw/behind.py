@@ -9,6 +9,7 @@ from collections import deque
 from dataclasses import dataclass, field
 from typing import IO, Callable
 
+from .lines import SEIZURE_WAIT, wait_words
 from .pipes import put_last
 
 RECORDS, STATE = '.e1gw', '.state'
@@ -30,6 +31,7 @@ class Behind:
 
     program: str = ''
     config: int = -1
+    wait: int = SEIZURE_WAIT        # of a seizure, in milliseconds
     failed: Callable[[str], None] = lambda why: None
     zstd: str | None = field(default_factory=lambda: shutil.which('zstd'))
     _state: str = ''            # what the piece that is read next begins with; the first one with nothing
@@ -71,7 +73,8 @@ class Behind:
 
     def _replay(self, piece: str, following: str) -> None:
         saved = f'{following}{STATE}'
-        words = [self.program, 'replay', '--config', f'/dev/fd/{self.config}', '--save', saved]
+        words = [self.program, 'replay', '--config', f'/dev/fd/{self.config}', '--save', saved,
+                 *wait_words(self.wait)]
         with open(f'{piece}{RECORDS}', 'rb') as records:
             load = ['--load', self._state] if self._state else []
             status, told = run_last([*words, *load], records, (self.config,))

@@ -21,7 +21,7 @@ from .faults import named, words_of_fault, words_of_refusal
 from .gateway import Gateway, Shadow, version_of
 from .guards import Guards
 from .keep import Ring
-from .lines import OPEN, Event, Lines, Role, State
+from .lines import OPEN, Event, Lines, Role, State, read_config, wait_words, with_wait
 from .loop import READ, WRITE, Loop
 from .options import Options
 from .outlets import Journal, Outlet, to_descriptor, to_file
@@ -52,7 +52,7 @@ class Driver:
     def __init__(self, loop: Loop, options: Options, journal: Journal) -> None:
         self.loop, self.options, self.journal = loop, options, journal
         self._version = version_of(options.program)
-        self.lines = Lines(options.config, self.tell)
+        self.lines = Lines(with_wait(read_config(options.config), options.seizure_wait), self.tell)
         self._sockets = Tables(self.lines.lines.values())
         self.snapshots = Snapshots(loop, lambda: Snapshot(self.status(), self._sockets))
         self.began = time.monotonic()
@@ -85,7 +85,8 @@ class Driver:
         self._session, self._ring = self._open_session()
         self.gateway = Gateway(loop, options.program, options.config, self._taped, self._said, self._resume,
                                self._gateway_ended, options.serve)
-        self.shadow = Shadow(loop, options.program, options.config, self._replayed,
+        again = [options.program, 'replay', '--config', options.config, *wait_words(options.seizure_wait)]
+        self.shadow = Shadow(loop, again, self._replayed,
                              functools.partial(self._end_beside, 'shadow')) if options.counts else None
         if not options.counts:
             self.counts.ended = 'not asked for'
@@ -111,8 +112,8 @@ class Driver:
             return None, None
         if options.keep is None:
             return to_file('session', options.session, self._note), None
-        behind = Behind(options.program, failed=functools.partial(self._note, 'states'))
-        ring = Ring(options.session, options.name, options.config, options.keep, behind)
+        behind = Behind(options.program, wait=options.seizure_wait, failed=functools.partial(self._note, 'states'))
+        ring = Ring(options.session, options.name, options.config, options.keep, behind, options.seizure_wait)
         return Outlet('session', ring.write, self._note, ring.close, ring.open, options.session), ring
 
     def _open_pictures(self) -> tuple[Pictures | None, socket.socket | None]:
@@ -121,8 +122,8 @@ class Driver:
         if not options.picture:
             return None, None
         ours, theirs = socket.socketpair()
-        return Pictures(self.loop, options.config, options.picture, options.name, options.program, theirs,
-                        functools.partial(self._end_beside, 'picture')), ours
+        return Pictures(self.loop, options.config, options.seizure_wait, options.picture, options.name, options.program,
+                        theirs, functools.partial(self._end_beside, 'picture')), ours
 
     def open_doors(self) -> None:
         """Opens what others connect to, and the terminal."""

@@ -208,13 +208,13 @@ class Gateway:
 
 
 class Shadow:
-    """An `e1gw replay` over the recording. `answered` is given the octets that it answers, `ended` why it ended."""
+    """An `e1gw replay` by these words over the recording. `answered` is given the octets that it answers, `ended`
+    why it ended."""
 
-    def __init__(self, loop: Loop, program: str, config: str, answered: Callable[[bytes], None], ended: Ended) -> None:
+    def __init__(self, loop: Loop, words: list[str], answered: Callable[[bytes], None], ended: Ended) -> None:
         self.loop, self.answered, self._ended = loop, answered, ended
-        self.process = subprocess.Popen([program, 'replay', '--config', config], stdin=subprocess.PIPE,
-                                        stdout=subprocess.PIPE, stderr=subprocess.DEVNULL, start_new_session=True,
-                                        bufsize=0)
+        self.process = subprocess.Popen(words, stdin=subprocess.PIPE, stdout=subprocess.PIPE, stderr=subprocess.DEVNULL,
+                                        start_new_session=True, bufsize=0)
         assert self.process.stdin and self.process.stdout
         try:
             os.setpriority(os.PRIO_PROCESS, self.process.pid, 10)

@@ -12,6 +12,7 @@ from dataclasses import dataclass, field
 from typing import Any
 
 from .behind import RECORDS, Behind, forget
+from .lines import SEIZURE_WAIT, WAIT
 from .outlets import write_all
 
 UNITS = {'s': 1, 'm': 60, 'h': 3600, 'd': 86400}
@@ -54,6 +55,7 @@ class Ring:
     config: str
     keep: int
     behind: Behind = field(default_factory=Behind)
+    wait: int = SEIZURE_WAIT        # of a seizure, in milliseconds
     _file: int = -1
     _front: str = ''        # the path of the file that is written, without its ending
     _due: float = 0.0
@@ -101,7 +103,7 @@ class Ring:
         whole = self._front
         self._about = {'config': os.path.abspath(self.config), 'config_sha256': self._sum,
                        'time': round(time.time(), 3), 'place': place,
-                       'begins': 'start' if self._began is None else 'middle'}
+                       WAIT: self.wait, 'begins': 'start' if self._began is None else 'middle'}
         stamp = time.strftime('%Y%m%dT%H%M%SZ', time.gmtime())
         self._file, self._front = _open_fresh(os.path.join(self.folder, f'{self.name}-{stamp}'))
         self._own.append(self._front)

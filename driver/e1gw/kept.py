@@ -9,6 +9,8 @@ from collections.abc import Iterator
 from dataclasses import dataclass
 from typing import IO, Any
 
+from .lines import SEIZURE_WAIT, WAIT
+
 PIECE = 1 << 16
 ENDINGS = ('.e1gw', '.e1gw.zst', '.rec', '.rec.zst')
 
@@ -22,6 +24,7 @@ class Kept:
     """The files of a session, and what stands beside the first of them."""
     files: list[str]
     config: str | None = None
+    wait: int = SEIZURE_WAIT            # of a seizure, in milliseconds
     begin: float | None = None          # seconds since 1970
     middle: bool = False                # it does not begin where the gateway did
     slips: list[tuple[int, float]] | None = None        # place from its begin, and seconds; None where nobody noted
@@ -79,6 +82,7 @@ def beside(path: str) -> dict[str, Any]:
 def _told(session: Kept) -> Kept:
     about = beside(session.files[0])
     session.config = about.get('config')
+    session.wait = about.get(WAIT, SEIZURE_WAIT)
     session.begin = about.get('time')
     session.middle = about.get('begins') == 'middle'
     session.place = about.get('place', 0)

@@ -15,7 +15,8 @@ from typing import Any, Callable, Iterable, Mapping
 from .session import CIRCUITS, FRAME, MULTIFRAME, OCTETS_A_SECOND, SAMPLES_A_SECOND, Codec, Command
 
 RECOGNISED = 10             # equal pairs in a row
-UNACKNOWLEDGED = 100        # signals after which a seizure is released
+SEIZURE_WAIT = 200          # milliseconds after which a seizure is released, if nothing else is asked for
+SIGNAL_TIME = 2             # milliseconds between two signals of a line
 WRONG_FRAMES = 3            # wrong octets in a row that lose frame alignment
 WRONG_MULTIFRAMES = 2
 SIGNAL = 0x1B               # the frame alignment signal, without its first bit
@@ -23,6 +24,7 @@ SECOND = 0x40               # the bit of the octet between two signals
 REMOTE = 0x20               # bit A of that octet
 REMOTE_MULTIFRAME = 0x04    # bit y of slot 16 in frame 0
 MOST_QUIET = 64             # records that are known to change nothing
+WAIT = 'seizure_wait'       # the name of that time beside the tables of a configuration
 
 Event = dict[str, Any]
 Tell = Callable[[Event], None]
@@ -104,6 +106,7 @@ class Line:
     recognised: int | None = None
     last: int | None = None             # the last known pair
     times: int = 0                      # how often in a row
+    wait: int = SEIZURE_WAIT // SIGNAL_TIME         # signals after which a seizure is released
     waits: int = 0                      # signals since a seizure
     seizures: int = 0
     answers: int = 0
@@ -127,7 +130,7 @@ class Line:
             self.state = TABLES[self.role][before][self.recognised]
         if before is self.state is State.SEIZED:
             self.waits += 1
-            if self.waits >= UNACKNOWLEDGED:
+            if self.waits >= self.wait:
                 self.state = State.RELEASING
                 self.unacknowledged += 1
 
@@ -169,6 +172,16 @@ def read_config(path: str) -> dict[str, Any]:
         return tomllib.load(file)
 
 
+def with_wait(config: Mapping[str, Any], wait: int) -> dict[str, Any]:
+    """The same tables, and the milliseconds after which a seizure is released, which no file has."""
+    return {**config, WAIT: wait}
+
+
+def wait_words(wait: int) -> list[str]:
+    """The option by which the program has this wait."""
+    return ['--seizure-wait', str(wait)] * (wait != SEIZURE_WAIT)
+
+
 def law_of(config: Mapping[str, Any]) -> str:
     return str(config.get('law', 'A'))
 
@@ -187,6 +200,7 @@ def lines_of(config: Mapping[str, Any]) -> dict[int, Line]:
         line.port = table.get('local_port')
     for line in lines.values():
         line.configured = line.codec, line.payload
+        line.wait = -(-config.get(WAIT, SEIZURE_WAIT) // SIGNAL_TIME)
     return lines
 
 

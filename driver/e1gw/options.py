@@ -6,6 +6,7 @@ from typing import Callable
 
 from .crc4 import Crc4
 from .guards import OnLoss
+from .lines import SEIZURE_WAIT
 from .trunks import Trunk
 
 
@@ -20,6 +21,7 @@ class Options:
     most: int = 256
     pace: float = 0.0
     serve: list[str] = field(default_factory=list)      # further options of e1gw serve
+    seizure_wait: int = SEIZURE_WAIT        # milliseconds
     reopen: bool = False
     watch: bool = False
     top: bool = False

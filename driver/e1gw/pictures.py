@@ -28,11 +28,12 @@ class Pictures:
     """The process that draws: when an octet comes over `asked`, it sends the page there. `ended` is called with the
     reason when the process is no more."""
 
-    def __init__(self, loop: Loop, config: str, seconds: float, title: str, program: str, asked: socket.socket,
-                 ended: Callable[[str], None]) -> None:
+    def __init__(self, loop: Loop, config: str, wait: int, seconds: float, title: str, program: str,
+                 asked: socket.socket, ended: Callable[[str], None]) -> None:
         self._ended, self.has_ended = ended, False
         self.process = subprocess.Popen(
-            [sys.executable, '-B', '-m', 'e1gw.pictures', config, str(seconds), title, program, str(asked.fileno())],
+            [sys.executable, '-B', '-m', 'e1gw.pictures', config, str(wait), str(seconds), title, program,
+             str(asked.fileno())],
             stdin=subprocess.PIPE, stdout=subprocess.DEVNULL, stderr=subprocess.DEVNULL, start_new_session=True,
             bufsize=0, pass_fds=(asked.fileno(),), env=os.environ | {'PYTHONPATH': PACKAGE})
         asked.close()
@@ -100,10 +101,10 @@ class _Given:
 
 def _serve(words: list[str]) -> None:
     """In the process that draws: takes what the driver tells, and draws when it is asked and has taken all of it."""
-    from .lines import read_config
+    from .lines import read_config, with_wait
     from .picture.live import Live
-    config, seconds, title, program, asked = words
-    live = Live(read_config(config), float(seconds), title, program)
+    config, wait, seconds, title, program, asked = words
+    live = Live(with_wait(read_config(config), int(wait)), float(seconds), title, program)
     given, line, is_asked = _Given(live), socket.socket(fileno=int(asked)), False
     line.settimeout(PATIENCE)
     while True:

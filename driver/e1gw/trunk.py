@@ -28,7 +28,7 @@ from .filtered import align
 from .gateway import ConfigRefused, check_config
 from .guards import OnLoss, on_loss_of
 from .keep import seconds_of
-from .lines import law_of, read_config
+from .lines import SEIZURE_WAIT, law_of, read_config, wait_words
 from .loop import Loop
 from .options import Options
 from .outlets import Journal, hold_descriptors
@@ -94,6 +94,9 @@ def parser() -> argparse.ArgumentParser:
                        '[default: host if each peer_host is an address, else any]')
     words.add_argument('--repeat', type=int, choices=range(9), default=0, metavar='N',
                        help='sends each datagram again behind the N-th after it, 0 to 8 [default: 0, never]')
+    words.add_argument('--seizure-wait', type=number(200, 8000), default=SEIZURE_WAIT, metavar='MS',
+                       help='a seizure that is not acknowledged is released after so many milliseconds, 200 to 8000 '
+                       '[default: 200]')
     words.add_argument('--totals', action='store_true', help='tells at the end what the gateway has counted')
     _add_trunk(words.add_argument_group('the trunk'))
     satop.add_arguments(words)
@@ -178,16 +181,17 @@ def options_of(words: list[str]) -> Options:
     return Options(
         config=asked.config, program=program, name=name, open_trunk=opens,
         most=asked.most or (2048 if asked.pace and not asked.satop else 256), pace=asked.pace / 1000,
-        serve=_serve_words(asked), reopen=asked.reopen, watch=asked.watch, top=asked.top, control=asked.control,
-        control_mode=asked.control_mode, control_group=asked.control_group, http=http, metrics=asked.metrics,
-        json=asked.json, session=asked.session, calls=asked.calls, keep=keep, gap=asked.gap / 1000, dark=asked.dark,
-        on_loss=on_loss, counts=asked.counts, picture=asked.picture, crc4=crc4)
+        serve=_serve_words(asked), seizure_wait=asked.seizure_wait, reopen=asked.reopen, watch=asked.watch,
+        top=asked.top, control=asked.control, control_mode=asked.control_mode, control_group=asked.control_group,
+        http=http, metrics=asked.metrics, json=asked.json, session=asked.session, calls=asked.calls, keep=keep,
+        gap=asked.gap / 1000, dark=asked.dark, on_loss=on_loss, counts=asked.counts, picture=asked.picture,
+        crc4=crc4)
 
 
 def _serve_words(asked: argparse.Namespace) -> list[str]:
     """The options that the gateway gets."""
     return (['--totals'] * asked.totals + ['--repeat', str(asked.repeat)] * (asked.repeat > 0)
-            + ['--senders', asked.senders or senders_of(asked.config)])
+            + wait_words(asked.seizure_wait) + ['--senders', asked.senders or senders_of(asked.config)])
 
 
 def _serve(options: Options, journal: Journal) -> int:

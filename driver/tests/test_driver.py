@@ -481,6 +481,11 @@ class Refused(support.Folder):
         for option, given in (([], []), (['--repeat', '0'], []), (['--repeat', '2'], ['--repeat', '2'])):
             self.assertEqual(_serve_words(parser().parse_args(words + option)), given + ['--senders', 'any'])
 
+    def test_the_wait_of_a_seizure_is_passed_on(self) -> None:
+        words = ['--config', self.good, '--in', '/dev/null', '--out', '/dev/null', '--senders', 'any']
+        for option, given in (([], []), (['--seizure-wait', '2000'], ['--seizure-wait', '2000'])):
+            self.assertEqual(_serve_words(parser().parse_args(words + option)), given + ['--senders', 'any'])
+
     def test_a_file_goes_through(self) -> None:
         trunk = os.path.join(self.folder, 'trunk')
         with open(trunk, 'wb') as file:

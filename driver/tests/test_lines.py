@@ -9,7 +9,7 @@ from typing import Any
 
 from . import support
 from e1gw import session
-from e1gw.lines import Lines
+from e1gw.lines import SEIZURE_WAIT, Lines, read_config, with_wait
 from e1gw.session import Codec, Command, Kind
 
 SESSIONS = int(os.environ.get('E1GW_SESSIONS', '8'))
@@ -87,6 +87,15 @@ class Tables(unittest.TestCase):
         self.assertEqual(trunk.lines.status()['circuits'][0]['unacknowledged'], 1)
         states = [event['state'] for event in trunk.events if event['event'] == 'state' and event['circuit'] == 1]
         self.assertEqual(states, ['idle', 'seized', 'releasing', 'idle'])
+
+    def test_a_seizure_waits_as_long_as_is_asked_for(self) -> None:
+        trunk = Trunk(with_wait({'law': 'A'}, 2000))
+        trunk.send(1, IDLE)
+        trunk.lines.command(1, Command.SEIZE)
+        trunk.go(999)
+        self.assertEqual(trunk.state(1), 'seized')
+        trunk.go(2)
+        self.assertEqual(trunk.state(1), 'idle')
 
     def test_a_pair_is_recognised_at_its_tenth(self) -> None:
         trunk = Trunk()
@@ -185,14 +194,22 @@ def random_session(rng: random.Random) -> bytes:
     return b''.join(out)
 
 
+def seized_session(multiframes: int) -> bytes:
+    """Circuits 1 and 30 are seized, and nothing is acknowledged in so many multiframes."""
+    exchange = support.Exchange()
+    idle = [session.trunk_record(exchange.multiframe()) for _ in range(14 + multiframes)]
+    seizures = [session.command_record(circuit, Command.SEIZE) for circuit in (1, 30)]
+    return b''.join([*idle[:14], *seizures, *idle[14:]])
+
+
 def random_config(rng: random.Random) -> str:
     tables = [f'[[circuit]]\nnumber = {n}\nrole = "incoming"\n' for n in range(1, 31) if rng.random() < 0.5]
     return 'law = "A"\n' + ''.join(tables)
 
 
-def followed(config: str, given: bytes, answered: bytes) -> list[list[str]]:
+def followed(config: str, given: bytes, answered: bytes, wait: int = SEIZURE_WAIT) -> list[list[str]]:
     """Number, role, state and recognised pair of each line."""
-    lines = Lines(config)
+    lines = Lines(with_wait(read_config(config), wait))
     answers = (record for record in session.records_in(answered) if record.kind is not Kind.DATAGRAM)
     for record in session.records_in(given):
         answer = next(answers)
@@ -218,6 +235,23 @@ class BesideCheck(unittest.TestCase):
                 # a command that is the last record changes what is sent behind the last octet
                 self.assertEqual([row[:3] + row[4:] for row in followed(config, given, answered)],
                                  [line.split()[:3] + line.split()[4:5] for line in listed])
+
+    def test_a_seizure_waits(self) -> None:
+        for wait, words in ((200, ()), (200, ('200',)), (301, ('301',)), (2000, ('2000',))):
+            for more, state in ((-2, 'seized'), (2, 'idle')):
+                with self.subTest(wait=wait, more=more), tempfile.TemporaryDirectory() as folder:
+                    self.is_alike(folder, seized_session((wait + 1) // 2 + more), wait, words, state)
+
+    def is_alike(self, folder: str, given: bytes, wait: int, words: tuple[str, ...], state: str) -> None:
+        config = os.path.join(folder, 'trunk.toml')
+        with open(config, 'w', encoding='utf-8') as file:
+            file.write('law = "A"\n')
+        option = [part for word in words for part in ('--seizure-wait', word)]
+        answered = support.run('replay', '--config', config, *option, given=given)
+        rows = followed(config, given, answered, wait)
+        listed = support.run('check', '--config', config, *option, given=given).decode().splitlines()
+        self.assertEqual([row[2] for row in rows], [line.split()[2] for line in listed])
+        self.assertEqual([rows[n - 1][2] for n in (1, 30)], [state] * 2)
 
 
 if __name__ == '__main__':

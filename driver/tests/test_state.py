@@ -169,6 +169,21 @@ class Refused(support.Folder):
     def test_as_saved(self) -> None:
         self.assertEqual(self.loaded(self.state), (0, ''))
 
+    def saved(self, *words: str) -> bytes:
+        """The state behind a session without records."""
+        support.run('replay', '--config', self.config, *words, '--save', self.path('saved'), given=b'')
+        with open(self.path('saved'), 'rb') as file:
+            return file.read()
+
+    def test_the_wait_of_a_seizure(self) -> None:
+        """A state has the wait of its session, and one that goes on keeps it if it is given no other."""
+        usual, longer = self.saved(), self.saved('--seizure-wait', '2000')
+        self.assertNotEqual(usual, longer)
+        self.assertEqual(self.saved('--seizure-wait', '200'), usual)
+        path = self.write('longer', longer)
+        self.assertEqual(self.saved('--load', path), longer)
+        self.assertEqual(self.saved('--load', path, '--seizure-wait', '200'), usual)
+
     def test_layout(self) -> None:
         self.assertEqual(self.state[:6], b'E1GS\1\0')
         self.assertEqual(self.state[6:22], struct.pack('>BBBBHIHI', 1, 1, 97, 20, 160, 1, 0, 0))

@@ -7,7 +7,7 @@ use Rattle.g726_codec.specs.declared.CodecKind.TheVariants.{G711, G16, G24, G32,
 use Rattle.g726_codec.specs.Kinds.{CodecState}
 use Rattle.g726_codec.specs.Saved.{saved_codec, CodecFits}
 use Rattle.rtp_playout.specs.Saved.{saved_playout, StreamFits}
-use Rattle.q421_line.specs.Saved.{saved_line, PairsFit}
+use Rattle.q421_line.specs.Saved.{saved_line, LineFits}
 use Rattle.gw_circuit.specs.declared.speech.Speech.{Speech}
 use Rattle.gw_circuit.specs.declared.circuit.Circuit.{Circuit}
 
@@ -62,5 +62,5 @@ pub record NumbersFit (c : Circuit) : Type 0 where
 
 pub record CircuitFits (c : Circuit) : Type 0 where
   pub numbers : NumbersFit c
-  pub line : PairsFit c.line.recognition
+  pub line : LineFits c.line
   pub speech : SpeechFits c.speech

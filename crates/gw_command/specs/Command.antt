@@ -1,5 +1,6 @@
 -- The words of the command line: what is named by each, and what stands where one is left out.
-use Rattle.std.specs.Prelude.{◌≡◌, ◌^◌, ◌<◌, ℕ, List, Option, Some, None, codes, IsSomeAnd, MatchOption}
+use Rattle.std.specs.Prelude.{◌≡◌, ◌^◌, ◌<◌, ◌≤◌, ◌+◌, ◌/◌, ℕ, List, Option, Some, None, codes}
+use Rattle.std.specs.Prelude.{IsSomeAnd, MatchOption}
 use Rattle.std.specs.Str.Parse.{IsNumeral, digits_value, without_leading_plus}
 use Rattle.clap.specs.Words.{Row, first_of, one_of}
 use Rattle.e1_g711.specs.declared.Law.{Law}
@@ -118,3 +119,15 @@ text_in id (Some (name, options)) = first_of id options
 abbrev pub SaysNumberIn : ℕ → List ℕ → Option (List ℕ × List Row) → ℕ → Type 0
 SaysNumberIn bits id None n = ⊥
 SaysNumberIn bits id (Some (name, options)) n = SaysNumber bits (one_of id options) n
+
+-- a time of so many ms is this wait of a seizure in signals, one of which comes every 2 ms
+pub record IsWaitOf (ms signals : ℕ) : Type 0 where
+  pub least : 200 ≤ ms
+  pub most : ms ≤ 8000
+  pub signals_are : signals ≡ (ms + 1) / 2
+
+-- the first time that a subcommand gives for a seizure is this wait in signals
+pub record SaysWait (command : Option (List ℕ × List Row)) (signals : ℕ) : Type 0 where
+  pub ms : ℕ
+  pub says : SaysNumberIn 16 (codes "seizure-wait") command ms
+  pub wait : IsWaitOf ms signals

@@ -7,7 +7,7 @@ ghost use Rattle.gw_speech.specs.declared.spec.StreamSpec.{StreamSpec};
 ghost use Rattle.gw_command.specs.Command.{law_name, codec_name, job_name, job_spec, usual_payload};
 ghost use Rattle.gw_command.specs.Command.{IsStream, IsJob, IsSession, session_name};
 ghost use Rattle.gw_command.specs.Command.{IsFilter, filter_name, IsTrunk, IsRequest, text_in};
-ghost use Rattle.gw_command.specs.Command.{SaysNumberIn};
+ghost use Rattle.gw_command.specs.Command.{SaysNumberIn, IsWaitOf, SaysWait};
 ghost use Rattle.gw_command.specs.declared.command.Filter.{Filter};
 ghost use Rattle.gw_command.specs.declared.command.Job.{Job};
 ghost use Rattle.gw_command.specs.declared.command.Request.{Request};
@@ -265,6 +265,38 @@ pub fn repeat_of(matches: &ArgMatches<'_>) -> Option<u8>
 {
     let (_, options) = matches.subcommand()?;
     options.get_one("repeat")
+}
+
+// The wait of a seizure in signals, one of which comes every 2 ms, by its time in ms; None unless the time is
+// 200 to 8,000. A time between two signals is that of the later one.
+fn signals_of(ms: u16) -> Option<u16>
+    ensures wait { IfSome result (IsWaitOf ms) }
+    ensures none { IfNone result ((signals : ℕ) → ¬ IsWaitOf ms signals) }
+{
+    if ms < 200 || ms > 8000 {
+        return None;
+    }
+    Some((ms + 1) / 2)
+}
+
+/// By which of its signals, one every 2 ms, a seizure without acknowledgement is released, by the first time
+/// in ms that the matches name, if they name one.
+pub fn seizure_wait_of(matches: &ArgMatches<'_>) -> Option<u16>
+    ensures found { IfSome result (SaysWait (subcommand_rows_of matches.now)) }
+    ensures none { IfNone result ((signals : ℕ) → ¬ SaysWait (subcommand_rows_of matches.now) signals) }
+{
+    let ms = seizure_ms_of(matches)?;
+    signals_of(ms)
+}
+
+// The first time of `--seizure-wait`.
+fn seizure_ms_of(matches: &ArgMatches<'_>) -> Option<u16>
+    ensures found { IfSome result (SaysNumberIn 16 (codes "seizure-wait") (subcommand_rows_of matches.now)) }
+    ensures none { IfNone result ((n : ℕ)
+        → ¬ SaysNumberIn 16 (codes "seizure-wait") (subcommand_rows_of matches.now) n) }
+{
+    let (_, options) = matches.subcommand()?;
+    options.get_one("seizure-wait")
 }
 
 /// The path of the recording that the matches name, the first one, where they name one.

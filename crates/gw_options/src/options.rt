@@ -95,6 +95,10 @@ const SENDERS_TEXT: &str =
 const REPEAT_TEXT: &str =
     "Datagrams of a circuit after which each is sent again, 0 to 8;\n0 for never";
 
+const SEIZURE_WAIT_TEXT: &str =
+    "Milliseconds after which a seizure that is not acknowledged is\nreleased, 200 to 8000 \
+     [default: 200, or that of the state]";
+
 const CONTROL_TEXT: &str =
     "Unix socket at which clients connect, who give C, K and E records\nand get R records";
 
@@ -116,6 +120,7 @@ enum Opt {
     RecordOver,
     Senders,
     Repeat,
+    SeizureWait,
     Control,
     Crc4Check,
 }
@@ -141,10 +146,16 @@ const OF_A_STREAM: &[Opt] = &[
 ];
 
 // The options of a session of a gateway.
-const OF_A_SESSION: &[Opt] = &[Opt::Config, Opt::Load, Opt::Save, Opt::Totals];
+const OF_A_SESSION: &[Opt] = &[
+    Opt::Config,
+    Opt::Load,
+    Opt::Save,
+    Opt::Totals,
+    Opt::SeizureWait,
+];
 
 // The options of a session whose answers are not written.
-const OF_CHECK: &[Opt] = &[Opt::Config, Opt::Load, Opt::Totals];
+const OF_CHECK: &[Opt] = &[Opt::Config, Opt::Load, Opt::Totals, Opt::SeizureWait];
 
 // The options of a session over UDP.
 const OF_SERVE: &[Opt] = &[
@@ -156,6 +167,7 @@ const OF_SERVE: &[Opt] = &[
     Opt::Totals,
     Opt::Senders,
     Opt::Repeat,
+    Opt::SeizureWait,
 ];
 
 // The options of a trunk in service.
@@ -168,6 +180,7 @@ const OF_TRUNK: &[Opt] = &[
     Opt::Totals,
     Opt::Senders,
     Opt::Repeat,
+    Opt::SeizureWait,
     Opt::Control,
 ];
 
@@ -346,6 +359,13 @@ fn repeat_option<'a>(alloc: Global) -> Arg<'a> {
         .default_value("0")
 }
 
+// After which time a seizure is released. Where it is not given a state keeps its own.
+fn seizure_wait_option<'a>(alloc: Global) -> Arg<'a> {
+    option(alloc, "seizure-wait", SEIZURE_WAIT_TEXT)
+        .value_name("MS")
+        .value_parser(value_parser!(u16).range(200..=8000))
+}
+
 // Where clients connect.
 fn control_option<'a>(alloc: Global) -> Arg<'a> {
     option(alloc, "control", CONTROL_TEXT).value_name("SOCKET")
@@ -369,6 +389,7 @@ fn declared<'a>(alloc: Global, option: Opt) -> Arg<'a> {
         Opt::RecordOver => over_option(alloc),
         Opt::Senders => senders_option(alloc),
         Opt::Repeat => repeat_option(alloc),
+        Opt::SeizureWait => seizure_wait_option(alloc),
         Opt::Control => control_option(alloc),
         Opt::Crc4Check => flag(alloc, "check", CRC4_CHECK_TEXT),
     }

@@ -1,5 +1,5 @@
 -- Commands on new streams.
-use Rattle.std.proofs.Common.{◌≡◌, ◌⊎◌, inl, inr, ℕ, List, [], Option, None, Some, Result, Err, refl}
+use Rattle.std.proofs.Common.{◌≡◌, ◌⊎◌, inl, inr, ℕ, List, [], Option, None, Some, Result, Err, refl, sym, subst}
 use Rattle.std.specs.Prelude.{⊤, option_map}
 use Rattle.gw_config.specs.declared.config.Config.{Config}
 use Rattle.gw_records.specs.declared.outcome.Totals.{Totals}
@@ -16,7 +16,7 @@ use Rattle.gw_command.specs.declared.command.Session.TheVariants.{Replay, Check,
 use Rattle.gw_program.specs.declared.trouble.Trouble.{Trouble}
 use Rattle.gw_program.specs.Performing.{EndedSaved, NotBegun, HasServed, HasConfig, by_session}
 use Rattle.gw_program.specs.Sessions.{HasGateway, Runs, Serves, Checks}
-use Rattle.gw_program.specs.State.{HasBegun, IsSaved}
+use Rattle.gw_program.specs.State.{HasBegun, BeginsWaiting, IsSaved}
 use Rattle.gw_program.specs.Trunks.{CarriesTrunk}
 use Rattle.gw_program.specs.Requests.{OnNewStreams, ByGateway, DoesSession, ServesTrunk}
 
@@ -32,9 +32,10 @@ on_new s s' k k' done reads given failures writes = record {
 }
 
 -- a trouble is told of streams that nothing was done with
-pub untouched : (load : Option (List ℕ)) (does : Around → Around → Gateway → Gateway → Type 0) (trouble : Trouble)
-    → OnNewStreams (λ a a'. ByGateway a a' (Err trouble) load (does a a'))
-untouched load does trouble =
+pub untouched : (load : Option (List ℕ)) (asks : Option ℕ → Type 0)
+    (does : Around → Around → Gateway → Gateway → Type 0) (trouble : Trouble)
+    → OnNewStreams (λ a a'. ByGateway a a' (Err trouble) load asks (does a a'))
+untouched load asks does trouble =
     let source : SourceState = record { failures = 0; reads = 0; given = Some []; to_come = None } in
     let sink : SinkState = record { failures = 0; taken = None } in on_new source source sink sink
     (inl (record { trouble = trouble; why = tt; told_is = refl; unread = refl; unwritten = refl })) refl refl refl refl
@@ -52,10 +53,22 @@ told_untouched f g n = record {
 }
 
 -- the path that is named is told as its text
-pub begun_at : {X : Type 0} (f : X → List ℕ) (path : Option X) (config : GatewayConfig) (gateway : Gateway)
+begun_at : {X : Type 0} (f : X → List ℕ) (path : Option X) (config : GatewayConfig) (gateway : Gateway)
     → HasBegun config path gateway → HasBegun config (option_map f path) gateway
 begun_at f None config gateway begun = begun
 begun_at f (Some path) config gateway begun = begun
+
+-- .. and the wait that is asked for as what it was asked by
+pub waiting_at : {X : Type 0} (f : X → List ℕ) (path : Option X) (wait : Option ℕ) (asks : Option ℕ → Type 0)
+    (config : GatewayConfig) (gateway : Gateway) → asks wait
+    → BeginsWaiting config path (λ asked. asked ≡ wait) gateway → BeginsWaiting config (option_map f path) asks gateway
+waiting_at f path wait asks config gateway is b = record {
+  first = b.first;
+  begun = begun_at f path config b.first b.begun;
+  wait = b.wait;
+  asked = subst asks (sym b.asked) is;
+  waits = b.waits;
+}
 
 -- where nothing is to be saved is told as its text
 pub saved_at : {X : Type 0} (f : X → List ℕ) (path : Option X) (saved : Result (Unit {0}) Trouble)
@@ -64,9 +77,10 @@ saved_at f None saved is = is
 saved_at f (Some path) saved is = is
 
 module _ (s s' : SourceState) (k k' : SinkState) {P T : Type 0} (reads : Config → Type 0) (lacks : Trouble → Type 0)
-    (lacks_gateway lacks_more : Config → Trouble → Type 0) (load save : Option (List ℕ))
+    (lacks_gateway lacks_more : Config → Trouble → Type 0) (load save : Option (List ℕ)) (asks : Option ℕ → Type 0)
     (starts : Config → Gateway → Type 0) (saves : Config → Gateway → Result (Unit {0}) Trouble → Type 0)
-    (begun : (config : Config) (gateway : Gateway) → starts config gateway → HasBegun config.gateway load gateway)
+    (begun : (config : Config) (gateway : Gateway) → starts config gateway
+    → BeginsWaiting config.gateway load asks gateway)
     (is_saved : (config : Config) (gateway : Gateway) (saved : Result (Unit {0}) Trouble)
     → saves config gateway saved → IsSaved save saved)
     (opens : Config → P → Type 0) (begins : T → Type 0)
@@ -95,7 +109,7 @@ module _ (s s' : SourceState) (k k' : SinkState) {P T : Type 0} (reads : Config 
         ⊎ HasServed (opens config) begins (λ ports ports' tape tape'.
         EndedSaved (λ end. Serves (around s k (ports_tell ports) (tape_tells tape))
         (around s' k' (ports_tell ports') (tape_tells tape')) end gateway gateway') (saves config gateway') told))))
-        → s.reads ≡ 0 → s.given ≡ Some [] → s.failures ≡ 0 → k.failures ≡ 0 → DoesSession load save session told
+        → s.reads ≡ 0 → s.given ≡ Some [] → s.failures ≡ 0 → k.failures ≡ 0 → DoesSession load save asks session told
     session_done session (inl n) a b c d =
         on_new s s' k k' (inl (told_untouched (λ e. e) (λ e. e) n)) a b c d
     session_done session (inr h) a b c d = with_config session h.config h.done a b c d
@@ -109,7 +123,7 @@ module _ (s s' : SourceState) (k k' : SinkState) {P T : Type 0} (reads : Config 
             EndedSaved (λ end. Serves (around s k (ports_tell ports) (tape_tells tape))
             (around s' k' (ports_tell ports') (tape_tells tape')) end gateway gateway') (saves config gateway') told))
             → s.reads ≡ 0 → s.given ≡ Some [] → s.failures ≡ 0 → k.failures ≡ 0
-            → DoesSession load save session told
+            → DoesSession load save asks session told
         with_gateway Replay config gateway gateway' new e a b c d = on_new s s' k k' (inr (record {
           config = config;
           read = tt;
@@ -143,7 +157,7 @@ module _ (s s' : SourceState) (k k' : SinkState) {P T : Type 0} (reads : Config 
             EndedSaved (λ end. Serves (around s k (ports_tell ports) (tape_tells tape))
             (around s' k' (ports_tell ports') (tape_tells tape')) end gateway gateway') (saves config gateway') told)))
             → s.reads ≡ 0 → s.given ≡ Some [] → s.failures ≡ 0 → k.failures ≡ 0
-            → DoesSession load save session told
+            → DoesSession load save asks session told
         with_config session config (inl n) a b c d =
             on_new s s' k k' (inl (told_untouched (λ e. e) (λ e. e) n)) a b c d
         with_config session config (inr h) a b c d =
@@ -157,7 +171,7 @@ module _ (s s' : SourceState) (k k' : SinkState) {P T : Type 0} (reads : Config 
         (around s k (ports_tell ports) (tape_tells tape)) (around s' k' (ports_tell ports') (tape_tells tape'))
         came asked went answered end gateway gateway') (saves config gateway') told)))
         → (x' ≡ x → s' ≡ s) → (y' ≡ y → k' ≡ k)
-        → s.reads ≡ 0 → s.given ≡ Some [] → s.failures ≡ 0 → k.failures ≡ 0 → ServesTrunk load save told
+        → s.reads ≡ 0 → s.given ≡ Some [] → s.failures ≡ 0 → k.failures ≡ 0 → ServesTrunk load save asks told
     trunk_served came asked went answered (inl n) f g a b c d = on_new s s' k k' (inl (told_untouched f g n)) a b c d
     trunk_served came asked went answered (inr h) f g a b c d = elim h.done [
       | inl n ↦ on_new s s' k k' (inl (told_untouched f g n)) a b c d

@@ -1,10 +1,11 @@
 -- What was done of what the command line asks for (module `requests`).
-use Rattle.std.specs.Prelude.{◌≡◌, ◌⊎◌, ⊤, ℕ, List, [], Option, Some, Result, Err, IfOk, IfErr, MatchResult, codes}
+use Rattle.std.specs.Prelude.{◌≡◌, ◌⊎◌, ⊤, ℕ, List, [], Option, Some, Result, Err, IfOk, IfErr, MatchResult}
+use Rattle.std.specs.Prelude.{MatchOption, codes}
 use Rattle.clap.specs.Words.{Row}
 use Rattle.gw_switch.specs.declared.gateway.Gateway.{Gateway}
 use Rattle.gw_records.specs.declared.outcome.Totals.{Totals}
 use Rattle.gw_session.specs.Serve.{Around}
-use Rattle.gw_command.specs.Command.{IsRequest, text_in}
+use Rattle.gw_command.specs.Command.{IsRequest, text_in, SaysWait}
 use Rattle.gw_command.specs.declared.command.Filter.{Filter}
 use Rattle.gw_command.specs.declared.command.Filter.TheVariants.{Align, Crc4}
 use Rattle.gw_command.specs.declared.command.Job.{Job}
@@ -17,7 +18,7 @@ use Rattle.gw_program.specs.Filters.{DoesFilter, DoesFilterUntil, HasChecked, Ha
 use Rattle.gw_program.specs.Jobs.{Does, DoesUntil}
 use Rattle.gw_program.specs.Performing.{Ended, EndedSaved, NotBegun, HasConfig, by_session}
 use Rattle.gw_program.specs.Sessions.{HasGateway, Runs, Serves, Checks}
-use Rattle.gw_program.specs.State.{HasBegun, IsSaved}
+use Rattle.gw_program.specs.State.{BeginsWaiting, IsSaved}
 use Rattle.gw_program.specs.Trunks.{CarriesTrunk}
 
 -- a subcommand with its options
@@ -80,16 +81,18 @@ ChecksCrc4 told = OnNewStreams (λ a a'. IfOk told (HasChecked a.source a'.sourc
     × IfErr told (HasCheckedUntil a.source a'.source a.sink a'.sink))
 
 -- a trouble is told, and nothing was read or written; or this was done with a gateway that was begun by a
--- configuration, from a state if one is named
-abbrev pub ByGateway : Around → Around → Result Totals Trouble → Option (List ℕ)
+-- configuration, from a state if one is named, and with the wait that is asked for
+abbrev pub ByGateway : Around → Around → Result Totals Trouble → Option (List ℕ) → (Option ℕ → Type 0)
     → (Gateway → Gateway → Type 0) → Type 0
-ByGateway a a' told load does = NotBegun a.source a'.source a.sink a'.sink (λ _. ⊤) told
-    ⊎ HasConfig (λ _. ⊤) (λ config. HasGateway (HasBegun config.gateway load) does)
+ByGateway a a' told load asks does = NotBegun a.source a'.source a.sink a'.sink (λ _. ⊤) told
+    ⊎ HasConfig (λ _. ⊤) (λ config. HasGateway (BeginsWaiting config.gateway load asks) does)
 
--- what the session told when it was done, by the states to load and to save if they are named
-abbrev pub DoesSession : Option (List ℕ) → Option (List ℕ) → Session → Result Totals Trouble → Type 0
-DoesSession load save session told = OnNewStreams (λ a a'. ByGateway a a' told load (λ gateway gateway'.
-    by_session session
+-- what the session told when it was done, by the states to load and to save if they are named, and the wait
+-- that is asked for
+abbrev pub DoesSession : Option (List ℕ) → Option (List ℕ) → (Option ℕ → Type 0) → Session
+    → Result Totals Trouble → Type 0
+DoesSession load save asks session told = OnNewStreams (λ a a'. ByGateway a a' told load asks
+    (λ gateway gateway'. by_session session
     (EndedSaved (λ end. Runs a.source a'.source a.sink a'.sink end gateway gateway') (IsSaved save) told)
     (EndedSaved (λ end. Checks a.source a'.source a.sink a'.sink end gateway gateway') (IsSaved save) told)
     (EndedSaved (λ end. Serves a a' end gateway gateway') (IsSaved save) told)))
@@ -102,9 +105,11 @@ pub record HasTrunk (does : List ℕ → List ℕ → List ℕ → List ℕ → 
   pub answered : List ℕ
   pub done : does came asked went answered
 
--- what was told when the trunk had been served, by the states to load and to save if they are named
-abbrev pub ServesTrunk : Option (List ℕ) → Option (List ℕ) → Result Totals Trouble → Type 0
-ServesTrunk load save told = OnNewStreams (λ a a'. ByGateway a a' told load (λ gateway gateway'.
+-- what was told when the trunk had been served, by the states to load and to save if they are named, and the
+-- wait that is asked for
+abbrev pub ServesTrunk : Option (List ℕ) → Option (List ℕ) → (Option ℕ → Type 0) → Result Totals Trouble
+    → Type 0
+ServesTrunk load save asks told = OnNewStreams (λ a a'. ByGateway a a' told load asks (λ gateway gateway'.
     HasTrunk (λ came asked went answered. EndedSaved
     (λ end. CarriesTrunk a a' came asked went answered end gateway gateway') (IsSaved save) told)))
 
@@ -115,9 +120,14 @@ load_in command = text_in (codes "load") command
 abbrev pub save_in : Command → Option (List ℕ)
 save_in command = text_in (codes "save") command
 
+-- the wait of a seizure that the command asks for, in signals; none if it asks for none
+abbrev pub AsksWait : Command → Option ℕ → Type 0
+AsksWait command wait = MatchOption wait ((signals : ℕ) → ¬ SaysWait command signals) (SaysWait command)
+
 -- what the command asks for was done, and this is told
 abbrev pub Performs : Command → Result Totals Trouble → Type 0
 Performs command told = HasRequest command (by_request (λ job. DoesJob job told)
-    (λ filter. RunsFilter filter told) (ChecksCrc4 told) (λ session. DoesSession (load_in command) (save_in command) session told)
-    (ServesTrunk (load_in command) (save_in command) told))
+    (λ filter. RunsFilter filter told) (ChecksCrc4 told)
+    (λ session. DoesSession (load_in command) (save_in command) (AsksWait command) session told)
+    (ServesTrunk (load_in command) (save_in command) (AsksWait command) told))
     ⊎ NoRequest command told

@@ -1,8 +1,10 @@
 -- The state of a gateway, from a source and to a sink (module `state`).
-use Rattle.std.specs.Prelude.{◌≡◌, ◌⊎◌, ◌<◌, ◌≤◌, ◌^◌, ℕ, List, [], length, Option, Some, None, Result, Ok, ⊤}
+use Rattle.std.specs.Prelude.{◌≡◌, ◌⊎◌, ◌<◌, ◌≤◌, ◌^◌, ℕ, List, [], ◌∷◌, ◌++◌, length}
+use Rattle.std.specs.Prelude.{Option, Some, None, Result, Ok, ⊤}
 use Rattle.std.specs.Io.KnownBytes.{IsAtEnd}
 use Rattle.gw_switch.specs.declared.GatewayConfig.{GatewayConfig}
 use Rattle.gw_switch.specs.declared.gateway.Gateway.{Gateway}
+use Rattle.gw_switch.specs.Events.{Event}
 use Rattle.gw_switch.specs.Standing.{Stands}
 use Rattle.gw_records.specs.Streams.{SourceState, SinkState, Gives, Breaks}
 use Rattle.gw_state.specs.declared.fault.LoadFault.{LoadFault}
@@ -66,6 +68,25 @@ pub record IsFromState (config : GatewayConfig) (gateway : Gateway) : Type 0 whe
 abbrev pub HasBegun : {X : Type 0} → GatewayConfig → Option X → Gateway → Type 0
 HasBegun config None gateway = Stands config gateway []
 HasBegun config (Some path) gateway = IsFromState config gateway
+
+-- a gateway is given this wait: one event more
+abbrev pub WasGiven : GatewayConfig → ℕ → Gateway → Gateway → Type 0
+WasGiven config signals first gateway = (events : List Event) → Stands config first events
+    → Stands config gateway (events ++ Event.Wait signals ∷ [])
+
+-- a gateway is given the wait that is asked for, and is as it was if none is
+abbrev pub Waits : GatewayConfig → Option ℕ → Gateway → Gateway → Type 0
+Waits config None first gateway = gateway ≡ first
+Waits config (Some signals) first gateway = WasGiven config signals first gateway
+
+-- a session begins with a gateway that began so, and was given the wait that is asked for if one is
+pub record BeginsWaiting {X : Type 0} (config : GatewayConfig) (path : Option X) (Asks : Option ℕ → Type 0)
+    (gateway : Gateway) : Type 0 where
+  pub first : Gateway
+  pub begun : HasBegun config path first
+  pub wait : Option ℕ
+  pub asked : Asks wait
+  pub waits : Waits config wait first gateway
 
 -- octets that were refused so
 pub record AreRefused (config : GatewayConfig) (fault : LoadFault) : Type 0 where

@@ -5,7 +5,7 @@ ghost use Rattle.std.specs.Io.KnownBytes.{Appends};
 ghost use Rattle.gw_records.specs.Streams.{CanCount};
 ghost use Rattle.gw_state.specs.Layout.{state_file};
 ghost use Rattle.gw_program.specs.State.{WasRead, FailsToRead, WasLoaded, FailsToLoad, FailsToSave};
-ghost use Rattle.gw_program.specs.State.{HasBegun, LacksGateway, IsSaved, load_trouble};
+ghost use Rattle.gw_program.specs.State.{HasBegun, Waits, BeginsWaiting, LacksGateway, IsSaved, load_trouble};
 
 use crate::trouble::Trouble;
 use gw_records::read_behind;
@@ -112,8 +112,8 @@ pub fn save_to<K: Sink>(
     }
 }
 
-/// The gateway that a session begins with: the one whose state a file has if one is named, else a new one.
-pub fn begin_gateway(
+// The gateway whose state a file has if one is named, else a new one.
+fn first_gateway(
     rt: &HostRuntime,
     config: &GatewayConfig,
     path: Option<&str>,
@@ -128,6 +128,33 @@ pub fn begin_gateway(
         Ok(file) => load_from(rt.alloc(), config, &mut FromRead::new(file)),
         Err(error) => Err(Trouble::of(&error, Trouble::NoState)),
     }
+}
+
+// The gateway, given this wait if there is one.
+fn waiting(gateway: Gateway, wait: Option<u16>) -> Gateway
+    ensures { (config : GatewayConfig) → Waits config wait gateway result }
+{
+    let mut gateway = gateway;
+    if let Some(signals) = wait {
+        gateway.release_seizures_after(signals);
+    }
+    gateway
+}
+
+/// The gateway that a session begins with: the one whose state a file has if one is named, else a new one. A
+/// seizure that is not acknowledged is released by the signal of it that `wait` says; if it says none, by the
+/// one that the state says, and by the hundredth in a new gateway.
+pub fn begin_gateway(
+    rt: &HostRuntime,
+    config: &GatewayConfig,
+    path: Option<&str>,
+    wait: Option<u16>,
+) -> Result<Gateway, Trouble>
+    ensures ok { IfOk result (BeginsWaiting config.now path.entry (λ asked. asked ≡ wait)) }
+    ensures err { IfErr result (LacksGateway config.now path.entry) }
+{
+    let first = first_gateway(rt, config, path)?;
+    Ok(waiting(first, wait))
 }
 
 // The name of a state while it is written.

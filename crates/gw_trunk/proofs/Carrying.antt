@@ -76,6 +76,7 @@ octets-without (Event.Octet o ∷ es) = ap (λ (ys : List ℕ). o ∷ ys) (octet
 octets-without (Event.Datagram circuit bytes ∷ es) = octets-without es
 octets-without (Event.Command circuit command ∷ es) = octets-without es
 octets-without (Event.Codec circuit kind payload_type ∷ es) = octets-without es
+octets-without (Event.Wait signals ∷ es) = octets-without es
 
 -- .. and no commands.
 commands-without : (es : List Event) → commands_in (without_datagrams es) ≡ commands_in es
@@ -86,6 +87,7 @@ commands-without (Event.Command circuit command ∷ es) =
     ap (λ (xs : List Event). Event.Command circuit command ∷ xs) (commands-without es)
 commands-without (Event.Codec circuit kind payload_type ∷ es) =
     ap (λ (xs : List Event). Event.Codec circuit kind payload_type ∷ xs) (commands-without es)
+commands-without (Event.Wait signals ∷ es) = ap (λ (xs : List Event). Event.Wait signals ∷ xs) (commands-without es)
 
 -- Octets of the trunk before events are no commands.
 commands-behind : (xs : List ℕ) (es : List Event) → commands_in (map Event.Octet xs ++ es) ≡ commands_in es
@@ -109,20 +111,20 @@ appends-first : (old new : Option (List ℕ)) (all more : List ℕ) → old ≡ 
     → Appends old new more → all ≡ more
 appends-first old new all more e f p = rw (e, f) at p
 
--- Records that are given were served by a gateway to which nothing had happened.
+-- Records that are given were served by a gateway to which this had happened.
 carried-records : {s s' : State} {tape tape' : TapeState} {Took : List ℕ → List ℕ → Type 0} {records : List Record}
-    (config : GatewayConfig) (heard asked sent told : List ℕ)
-    → (p : SessionTrace written s s' tape tape' Took records) → Stands config s.gateway []
+    (config : GatewayConfig) (before : List Event) (heard asked sent told : List ℕ)
+    → (p : SessionTrace written s s' tape tape' Took records) → Stands config s.gateway before
     → Woven heard asked records → AllByRecursion (IsGood served_kinds) records
-    → sent ≡ bodies (written config [] p.acts) → told ≡ others (written config [] p.acts)
-    → Carries config s'.gateway tape tape' heard asked sent told
-carried-records {records = records} config heard asked sent told p new woven good is tells =
+    → sent ≡ bodies (written config before p.acts) → told ≡ others (written config before p.acts)
+    → Carries config before s'.gateway tape tape' heard asked sent told
+carried-records {records = records} config before heard asked sent told p new woven good is tells =
     let all : AllByRecursion (IsGood served_kinds) (map session.told p.acts) = rw (p.told_are) good in
     let weave : without_datagrams (events_through p.acts) ≡ events records
     = events_are_told p.acts all ∙ ap events (p.told_are) in
     record {
       happened = events_through p.acts;
-      stands = (p.follows.goes.hears config [] new).stands;
+      stands = (p.follows.goes.hears config before new).stands;
       records = records;
       woven = woven;
       weave_is = weave;
@@ -130,8 +132,8 @@ carried-records {records = records} config heard asked sent told p new woven goo
           ∙ sym (woven.came_are);
       asked_are = sym (commands-without (events_through p.acts)) ∙ ap commands_in weave
           ∙ commands-given records woven.good;
-      sent_are = is ∙ (acts-pass config [] p.acts all).1;
-      told_are = tells ∙ (acts-pass config [] p.acts all).2;
+      sent_are = is ∙ (acts-pass config before p.acts all).1;
+      told_are = tells ∙ (acts-pass config before p.acts all).2;
       recorded = p.follows.recorded;
     }
 
@@ -150,34 +152,34 @@ pub record Trunked (came asked went told given taken : List ℕ) : Type 0 where
 
 -- A session in which no write failed: it came to the end of the records, and carried all.
 pub whole-session : {a a' : Around} {gateway gateway' : Gateway} {ending : Ending} (config : GatewayConfig)
-    (came asked went told given taken : List ℕ) → Around-trunk a a' given taken
-    → Trunked came asked went told given taken → Stands config gateway []
+    (before : List Event) (came asked went told given taken : List ℕ) → Around-trunk a a' given taken
+    → Trunked came asked went told given taken → Stands config gateway before
     → SessionTo served_kinds a.source a'.source a.sink a'.sink
     (Served a a' gateway gateway' (λ first. Appends a.sink.taken a'.sink.taken)) ending
-    → (ending ≡ endings.End) × Carries config gateway' a.tape a'.tape came asked went told
-whole-session {ending = ending} config came asked went told given taken around t new s =
+    → (ending ≡ endings.End) × Carries config before gateway' a.tape a'.tape came asked went told
+whole-session {ending = ending} config before came asked went told given taken around t new s =
     let w = t.gives in
     let octets-are : s.octets ≡ flat_map spelled w.records
     = sym (appends-first _ _ given s.octets around.unread around.read s.gives.gave) ∙ w.given_are in
     let all = records-read w.records (all-good w.records w.woven.good) in
     let one = one_reading served_kinds (flat_map spelled w.records) s.records w.records ending
     endings.End (rw octets-are at s.reads) all in
-    let taken-is : taken ≡ written config [] s.done.acts
-    = appends-first _ _ taken _ around.untaken around.took (s.done.took config [] new) in
+    let taken-is : taken ≡ written config before s.done.acts
+    = appends-first _ _ taken _ around.untaken around.took (s.done.took config before new) in
     let woven : Woven came asked s.records = rw (one.0) (w.woven) in (
       one.1,
-      carried-records config came asked went told s.done new woven s.reads.good
+      carried-records config before came asked went told s.done new woven s.reads.good
           (t.went_are ∙ ap bodies taken-is) (t.told_are ∙ ap others taken-is),
     )
 
 -- A session in which a write failed: it carried the first records, and some of the octets did not go.
-pub cut-session : {a a' : Around} {gateway gateway' : Gateway} (config : GatewayConfig)
+pub cut-session : {a a' : Around} {gateway gateway' : Gateway} (config : GatewayConfig) (before : List Event)
     (came asked went told given taken : List ℕ) → Around-trunk a a' given taken
-    → Trunked came asked went told given taken → Stands config gateway []
+    → Trunked came asked went told given taken → Stands config gateway before
     → FailsToWrite served_kinds a.source a'.source a.sink a'.sink (λ records. (totals : Totals)
     × Served a a' gateway gateway' (AppendsBut 0 a.sink.taken a'.sink.taken) totals records)
-    → CarriesUntilWrite config gateway' a.tape a'.tape came asked went told
-cut-session config came asked went told given taken around t new f =
+    → CarriesUntilWrite config before gateway' a.tape a'.tape came asked went told
+cut-session config before came asked went told given taken around t new f =
     let w = t.gives in
     let octets-are : f.octets ≡ flat_map spelled w.records
     = sym (appends-first _ _ given f.octets around.unread around.read f.gives.gave) ∙ w.given_are in
@@ -187,15 +189,15 @@ cut-session config came asked went told given taken around t new f =
     let behind = more.0 in
     let parts : w.records ≡ f.records ++ behind = more.1 in
     let served = f.begun.1 in
-    let took = served.took config [] new in
+    let took = served.took config before new in
     let taken-is : taken ≡ took.written = appends-first _ _ taken _ around.untaken around.took took.appended in
-    let both : written config [] served.acts ≡ taken ++ took.rest
+    let both : written config before served.acts ≡ taken ++ took.rest
     = took.whole ∙ ap (λ (xs : List ℕ). xs ++ took.rest) (sym taken-is) in
     let lost = passed (place_after Kind taken) took.rest in
     let untold = answered (place_after Kind taken) took.rest in
-    let sent : went ++ lost ≡ bodies (written config [] served.acts)
+    let sent : went ++ lost ≡ bodies (written config before served.acts)
     = rw (t.went_are) (sym (ap bodies both ∙ passed-append Kind taken took.rest)) in
-    let tells : told ++ untold ≡ others (written config [] served.acts)
+    let tells : told ++ untold ≡ others (written config before served.acts)
     = rw (t.told_are) (sym (ap others both ∙ answered-append Kind taken took.rest)) in
     record {
       heard = flat_map trunk_part f.records;
@@ -206,7 +208,7 @@ cut-session config came asked went told given taken around t new f =
       asked_are = w.woven.asked_are ∙ ap (flat_map client_part) parts ∙ flat_map-append client_part f.records behind;
       lost = lost;
       untold = untold;
-      carries = carried-records config (flat_map trunk_part f.records) (flat_map client_part f.records)
+      carries = carried-records config before (flat_map trunk_part f.records) (flat_map client_part f.records)
           (went ++ lost) (told ++ untold) served new
           (record { good = first-given f.records behind (rw parts at w.woven.good); came_are = refl; asked_are = refl })
           f.begins.good sent tells;
@@ -226,24 +228,25 @@ none-given came asked given w none =
     no-records (Record.Codec circuit codec payload_type ∷ records) none = cc
 
 -- A session of a trunk until a fault.
-until : {a a' : Around} (gateway gateway' : Gateway) (config : GatewayConfig) (fault : RunFault)
+until : {a a' : Around} (gateway gateway' : Gateway) (config : GatewayConfig) (before : List Event) (fault : RunFault)
     (came asked went told given taken : List ℕ) → Around-trunk a a' given taken
-    → Trunked came asked went told given taken → Stands config gateway [] → ServesUntil a a' gateway gateway' fault
-    → CarriesUntil config gateway' a.tape a'.tape came asked went told fault
+    → Trunked came asked went told given taken → Stands config gateway before → ServesUntil a a' gateway gateway' fault
+    → CarriesUntil config before gateway' a.tape a'.tape came asked went told fault
 unfolding passed answered place_after
-until gateway gateway' config faults.BadKind came asked went told given taken around t new s =
-    let e = (whole-session config came asked went told given taken around t new s.0).0 in cc
-until gateway gateway' config faults.BadCircuit came asked went told given taken around t new s =
-    let e = (whole-session config came asked went told given taken around t new s.0).0 in cc
-until gateway gateway' config faults.BadCommand came asked went told given taken around t new s =
-    let e = (whole-session config came asked went told given taken around t new s.0).0 in cc
-until gateway gateway' config faults.Truncated came asked went told given taken around t new s =
-    let e = (whole-session config came asked went told given taken around t new s.0.0).0 in cc
-until gateway gateway' config faults.Read came asked went told given taken around t new s =
-    (whole-session config came asked went told given taken around t new s.1).1
-until gateway gateway' config faults.Write came asked went told given taken around t new s =
-    cut-session config came asked went told given taken around t new s
-until {a = a} {a' = a'} gateway gateway' config faults.OutOfMemory came asked went told given taken around t new s =
+until gateway gateway' config before faults.BadKind came asked went told given taken around t new s =
+    let e = (whole-session config before came asked went told given taken around t new s.0).0 in cc
+until gateway gateway' config before faults.BadCircuit came asked went told given taken around t new s =
+    let e = (whole-session config before came asked went told given taken around t new s.0).0 in cc
+until gateway gateway' config before faults.BadCommand came asked went told given taken around t new s =
+    let e = (whole-session config before came asked went told given taken around t new s.0).0 in cc
+until gateway gateway' config before faults.Truncated came asked went told given taken around t new s =
+    let e = (whole-session config before came asked went told given taken around t new s.0.0).0 in cc
+until gateway gateway' config before faults.Read came asked went told given taken around t new s =
+    (whole-session config before came asked went told given taken around t new s.1).1
+until gateway gateway' config before faults.Write came asked went told given taken around t new s =
+    cut-session config before came asked went told given taken around t new s
+until {a = a} {a' = a'} gateway gateway' config before faults.OutOfMemory came asked went told given taken around t new
+    s =
     let unread : a'.source.given ≡ Some [] = ap (λ (b : Around). b.source.given) s.0 ∙ around.unread in
     let untaken : a'.sink.taken ≡ Some [] = ap (λ (b : Around). b.sink.taken) s.0 ∙ around.untaken in
     let none : given ≡ [] = let e = around.read in cc in
@@ -252,12 +255,13 @@ until {a = a} {a' = a'} gateway gateway' config faults.OutOfMemory came asked we
     (n.0, n.1, t.went_are ∙ ap bodies nothing, t.told_are ∙ ap others nothing)
 
 -- A session of a trunk, however it ended.
-pub carried : {a a' : Around} (gateway gateway' : Gateway) (config : GatewayConfig) (end : Result Totals RunFault)
-    (came asked went told given taken : List ℕ) → Around-trunk a a' given taken
-    → Trunked came asked went told given taken → Stands config gateway [] → IfOk end (ServesAll a a' gateway gateway')
+pub carried : {a a' : Around} (gateway gateway' : Gateway) (config : GatewayConfig) (before : List Event)
+    (end : Result Totals RunFault) (came asked went told given taken : List ℕ) → Around-trunk a a' given taken
+    → Trunked came asked went told given taken → Stands config gateway before
+    → IfOk end (ServesAll a a' gateway gateway')
     → IfErr end (ServesUntil a a' gateway gateway')
-    → Carried config gateway' a.tape a'.tape came asked went told end
-carried gateway gateway' config (Ok totals) came asked went told given taken around t new ok err =
-    (whole-session config came asked went told given taken around t new ok.ends.0).1
-carried gateway gateway' config (Err fault) came asked went told given taken around t new ok err =
-    until gateway gateway' config fault came asked went told given taken around t new err
+    → Carried config before gateway' a.tape a'.tape came asked went told end
+carried gateway gateway' config before (Ok totals) came asked went told given taken around t new ok err =
+    (whole-session config before came asked went told given taken around t new ok.ends.0).1
+carried gateway gateway' config before (Err fault) came asked went told given taken around t new ok err =
+    until gateway gateway' config before fault came asked went told given taken around t new err

@@ -37,27 +37,27 @@ answers_for config before [] = []
 answers_for config before (event ∷ es) =
     answer_in event (reply_to config before event) ++ answers_for config (before ++ event ∷ []) es
 
--- Octets and records of clients, woven, and nothing but datagrams between them happened to the gateway, and
--- it stands after them. Its octets are those in their order, its commands those of the records in theirs.
--- The octets that are sent, one for each octet, and the answers to clients are these. What happened was
--- recorded.
-pub record Carries (config : GatewayConfig) (gateway' : Gateway) (tape tape' : TapeState)
-    (heard asked sent told : List ℕ) : Type 0 where
+-- Octets and records of clients, woven, and nothing but datagrams between them happened to the gateway after
+-- what had happened before, and it stands after them. Its octets are those in their order, its commands those
+-- of the records in theirs. The octets that are sent, one for each octet, and the answers to clients are
+-- these. What happened was recorded.
+pub record Carries (config : GatewayConfig) (before : List Event) (gateway' : Gateway)
+    (tape tape' : TapeState) (heard asked sent told : List ℕ) : Type 0 where
   pub happened : List Event
-  pub stands : Stands config gateway' happened
+  pub stands : Stands config gateway' (before ++ happened)
   pub records : List Record
   pub woven : Woven heard asked records
   pub weave_is : without_datagrams happened ≡ events records
   pub heard_are : octets happened ≡ heard
   pub asked_are : commands_in happened ≡ events (from_clients records)
-  pub sent_are : sent ≡ octets_for config [] happened
-  pub told_are : told ≡ answers_for config [] happened
+  pub sent_are : sent ≡ octets_for config before happened
+  pub told_are : told ≡ answers_for config before happened
   pub recorded : Recorded tape tape' happened
 
 -- What came was heard and what was asked was obeyed, but for what is behind these. The device failed when the
 -- first octets had gone of those that are sent for them, and the first of the answers.
-pub record CarriesUntilWrite (config : GatewayConfig) (gateway' : Gateway) (tape tape' : TapeState)
-    (came asked went told : List ℕ) : Type 0 where
+pub record CarriesUntilWrite (config : GatewayConfig) (before : List Event) (gateway' : Gateway)
+    (tape tape' : TapeState) (came asked went told : List ℕ) : Type 0 where
   pub heard : List ℕ
   pub unheard : List ℕ
   pub came_are : came ≡ heard ++ unheard
@@ -66,23 +66,23 @@ pub record CarriesUntilWrite (config : GatewayConfig) (gateway' : Gateway) (tape
   pub asked_are : asked ≡ obeyed ++ unobeyed
   pub lost : List ℕ
   pub untold : List ℕ
-  pub carries : Carries config gateway' tape tape' heard obeyed (went ++ lost) (told ++ untold)
+  pub carries : Carries config before gateway' tape tape' heard obeyed (went ++ lost) (told ++ untold)
 
 -- how a trunk ended before its end: where a read failed all that came was heard and answered; for want of
 -- memory nothing came, was asked or went; no record was bad
-abbrev pub CarriesUntil : GatewayConfig → Gateway → TapeState → TapeState → List ℕ → List ℕ → List ℕ → List ℕ
-    → RunFault → Type 0
-CarriesUntil config gateway' tape tape' came asked went told Read =
-    Carries config gateway' tape tape' came asked went told
-CarriesUntil config gateway' tape tape' came asked went told Write =
-    CarriesUntilWrite config gateway' tape tape' came asked went told
-CarriesUntil config gateway' tape tape' came asked went told OutOfMemory =
+abbrev pub CarriesUntil : GatewayConfig → List Event → Gateway → TapeState → TapeState → List ℕ → List ℕ
+    → List ℕ → List ℕ → RunFault → Type 0
+CarriesUntil config before gateway' tape tape' came asked went told Read =
+    Carries config before gateway' tape tape' came asked went told
+CarriesUntil config before gateway' tape tape' came asked went told Write =
+    CarriesUntilWrite config before gateway' tape tape' came asked went told
+CarriesUntil config before gateway' tape tape' came asked went told OutOfMemory =
     (came ≡ []) × (asked ≡ []) × (went ≡ []) × (told ≡ [])
-CarriesUntil config gateway' tape tape' came asked went told _ = ⊥
+CarriesUntil config before gateway' tape tape' came asked went told _ = ⊥
 
 -- a trunk was served up to its end, or until a fault
-abbrev pub Carried : GatewayConfig → Gateway → TapeState → TapeState → List ℕ → List ℕ → List ℕ → List ℕ
-    → Result Totals RunFault → Type 0
-Carried config gateway' tape tape' came asked went told end = MatchResult end
-    (λ _. Carries config gateway' tape tape' came asked went told)
-    (CarriesUntil config gateway' tape tape' came asked went told)
+abbrev pub Carried : GatewayConfig → List Event → Gateway → TapeState → TapeState → List ℕ → List ℕ
+    → List ℕ → List ℕ → Result Totals RunFault → Type 0
+Carried config before gateway' tape tape' came asked went told end = MatchResult end
+    (λ _. Carries config before gateway' tape tape' came asked went told)
+    (CarriesUntil config before gateway' tape tape' came asked went told)

@@ -1,7 +1,8 @@
 //! A trunk, served by a gateway.
 
-ghost use Rattle.std.specs.Prelude.{◌≡◌, [], IfOk, IfErr};
+ghost use Rattle.std.specs.Prelude.{◌≡◌, List, [], IfOk, IfErr};
 ghost use Rattle.gw_switch.specs.declared.GatewayConfig.{GatewayConfig};
+ghost use Rattle.gw_switch.specs.Events.{Event};
 ghost use Rattle.gw_switch.specs.Standing.{Stands};
 ghost use Rattle.gw_session.specs.Serve.{ServesAll, ServesUntil, around};
 ghost use Rattle.gw_trunk.specs.Serving.{Carried};
@@ -45,9 +46,10 @@ pub fn serve_trunk<I: Incoming, O: Outgoing, A: Outgoing, P: Ports, T: Tape>(
         (around (⟦<TrunkSource<I> as Source>⟧.tells source.new) (⟦<TrunkSink<O, A> as Sink>⟧.tells sink.new)
         (P.tells ports.new) (T.tells tape.new))
         gateway.old gateway.new) }
-    ensures carries { (config : GatewayConfig) → Stands config gateway.old []
-        → ∥ Carried config gateway.new (T.tells tape.old) (T.tells tape.new) (I.came source.new.incoming)
-        (I.asked source.new.incoming) (O.went sink.new.outgoing) (A.went sink.new.answers) result ∥₁ }
+    ensures carries { (config : GatewayConfig) (before : List Event) → Stands config gateway.old before
+        → ∥ Carried config before gateway.new (T.tells tape.old) (T.tells tape.new)
+        (I.came source.new.incoming) (I.asked source.new.incoming) (O.went sink.new.outgoing)
+        (A.went sink.new.answers) result ∥₁ }
 {
     serve_recorded(alloc, gateway, ports, source, sink, tape)
 }

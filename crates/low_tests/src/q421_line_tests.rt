@@ -63,6 +63,45 @@ fn outgoing_call(rt: HostRuntime) {
     assert_eq!(rt; line.command(Answer), Err(LineFault::WrongRole));
 }
 
+// The signal of a seizure by which a line that never hears its acknowledgement releases it, where the wait is this
+// after so many signals of it.
+fn released_by(rt: &impl Abort, after: u16, wait: u16) -> u16 {
+    let mut line = Line::new(Outgoing);
+    let _sent = give(rt, &mut line, IDLE);
+    let _none = give(rt, &mut line, CALLED);
+    for signal in 1..=4_000u16 {
+        if signal > after {
+            line.release_after(wait);
+        }
+        let _sent = line.signal(Nibble::new(0b1001));
+        if line.state() == Releasing {
+            return signal;
+        }
+        assert_eq!(rt; line.state(), Seized);
+    }
+    0
+}
+
+// A wait of 1,000 signals takes 2 s; one that has passed already ends with the next signal.
+#[test]
+fn seizure_waits_as_long(rt: HostRuntime) {
+    let rows = [
+        (0, 1_000, 1_000),
+        (99, 1_000, 1_000),
+        (0, 100, 100),
+        (0, 2, 2),
+        (0, 1, 1),
+        (0, 0, 1),
+        (50, 20, 51),
+        (50, 51, 51),
+        (50, 52, 52),
+        (200, 1_000, 100),
+    ];
+    for (after, wait, signal) in rows {
+        assert_eq!(rt; released_by(&rt, after, wait), signal);
+    }
+}
+
 #[test]
 fn seized_once_idle(rt: HostRuntime) {
     let mut line = Line::new(Role::Outgoing);
@@ -274,13 +313,15 @@ fn line_as_octets(rt: HostRuntime) -> Result<(), Fail> {
     let mut room = Vec::new(rt.alloc());
     let mut line = Line::new(Outgoing);
     let rows = [
-        (Heard(0b1001, 9), [7, 0, 2, 9, 4]),
-        (Heard(0b1001, 1), [0, 0, 2, 10, 2]),
-        (Asked(Seize), [1, 0, 2, 10, 2]),
-        (Heard(0b1101, 3), [1, 3, 3, 3, 2]),
-        (Heard(0b1101, 7), [2, 0, 3, 10, 3]),
+        (Heard(0b1001, 9), 100, [7, 0, 0, 0, 100, 2, 9, 4]),
+        (Heard(0b1001, 1), 100, [0, 0, 0, 0, 100, 2, 10, 2]),
+        (Asked(Seize), 1_000, [1, 0, 0, 3, 232, 2, 10, 2]),
+        (Heard(0b1001, 255), 1_000, [1, 0, 255, 3, 232, 2, 10, 2]),
+        (Heard(0b1101, 3), 1_000, [1, 1, 2, 3, 232, 3, 3, 2]),
+        (Heard(0b1101, 7), 1_000, [2, 0, 0, 3, 232, 3, 10, 3]),
     ];
-    for (step, octets) in rows {
+    for (step, wait, octets) in rows {
+        line.release_after(wait);
         let _sent = give(&rt, &mut line, step);
         room.clear();
         line.save(&mut room)?;
@@ -288,13 +329,16 @@ fn line_as_octets(rt: HostRuntime) -> Result<(), Fail> {
         assert_eq!(rt; Line::load(Outgoing, &mut Octets::new(&octets)), Some(line));
     }
     assert_eq!(rt;
-        Line::load(Incoming, &mut Octets::new(&[8, 0, 4, 0, 4])),
+        Line::load(Incoming, &mut Octets::new(&[8, 0, 0, 0, 100, 4, 0, 4])),
         None
     );
     assert_eq!(rt;
-        Line::load(Incoming, &mut Octets::new(&[7, 0, 5, 0, 4])),
+        Line::load(Incoming, &mut Octets::new(&[7, 0, 0, 0, 100, 5, 0, 4])),
         None
     );
-    assert_eq!(rt; Line::load(Incoming, &mut Octets::new(&[7, 0, 4, 0])), None);
+    assert_eq!(rt;
+        Line::load(Incoming, &mut Octets::new(&[7, 0, 0, 0, 100, 4, 0])),
+        None
+    );
     Ok(())
 }

@@ -6,12 +6,13 @@ use Rattle.q421_line.specs.declared.LineFault.{LineFault}
 use Rattle.q421_line.specs.Recognition.{recognised}
 use Rattle.q421_line.specs.Tables.{sent_pair}
 use Rattle.q421_line.specs.Commands.{command_outcome, told_of}
-use Rattle.q421_line.specs.Signalling.{Signalling, signalling, command, after_outcome}
-use Rattle.q421_line.specs.Laws.{PairsAreRecognisedByTen, SeizuresAreReleased, RefusedCommandsChangeNothing}
-use Rattle.q421_line.specs.Laws.{SentPairsFit, IncomingIsNeverSeized}
+use Rattle.q421_line.specs.Signalling.{Signalling, signalling, command, wait, after_outcome}
+use Rattle.q421_line.specs.Laws.{PairsAreRecognisedByTen, SeizuresAreReleased}
+use Rattle.q421_line.specs.Laws.{SeizuresAreReleasedByTheHundredth, RefusedCommandsChangeNothing}
+use Rattle.q421_line.specs.Laws.{WaitsChangeNothingElse, SentPairsFit, IncomingIsNeverSeized}
 use Rattle.q421_line.proofs.Runs.{recognised-replicate, recognised-short}
 use Rattle.q421_line.proofs.Steps.{signalling-push}
-use Rattle.q421_line.proofs.Seizure.{seizure-short}
+use Rattle.q421_line.proofs.Seizure.{seizure-short, seizure-hundredth}
 use Rattle.q421_line.proofs.Incoming.{incoming-never}
 
 -- a pair is recognised when the last ten known pairs are it, and stays so until another one is
@@ -19,9 +20,13 @@ pub recognised-by_ten : PairsAreRecognisedByTen
 unfolding recognised
 recognised-by_ten = (refl, recognised-replicate, recognised-short)
 
--- no seizure lasts a hundred signals
+-- no seizure lasts as many signals as the wait has
 pub seizure-released : SeizuresAreReleased
 seizure-released = seizure-short
+
+-- none lasts a hundred where no wait was given
+pub seizure-released_by_the_hundredth : SeizuresAreReleasedByTheHundredth
+seizure-released_by_the_hundredth = seizure-hundredth
 
 -- an outcome that is answered by a fault changes nothing
 outcome-refused : (line : Signalling) (led : Result State LineFault) (fault : LineFault) → told_of led ≡ Err fault
@@ -34,6 +39,10 @@ pub signalling-refused : RefusedCommandsChangeNothing
 signalling-refused role items asked fault refused =
     signalling-push role items (command asked)
     ∙ outcome-refused (signalling role items) (command_outcome role asked (signalling role items).state) fault refused
+
+-- a wait changes the wait alone
+pub signalling-waiting : WaitsChangeNothingElse
+signalling-waiting role items signals = signalling-push role items (wait signals)
 
 -- a nibble that is sent is four bits
 pub sent_nibble-fits : SentPairsFit

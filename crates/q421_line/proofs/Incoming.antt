@@ -11,7 +11,7 @@ use Rattle.q421_line.specs.declared.LineFault.{LineFault}
 use Rattle.q421_line.specs.Recognition.{recognised}
 use Rattle.q421_line.specs.Tables.{by_pair, next_state, next_incoming}
 use Rattle.q421_line.specs.Commands.{command_outcome}
-use Rattle.q421_line.specs.Signalling.{Item, signal, command, Signalling, signalling, at_first}
+use Rattle.q421_line.specs.Signalling.{Item, signal, command, wait, Signalling, signalling, at_first}
 use Rattle.q421_line.specs.Signalling.{after_item, after_outcome}
 use Rattle.q421_line.specs.Signalling.{with_heard, next_by, after_count}
 
@@ -50,16 +50,16 @@ next_by-of state None h = h
 next_by-of state (Some pair) h = next-of state pair h
 
 -- nor does the count of a seizure, which there is none of
-count-of : (pairs : List ℕ) (before after : State) (seized_for : ℕ) → IsOfIncoming before → IsOfIncoming after
-    → IsOfIncoming (after_count pairs before after seized_for).state
-count-of pairs Idle after seized_for b a = a
-count-of pairs Acked after seized_for b a = a
-count-of pairs Answered after seized_for b a = a
-count-of pairs ClearedBack after seized_for b a = a
-count-of pairs Blocked after seized_for b a = a
-count-of pairs Fault after seized_for b a = a
-count-of pairs Seized after seized_for b a = absurd b
-count-of pairs Releasing after seized_for b a = absurd b
+count-of : (most : ℕ) (pairs : List ℕ) (before after : State) (seized_for : ℕ) → IsOfIncoming before
+    → IsOfIncoming after → IsOfIncoming (after_count most pairs before after seized_for).state
+count-of most pairs Idle after seized_for b a = a
+count-of most pairs Acked after seized_for b a = a
+count-of most pairs Answered after seized_for b a = a
+count-of most pairs ClearedBack after seized_for b a = a
+count-of most pairs Blocked after seized_for b a = a
+count-of most pairs Fault after seized_for b a = a
+count-of most pairs Seized after seized_for b a = absurd b
+count-of most pairs Releasing after seized_for b a = absurd b
 
 -- nor does a command
 outcome-of : (asked : Cmd) (state : State) → IfOk (command_outcome Incoming asked state) IsOfIncoming
@@ -87,9 +87,10 @@ item-of : (line : Signalling) (item : Item) → IsOfIncoming line.state
     → IsOfIncoming (after_item Incoming line item).state
 item-of line (signal heard) h =
     let pairs : List ℕ = with_heard line.pairs heard in
-    count-of pairs line.state _ line.seized_for h (next_by-of line.state (recognised pairs) h)
+    count-of line.released_after pairs line.state _ line.seized_for h (next_by-of line.state (recognised pairs) h)
 item-of line (command asked) h =
     after-of line (command_outcome Incoming asked line.state) h (outcome-of asked line.state)
+item-of line (wait signals) h = h
 
 -- nor do many
 items-of : (line : Signalling) (items : List Item) → IsOfIncoming line.state

@@ -1,5 +1,5 @@
 -- How long a seizure lasts.
-use Rattle.std.proofs.Common.{◌≡◌, ℕ, suc, ◌+◌, ◌<◌, Bool, true, false, cond, ◌&&◌, List, [], ◌∷◌, ◌++◌, length}
+use Rattle.std.proofs.Common.{◌≡◌, ℕ, suc, ◌+◌, ◌<◌, Bool, true, false, cond, List, [], ◌∷◌, ◌++◌, length}
 use Rattle.std.proofs.Common.{take, Option, refl, sym, ap, subst, ◌∙◌, arith, append_assoc, append-nil}
 use Rattle.std.proofs.lemmas.Bool.{leb-false}
 use Rattle.std.specs.Prelude.{fold, map, nat_le, Result, Ok, Err}
@@ -10,110 +10,129 @@ use Rattle.q421_line.specs.declared.State.TheVariants.{ClearedBack, Releasing, B
 use Rattle.q421_line.specs.declared.LineFault.{LineFault}
 use Rattle.q421_line.specs.Recognition.{recognised}
 use Rattle.q421_line.specs.Commands.{command_outcome}
-use Rattle.q421_line.specs.Signalling.{Item, signal, command, Signalling, signalling, at_first}
-use Rattle.q421_line.specs.Signalling.{after_item, after_outcome, with_heard, next_by, after_count, is_seized}
-use Rattle.q421_line.specs.Laws.{IsSeizedThrough, SeizuresAreReleased}
-use Rattle.q421_line.proofs.Steps.{signalling-push}
+use Rattle.q421_line.specs.Signalling.{Item, signal, command, wait, Signalling, signalling, at_first, with_count}
+use Rattle.q421_line.specs.Signalling.{after_item, after_outcome, with_heard, next_by, after_count}
+use Rattle.q421_line.specs.Laws.{IsSeizedThrough, waits, wait_after}
+use Rattle.q421_line.specs.Laws.{SeizuresAreReleased, SeizuresAreReleasedByTheHundredth}
+use Rattle.q421_line.proofs.Steps.{signalling-push, most-counted}
 
--- a signal leaves the count of a seizure below a hundred
-count-below : (pairs : List ℕ) (before after : State) (seized_for : ℕ)
-    → (after_count pairs before after seized_for).seized_for < 100
-count-below pairs before after seized_for =
-    go (is_seized before && is_seized after) (nat_le 100 (seized_for + 1)) refl
-  where
-    go : (stays released : Bool) → nat_le 100 (seized_for + 1) ≡ released → (cond {A = Signalling} stays
-        (cond released (record { pairs = pairs; state = Releasing; seized_for = 0 })
-        (record { pairs = pairs; state = Seized; seized_for = seized_for + 1 }))
-        (record { pairs = pairs; state = after; seized_for = 0 })).seized_for < 100
-    go true true is = omega arith
-    go true false is = omega (arith, leb-false 100 (seized_for + 1) is)
-    go false released is = omega arith
+-- a command leaves the wait
+most-obeyed : (line : Signalling) (led : Result State LineFault)
+    → (after_outcome line led).released_after ≡ line.released_after
+most-obeyed line (Ok state) = refl
+most-obeyed line (Err fault) = refl
 
--- a command leaves it so
-outcome-below : (line : Signalling) (led : Result State LineFault) → line.seized_for < 100
-    → (after_outcome line led).seized_for < 100
-outcome-below line (Ok state) below = omega arith
-outcome-below line (Err fault) below = below
+-- the wait of a line after items is the last one among them, and else what it was
+most-last : (role : Role) (line : Signalling) (items : List Item)
+    → (fold (after_item role) line items).released_after
+    ≡ fold (λ earlier latest. latest) line.released_after (waits items)
+most-last role line [] = refl
+most-last role line (signal heard ∷ items) =
+    most-last role (after_item role line (signal heard)) items
+    ∙ ap (λ n. fold (λ earlier latest. latest) n (waits items))
+    (most-counted line.released_after (with_heard line.pairs heard) line.state _ line.seized_for)
+most-last role line (command asked ∷ items) =
+    most-last role (after_item role line (command asked)) items
+    ∙ ap (λ n. fold (λ earlier latest. latest) n (waits items))
+    (most-obeyed line (command_outcome role asked line.state))
+most-last role line (wait signals ∷ items) = most-last role (after_item role line (wait signals)) items
 
--- so does an item
-item-below : (role : Role) (line : Signalling) (item : Item) → line.seized_for < 100
-    → (after_item role line item).seized_for < 100
-item-below role line (signal heard) below = count-below (with_heard line.pairs heard) line.state _ line.seized_for
-item-below role line (command asked) below = outcome-below line (command_outcome role asked line.state) below
-
--- and so do many
-items-below : (role : Role) (line : Signalling) (items : List Item) → line.seized_for < 100
-    → (fold (after_item role) line items).seized_for < 100
-items-below role line [] below = below
-items-below role line (item ∷ items) below =
-    items-below role (after_item role line item) items (item-below role line item below)
-
--- so it is below a hundred at all times
-signalling-below : (role : Role) (items : List Item) → (signalling role items).seized_for < 100
+-- so it is the wait in force
+most-is : (role : Role) (items : List Item) → (signalling role items).released_after ≡ wait_after items
 unfolding signalling
-signalling-below role items = items-below role at_first items (omega arith)
+most-is role items = most-last role at_first items
 
--- with each signal through which a line stays Seized, its count goes up by one
-count-up : (pairs : List ℕ) (after : State) (seized_for : ℕ)
-    → (after_count pairs Seized after seized_for).state ≡ Seized
-    → (after_count pairs Seized after seized_for).seized_for ≡ seized_for + 1
-count-up pairs Seized seized_for stays = go (nat_le 100 (seized_for + 1)) stays
+-- a line stays Seized with one signal more: its count goes up by one, and has not reached the wait
+pub record GoesUp (most seized_for : ℕ) (line : Signalling) : Type 0 where
+  pub up : line.seized_for ≡ seized_for + 1
+  pub below : seized_for + 1 < most
+  pub same : line.released_after ≡ most
+
+-- each signal through which a line stays Seized does so
+count-up : (most : ℕ) (pairs : List ℕ) (after : State) (seized_for : ℕ)
+    → (after_count most pairs Seized after seized_for).state ≡ Seized
+    → GoesUp most seized_for (after_count most pairs Seized after seized_for)
+count-up most pairs Seized seized_for stays = go (nat_le most (seized_for + 1)) refl stays
   where
-    go : (released : Bool)
-        → (cond {A = Signalling} released (record { pairs = pairs; state = Releasing; seized_for = 0 })
-        (record { pairs = pairs; state = Seized; seized_for = seized_for + 1 })).state ≡ Seized
-        → (cond {A = Signalling} released (record { pairs = pairs; state = Releasing; seized_for = 0 })
-        (record { pairs = pairs; state = Seized; seized_for = seized_for + 1 })).seized_for ≡ seized_for + 1
-    go true stays = cc
-    go false stays = refl
-count-up pairs Idle seized_for stays = cc
-count-up pairs Acked seized_for stays = cc
-count-up pairs Answered seized_for stays = cc
-count-up pairs ClearedBack seized_for stays = cc
-count-up pairs Releasing seized_for stays = cc
-count-up pairs Blocked seized_for stays = cc
-count-up pairs Fault seized_for stays = cc
+    go : (released : Bool) → nat_le most (seized_for + 1) ≡ released
+        → (cond {A = Signalling} released (with_count most pairs Releasing 0)
+        (with_count most pairs Seized (seized_for + 1))).state ≡ Seized
+        → GoesUp most seized_for (cond {A = Signalling} released (with_count most pairs Releasing 0)
+        (with_count most pairs Seized (seized_for + 1)))
+    go true is stays = cc
+    go false is stays =
+        record { up = refl; below = omega (arith, leb-false most (seized_for + 1) is); same = refl }
+count-up most pairs Idle seized_for stays = cc
+count-up most pairs Acked seized_for stays = cc
+count-up most pairs Answered seized_for stays = cc
+count-up most pairs ClearedBack seized_for stays = cc
+count-up most pairs Releasing seized_for stays = cc
+count-up most pairs Blocked seized_for stays = cc
+count-up most pairs Fault seized_for stays = cc
 
 -- the same for a state that is known to be Seized
-count-up-from : (pairs : List ℕ) (before after : State) (seized_for : ℕ) → before ≡ Seized
-    → (after_count pairs before after seized_for).state ≡ Seized
-    → (after_count pairs before after seized_for).seized_for ≡ seized_for + 1
-count-up-from pairs before after seized_for was = subst
-    (λ (b : State). (after_count pairs b after seized_for).state ≡ Seized
-    → (after_count pairs b after seized_for).seized_for ≡ seized_for + 1) (sym was) (count-up pairs after seized_for)
+count-up-from : (most : ℕ) (pairs : List ℕ) (before after : State) (seized_for : ℕ) → before ≡ Seized
+    → (after_count most pairs before after seized_for).state ≡ Seized
+    → GoesUp most seized_for (after_count most pairs before after seized_for)
+count-up-from most pairs before after seized_for was = subst
+    (λ (b : State). (after_count most pairs b after seized_for).state ≡ Seized
+    → GoesUp most seized_for (after_count most pairs b after seized_for))
+    (sym was) (count-up most pairs after seized_for)
 
 -- the same for a line
 signal-up : (role : Role) (items : List Item) (heard : Option ℕ) → (signalling role items).state ≡ Seized
     → (signalling role (items ++ signal heard ∷ [])).state ≡ Seized
-    → (signalling role (items ++ signal heard ∷ [])).seized_for ≡ (signalling role items).seized_for + 1
+    → GoesUp (signalling role items).released_after (signalling role items).seized_for
+    (signalling role (items ++ signal heard ∷ []))
 signal-up role items heard was stays =
     let line : Signalling = signalling role items in
     let pairs : List ℕ = with_heard line.pairs heard in
     let push = signalling-push role items (signal heard) in
-    ap (λ (z : Signalling). z.seized_for) push
-    ∙ count-up-from pairs line.state (next_by role line.state (recognised pairs)) line.seized_for was
-    (sym (ap (λ (z : Signalling). z.state) push) ∙ stays)
+    subst (λ z. GoesUp line.released_after line.seized_for z) (sym push)
+    (count-up-from line.released_after pairs line.state (next_by role line.state (recognised pairs)) line.seized_for was
+    (sym (ap (λ (z : Signalling). z.state) push) ∙ stays))
 
--- and for many signals
-signals-up : (role : Role) (items : List Item) (signals : List (Option ℕ)) → IsSeizedThrough role items signals
-    → (signalling role (items ++ map signal signals)).seized_for ≡ (signalling role items).seized_for + length signals
-signals-up role items [] through = let e : items ++ [] ≡ items = append-nil items in rw e (omega arith)
-signals-up role items (heard ∷ signals) through =
+-- the first of the signals through which a line stays Seized does so
+first-up : (role : Role) (items : List Item) (heard : Option ℕ) (signals : List (Option ℕ))
+    → IsSeizedThrough role items (heard ∷ signals)
+    → GoesUp (signalling role items).released_after (signalling role items).seized_for
+    (signalling role (items ++ signal heard ∷ []))
+first-up role items heard signals through =
     let none : items ++ [] ≡ items = append-nil items in
-    let was : (signalling role items).state ≡ Seized
-    = ap (λ z. (signalling role z).state) (sym none) ∙ through 0 (omega arith) in
-    let one = signal-up role items heard was (through 1 (omega arith)) in
-    let joined : (rest : List (Option ℕ))
-    → (items ++ signal heard ∷ []) ++ map signal rest ≡ items ++ map signal (heard ∷ rest)
-    = λ rest. append_assoc items (signal heard ∷ []) (map signal rest) in
-    let rest = signals-up role (items ++ signal heard ∷ []) signals
-    (λ count within.
-    ap (λ z. (signalling role z).state) (joined (take count signals)) ∙ through (suc count) (omega arith)) in
-    let whole = ap (λ z. (signalling role z).seized_for) (joined signals) in
+    signal-up role items heard (ap (λ z. (signalling role z).state) (sym none) ∙ through 0 (omega arith))
+    (through 1 (omega arith))
+
+-- and the others do
+others-through : (role : Role) (items : List Item) (heard : Option ℕ) (signals : List (Option ℕ))
+    → IsSeizedThrough role items (heard ∷ signals) → IsSeizedThrough role (items ++ signal heard ∷ []) signals
+others-through role items heard signals through count within =
+    ap (λ z. (signalling role z).state) (append_assoc items (signal heard ∷ []) (map signal (take count signals)))
+    ∙ through (suc count) (omega arith)
+
+-- so the count of a line that stays Seized through signals has not reached the wait with the last of them
+signals-up : (role : Role) (items : List Item) (heard : Option ℕ) (signals : List (Option ℕ))
+    → IsSeizedThrough role items (heard ∷ signals)
+    → (signalling role items).seized_for + length (heard ∷ signals) < (signalling role items).released_after
+signals-up role items heard [] through =
+    let one = first-up role items heard [] through in
+    let below = one.below in omega arith
+signals-up role items heard (next ∷ signals) through =
+    let one = first-up role items heard (next ∷ signals) through in
+    let up = one.up in
+    let same = one.same in
+    let rest = signals-up role (items ++ signal heard ∷ []) next signals
+    (others-through role items heard (next ∷ signals) through) in
     omega arith
 
--- so no seizure lasts a hundred signals
+-- so no seizure lasts as many signals as the wait has
 pub seizure-short : SeizuresAreReleased
-seizure-short role items signals through =
-    let up = signals-up role items signals through in
-    let below = signalling-below role (items ++ map signal signals) in omega arith
+seizure-short role items [] through = omega arith
+seizure-short role items (heard ∷ signals) through =
+    let up = signals-up role items heard signals through in
+    let is = most-is role items in omega arith
+
+-- nor a hundred, where no wait was given
+pub seizure-hundredth : SeizuresAreReleasedByTheHundredth
+seizure-hundredth role items signals none through =
+    let is : wait_after items ≡ 100 = ap (λ all. fold (λ earlier latest. latest) 100 all) none in
+    let short = seizure-short role items signals through in omega arith

@@ -1,4 +1,4 @@
--- A line that stands, one signal or command later.
+-- A line that stands, one signal, command or wait later.
 use Rattle.std.proofs.Common.{◌≡◌, ℕ, ◌+◌, Bool, true, false, cond, ◌&&◌, List, [], ◌∷◌, ◌++◌, Option}
 use Rattle.std.proofs.Common.{refl, sym, ap, subst, ◌∙◌}
 use Rattle.std.specs.Prelude.{nat_le, Ok, Err}
@@ -12,7 +12,7 @@ use Rattle.q421_line.specs.declared.recognition.Recognition.{Recognition}
 use Rattle.q421_line.specs.declared.signalling.Line.{Line}
 use Rattle.q421_line.specs.Recognition.{recognised}
 use Rattle.q421_line.specs.Commands.{command_outcome}
-use Rattle.q421_line.specs.Signalling.{Item, signal, command, Signalling, signalling, at_first}
+use Rattle.q421_line.specs.Signalling.{Item, signal, command, wait, Signalling, signalling, at_first, with_count}
 use Rattle.q421_line.specs.Signalling.{after_item, after_outcome}
 use Rattle.q421_line.specs.Signalling.{with_heard, next_by, after_count, is_seized}
 use Rattle.q421_line.specs.Line.{HasHeard, Stands}
@@ -24,14 +24,27 @@ unfolding signalling
 signalling-push role items item = fold_push (after_item role) at_first items item
 
 -- a signal leaves the known pairs as they were with it
-pairs-counted : (pairs : List ℕ) (before after : State) (seized_for : ℕ)
-    → (after_count pairs before after seized_for).pairs ≡ pairs
-pairs-counted pairs before after seized_for = go (is_seized before && is_seized after) (nat_le 100 (seized_for + 1))
+pairs-counted : (most : ℕ) (pairs : List ℕ) (before after : State) (seized_for : ℕ)
+    → (after_count most pairs before after seized_for).pairs ≡ pairs
+pairs-counted most pairs before after seized_for =
+    go (is_seized before && is_seized after) (nat_le most (seized_for + 1))
   where
     go : (stays released : Bool) → ◌≡◌ {A = List ℕ} (cond {A = Signalling} stays
-        (cond released (record { pairs = pairs; state = Releasing; seized_for = 0 })
-        (record { pairs = pairs; state = Seized; seized_for = seized_for + 1 }))
-        (record { pairs = pairs; state = after; seized_for = 0 })).pairs pairs
+        (cond released (with_count most pairs Releasing 0) (with_count most pairs Seized (seized_for + 1)))
+        (with_count most pairs after 0)).pairs pairs
+    go true true = refl
+    go true false = refl
+    go false released = refl
+
+-- and the wait as it was
+pub most-counted : (most : ℕ) (pairs : List ℕ) (before after : State) (seized_for : ℕ)
+    → (after_count most pairs before after seized_for).released_after ≡ most
+most-counted most pairs before after seized_for =
+    go (is_seized before && is_seized after) (nat_le most (seized_for + 1))
+  where
+    go : (stays released : Bool) → ◌≡◌ {A = ℕ} (cond {A = Signalling} stays
+        (cond released (with_count most pairs Releasing 0) (with_count most pairs Seized (seized_for + 1)))
+        (with_count most pairs after 0)).released_after most
     go true true = refl
     go true false = refl
     go false released = refl
@@ -42,10 +55,11 @@ pub stands-signal : (old : Line) (role : Role) (items : List Item) (heard : Opti
     → Stands old role items
     → HasHeard recognition (with_heard (signalling role items).pairs heard)
     → next ≡ next_by old.role old.state recognition.recognised
-    → state ≡ (after_count (with_heard (signalling role items).pairs heard) old.state next old.seized_for).state
-    → seized_for
-    ≡ (after_count (with_heard (signalling role items).pairs heard) old.state next old.seized_for).seized_for
-    → Stands (record { role = old.role; state = state; seized_for = seized_for; recognition = recognition }) role
+    → state ≡ (after_count old.released_after (with_heard (signalling role items).pairs heard) old.state next
+    old.seized_for).state
+    → seized_for ≡ (after_count old.released_after (with_heard (signalling role items).pairs heard) old.state next
+    old.seized_for).seized_for
+    → Stands (record old { state = state; seized_for = seized_for; recognition = recognition }) role
     (items ++ signal heard ∷ [])
 stands-signal old role items heard recognition next state seized_for stands has_heard is_next is_state is_seized_for =
     let before : Signalling = signalling role items in
@@ -54,18 +68,26 @@ stands-signal old role items heard recognition next state seized_for stands has_
     ∙ ap (λ r. next_by r old.state recognition.recognised) stands.role_is
     ∙ ap (λ s. next_by role s recognition.recognised) stands.state_is
     ∙ ap (λ p. next_by role before.state p) has_heard.recognised_is in
-    let same : after_count pairs old.state next old.seized_for ≡ after_item role before (signal heard)
-    = ap (λ s. after_count pairs s next old.seized_for) stands.state_is
-    ∙ ap (λ s. after_count pairs before.state s old.seized_for) next_is
-    ∙ ap (λ n. after_count pairs before.state (next_by role before.state (recognised pairs)) n) stands.seized_for_is in
-    let whole : after_count pairs old.state next old.seized_for ≡ signalling role (items ++ signal heard ∷ [])
+    let most : ℕ = before.released_after in
+    let same : after_count old.released_after pairs old.state next old.seized_for
+    ≡ after_item role before (signal heard)
+    = ap (λ n. after_count n pairs old.state next old.seized_for) stands.released_after_is
+    ∙ ap (λ s. after_count most pairs s next old.seized_for) stands.state_is
+    ∙ ap (λ s. after_count most pairs before.state s old.seized_for) next_is
+    ∙ ap (λ n. after_count most pairs before.state (next_by role before.state (recognised pairs)) n)
+    stands.seized_for_is in
+    let whole : after_count old.released_after pairs old.state next old.seized_for
+    ≡ signalling role (items ++ signal heard ∷ [])
     = same ∙ sym (signalling-push role items (signal heard)) in
     let kept : pairs ≡ (signalling role (items ++ signal heard ∷ [])).pairs
-    = sym (pairs-counted pairs old.state next old.seized_for) ∙ ap (λ (z : Signalling). z.pairs) whole in
+    = sym (pairs-counted old.released_after pairs old.state next old.seized_for)
+    ∙ ap (λ (z : Signalling). z.pairs) whole in
     record {
       role_is = stands.role_is;
       state_is = is_state ∙ ap (λ (z : Signalling). z.state) whole;
       seized_for_is = is_seized_for ∙ ap (λ (z : Signalling). z.seized_for) whole;
+      released_after_is = sym (most-counted old.released_after pairs old.state next old.seized_for)
+          ∙ ap (λ (z : Signalling). z.released_after) whole;
       heard = subst (λ known. HasHeard recognition known) kept has_heard;
     }
 
@@ -79,18 +101,17 @@ outcome-is old role items asked stands =
 -- the line stands after a command that is obeyed
 pub stands-obeyed : (old : Line) (role : Role) (items : List Item) (asked : Cmd) (state : State) → Stands old role items
     → Ok state ≡ command_outcome old.role asked old.state
-    → Stands (record { role = old.role; state = state; seized_for = 0; recognition = old.recognition }) role
-    (items ++ command asked ∷ [])
+    → Stands (record old { state = state; seized_for = 0 }) role (items ++ command asked ∷ [])
 stands-obeyed old role items asked state stands is_outcome =
     let before : Signalling = signalling role items in
-    let whole : ◌≡◌ {A = Signalling} (record { pairs = before.pairs; state = state; seized_for = 0 })
-    (signalling role (items ++ command asked ∷ []))
+    let whole : with_count before.released_after before.pairs state 0 ≡ signalling role (items ++ command asked ∷ [])
     = sym (signalling-push role items (command asked)
     ∙ ap (λ z. after_outcome before z) (outcome-is old role items asked stands ∙ sym is_outcome)) in
     record {
       role_is = stands.role_is;
       state_is = ap (λ (z : Signalling). z.state) whole;
       seized_for_is = ap (λ (z : Signalling). z.seized_for) whole;
+      released_after_is = stands.released_after_is ∙ ap (λ (z : Signalling). z.released_after) whole;
       heard = subst (λ known. HasHeard old.recognition known) (ap (λ (z : Signalling). z.pairs) whole) stands.heard;
     }
 
@@ -107,5 +128,19 @@ stands-refused old role items asked fault stands is_outcome =
       role_is = stands.role_is;
       state_is = stands.state_is ∙ ap (λ (z : Signalling). z.state) whole;
       seized_for_is = stands.seized_for_is ∙ ap (λ (z : Signalling). z.seized_for) whole;
+      released_after_is = stands.released_after_is ∙ ap (λ (z : Signalling). z.released_after) whole;
+      heard = subst (λ known. HasHeard old.recognition known) (ap (λ (z : Signalling). z.pairs) whole) stands.heard;
+    }
+
+-- the line stands after a wait
+pub stands-waiting : (old : Line) (role : Role) (items : List Item) (signals : ℕ) → Stands old role items
+    → Stands (record old { released_after = signals }) role (items ++ wait signals ∷ [])
+stands-waiting old role items signals stands =
+    let whole = sym (signalling-push role items (wait signals)) in
+    record {
+      role_is = stands.role_is;
+      state_is = stands.state_is ∙ ap (λ (z : Signalling). z.state) whole;
+      seized_for_is = stands.seized_for_is ∙ ap (λ (z : Signalling). z.seized_for) whole;
+      released_after_is = ap (λ (z : Signalling). z.released_after) whole;
       heard = subst (λ known. HasHeard old.recognition known) (ap (λ (z : Signalling). z.pairs) whole) stands.heard;
     }

@@ -1,6 +1,6 @@
--- Laws of line signals (ITU-T Q.421), of every role, state and list of signals and commands.
-use Rattle.std.specs.Prelude.{◌≡◌, ◌≢◌, ℕ, ◌<◌, ◌≤◌, List, [], ◌∷◌, ◌++◌, length, map, take, replicate}
-use Rattle.std.specs.Prelude.{Option, Some, None, Err}
+-- Laws of line signals (ITU-T Q.421), of every role, state and list of signals, commands and waits.
+use Rattle.std.specs.Prelude.{◌≡◌, ◌≢◌, ℕ, ◌<◌, ◌≤◌, max, List, [], ◌∷◌, ◌++◌, length, map, take, replicate}
+use Rattle.std.specs.Prelude.{fold, Option, Some, None, Err}
 use Rattle.q421_line.specs.declared.Role.{Role}
 use Rattle.q421_line.specs.declared.Role.TheVariants.{Incoming}
 use Rattle.q421_line.specs.declared.State.{State}
@@ -10,7 +10,7 @@ use Rattle.q421_line.specs.declared.LineFault.{LineFault}
 use Rattle.q421_line.specs.Recognition.{run_of, recognised}
 use Rattle.q421_line.specs.Tables.{sent_pair, sent_nibble}
 use Rattle.q421_line.specs.Commands.{command_outcome, told_of}
-use Rattle.q421_line.specs.Signalling.{Item, signal, command, signalling}
+use Rattle.q421_line.specs.Signalling.{Item, signal, command, wait, signalling}
 
 -- A pair is recognised when the last ten known pairs are it, and stays so until another one is. At first none
 -- is.
@@ -31,10 +31,32 @@ abbrev pub IsSeizedThrough : Role → List Item → List (Option ℕ) → Type 0
 IsSeizedThrough role items signals = (count : ℕ) → count ≤ length signals
     → (signalling role (items ++ map signal (take count signals))).state ≡ Seized
 
--- no seizure lasts a hundred signals, whatever is heard in them
+-- the waits among items
+abbrev pub waits : List Item → List ℕ
+waits [] = []
+waits (wait signals ∷ items) = signals ∷ waits items
+waits (item ∷ items) = waits items
+
+-- the wait after items: the last one among them, and a hundred signals where there is none
+abbrev pub wait_after : List Item → ℕ
+wait_after items = fold (λ earlier latest. latest) 100 (waits items)
+
+-- no seizure lasts as many signals as the wait has, whatever is heard in them; where that is none or one, the
+-- next signal releases it
 abbrev pub SeizuresAreReleased : Type 0
 SeizuresAreReleased = (role : Role) (items : List Item) (signals : List (Option ℕ))
-    → IsSeizedThrough role items signals → length signals < 100
+    → IsSeizedThrough role items signals → length signals < max 1 (wait_after items)
+
+-- so none lasts a hundred signals where no wait was given
+abbrev pub SeizuresAreReleasedByTheHundredth : Type 0
+SeizuresAreReleasedByTheHundredth = (role : Role) (items : List Item) (signals : List (Option ℕ))
+    → waits items ≡ [] → IsSeizedThrough role items signals → length signals < 100
+
+-- a wait changes nothing of a line's signalling but when a seizure is released
+abbrev pub WaitsChangeNothingElse : Type 0
+WaitsChangeNothingElse = (role : Role) (items : List Item) (signals : ℕ)
+    → signalling role (items ++ wait signals ∷ [])
+    ≡ record (signalling role items) { released_after = signals }
 
 -- what is sent in a state is four bits
 abbrev pub SentPairsFit : Type 0

@@ -1,4 +1,4 @@
--- What the fields of a line say of the signals and commands that it was given.
+-- What the fields of a line say of the signals, commands and waits that it was given.
 use Rattle.std.specs.Prelude.{◌≡◌, ℕ, min, List, reverse, slice_get, Some}
 use Rattle.q421_line.specs.declared.Role.{Role}
 use Rattle.q421_line.specs.declared.recognition.Recognition.{Recognition}
@@ -13,9 +13,10 @@ pub record HasHeard (recognition : Recognition) (pairs : List ℕ) : Type 0 wher
   pub run_is : (pair : ℕ) → recognition.latest ≡ Some pair → recognition.run ≡ min 10 (run_of pair pairs)
   pub recognised_is : recognition.recognised ≡ recognised pairs
 
--- A line of this role stands after these signals and commands: its fields are those of its signalling.
+-- A line of this role stands after these items: its fields are those of its signalling.
 pub record Stands (line : Line) (role : Role) (items : List Item) : Type 0 where
   pub role_is : line.role ≡ role
   pub state_is : line.state ≡ (signalling role items).state
   pub seized_for_is : line.seized_for ≡ (signalling role items).seized_for
+  pub released_after_is : line.released_after ≡ (signalling role items).released_after
   pub heard : HasHeard line.recognition (signalling role items).pairs

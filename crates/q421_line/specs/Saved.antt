@@ -1,6 +1,7 @@
 -- The octets of a saved line. Its role is not among them: a line that is loaded has the role of its
 -- configuration.
-use Rattle.std.specs.Prelude.{ℕ, List, [], ◌∷◌, Option, Some, None, ◌<◌, IfSome}
+use Rattle.std.specs.Prelude.{ℕ, List, [], ◌∷◌, ◌++◌, Option, Some, None, ◌<◌, ◌^◌, IfSome}
+use Rattle.saved_octets.specs.Numbers.{two_octets}
 use Rattle.q421_line.specs.declared.State.{State}
 use Rattle.q421_line.specs.declared.State.TheVariants.{Idle, Seized, Acked, Answered, ClearedBack, Releasing, Blocked, Fault}
 use Rattle.q421_line.specs.declared.recognition.Recognition.{Recognition}
@@ -26,11 +27,21 @@ saved_pair (Some pair) = pair
 abbrev pub saved_recognition : Recognition → List ℕ
 saved_recognition r = saved_pair r.latest ∷ r.run ∷ saved_pair r.recognised ∷ []
 
--- the state, the number of signals that the seizure has lasted, the recognition
+-- how many signals the seizure has lasted, and by which of them it is released
+abbrev pub saved_seizure : Line → List ℕ
+saved_seizure line = two_octets line.seized_for ++ two_octets line.released_after
+
+-- the state, the seizure, the recognition
 abbrev pub saved_line : Line → List ℕ
-saved_line line = state_number line.state ∷ line.seized_for ∷ saved_recognition line.recognition
+saved_line line = state_number line.state ∷ saved_seizure line ++ saved_recognition line.recognition
 
 -- each pair has two bits, as in every line
 pub record PairsFit (r : Recognition) : Type 0 where
   pub latest : IfSome r.latest (λ pair. pair < 4)
   pub recognised : IfSome r.recognised (λ pair. pair < 4)
+
+-- and the signals of a seizure are numbers of 16 bits
+pub record LineFits (line : Line) : Type 0 where
+  pub pairs : PairsFit line.recognition
+  pub seized_for : line.seized_for < 2 ^ 16
+  pub released_after : line.released_after < 2 ^ 16

@@ -1,4 +1,4 @@
--- The signalling of one line (ITU-T Q.421): its state after a list of signals and commands.
+-- The signalling of one line (ITU-T Q.421): its state after a list of signals, commands and waits.
 use Rattle.std.specs.Prelude.{ℕ, ◌+◌, Bool, true, false, ◌&&◌, nat_le, if◌then◌else◌}
 use Rattle.std.specs.Prelude.{List, [], ◌∷◌, ◌++◌, fold, Option, Some, None, Result, Ok, Err}
 use Rattle.q421_line.specs.declared.Role.{Role}
@@ -10,11 +10,12 @@ use Rattle.q421_line.specs.Recognition.{pair_of, recognised}
 use Rattle.q421_line.specs.Tables.{next_state}
 use Rattle.q421_line.specs.Commands.{command_outcome}
 
--- what a line is given: a turn to signal, with the nibble that was heard since the one before, if any; or a
--- command
+-- what a line is given: a turn to signal, with the nibble that was heard since the one before, if any; a
+-- command; or a wait: from now on a seizure without acknowledgement is released by this signal of it
 pub data Item : Type 0 where
   signal : Option ℕ → Item
   command : Cmd → Item
+  wait : ℕ → Item
 
 -- what there is to know of a line after some signals and commands
 pub record Signalling : Type 0 where
@@ -23,6 +24,8 @@ pub record Signalling : Type 0 where
   pub state : State
   -- how many signals the present seizure has lasted; 0 in every state but Seized
   pub seized_for : ℕ
+  -- by which of its signals a seizure without acknowledgement is released
+  pub released_after : ℕ
 
 -- a nibble that was heard is one known pair more; where none was heard, none is
 abbrev pub with_heard : List ℕ → Option ℕ → List ℕ
@@ -39,38 +42,49 @@ abbrev pub is_seized : State → Bool
 is_seized Seized = true
 is_seized state = false
 
--- A line that was and stays Seized has been so for one signal more, and is released by the hundredth. (A
--- choice: a hundred signals, one every 2 ms, are 200 ms without an acknowledgement, ten times what it takes
--- to be recognised.)
-abbrev pub after_count : List ℕ → State → State → ℕ → Signalling
-after_count pairs before after seized_for =
+-- the signalling with this wait, these known pairs, this state and this count of signals
+abbrev pub with_count : ℕ → List ℕ → State → ℕ → Signalling
+with_count released_after pairs state seized_for = record {
+  pairs = pairs;
+  state = state;
+  seized_for = seized_for;
+  released_after = released_after;
+}
+
+-- A line that was and stays Seized has been so for one signal more, and is released where that is the last of
+-- its wait, or a later one.
+abbrev pub after_count : ℕ → List ℕ → State → State → ℕ → Signalling
+after_count released_after pairs before after seized_for =
     if is_seized before && is_seized after
-    then (if nat_le 100 (seized_for + 1)
-    then record { pairs = pairs; state = Releasing; seized_for = 0 }
-    else record { pairs = pairs; state = Seized; seized_for = seized_for + 1 })
-    else record { pairs = pairs; state = after; seized_for = 0 }
+    then (if nat_le released_after (seized_for + 1)
+    then with_count released_after pairs Releasing 0
+    else with_count released_after pairs Seized (seized_for + 1))
+    else with_count released_after pairs after 0
 
 -- a signal: the nibble may make a pair recognised; a recognised pair gives the next state, with every signal
 abbrev pub after_signal : Role → Signalling → Option ℕ → Signalling
 after_signal role line heard =
     let pairs = with_heard line.pairs heard in
-    after_count pairs line.state (next_by role line.state (recognised pairs)) line.seized_for
+    after_count line.released_after pairs line.state (next_by role line.state (recognised pairs))
+    line.seized_for
 
 -- a command that is not refused gives the next state; a refused one changes nothing
 abbrev pub after_outcome : Signalling → Result State LineFault → Signalling
 after_outcome line (Err fault) = line
-after_outcome line (Ok state) = record { pairs = line.pairs; state = state; seized_for = 0 }
+after_outcome line (Ok state) = with_count line.released_after line.pairs state 0
 
 -- one item more
 abbrev pub after_item : Role → Signalling → Item → Signalling
 after_item role line (signal heard) = after_signal role line heard
 after_item role line (command asked) = after_outcome line (command_outcome role asked line.state)
+after_item role line (wait signals) = record line { released_after = signals }
 
--- a line has heard nothing at first, and begins in Fault (our choice: it takes no call before the other end
--- is heard)
+-- A line has heard nothing at first, and begins in Fault (our choice: it takes no call before the other end
+-- is heard). It releases a seizure by its hundredth signal. (A choice: a hundred signals, one every 2 ms, are
+-- 200 ms without an acknowledgement, ten times what it takes to be recognised.)
 abbrev pub at_first : Signalling
-at_first = record { pairs = []; state = Fault; seized_for = 0 }
+at_first = with_count 100 [] Fault 0
 
--- the signalling of a line of this role after a list of signals and commands
+-- the signalling of a line of this role after a list of signals, commands and waits
 unfoldable pub signalling : Role → List Item → Signalling
 signalling role items = fold (after_item role) at_first items

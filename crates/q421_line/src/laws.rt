@@ -1,8 +1,8 @@
 //! Laws of line signals, over their definitions alone.
 
 ghost use Rattle.q421_line.specs.Laws.{PairsAreRecognisedByTen, SeizuresAreReleased};
-ghost use Rattle.q421_line.specs.Laws.{RefusedCommandsChangeNothing};
-ghost use Rattle.q421_line.specs.Laws.{SentPairsFit, IncomingIsNeverSeized};
+ghost use Rattle.q421_line.specs.Laws.{SeizuresAreReleasedByTheHundredth, RefusedCommandsChangeNothing};
+ghost use Rattle.q421_line.specs.Laws.{WaitsChangeNothingElse, SentPairsFit, IncomingIsNeverSeized};
 
 /// A pair is recognised when the last ten known pairs are it, and stays so until another one is. At first
 /// none is.
@@ -10,14 +10,21 @@ pub fn pairs_are_recognised_by_ten()
     ensures { PairsAreRecognisedByTen }
 {}
 
-/// No seizure lasts a hundred signals, whatever is heard in them.
+/// No seizure lasts as many signals as the wait has, whatever is heard in them: no hundred signals where no
+/// wait was given.
 pub fn seizures_are_released()
-    ensures { SeizuresAreReleased }
+    ensures by_the_wait { SeizuresAreReleased }
+    ensures by_the_hundredth { SeizuresAreReleasedByTheHundredth }
 {}
 
 /// A command that is refused leaves a line's signalling as it was.
 pub fn refusals_change_nothing()
     ensures { RefusedCommandsChangeNothing }
+{}
+
+/// A wait changes nothing of a line's signalling but when a seizure is released.
+pub fn waits_change_nothing_else()
+    ensures { WaitsChangeNothingElse }
 {}
 
 /// What a line sends in any state is a nibble, below 16.

@@ -4,7 +4,8 @@ ghost use Rattle.std.specs.Prelude.{◌≡◌, ℕ, ◌<◌, List, [], ◌∷◌
 ghost use Rattle.q421_line.specs.Recognition.{recognised};
 ghost use Rattle.q421_line.specs.Tables.{sent_pair, sent_nibble, is_open};
 ghost use Rattle.q421_line.specs.Commands.{command_outcome, told_of};
-ghost use Rattle.q421_line.specs.Signalling.{Item, signal, command, signalling, next_by, after_count};
+ghost use Rattle.q421_line.specs.Signalling.{Item, signal, command, wait};
+ghost use Rattle.q421_line.specs.Signalling.{signalling, next_by, after_count};
 ghost use Rattle.q421_line.specs.Line.{Stands};
 
 mod saving;
@@ -14,8 +15,9 @@ use crate::recognition::Recognition;
 use crate::{Cmd, LineFault, Role, State, tables};
 use g704_cas::Nibble;
 
-// A seizure without acknowledgement is released by its hundredth signal: one every 2 ms, they take 200 ms.
-const RELEASED_AFTER: u8 = 100;
+// By which of its signals a seizure without acknowledgement is released, until a line is given another wait:
+// one every 2 ms, they take 200 ms.
+const RELEASED_AFTER: u16 = 100;
 
 /// The line signals of one circuit at one end of it (ITU-T Q.421).
 ///
@@ -33,12 +35,15 @@ pub struct Line {
     role: Role,
     state: State,
     // How many signals the present seizure has lasted; 0 in every state but `Seized`.
-    seized_for: u8,
+    seized_for: u16,
+    // By which of its signals a seizure without acknowledgement is released.
+    released_after: u16,
     recognition: Recognition,
 }
 
 impl Line {
-    /// A line in this role that has heard nothing. It begins in `Fault`.
+    /// A line in this role that has heard nothing. It begins in `Fault`, and releases a seizure by its
+    /// hundredth signal.
     pub fn new(role: Role) -> Self
         ensures { Stands result role [] }
     {
@@ -46,14 +51,15 @@ impl Line {
             role,
             state: State::Fault,
             seized_for: 0,
+            released_after: RELEASED_AFTER,
             recognition: Recognition::new(),
         }
     }
 
     /// The line's turn to signal, which comes once in a multiframe of 2 ms: takes the nibble that was heard
     /// since the one before, if any, and answers the nibble that is sent. The pair that is recognised leads
-    /// to the next state, with every signal. A seizure that is not acknowledged by its hundredth signal is
-    /// released.
+    /// to the next state, with every signal. A seizure that is not acknowledged by the last signal of its
+    /// wait is released.
     pub fn signal(&mut self, heard: Option<Nibble>) -> Nibble
         ensures sent { (role : Role) (items : List Item) → Stands self.old role items
             → result ≡ sent_nibble (sent_pair role (signalling role (items ++ signal heard ∷ [])).state) }
@@ -63,7 +69,12 @@ impl Line {
     {
         self.recognition.hear(heard);
         let next = next_by(self.role, self.state, self.recognition.recognised());
-        let (state, seized_for) = count_seizure(self.state, next, self.seized_for);
+        let (state, seized_for) = count_seizure(
+            self.released_after,
+            self.state,
+            next,
+            self.seized_for,
+        );
         self.state = state;
         self.seized_for = seized_for;
         self.sent().nibble()
@@ -81,6 +92,15 @@ impl Line {
         self.state = tables::command_outcome(self.role, asked, self.state)?;
         self.seized_for = 0;
         Ok(())
+    }
+
+    /// From now on a seizure without acknowledgement is released by this signal of it, counted from 1; by its
+    /// next one where it has lasted as many already. A signal comes every 2 ms.
+    pub fn release_after(&mut self, signals: u16)
+        ensures { (role : Role) (items : List Item) → Stands self.old role items
+            → Stands self.new role (items ++ wait signals ∷ []) }
+    {
+        self.released_after = signals;
     }
 
     /// The state.
@@ -128,14 +148,18 @@ fn next_by(role: Role, state: State, recognised: Option<Pair>) -> State
 
 // After a signal that leads from one state to another: the state, and how many signals its seizure has
 // lasted.
-fn count_seizure(before: State, after: State, seized_for: u8) -> (State, u8)
-    ensures state { (pairs : List ℕ) → result.0 ≡ (after_count pairs before after seized_for).state }
+fn count_seizure(released_after: u16, before: State, after: State, seized_for: u16) -> (State, u16)
+    ensures state { (pairs : List ℕ)
+        → result.0 ≡ (after_count released_after pairs before after seized_for).state }
     ensures seized_for { (pairs : List ℕ)
-        → result.1 ≡ (after_count pairs before after seized_for).seized_for }
+        → result.1 ≡ (after_count released_after pairs before after seized_for).seized_for }
 {
     use State::*;
     match (before, after) {
-        (Seized, Seized) if seized_for < RELEASED_AFTER - 1 => (Seized, seized_for + 1),
+        (Seized, Seized) if seized_for < released_after.saturating_sub(1) => (
+            Seized,
+            seized_for + 1,
+        ),
         (Seized, Seized) => (Releasing, 0),
         _ => (after, 0),
     }

@@ -2,8 +2,8 @@ use clap::error::ErrorKind;
 use e1_g711::Law;
 use g726_codec::CodecKind;
 use gw_command::{
-    Filter, Job, Request, Session, asks_check, job_of, path_of, request_of, senders_of, session_of,
-    wants_totals,
+    Filter, Job, Request, Session, asks_check, job_of, path_of, request_of, seizure_wait_of,
+    senders_of, session_of, wants_totals,
 };
 use gw_options::matches;
 use gw_session::StreamSpec;
@@ -132,6 +132,25 @@ fn subcommands_are_named(rt: HostRuntime) -> Result<(), Fail> {
         assert!(rt; request_of(&matches) == Some(request), "at {line}");
     }
     assert!(rt; job(rt.alloc(), "e1gw align --law a")? == Err(ErrorKind::UnknownArgument));
+    Ok(())
+}
+
+// 201 ms are 101 signals; where no time is named there is no wait.
+#[test]
+fn waits_are_read(rt: HostRuntime) -> Result<(), Fail> {
+    for (line, signals) in [
+        ("e1gw serve --config x", None),
+        ("e1gw serve --config x --seizure-wait 200", Some(100)),
+        ("e1gw trunk --config x --seizure-wait 201", Some(101)),
+        ("e1gw replay --config x --seizure-wait 2000", Some(1_000)),
+        ("e1gw check --config x --seizure-wait 8000", Some(4_000)),
+    ] {
+        let words = words(rt.alloc(), line)?;
+        let matches = matches(rt.alloc(), words.as_slice())
+            .ok()
+            .ok_or("a command line")?;
+        assert!(rt; seizure_wait_of(&matches) == signals, "at {line}");
+    }
     Ok(())
 }
 

@@ -9,6 +9,7 @@ import threading
 from collections.abc import Iterator
 
 from ..kept import PIECE, Source, Trouble, pieces
+from ..lines import SEIZURE_WAIT, wait_words
 
 WAITING = 256               # pieces: more than a gateway holds back before it answers
 
@@ -32,13 +33,15 @@ class Replayed:
 
     A thread gives each piece to the program once it waits to be read here, so neither of the two waits for ever."""
 
-    def __init__(self, program: str, config: str, octets: Iterator[bytes], state: str = '') -> None:
+    def __init__(self, program: str, config: str, octets: Iterator[bytes], state: str = '',
+                 wait: int = SEIZURE_WAIT) -> None:
         self.queue: queue.Queue[bytes] = queue.Queue(WAITING)
         self.fault: BaseException | None = None
         load = ['--load', state] if state else []
         try:
-            self.process = subprocess.Popen([program, 'replay', '--config', config, *load], stdin=subprocess.PIPE,
-                                            stdout=subprocess.PIPE, stderr=subprocess.PIPE)
+            words = [program, 'replay', '--config', config, *load, *wait_words(wait)]
+            self.process = subprocess.Popen(words, stdin=subprocess.PIPE, stdout=subprocess.PIPE,
+                                            stderr=subprocess.PIPE)
         except OSError as fault:
             raise Trouble(f'{program}: {fault.strerror}') from fault
         assert self.process.stdout

@@ -13,7 +13,7 @@ from collections.abc import Iterable, Iterator
 from dataclasses import dataclass, field
 from typing import Any
 
-from ..lines import Standing
+from ..lines import SEIZURE_WAIT, Standing
 from ..repetitions import Repetitions
 from .sound import Heard, Turns
 
@@ -205,6 +205,7 @@ class Row:
     payload: int | None = None
     prefill: int = 0
     ptime: int = 20
+    wait: int = SEIZURE_WAIT                    # of a seizure, in milliseconds
     local: str = ''
     peer: str = ''
     states: Spans = field(default_factory=lambda: Spans('fault', RANK))

@@ -238,7 +238,7 @@ def _lines(row: Row, whole: Cell) -> Iterator[Finding]:
     unacknowledged, faults = whole.counts.get('unacknowledged', 0), whole.counts.get('faults', 0)
     if unacknowledged:
         yield Finding('unacknowledged', row.number,
-                      f'a seizure was not acknowledged within 200 ms ({times(unacknowledged)})',
+                      f'a seizure was not acknowledged within {row.wait} ms ({times(unacknowledged)})',
                       'is the circuit incoming there, and its slot the same? No seizure works while there is an alarm')
     if faults:
         yield Finding('fault', row.number, f'the line came to fault {times(faults)}',

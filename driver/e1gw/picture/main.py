@@ -7,9 +7,11 @@ import os
 import re
 import sys
 from collections.abc import Iterator
+from typing import Any
 
+from ..faults import number
 from ..kept import Kept, Source, Trouble, kept, octets_of, pieces
-from ..lines import read_config
+from ..lines import read_config, with_wait
 from ..raw import raw_words_of
 from ..session import OCTETS_A_SECOND, BadSession
 from .answers import Replayed, program_of
@@ -85,6 +87,8 @@ def parser() -> argparse.ArgumentParser:
     words.add_argument('--last', type=seconds, metavar='TIME', help='the last part of the session alone, as 60s or 5m')
     words.add_argument('--circuits', type=circuits, metavar='LIST', help='these circuits alone, as 1,2,7 or 3-9')
     words.add_argument('--begin', type=moment, metavar='TIME', help='when the session began, in UTC')
+    words.add_argument('--seizure-wait', type=number(200, 8000), metavar='MS',
+                       help='as of the gateway [default: that of the kept session, or 200]')
     words.add_argument('--title', metavar='WORDS', help='the title of the page')
     words.add_argument('--program', metavar='E1GW', help='the program [default: that of this repository, or e1gw]')
     return words
@@ -105,14 +109,15 @@ def port_faults(path: str) -> int:
     return int(told[-1])
 
 
-def facts_of(options: argparse.Namespace, session: Kept, config: str, place: int) -> tuple[Facts, Iterator[bytes]]:
+def facts_of(options: argparse.Namespace, session: Kept, tables: dict[str, Any],
+             place: int) -> tuple[Facts, Iterator[bytes]]:
     """What is known of a session before it is read, and its octets, the first of which is at this place."""
-    facts = Facts(rows_of(read_config(config)), span_of(options))
+    facts = Facts(rows_of(tables), span_of(options))
     facts.slips = session.slips and [(place + at, seconds) for at, seconds in session.slips]
     octets = given(session)
     begin = options.begin if options.begin is not None else session.begin
     if options.capture:
-        octets, begin = merged(octets, options.capture, read_config(config), facts, begin, session.place)
+        octets, begin = merged(octets, options.capture, tables, facts, begin, session.place)
         facts.told = 'placed by the times of the capture'
     facts.begin = None if begin is None else begin - place / OCTETS_A_SECOND
     return facts, octets
@@ -120,17 +125,19 @@ def facts_of(options: argparse.Namespace, session: Kept, config: str, place: int
 
 def gathered(options: argparse.Namespace, session: Kept, config: str, known: Begun | None) -> tuple[Facts, str]:
     """What is drawn of a session, and a word on how it ended. It begins with a gateway that is known, or new."""
-    facts, octets = facts_of(options, session, config, known.place if known else 0)
+    wait = options.seizure_wait or session.wait
+    tables = with_wait(read_config(config), wait)
+    facts, octets = facts_of(options, session, tables, known.place if known else 0)
     if options.answers:
         with open(options.answers, 'rb') as answers:
-            reading = Reading(facts, read_config(config), Source(octets), answers, options.program)
+            reading = Reading(facts, tables, Source(octets), answers, options.program)
             reading.read()
         return facts, '' if reading.whole else 'it ends inside a record, or its answers do'
     program = program_of(options.program)
-    replayed = Replayed(program, config, octets, session.state if known else '')
+    replayed = Replayed(program, config, octets, session.state if known else '', wait)
     fault = ''
     try:
-        Reading(facts, read_config(config), replayed.given, replayed.answered, program, known).read()
+        Reading(facts, tables, replayed.given, replayed.answered, program, known).read()
     except BadSession as bad:
         fault = str(bad)
     return facts, replayed.end() or fault

@@ -5,7 +5,7 @@ import re
 from collections import deque
 from typing import Any, Mapping, Protocol
 
-from ..lines import Event, law_of
+from ..lines import SEIZURE_WAIT, WAIT, Event, law_of
 from ..repetitions import mark_of
 from ..session import MULTIFRAME, BadSession, Codec, Command, Fault, Kind, refusal_of
 from .begun import Begun
@@ -38,6 +38,8 @@ def rows_of(config: Mapping[str, Any]) -> dict[int, Row]:
         if 'local_port' in table:
             row.local = f'{config.get("host", "127.0.0.1")}:{table["local_port"]}'
             row.peer = f'{table.get("peer_host", "127.0.0.1")}:{table.get("peer_port", "")}'
+    for row in rows.values():
+        row.wait = config.get(WAIT, SEIZURE_WAIT)
     return rows
 
 

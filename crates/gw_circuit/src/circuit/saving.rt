@@ -4,7 +4,7 @@ ghost use Rattle.std.specs.Prelude.{◌≡◌, ◌<◌, ◌^◌, ◌++◌, [], �
 ghost use Rattle.e1_g711.specs.declared.Law.{Law};
 ghost use Rattle.q421_line.specs.declared.signalling.Line.{Line};
 ghost use Rattle.q421_line.specs.Line as line;
-ghost use Rattle.q421_line.specs.Saved.{saved_line, PairsFit};
+ghost use Rattle.q421_line.specs.Saved.{saved_line, LineFits};
 ghost use Rattle.gw_circuit.specs.declared.config.CircuitConfig.{CircuitConfig};
 ghost use Rattle.gw_circuit.specs.declared.circuit.Circuit.{Circuit};
 ghost use Rattle.gw_circuit.specs.Items.{Item};
@@ -111,7 +111,7 @@ impl Circuit {
     // Reads a saved line into this circuit; None if the octets are not those of a line, whose line is then new.
     fn load_line(&mut self, octets: &mut Octets<'_>) -> Option<()>
         ensures loaded { (line : Line) (rest : List ℕ) → line.role ≡ self.old.config.role
-            → PairsFit line.recognition → octets.old ≡ saved_line line ++ rest
+            → LineFits line → octets.old ≡ saved_line line ++ rest
             → (result ≡ Some tt) × (self.new.line ≡ line) × (octets.new ≡ rest) }
         ensures read { IfSome result (λ done. octets.old ≡ saved_line self.new.line ++ octets.new) }
         ensures rest { self.new ≡ record self.old { line = self.new.line } }
@@ -125,7 +125,7 @@ impl Circuit {
 
 // A saved line, and that it is one; else a new line.
 fn load_line(role: Role, octets: &mut Octets<'_>) -> (Line, bool)
-    ensures loaded { (line : Line) (rest : List ℕ) → line.role ≡ role → PairsFit line.recognition
+    ensures loaded { (line : Line) (rest : List ℕ) → line.role ≡ role → LineFits line
         → octets.old ≡ saved_line line ++ rest
         → (result.0 ≡ line) × (result.1 ≡ true) × (octets.new ≡ rest) }
     ensures read { result.1 ≡ true → octets.old ≡ saved_line result.0 ++ octets.new }

@@ -1,10 +1,8 @@
 //! The circuits saved as octets, and loaded from them.
 
-use super::{Channel, Circuits};
+use super::{CIRCUITS, Channel, Circuits};
 use saved_octets::Octets;
 use std::alloc::AllocError;
-
-const CIRCUITS: u8 = 30;
 
 impl Circuits {
     ghost use Rattle.std.specs.Prelude.{◌≡◌, ◌++◌, ℕ, List, OnOk, Ok, All};

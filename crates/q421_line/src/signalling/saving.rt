@@ -3,38 +3,51 @@
 ghost use Rattle.std.specs.Prelude.{◌≡◌, ◌++◌, ◌∷◌, ℕ, List, OnOk, IfSome, Some};
 ghost use Rattle.q421_line.specs.declared.State.{State};
 ghost use Rattle.q421_line.specs.declared.signalling.Line.{Line};
-ghost use Rattle.q421_line.specs.Saved.{saved_line, state_number, PairsFit};
+ghost use Rattle.q421_line.specs.Saved.{saved_line, state_number, LineFits};
 
 use crate::recognition::Recognition;
 use crate::{Line, Role, State};
-use saved_octets::Octets;
+use saved_octets::{Octets, append_u8, append_u16};
 use std::alloc::AllocError;
 
 impl Line {
     /// Appends the octets of the line.
     pub fn save(&self, out: &mut Vec<u8>) -> Result<(), AllocError>
         ensures octets { OnOk result (out.new.items ≡ out.old.items ++ saved_line self.now) }
-        ensures fits { PairsFit self.now.recognition }
+        ensures fits { LineFits self.now }
     {
-        self.recognition.fits();
-        out.extend_from_slice(&[state_number(self.state), self.seized_for])?;
+        self.fits();
+        append_u8(out, state_number(self.state))?;
+        append_u16(out, self.seized_for)?;
+        append_u16(out, self.released_after)?;
         self.recognition.save(out)
+    }
+
+    // Each number has its width.
+    fn fits(&self)
+        ensures { LineFits self.now }
+    {
+        let _seized_for = self.seized_for;
+        let _released_after = self.released_after;
+        self.recognition.fits();
     }
 
     /// Reads a saved line, and gives it this role; None if the octets are not those of a line.
     pub fn load(role: Role, octets: &mut Octets<'_>) -> Option<Line>
-        ensures loaded { (line : Line) (rest : List ℕ) → line.role ≡ role → PairsFit line.recognition
+        ensures loaded { (line : Line) (rest : List ℕ) → line.role ≡ role → LineFits line
             → octets.old ≡ saved_line line ++ rest → (result ≡ Some line) × (octets.new ≡ rest) }
         ensures read { IfSome result (λ line. octets.old ≡ saved_line line ++ octets.new) }
         ensures role { IfSome result (λ line. line.role ≡ role) }
     {
         let state = load_state(octets)?;
-        let seized_for = octets.read_u8()?;
+        let seized_for = octets.read_u16()?;
+        let released_after = octets.read_u16()?;
         let recognition = Recognition::load(octets)?;
         Some(Line {
             role,
             state,
             seized_for,
+            released_after,
             recognition,
         })
     }

@@ -7,8 +7,8 @@ pub returns : goal.returns
 returns g c = record {
   ok = c.serve_recorded.ensures.ok;
   fault = c.serve_recorded.ensures.fault;
-  carries = λ config new. ∥∥₁_map c.serve_recorded.new.source.woven (λ w.
-      carried _ _ config c.serve_recorded.result _ _ _ _ _ _
+  carries = λ config before new. ∥∥₁_map c.serve_recorded.new.source.woven (λ w.
+      carried _ _ config before c.serve_recorded.result _ _ _ _ _ _
       (record { unread = ap Some c.requires.source.2; read = refl; untaken = ap Some c.requires.sink.1; took = refl })
       (record {
         gives = w;

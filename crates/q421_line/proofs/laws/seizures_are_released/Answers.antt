@@ -1,5 +1,8 @@
-use Rattle.q421_line.proofs.Callers.{seizure-released}
+use Rattle.q421_line.proofs.Callers.{seizure-released, seizure-released_by_the_hundredth}
 use Rattle.q421_line.proofs.laws.seizures_are_released.Goals as goal
 
-pub returns : goal.returns
-returns c = seizure-released
+pub returns-clause-by_the_wait : goal.returns-clause-by_the_wait
+returns-clause-by_the_wait c = seizure-released
+
+pub returns-clause-by_the_hundredth : goal.returns-clause-by_the_hundredth
+returns-clause-by_the_hundredth c = seizure-released_by_the_hundredth

@@ -5,4 +5,10 @@ use Rattle.q421_line.proofs.signalling.Line.new.Goals as goal
 
 pub returns : goal.returns
 unfolding signalling
-returns c = record { role_is = refl; state_is = refl; seized_for_is = refl; heard = c.new.ensures }
+returns c = record {
+  role_is = refl;
+  state_is = refl;
+  seized_for_is = refl;
+  released_after_is = refl;
+  heard = c.new.ensures;
+}
