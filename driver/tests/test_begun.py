@@ -54,7 +54,8 @@ class Drawn(Ringed):
 
     def facts(self, session: Kept) -> Facts:
         """What is gathered of a session."""
-        options = argparse.Namespace(capture=None, answers=None, program=self.program, begin=None, last=None)
+        options = argparse.Namespace(capture=None, answers=None, program=self.program, begin=None, last=None,
+                                     seizure_wait=None)
         known = begun(session, self.program, self.config)[0] if session.state else None
         facts, word = gathered(options, session, self.config, known)
         self.assertEqual(word, '')
