@@ -120,13 +120,13 @@ abbrev pub SaysNumberIn : ℕ → List ℕ → Option (List ℕ × List Row) →
 SaysNumberIn bits id None n = ⊥
 SaysNumberIn bits id (Some (name, options)) n = SaysNumber bits (one_of id options) n
 
--- a time of so many ms is this wait of a seizure in signals, one of which comes every 2 ms
+-- a wait of `ms` milliseconds is this number of signals, one of which comes every 2 ms
 pub record IsWaitOf (ms signals : ℕ) : Type 0 where
   pub least : 200 ≤ ms
   pub most : ms ≤ 8000
   pub signals_are : signals ≡ (ms + 1) / 2
 
--- the first time that a subcommand gives for a seizure is this wait in signals
+-- the first `--seizure-wait` of a subcommand is this number of signals
 pub record SaysWait (command : Option (List ℕ × List Row)) (signals : ℕ) : Type 0 where
   pub ms : ℕ
   pub says : SaysNumberIn 16 (codes "seizure-wait") command ms

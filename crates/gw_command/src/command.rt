@@ -267,8 +267,8 @@ pub fn repeat_of(matches: &ArgMatches<'_>) -> Option<u8>
     options.get_one("repeat")
 }
 
-// The wait of a seizure in signals, one of which comes every 2 ms, by its time in ms; None unless the time is
-// 200 to 8,000. A time between two signals is that of the later one.
+// The number of signals, one of which comes every 2 ms, in a wait of so many milliseconds; None unless these
+// are 200 to 8,000. A time between two signals counts as that of the later one.
 fn signals_of(ms: u16) -> Option<u16>
     ensures wait { IfSome result (IsWaitOf ms) }
     ensures none { IfNone result ((signals : ℕ) → ¬ IsWaitOf ms signals) }
@@ -279,8 +279,8 @@ fn signals_of(ms: u16) -> Option<u16>
     Some((ms + 1) / 2)
 }
 
-/// By which of its signals, one every 2 ms, a seizure without acknowledgement is released, by the first time
-/// in ms that the matches name, if they name one.
+/// The wait of a seizure in signals, one every 2 ms, by the first `--seizure-wait` of the matches, if there is
+/// one.
 pub fn seizure_wait_of(matches: &ArgMatches<'_>) -> Option<u16>
     ensures found { IfSome result (SaysWait (subcommand_rows_of matches.now)) }
     ensures none { IfNone result ((signals : ℕ) → ¬ SaysWait (subcommand_rows_of matches.now) signals) }

@@ -141,9 +141,9 @@ fn waiting(gateway: Gateway, wait: Option<u16>) -> Gateway
     gateway
 }
 
-/// The gateway that a session begins with: the one whose state a file has if one is named, else a new one. A
-/// seizure that is not acknowledged is released by the signal of it that `wait` says; if it says none, by the
-/// one that the state says, and by the hundredth in a new gateway.
+/// The gateway that a session begins with: the one whose state a file has if one is named, else a new one.
+/// Its wait for an acknowledgement, in signals, is `wait`; without one it is that of the state, or 100
+/// signals.
 pub fn begin_gateway(
     rt: &HostRuntime,
     config: &GatewayConfig,

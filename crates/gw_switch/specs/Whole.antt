@@ -130,7 +130,7 @@ alarms_of s = record {
 abbrev pub alarms_after : List Event → Alarms
 alarms_after events = alarms_of (octets events)
 
--- the reply to one event; nothing is said of a wait
+-- the reply to one event; a wait has no answer
 pub data Reply : Type 0 where
   Sent : (sending : Sending) → Reply
   Admitted : (answer : Result (Unit {0}) Dropped) → Reply

@@ -37,22 +37,22 @@ waits [] = []
 waits (wait signals ∷ items) = signals ∷ waits items
 waits (item ∷ items) = waits items
 
--- the wait after items: the last one among them, and a hundred signals where there is none
+-- the wait after items: the last one among them; 100 signals if there is none
 abbrev pub wait_after : List Item → ℕ
 wait_after items = fold (λ earlier latest. latest) 100 (waits items)
 
--- no seizure lasts as many signals as the wait has, whatever is heard in them; where that is none or one, the
--- next signal releases it
+-- A seizure lasts fewer signals than the wait, whatever is received. If the wait is 0 or 1, the next signal
+-- releases it.
 abbrev pub SeizuresAreReleased : Type 0
 SeizuresAreReleased = (role : Role) (items : List Item) (signals : List (Option ℕ))
     → IsSeizedThrough role items signals → length signals < max 1 (wait_after items)
 
--- so none lasts a hundred signals where no wait was given
+-- so if no wait was given, a seizure lasts fewer than a hundred signals
 abbrev pub SeizuresAreReleasedByTheHundredth : Type 0
 SeizuresAreReleasedByTheHundredth = (role : Role) (items : List Item) (signals : List (Option ℕ))
     → waits items ≡ [] → IsSeizedThrough role items signals → length signals < 100
 
--- a wait changes nothing of a line's signalling but when a seizure is released
+-- a wait changes only when a seizure is released, and nothing else of a line's signalling
 abbrev pub WaitsChangeNothingElse : Type 0
 WaitsChangeNothingElse = (role : Role) (items : List Item) (signals : ℕ)
     → signalling role (items ++ wait signals ∷ [])

@@ -11,7 +11,7 @@ use Rattle.q421_line.specs.Tables.{next_state}
 use Rattle.q421_line.specs.Commands.{command_outcome}
 
 -- what a line is given: a turn to signal, with the nibble that was heard since the one before, if any; a
--- command; or a wait: from now on a seizure without acknowledgement is released by this signal of it
+-- command; or a wait: from now on a seizure that is not acknowledged is released at this number of signals
 pub data Item : Type 0 where
   signal : Option ℕ → Item
   command : Cmd → Item
@@ -24,7 +24,7 @@ pub record Signalling : Type 0 where
   pub state : State
   -- how many signals the present seizure has lasted; 0 in every state but Seized
   pub seized_for : ℕ
-  -- by which of its signals a seizure without acknowledgement is released
+  -- at how many signals a seizure that is not acknowledged is released
   pub released_after : ℕ
 
 -- a nibble that was heard is one known pair more; where none was heard, none is
@@ -51,8 +51,8 @@ with_count released_after pairs state seized_for = record {
   released_after = released_after;
 }
 
--- A line that was and stays Seized has been so for one signal more, and is released where that is the last of
--- its wait, or a later one.
+-- If a line was and stays Seized, its seizure has lasted one signal more. It is released if
+-- these are as many as the wait, or more.
 abbrev pub after_count : ℕ → List ℕ → State → State → ℕ → Signalling
 after_count released_after pairs before after seized_for =
     if is_seized before && is_seized after
@@ -80,7 +80,7 @@ after_item role line (command asked) = after_outcome line (command_outcome role 
 after_item role line (wait signals) = record line { released_after = signals }
 
 -- A line has heard nothing at first, and begins in Fault (our choice: it takes no call before the other end
--- is heard). It releases a seizure by its hundredth signal. (A choice: a hundred signals, one every 2 ms, are
+-- is heard). It releases a seizure at its hundredth signal. (A choice: a hundred signals, one every 2 ms, are
 -- 200 ms without an acknowledgement, ten times what it takes to be recognised.)
 abbrev pub at_first : Signalling
 at_first = with_count 100 [] Fault 0

@@ -10,8 +10,8 @@ pub fn pairs_are_recognised_by_ten()
     ensures { PairsAreRecognisedByTen }
 {}
 
-/// No seizure lasts as many signals as the wait has, whatever is heard in them: no hundred signals where no
-/// wait was given.
+/// A seizure lasts fewer signals than the wait, whatever is received; fewer than a hundred if no wait was
+/// given.
 pub fn seizures_are_released()
     ensures by_the_wait { SeizuresAreReleased }
     ensures by_the_hundredth { SeizuresAreReleasedByTheHundredth }
@@ -22,7 +22,7 @@ pub fn refusals_change_nothing()
     ensures { RefusedCommandsChangeNothing }
 {}
 
-/// A wait changes nothing of a line's signalling but when a seizure is released.
+/// A wait changes only when a seizure is released, and nothing else of a line's signalling.
 pub fn waits_change_nothing_else()
     ensures { WaitsChangeNothingElse }
 {}

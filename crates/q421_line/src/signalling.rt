@@ -36,13 +36,13 @@ pub struct Line {
     state: State,
     // How many signals the present seizure has lasted; 0 in every state but `Seized`.
     seized_for: u16,
-    // By which of its signals a seizure without acknowledgement is released.
+    // At how many signals a seizure that is not acknowledged is released.
     released_after: u16,
     recognition: Recognition,
 }
 
 impl Line {
-    /// A line in this role that has heard nothing. It begins in `Fault`, and releases a seizure by its
+    /// A line in this role that has heard nothing. It begins in `Fault`, and releases a seizure at its
     /// hundredth signal.
     pub fn new(role: Role) -> Self
         ensures { Stands result role [] }
@@ -58,8 +58,8 @@ impl Line {
 
     /// The line's turn to signal, which comes once in a multiframe of 2 ms: takes the nibble that was heard
     /// since the one before, if any, and answers the nibble that is sent. The pair that is recognised leads
-    /// to the next state, with every signal. A seizure that is not acknowledged by the last signal of its
-    /// wait is released.
+    /// to the next state, with every signal. A seizure that is not acknowledged within its wait is
+    /// released.
     pub fn signal(&mut self, heard: Option<Nibble>) -> Nibble
         ensures sent { (role : Role) (items : List Item) → Stands self.old role items
             → result ≡ sent_nibble (sent_pair role (signalling role (items ++ signal heard ∷ [])).state) }
@@ -94,8 +94,8 @@ impl Line {
         Ok(())
     }
 
-    /// From now on a seizure without acknowledgement is released by this signal of it, counted from 1; by its
-    /// next one where it has lasted as many already. A signal comes every 2 ms.
+    /// Sets the wait for an acknowledgement: from now on a seizure is released at this number of signals,
+    /// or at the next signal if it has lasted longer already. One signal comes every 2 ms.
     pub fn release_after(&mut self, signals: u16)
         ensures { (role : Role) (items : List Item) → Stands self.old role items
             → Stands self.new role (items ++ wait signals ∷ []) }
