@@ -2,7 +2,8 @@
 trunk.
 
 The control word has four zero bits, L (what is carried is not valid), R (the other end misses packets), two reserved
-bits, FRG (0), LEN (all octets of the datagram where they are fewer than 64, else 0) and the sequence number.
+bits and two of FRG, which are ignored on receipt, LEN (all octets of the datagram if they are fewer than 64, else 0)
+and the sequence number.
 """
 from __future__ import annotations
 
@@ -14,7 +15,7 @@ CONTROL = 4             # octets of the control word
 RTP = 12                # octets of a fixed RTP header
 RTP_FIRST = 0x80        # its first octet: version 2, no padding, no extension, no sources
 LOST, REMOTE = 0x08, 0x04
-FRAGMENT, LENGTH = 0xC0, 0x3F
+LENGTH = 0x3F
 SEQUENCES = 1 << 16
 
 
@@ -23,9 +24,8 @@ class Fault(IntEnum):
     SHORT = 1               # fewer octets than the headers have
     NO_RTP_HEADER = 2       # no fixed RTP header where there is to be one
     NO_CONTROL_WORD = 3     # the first four bits of the control word are not zero
-    FRAGMENT = 4            # FRG is not zero
-    OTHER_LENGTH = 5        # LEN is neither zero nor the number of octets
-    OTHER_SIZE = 6          # not as many octets of the trunk as the circuit's packets have
+    OTHER_LENGTH = 4        # LEN is neither zero nor the number of octets
+    OTHER_SIZE = 5          # not as many octets of the trunk as the circuit's packets have
 
 
 class Packet(NamedTuple):
@@ -46,8 +46,6 @@ def parse(datagram: bytes, rtp: bool) -> Packet | Fault:
     flags, length, sequence = struct.unpack_from('>BBH', datagram, at)
     if flags >> 4:
         return Fault.NO_CONTROL_WORD
-    if length & FRAGMENT:
-        return Fault.FRAGMENT
     if length & LENGTH and length & LENGTH != len(datagram):
         return Fault.OTHER_LENGTH
     return Packet(bool(flags & LOST), bool(flags & REMOTE), sequence, datagram[at + CONTROL:])

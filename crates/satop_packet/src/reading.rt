@@ -12,8 +12,8 @@ use crate::{CONTROL_LEN, SatopFault, SatopView};
 // The first octet of a fixed RTP header: version 2, with no padding, extension or sources.
 const FIXED_RTP: u8 = 0x80;
 
-/// Reads a packet in place, behind a fixed RTP header where `rtp` says so: the view shows its parts. The two
-/// reserved bits are passed over.
+/// Reads a packet in place, behind a fixed RTP header if `rtp` says so: the view shows its parts. RSV and FRG
+/// are ignored (RFC 4553, 4.3).
 ///
 /// # Errors
 ///
@@ -46,9 +46,6 @@ fn view_in(octets: &[u8], rtp: bool) -> Result<SatopView<'_>, SatopFault>
     }
     if octets[start] / 16 != 0 {
         return Err(SatopFault::NoControl);
-    }
-    if octets[start + 1] / 64 != 0 {
-        return Err(SatopFault::Fragment);
     }
     let len = usize::from(octets[start + 1] % 64);
     if len != 0 && len != octets.len() {

@@ -11,7 +11,7 @@ use byteorder::{BigEndian, ByteOrder};
 const LEAST_UNSAID: usize = 64;
 
 /// Makes `out` the packet of this control word and payload, behind the RTP header, whose octets are none or
-/// the twelve of a fixed one. The reserved bits are zero, and LEN is the number of all octets where they are
+/// the twelve of a fixed one. RSV and FRG are zero, and LEN is the number of all octets where they are
 /// fewer than 64, else 0. What `out` held before is gone.
 ///
 /// ```rust
@@ -57,7 +57,7 @@ fn length_said(size: usize) -> u8
 
 // The control word.
 fn control_octets(control: &Control, len: u8) -> [u8; 4]
-    ensures { result ≡ control_word control.now 0 len }
+    ensures { result ≡ control_word control.now 0 0 len }
 {
     let mut octets = [0u8; CONTROL_LEN];
     octets[0] = (if control.lost { 8 } else { 0 }) + (if control.remote { 4 } else { 0 });
