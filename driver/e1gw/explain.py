@@ -3,7 +3,7 @@
   e1gw-explain FILE                 the line that e1gw says, the key, its line in FILE, and what it may have
   e1gw-explain --no-sockets FILE    the configuration alone
 
-The checks are those of docs/CONFIGURATION.md, in its order, so the fault is the one that `e1gw check` tells. Where the
+The checks are those of e1gw.toml(5), in its order, so the fault is the one that `e1gw check` tells. Where the
 configuration has none, each socket that `e1gw serve` would open is opened and closed again, in the order of the
 circuits, and the first that can't be is told with its cause. (Where that e1gw runs already, its own ports are in use.)
 

@@ -1,4 +1,4 @@
-"""scripts/explain: the faults of docs/CONFIGURATION.md, each at its key and line."""
+"""scripts/explain: the faults of e1gw.toml(5), each at its key and line."""
 import os
 import resource
 import socket
