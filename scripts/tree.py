@@ -1,5 +1,4 @@
-"""What is in the tree: the crates, and the sources, tests and wrong bodies of each. scripts/crates prints it, scripts/docs
-compares the docs with it."""
+"""The crates, and the sources, tests and wrong bodies of each: for scripts/crates and scripts/docs."""
 from __future__ import annotations
 
 import os
