@@ -1,16 +1,16 @@
--- A packet of SAToP by its parts (RFC 4553; over UDP the RTP header, if any, stands before the control word).
+-- A SAToP packet by its parts (RFC 4553; over UDP an RTP header may precede the control word).
 use Rattle.std.specs.Prelude.{◌≡◌, ◌+◌, ◌<◌, ◌^◌, ℕ, Bool, if◌then◌else◌, nat_lt}
 use Rattle.std.specs.Prelude.{List, [], ◌∷◌, ◌++◌, length}
 use Rattle.byteorder.specs.Endian.{big_bytes}
 use Rattle.satop_packet.specs.declared.Control.{Control}
 
--- what a packet carries: the octets of a fixed RTP header or none, the control word, the octets of the trunk
+-- the parts of a packet: a fixed RTP header or none, the control word, the octets of the trunk
 pub record Content : Type 0 where
   pub rtp : List ℕ
   pub control : Control
   pub payload : List ℕ
 
--- the value of a flag that stands in this place of an octet
+-- the value of a flag at a place of an octet
 abbrev pub flag : Bool → ℕ → ℕ
 flag b place = if b then place else 0
 
@@ -20,17 +20,17 @@ abbrev pub control_word : Control → ℕ → ℕ → List ℕ
 control_word c reserved len =
     (flag c.lost 8 + flag c.remote 4 + reserved) ∷ len ∷ big_bytes 2 c.sequence
 
--- twelve octets of a fixed RTP header, with no padding, extension or sources, or none (RFC 3550, 5.1)
+-- no octets, or the twelve of a fixed RTP header without padding, extension or sources (RFC 3550, 5.1)
 abbrev pub IsRtp : List ℕ → Type 0
 IsRtp [] = Unit {0}
 IsRtp (first ∷ octets) = (first ≡ 128) × (length (first ∷ octets) ≡ 12)
 
--- where there is to be one, it is there
+-- the octets of the RTP header, if one is expected
 abbrev pub rtp_len : Bool → ℕ
 rtp_len rtp = if rtp then 12 else 0
 
--- the octets are the join of these parts: the RTP header where there is to be one, the control word and the
--- payload; LEN is 0 or the number of all octets
+-- the octets are the join of these parts: the RTP header if expected, the control word and the payload; LEN
+-- is 0 or the number of all octets
 pub record IsPacket (octets : List ℕ) (rtp : Bool) (p : Content) (reserved len : ℕ) : Type 0 where
   pub joined : octets ≡ p.rtp ++ (control_word p.control reserved len ++ p.payload)
   pub header : IsRtp p.rtp
@@ -40,11 +40,11 @@ pub record IsPacket (octets : List ℕ) (rtp : Bool) (p : Content) (reserved len
   pub len_fits : len < 64
   pub counted : (len ≡ 0 → ⊥) → len ≡ length octets
 
--- LEN of a packet of so many octets, as it is written: their number where it is below 64
+-- LEN of a written packet of so many octets: their number if it is below 64
 abbrev pub length_said : ℕ → ℕ
 length_said size = if nat_lt size 64 then size else 0
 
--- the octets of a packet as it is written: the reserved bits are zero
+-- the octets of a written packet: the reserved bits are zero
 unfoldable pub plain_packet : List ℕ → Control → List ℕ → List ℕ
 plain_packet rtp control payload =
     rtp ++ (control_word control 0 (length_said (length rtp + 4 + length payload)) ++ payload)
