@@ -1,4 +1,4 @@
-//! The remainder of a polynomial by x^4+x+1, octet by octet.
+//! The remainder of a polynomial by x^4+x+1, computed octet by octet.
 
 ghost use Rattle.std.specs.Prelude.{◌≡◌, ◌≤◌, ◌<◌, ℕ, Bool};
 ghost use Rattle.g704_crc4.specs.declared.remainder.Remainder.{Remainder};
@@ -7,7 +7,7 @@ ghost use Rattle.g704_crc4.specs.Multiframe.{check_bit};
 
 use crate::table::REMAINDERS;
 
-/// The remainder of a polynomial times x^4 by x^4+x+1: the check bits C1 to C4.
+/// The check bits C1 to C4: the remainder of a polynomial times x^4 by x^4+x+1.
 #[derive(Clone, Copy, Debug, PartialEq, Eq)]
 pub struct Remainder {
     /// The coefficient of x^3, sent first.
