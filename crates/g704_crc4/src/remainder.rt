@@ -28,7 +28,7 @@ pub(crate) const NO_REMAINDER: Remainder = Remainder {
     c4: false,
 };
 
-// The remainder with the bits of an octet more, both as numbers.
+// The remainder after the bits of one more octet, both as numbers.
 pub(crate) fn number_after(left: u8, octet: u8) -> u8
     ensures { (remainder : Remainder) → left ≡ crc_number remainder
         → result ≡ crc_number (after_octet remainder octet) }
@@ -43,7 +43,7 @@ pub(crate) fn add(a: bool, b: bool) -> bool
     if a { !b } else { b }
 }
 
-// The remainder of this number.
+// The remainder with this number.
 pub(crate) fn of_number(number: u8) -> Remainder
     ensures { (bits : Remainder) → number ≡ crc_number bits → result ≡ bits }
 {
@@ -55,7 +55,7 @@ pub(crate) fn of_number(number: u8) -> Remainder
     }
 }
 
-// Of the check bits of this number the one at a place, 0 for C1.
+// The check bit at a place, 0 for C1, of a remainder's number.
 pub(crate) fn check_bit(number: u8, place: u16) -> bool
     ensures { (bits : Remainder) → number ≡ crc_number bits → result ≡ check_bit bits place }
 {
