@@ -84,8 +84,8 @@ pub fn packet_words(circuits: &[CircuitConfig; 30]) -> [u8; 30]
 impl<P: Ports + Drop> Repeating<P> {
     /// Wraps ports so that each datagram is sent twice.
     ///
-    /// It is sent again behind the one so many later, or never if that is 0. The words are those of a packet of
-    /// each circuit.
+    /// It is sent again behind the one so many later, or never if that is 0. The words are those of a packet
+    /// of each circuit.
     pub fn open(
         alloc: Global,
         ports: P,
