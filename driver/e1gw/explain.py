@@ -87,7 +87,7 @@ def check_depth(text: str) -> None:
         for each in line:
             depth += BRACKETS.get(each, 0)
             if depth > DEEPEST:
-                raise Fault('Syntax', 0, '', f'values stand within values more than {DEEPEST} deep', number)
+                raise Fault('Syntax', 0, '', f'values are nested more than {DEEPEST} deep', number)
 
 
 def check_numbers(table: dict[str, Any]) -> None:
@@ -118,21 +118,21 @@ def cut(text: str) -> str:
 def parsed(octets: bytes) -> dict[str, Any]:
     """The table that a file is."""
     if len(octets) > LONGEST:
-        raise Fault('TooLong', 0, '', f'the file has more than the {LONGEST} octets that it may have')
+        raise Fault('TooLong', 0, '', f'the file has more than the {LONGEST} octets allowed')
     try:
         text = octets.decode('utf-8').removeprefix('\N{ZERO WIDTH NO-BREAK SPACE}')
         check_depth(text)
         table = tomllib.loads(text, parse_float=float_of)
     except UnicodeDecodeError as error:
         line = octets[:error.start].count(b'\n') + 1
-        raise Fault('Syntax', 0, '', 'there is an octet that is no UTF-8', line) from error
+        raise Fault('Syntax', 0, '', 'an octet is not UTF-8', line) from error
     except tomllib.TOMLDecodeError as error:
         found = re.search(r'\(at line (\d+)', str(error))
         line = int(found[1]) if found else octets.rstrip().count(b'\n') + 1
-        raise Fault('Syntax', 0, '', f'no TOML: {cut(str(error))}', line) from error
+        raise Fault('Syntax', 0, '', f'not TOML: {cut(str(error))}', line) from error
     except (ValueError, RecursionError) as error:
         # (int() takes no more than 4,300 digits.)
-        raise Fault('Syntax', 0, '', f'no TOML: {cut(str(error))}') from error
+        raise Fault('Syntax', 0, '', f'not TOML: {cut(str(error))}') from error
     check_numbers(table)
     return table
 
@@ -157,11 +157,11 @@ def check_key(table: dict[str, Any], place: int, name: str, key: Key, needed: st
     """A key's value: Missing, then WrongType, then OutOfRange."""
     if name not in table:
         if needed:
-            raise Fault('Missing', place, name, f'{name} is not there: {needed}; it is {key.values}')
+            raise Fault('Missing', place, name, f'{name} is missing: {needed}; it has to be {key.values}')
         return
     value = table[name]
     if type(value) is not key.type:
-        raise Fault('WrongType', place, name, f'{name} has to be {TYPES[key.type]}; it may have: {key.values}')
+        raise Fault('WrongType', place, name, f'{name} has to be {TYPES[key.type]}: {key.values}')
     if not key.holds(value):
         raise Fault('OutOfRange', place, name, f'{name} is {cut(repr(value))}, and has to be {key.values}')
 
@@ -169,7 +169,8 @@ def check_key(table: dict[str, Any], place: int, name: str, key: Key, needed: st
 def check_names(table: dict[str, Any], place: int, known: dict[str, Key]) -> None:
     unknown = [name for name in table if name not in known]
     if unknown:
-        raise Fault('UnknownKey', place, unknown[0], f'{cut(unknown[0])} is no key here; there are {", ".join(known)}')
+        raise Fault('UnknownKey', place, unknown[0],
+                    f'{cut(unknown[0])} is not a key here; the keys are {", ".join(known)}')
 
 
 def payload_key(codec: str) -> Key:
@@ -186,7 +187,7 @@ def needs(table: dict[str, Any], name: str, codec: str) -> str | None:
         return 'each circuit has one'
     if name == 'payload' and codec.startswith('g726'):
         return 'G.726 has no payload type of its own'
-    return f'there is a {other}, and a circuit has both or none' if other in table else None
+    return f'{other} is there, and a circuit has both or none' if other in table else None
 
 
 def check_circuit(table: dict[str, Any], place: int, law: str, before: list[dict[str, Any]]) -> None:
@@ -199,7 +200,7 @@ def check_circuit(table: dict[str, Any], place: int, law: str, before: list[dict
         check_key(table, place, name, key, needs(table, name, codec))
         codec = table.get('codec', codec) if name == 'codec' else codec
     if codec == ('pcmu' if law == 'A' else 'pcma'):
-        raise Fault('LawCodec', place, 'codec', f'{codec} is G.711 of the other law than the trunk\'s, "{law}"')
+        raise Fault('LawCodec', place, 'codec', f'{codec} is not G.711 in the law of the trunk, "{law}"')
     for name in ('number', 'local_port'):
         for at, other in enumerate(before, 1):
             if name in table and other.get(name) == table[name]:
@@ -242,8 +243,8 @@ def socket_fault(host: str, circuit: dict[str, Any]) -> str | None:
     except ValueError as error:
         return str(error)
     except OSError as error:
-        why = {errno.EADDRINUSE: f'port {port} is in use (ss -ulpn tells by whom)',
-               errno.EADDRNOTAVAIL: f'host "{host}" is no address of this machine (ip addr lists them)',
+        why = {errno.EADDRINUSE: f'port {port} is in use (ss -ulpn shows by whom)',
+               errno.EADDRNOTAVAIL: f'host "{host}" is not an address of this machine (ip addr lists them)',
                errno.EACCES: f'port {port} is below 1024, and needs a privilege'}
         return why.get(error.errno or 0, str(error))
     if family != peer:
@@ -302,7 +303,7 @@ def socket_words(path: str, number: int) -> str | None:
 def gateway_words(line: str, path: str) -> str | None:
     """What stands behind a line with which `e1gw serve` ended at its start, in words; None for another line."""
     if found := re.fullmatch(r'socket (\d+)', line):
-        return socket_words(path, int(found[1])) or 'its port is free by now, or its peer is not reached'
+        return socket_words(path, int(found[1])) or 'its port is free now, or its peer cannot be reached'
     if line == 'cannot open the recording':
         return 'the driver reads what the gateway takes from a pipe, /dev/fd: is /proc mounted?'
     return None

@@ -33,11 +33,11 @@ def words_of_refusal(refusal: Refusal, circuit: int, role: Role) -> str:
 
 
 def options_words() -> str:
-    """Where the options of a unit stand, for who reads that they are wrong; nothing where no unit started this."""
+    """The file with a unit's options, behind an error in them; nothing if no unit started this."""
     path = os.environ.get('E1GW_OPTIONS')
     if not path:
         return ''
-    return f'; its options stand in {path}' if os.path.exists(path) else f'; {path} is not there, which has its options'
+    return f'; its options are in {path}' if os.path.exists(path) else f'; {path}, which has its options, is missing'
 
 
 def number(least: float, most: float, kind: type = int) -> Callable[[str], Any]:

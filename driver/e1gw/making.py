@@ -120,7 +120,7 @@ def write_all(asked: argparse.Namespace, plan: Plan) -> None:
     there = [path for name, _ in ends for ending in ('toml', 'options')
              if os.path.exists(path := os.path.join(asked.folder, f'{name}.{ending}'))]
     if there and not asked.over:
-        raise Usage(f'{", ".join(there)}: there already; --over writes over it, and nothing was written')
+        raise Usage(f'{", ".join(there)}: already there; nothing was written (--over overwrites)')
     for name, text, options in texts:
         path = os.path.join(asked.folder, name)
         write_new(f'{path}.toml', text, asked.over)
@@ -177,11 +177,11 @@ def check_files(paths: list[str]) -> bool:
 def parser() -> argparse.ArgumentParser:
     words = argparse.ArgumentParser(prog='e1gw-config', description=__doc__, usage=argparse.SUPPRESS,
                                     formatter_class=argparse.RawDescriptionHelpFormatter)
-    words.add_argument('--check', nargs='+', metavar='FILE', help='checks configurations, and that no port is in two')
+    words.add_argument('--check', nargs='+', metavar='FILE', help='checks configurations and finds ports used twice')
     words.add_argument('--write', metavar='NAME', help='writes NAME.toml and NAME.options')
     words.add_argument('--tie', metavar='OTHER', help='with --write, the other end of a tie: OTHER.toml, OTHER.options')
-    words.add_argument('--folder', default='.', help='where files are written [default: here]')
-    words.add_argument('--over', action='store_true', help='writes over files that are there')
+    words.add_argument('--folder', default='.', help='the folder for the files [default: this one]')
+    words.add_argument('--over', action='store_true', help='overwrites existing files')
     words.add_argument('--device', default='--unix /run/card/NAME', metavar='OPTIONS',
                        help='what e1gw-trunk(1) is to open, in .options [default: --unix /run/card/NAME]')
     values = words.add_argument_group('values')
@@ -196,7 +196,7 @@ def parser() -> argparse.ArgumentParser:
     values.add_argument('--role', choices=ROLES, default='outgoing',
                         help='circuits that e1gw seizes: all, none, odd or even ones [default: outgoing, all]')
     values.add_argument('--host', default='127.0.0.1', help='the address of this end [default: 127.0.0.1]')
-    values.add_argument('--peer', default='127.0.0.1', metavar='HOST', help='that of the other [default: 127.0.0.1]')
+    values.add_argument('--peer', default='127.0.0.1', metavar='HOST', help='that of the far end [default: 127.0.0.1]')
     values.add_argument('--first-local', type=number(1, 65_535), metavar='PORT',
                         help='the port of circuit 1 here [default: by --trunk]')
     values.add_argument('--first-peer', type=number(1, 65_535), metavar='PORT',
@@ -208,7 +208,7 @@ def run(asked: argparse.Namespace) -> int:
     if asked.check:
         return 0 if check_files(asked.check) else 2
     if asked.tie and (not asked.write or asked.tie == asked.write):
-        raise Usage('--tie wants --write, and another name')
+        raise Usage('--tie needs --write and another name')
     plan = plan_of(asked)
     if asked.write:
         write_all(asked, plan)

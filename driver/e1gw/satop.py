@@ -312,7 +312,7 @@ def ends_of(text: str) -> tuple[tuple[str, int], tuple[str, int]]:
     """LOCAL:PORT,PEER:PORT. ValueError where it is something else."""
     local, comma, peer = text.partition(',')
     if not comma:
-        raise ValueError(f'{text} is no LOCAL:PORT,PEER:PORT')
+        raise ValueError(f'{text} is not LOCAL:PORT,PEER:PORT')
     return host_and_port(local), host_and_port(peer)
 
 
@@ -331,13 +331,13 @@ def add_arguments(parser: argparse.ArgumentParser) -> None:
     group.add_argument('--satop-size', type=int, default=256, metavar='OCTETS',
                        help='octets of the trunk in a packet, a multiple of 32 [default: 256, 1 ms]')
     group.add_argument('--satop-jitter', type=int, default=4, metavar='PACKETS',
-                       help='packets that wait for those before them [default: 4]')
-    group.add_argument('--satop-rtp', type=int, metavar='TYPE', help='packets have an RTP header of this payload type')
+                       help='depth of the jitter buffer in packets [default: 4]')
+    group.add_argument('--satop-rtp', type=int, metavar='TYPE', help='adds an RTP header with this payload type')
     group.add_argument('--satop-fill', choices=[fill.value for fill in Fill], default=Fill.AGAIN.value,
-                       help='what stands in for a lost packet: the octets of the multiframe before, or ones '
+                       help='what replaces a lost packet: the octets of the multiframe before, or ones '
                        '[default: again]')
     group.add_argument('--satop-clock', choices=('packets', 'own'), default='packets',
-                       help='the rate is that of the packets that come, or of this machine [default: packets]')
+                       help='the clock: the received packets, or this machine [default: packets]')
 
 
 def circuit_of(options: argparse.Namespace) -> Circuit:

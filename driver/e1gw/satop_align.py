@@ -102,7 +102,7 @@ class SlotAligner:
         while process.inside and self._taken(process, process.inside):
             self._gave = now
         if process.inside and now - self._gave >= STILL:
-            raise Gone('e1gw align stands still')
+            raise Gone('e1gw align is stuck')
         if process.inside:
             return False
         self._gave = now

@@ -28,7 +28,7 @@ def standing_of(line: str) -> Standing:
         recognised = None if words[4] == '--' else int(words[4], 2)
         return Standing(int(words[0]), State(words[2]), int(words[3], 2), recognised, words[8], int(words[9]))
     except ValueError:
-        raise Trouble(f'e1gw check lists what is no circuit: {line}') from None
+        raise Trouble(f'e1gw check prints a line that is no circuit: {line}') from None
 
 
 def listed(state: str, program: str, config: str) -> list[Standing]:

@@ -127,10 +127,10 @@ def merged(octets: Iterator[bytes], path: str, config: Mapping[str, Any], facts:
     """A session with the datagrams of a capture, each at its place on the trunk, and when the session began, which so
     many octets of the trunk were before. Where they go to and come from is noted in the facts."""
     if not ports(config):
-        raise Trouble('the configuration has no local_port, so nothing tells the circuits of a capture')
+        raise Trouble('the configuration has no local_port, so the circuits of a capture are unknown')
     begin = first_begin(path, config, before) if begin is None else begin
     if begin is None:
-        raise Trouble('the capture has no datagram that the gateway sent, so nothing tells when the session began: '
+        raise Trouble('the capture has no datagram that the gateway sent, so the time of the session is unknown: '
                       'say it by --begin')
     return _merged(Source(octets), arrivals(path, config, begin, facts, before)), begin
 

@@ -23,7 +23,7 @@ class Live:
         self.facts = Facts(rows_of(config), int(seconds * OCTETS_A_SECOND))
         self.facts.slips = []
         self.reading = Reading(self.facts, config, program=program)
-        self.ended = ''                 # why it goes on no more
+        self.ended = ''                 # why it is not updated any more
         self._waiting: tuple[list[bytes], list[bytes]] = ([], [])
         self._held = 0
 
@@ -80,5 +80,5 @@ class Live:
             self.reading.flush()
             self.reading.listener.look()
             self.facts.begin = time.time() - self.facts.place / OCTETS_A_SECOND
-        notes = [f'It goes on no more: {self.ended}.'] if self.ended else []
+        notes = [f'It is not updated any more: {self.ended}.'] if self.ended else []
         return draw(self.facts, self.title, refresh=refresh, notes=notes)

@@ -49,7 +49,7 @@ def datagrams(file: BinaryIO) -> Iterator[Datagram]:
     elif magic == b'\x0A\x0D\x0D\x0A':
         yield from _pcapng(file)
     else:
-        raise BadCapture('no capture: neither pcap nor pcapng')
+        raise BadCapture('not a capture: neither pcap nor pcapng')
 
 
 def _pcap(file: BinaryIO, order: str, parts: int) -> Iterator[Datagram]:

@@ -53,9 +53,9 @@ class Codings:
 
     def _why_not(self, status: dict[str, Any]) -> str | None:
         if not self._configured:
-            return 'the driver is older and does not tell it'
+            return 'the driver is an older version that does not report it'
         if LAWS.get(status.get('law', '')) != self.asked:
-            return f'{self.asked} is not of the law of this trunk'
+            return f'{self.asked} does not match the law of this trunk'
         fixed = [n for n, coding in self._configured.items()
                  if coding.codec != self.asked and coding.payload not in DYNAMIC]
         return f'the payload type of circuits {", ".join(map(str, fixed))} is not in 96 to 127' if fixed else None

@@ -24,11 +24,11 @@ from .pairs import BadPairs, Pairs, pairs_of
 from .site import Site, context_of
 from .tie import Options, Tell, Tie
 
-ABOUT = '''Joins the circuits of two gateways at two sites: what an exchange seizes at one end is seized at the other,
-and answers, clear-backs, clearing, blocking, faults and alarms are passed on.'''
-MORE = '''One of these runs at each site beside its e1gw-trunk. Each thing that it does is a line of JSON on standard
+ABOUT = '''Joins the circuits of two gateways at two sites: a seizure at one end seizes the circuit at the other, and
+answers, clear-backs, clearings, blocks, faults and alarms are passed on.'''
+MORE = '''One runs at each site, alongside e1gw-trunk. Each of its actions is a line of JSON on standard
 output. Without --tls the connection is neither secret nor authenticated. See e1gw-tie(1).'''
-ANYBODY = 'any certificate of the authority is let in, since no --peer names that of the other site'
+ANYBODY = 'any certificate of the authority is accepted, because no --peer names that of the other site'
 LEAVES = 1.0                # seconds at most in which codecs are given back
 MOST_MAP = 100_000          # characters of the map's file that are looked at
 
@@ -49,26 +49,26 @@ def place(text: str) -> tuple[str, int]:
 
 def parser() -> argparse.ArgumentParser:
     made = Parser('e1gw-tie', description=ABOUT, epilog=MORE)
-    made.add_argument('--control', required=True, metavar='SOCKET', help='the control socket of the driver here')
+    made.add_argument('--control', required=True, metavar='SOCKET', help='the control socket of the local driver')
     ways = made.add_mutually_exclusive_group(required=True)
-    ways.add_argument('--listen', type=place, metavar='HOST:PORT', help='where the other site connects')
-    ways.add_argument('--connect', type=place, metavar='HOST:PORT', help='where the other site listens')
-    made.add_argument('--map', metavar='FILE', help='which circuit here is which one there, `HERE THERE` a line '
-                      '[default: the one of its number]')
+    ways.add_argument('--listen', type=place, metavar='HOST:PORT', help='the address to listen at for the other site')
+    ways.add_argument('--connect', type=place, metavar='HOST:PORT', help='the address at which the other site listens')
+    made.add_argument('--map', metavar='FILE', help='a file of joined circuits, `HERE THERE` a line '
+                      '[default: equal numbers]')
     doors = made.add_mutually_exclusive_group()
     doors.add_argument('--tls', nargs=3, metavar=('CERT', 'KEY', 'CA'), help='TLS: the certificate of this site, its '
                        'key, and the authority of both sites')
-    doors.add_argument('--insecure', action='store_true', help='listens without --tls at an address that others than '
-                       'this machine reach, as in a tunnel')
+    doors.add_argument('--insecure', action='store_true', help='listens without --tls at an address that other '
+                       'machines reach, as in a tunnel')
     made.add_argument('--peer', metavar='NAME', help='with --tls, the host or address in the certificate of the other '
                       'site [default: the host of --connect; with --listen any that CA has signed]')
     made.add_argument('--hold', type=seconds, default=2.0, metavar='SECONDS', help='how long calls are kept without '
                       'the other end [default: 2]')
     made.add_argument('--congestion', choices=('clear-back', 'wait'), default='clear-back', help='a call that cannot '
-                      'be had is answered and cleared back, or the caller waits [default: clear-back]')
-    made.add_argument('--until-answer', choices=tuple(SIGNALLING), help='calls pass in G.711 until they are answered, '
-                      'and then in the configured codec; both sites want the same')
-    made.add_argument('--state', metavar='FILE', help='keeps which circuits the operator has blocked')
+                      'be set up is answered and cleared back, or the caller waits [default: clear-back]')
+    made.add_argument('--until-answer', choices=tuple(SIGNALLING), help='calls use G.711 until they are answered, '
+                      'then the configured codec; both sites need the same')
+    made.add_argument('--state', metavar='FILE', help='a file that keeps the circuits blocked by the operator')
     return made
 
 
@@ -147,10 +147,10 @@ def main() -> None:
     hold_descriptors()
     options = parser().parse_args()
     if options.peer and not options.tls:
-        parser().error('--peer wants --tls')
+        parser().error('--peer needs --tls')
     if is_open(options):
-        return refuse(f'{options.listen[0]} is no loopback address, and without --tls whoever connects can seize and '
-                      'clear circuits: give --tls, or --insecure within a tunnel')
+        return refuse(f'{options.listen[0]} is not a loopback address, and without --tls whoever connects can seize '
+                      'and clear circuits: give --tls, or --insecure within a tunnel')
     outlet = to_descriptor('standard output', 1)
     tell = told_on(outlet)
     kept = Kept(options.state)

@@ -104,7 +104,7 @@ def _pairs(value: Any) -> Pairs | None:
         return None
     pairs = {_circuit(here): _circuit(there) for here, there in _is(value, dict, 'pairs').items()}
     if len(set(pairs.values())) != len(value):
-        raise BadMessage('pairs that are none')
+        raise BadMessage('invalid pairs')
     return pairs
 
 
@@ -115,7 +115,7 @@ def _end(value: Any) -> End:
         return End(Role(fields.get('role')), State(fields.get('state')), None if call is None else _name(call, 'call'),
                    _is(fields.get('over'), bool, 'over'), _name(fields.get('passed'), 'call'))
     except ValueError:
-        raise BadMessage('no end of a circuit') from None
+        raise BadMessage('not an end of a circuit') from None
 
 
 def message_of(line: bytes) -> Message:
@@ -138,4 +138,4 @@ def message_of(line: bytes) -> Message:
         return Dark(_is(fields['dark'], bool, 'dark'))
     if 'alive' in fields:
         return Alive()
-    raise BadMessage('nothing that is known')
+    raise BadMessage('an unknown message')

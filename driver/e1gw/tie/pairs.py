@@ -16,7 +16,7 @@ def _circuits(word: str) -> range:
     numbers = [int(each) if each.isascii() and each.isdecimal() and len(each) < 4 else 0
                for each in ((first, last) if dash else (first, first))]
     if any(number not in CIRCUITS for number in numbers) or numbers[0] > numbers[1]:
-        raise BadPairs(f'{word[:40]} is no circuit from 1 to 30, and no two of them as in 1-15')
+        raise BadPairs(f'{word[:40]} is neither a circuit from 1 to 30 nor a range such as 1-15')
     return range(numbers[0], numbers[1] + 1)
 
 
@@ -25,10 +25,10 @@ def _line_pairs(line: str) -> Pairs:
     if not words:
         return {}
     if len(words) != 2:
-        raise BadPairs('a line has the circuit here and the one there')
+        raise BadPairs('a line needs a circuit here and one there')
     here, there = _circuits(words[0]), _circuits(words[1])
     if len(here) != len(there):
-        raise BadPairs(f'{words[0]} and {words[1]} are not as many')
+        raise BadPairs(f'{words[0]} and {words[1]} have different lengths')
     return dict(zip(here, there))
 
 
@@ -39,12 +39,12 @@ def pairs_of(text: str) -> Pairs:
         try:
             for here, there in _line_pairs(line).items():
                 if here in pairs or there in pairs.values():
-                    raise BadPairs(f'circuit {here} here or {there} there stands twice')
+                    raise BadPairs(f'circuit {here} here or {there} there is repeated')
                 pairs[here] = there
         except BadPairs as fault:
             raise BadPairs(f'line {number}: {fault}') from None
     if not pairs:
-        raise BadPairs('no circuit is named')
+        raise BadPairs('there are no circuits')
     return pairs
 
 

@@ -212,7 +212,7 @@ class Site:
                 stranger.stage = Stage.CERTIFIED
             await self._hold(reader, writer, stranger)
         except (OSError, TimeoutError) as fault:
-            self.hooks.turned_away(str(fault) or 'it says nothing')
+            self.hooks.turned_away(str(fault) or 'it sends nothing')
 
     def _ended(self, line: socket.socket, stranger: Stranger, task: asyncio.Task[None]) -> None:
         self._tasks.discard(task)
@@ -237,7 +237,7 @@ class Site:
                 self._strangers.peer = stranger.address
             why = await self._follow(reader, writer)
         except (Refused, BadMessage, OSError, TimeoutError) as fault:
-            why = str(fault) or 'no sign of life'
+            why = str(fault) or 'no keepalive'
             if self._writer is not writer:
                 self.hooks.turned_away(why)
         finally:
@@ -253,7 +253,7 @@ class Site:
         writer.write(spell(self.hooks.greeting()))
         greeting = await read_one(reader)
         if not isinstance(greeting, Greeting):
-            raise Refused('it does not greet' if greeting else 'it has closed the connection')
+            raise Refused('it sends no greeting' if greeting else 'it closed the connection')
         return greeting
 
     async def _take_up(self, greeting: Greeting, writer: asyncio.StreamWriter) -> None:

@@ -108,7 +108,7 @@ class Tie:
             answer = await client.ask(f'on-loss {what} {self.options.hold:g}')
             if answer.endswith('done'):
                 return
-        self.tell('warning', about='the driver clears no calls when this program is gone', answer=answer)
+        self.tell('warning', about='the driver clears no calls if this program dies', answer=answer)
 
     def _begin(self, client: Client, status: dict[str, Any], life: str) -> None:
         """All circuits as the driver has them, with what is remembered of their calls."""
@@ -281,7 +281,7 @@ class Tie:
 
     def _warn_of_codecs(self, why: str | None) -> None:
         if why:
-            self.tell('warning', about=f'each call has its configured codec from its beginning: {why}')
+            self.tell('warning', about=f'calls use their configured codec from the start: {why}')
 
     async def leave(self) -> None:
         """Before the end: circuits without a call get their configured codec."""
