@@ -21,19 +21,19 @@ from .explain import CODECS, Fault, check, config_words, read_octets
 from .faults import number, words_of_fault
 from .session import CIRCUITS
 
-FIRST, APART, TRUNKS = 24_002, 100, 64      # ports of a trunk: one for RTP and the next one free for each circuit
+FIRST, APART, TRUNKS = 24_002, 100, 64      # ports of a trunk: for each circuit one for RTP and the next one unused
 SAME_HOST = 10_000                          # ports between the two ends of a tie on one machine
 METRICS = 9100
 ROLES = ('outgoing', 'incoming', 'odd', 'even')
 
 
 class Usage(Exception):
-    """What is wrong with the values."""
+    """Wrong values."""
 
 
 @dataclass(frozen=True)
 class Plan:
-    """What a configuration is made from."""
+    """The values of a configuration."""
 
     trunk: int
     law: str
@@ -48,7 +48,7 @@ class Plan:
     first_peer: int
 
     def other_end(self, trunk: int) -> Plan:
-        """The plan of the other end: hosts and ports change places, and the end that seizes is the other one."""
+        """The plan of the other end: hosts, ports and the seizing end are swapped."""
         other = {'outgoing': 'incoming', 'incoming': 'outgoing', 'odd': 'even', 'even': 'odd'}
         return replace(self, trunk=trunk, role=other[self.role], host=self.peer, peer=self.host,
                        first_local=self.first_peer, first_peer=self.first_local)
@@ -72,7 +72,7 @@ def table_of(plan: Plan, circuit: int) -> str:
 
 
 def text_of(plan: Plan) -> str:
-    """The whole configuration. Usage where e1gw would refuse it."""
+    """The whole configuration, or Usage if e1gw would refuse it."""
     head = (f'# Thirty circuits of one trunk, made by e1gw-config(1); e1gw.toml(5) has each key.\n'
             f'# The jitter buffer (prefill) is {plan.prefill / 8:g} ms deep.\n'
             f'law = "{plan.law}"\nhost = "{plan.host}"\n')
@@ -104,7 +104,7 @@ def plan_of(asked: argparse.Namespace) -> Plan:
 # ---- what is written ----
 
 def write_new(path: str, text: str, over: bool) -> None:
-    """Writes a file; one that is there already is kept, unless it is to be written over."""
+    """Writes a new file; an existing one is kept unless it is to be overwritten."""
     with open(path, 'w' if over else 'x', encoding='utf-8') as file:
         file.write(text)
     print(path)
@@ -133,14 +133,14 @@ EXAMPLE = 'example.toml'
 
 
 def doors_of(table: dict[str, Any]) -> dict[tuple[str, int], int]:
-    """The address and port of each circuit that has one."""
+    """The address and port of each circuit that has them."""
     host = table.get('host', '127.0.0.1')
     return {(host, circuit['local_port']): circuit['number'] for circuit in table.get('circuit', [])
             if 'local_port' in circuit}
 
 
 def clash_words(path: str, other: str, clashes: list[tuple[int, str, int]]) -> str:
-    """What is said of the circuits of a file, with address and port, that another file has a circuit at."""
+    """The words for circuits of a file whose address and port another file has."""
     circuit, door, far = clashes[0]
     if len(clashes) == 1:
         return f'{path}, circuit {circuit}: {door} is also the port of {other}, circuit {far}'
@@ -149,8 +149,8 @@ def clash_words(path: str, other: str, clashes: list[tuple[int, str, int]]) -> s
 
 
 def check_files(paths: list[str]) -> bool:
-    """Prints what is wrong with each, and which two have ports in common; returns whether nothing is. Ports of the
-    package's example.toml are free, since no unit has that name."""
+    """Prints what is wrong with each file, and which ports two have in common; returns whether nothing is. Ports of the
+    package's example.toml are free, because no unit has that name."""
     good, taken = True, dict[tuple[str, int], tuple[str, int]]()
     for path in paths:
         if why := config_words(path):

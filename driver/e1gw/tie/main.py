@@ -29,8 +29,8 @@ answers, clear-backs, clearings, blocks, faults and alarms are passed on.'''
 MORE = '''One runs at each site, alongside e1gw-trunk. Each of its actions is a line of JSON on standard
 output. Without --tls the connection is neither secret nor authenticated. See e1gw-tie(1).'''
 ANYBODY = 'any certificate of the authority is accepted, because no --peer names that of the other site'
-LEAVES = 1.0                # seconds at most in which codecs are given back
-MOST_MAP = 100_000          # characters of the map's file that are looked at
+LEAVES = 1.0                # seconds at most to restore codecs
+MOST_MAP = 100_000          # characters at most of the map's file
 
 
 def seconds(text: str) -> float:
@@ -73,7 +73,7 @@ def parser() -> argparse.ArgumentParser:
 
 
 def is_loopback(host: str) -> bool:
-    """Whether a host is this machine by its text alone: a loopback address, or localhost."""
+    """Whether a host is this machine, by its text: a loopback address, or localhost."""
     try:
         return host == 'localhost' or ipaddress.ip_address(host).is_loopback
     except ValueError:
@@ -81,7 +81,7 @@ def is_loopback(host: str) -> bool:
 
 
 def is_open(options: argparse.Namespace) -> bool:
-    """Whether others than this machine could connect and would not be authenticated, unasked."""
+    """Whether other machines could connect without authentication and this was not asked for."""
     return options.listen and not options.tls and not options.insecure and not is_loopback(options.listen[0])
 
 
@@ -96,7 +96,7 @@ def site_of(options: argparse.Namespace, tie: Tie) -> Site:
     if options.tls:
         certificate, key, authority = options.tls
         for path in options.tls:
-            with open(path, 'rb'):      # TLS would not tell which of the three cannot be read
+            with open(path, 'rb'):      # TLS would not say which of the three cannot be read
                 pass
         try:
             context = context_of(certificate, key, authority, listens)
@@ -106,7 +106,7 @@ def site_of(options: argparse.Namespace, tie: Tie) -> Site:
 
 
 async def work(tie: Tie, site: Site) -> int:
-    """Goes on until a signal asks for the end; returns the status."""
+    """Runs until a signal asks for the end; returns the status."""
     asked = asyncio.Event()
     for number in (signal.SIGINT, signal.SIGTERM, signal.SIGHUP):
         asyncio.get_running_loop().add_signal_handler(number, asked.set)
@@ -137,7 +137,7 @@ def refuse(why: object) -> None:
 
 
 def told_on(outlet: Any) -> Tell:
-    """Each event is a line of JSON; one who does not read them ends nothing."""
+    """Prints each event as a line of JSON; a reader that stops ends nothing."""
     def tell(event: str, **fields: Any) -> None:
         outlet.put(json.dumps({'time': round(time.time(), 6), 'event': event, **fields}).encode() + b'\n')
     return tell
@@ -169,5 +169,5 @@ def main() -> None:
     status = asyncio.run(work(tie, site))
     kept.close()
     outlet.close()
-    # The thread of a reader that stands still is not waited for.
+    # The thread of a stuck reader is not waited for.
     os._exit(status)

@@ -20,12 +20,12 @@ MOST_NAME = 100
 
 
 class BadMessage(Exception):
-    """A line is no message; the words say why."""
+    """An invalid message; the words say why."""
 
 
 @dataclass(frozen=True)
 class Greeting:
-    """Who speaks: a name for this run of the program, and the pairs of circuits that it was given."""
+    """The sender: a name for this run of the program, and its pairs of circuits."""
 
     run: str
     pairs: Pairs | None
@@ -33,7 +33,7 @@ class Greeting:
 
 @dataclass(frozen=True)
 class All:
-    """How a site stands."""
+    """The state of a site."""
 
     dark: bool
     ends: dict[int, End]
@@ -42,7 +42,7 @@ class All:
 
 @dataclass(frozen=True)
 class Change:
-    """How a circuit stands now."""
+    """The new state of a circuit."""
 
     circuit: int
     end: End
@@ -50,14 +50,14 @@ class Change:
 
 @dataclass(frozen=True)
 class Dark:
-    """Whether the trunk of that site is dark."""
+    """Whether the trunk of that site is out of service."""
 
     dark: bool
 
 
 @dataclass(frozen=True)
 class Alive:
-    """Nothing is new."""
+    """A keepalive."""
 
 
 Message = Greeting | All | Change | Dark | Alive
@@ -119,7 +119,7 @@ def _end(value: Any) -> End:
 
 
 def message_of(line: bytes) -> Message:
-    """The message of a line. BadMessage where it is none."""
+    """The message of a line, or BadMessage."""
     try:
         fields = _is(json.loads(line), dict, 'message')
     except (ValueError, RecursionError):

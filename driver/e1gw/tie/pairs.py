@@ -1,17 +1,17 @@
-"""Which circuit here is which one at the other site."""
+"""Pairs of a circuit here and one at the other site."""
 from __future__ import annotations
 
 from ..session import CIRCUITS
 
-Pairs = dict[int, int]      # of a circuit here, the one there
+Pairs = dict[int, int]      # by a circuit here, the one there
 
 
 class BadPairs(Exception):
-    """Text that says no pairs; the words say why."""
+    """Invalid text for pairs; the words say why."""
 
 
 def _circuits(word: str) -> range:
-    """A circuit, or some in a row, as in 1-15."""
+    """A circuit, or a range such as 1-15."""
     first, dash, last = word.partition('-')
     numbers = [int(each) if each.isascii() and each.isdecimal() and len(each) < 4 else 0
                for each in ((first, last) if dash else (first, first))]
@@ -33,7 +33,7 @@ def _line_pairs(line: str) -> Pairs:
 
 
 def pairs_of(text: str) -> Pairs:
-    """The pairs that a text has, `HERE THERE` a line; `#` begins a comment. BadPairs where it has none."""
+    """The pairs in a text of lines `HERE THERE`; `#` begins a comment. BadPairs if there are none."""
     pairs: Pairs = {}
     for number, line in enumerate(text.splitlines(), 1):
         try:
@@ -49,7 +49,7 @@ def pairs_of(text: str) -> Pairs:
 
 
 def agreed(here: Pairs | None, there: Pairs | None) -> Pairs:
-    """The pairs that both sites have. One site's suffice; without any, each circuit is the one of its number."""
+    """The pairs of both sites. One site's suffice; without any, circuits have equal numbers."""
     back = None if there is None else {theirs: ours for ours, theirs in there.items()}
     if here is None:
         return {n: n for n in CIRCUITS} if back is None else back
