@@ -1,13 +1,13 @@
 """Explains why e1gw refuses a configuration, or cannot open a circuit's socket.
 
-  e1gw-explain FILE                 the line that e1gw says, the key, its line in FILE, and what it may have
-  e1gw-explain --no-sockets FILE    the configuration alone
+  e1gw-explain FILE                 prints e1gw's line, the key, its line in FILE, and the allowed values
+  e1gw-explain --no-sockets FILE    checks only the configuration
 
-The checks are those of e1gw.toml(5), in its order, so the fault is the one that `e1gw check` tells. Where the
-configuration has none, each socket that `e1gw serve` would open is opened and closed again, in the order of the
-circuits, and the first that can't be is told with its cause. (Where that e1gw runs already, its own ports are in use.)
+The checks are those of e1gw.toml(5), in its order, so the fault is that of `e1gw check`. If there is none, each socket
+that `e1gw serve` would open is opened and closed again, in the order of the circuits, and the first failure is printed
+with its cause. (If that e1gw is running, its own ports are in use.)
 
-The status is 0 where nothing was found, 1 for a socket, and 2 for the configuration."""
+The status is 0 if nothing was found, 1 for a socket, and 2 for the configuration."""
 from __future__ import annotations
 
 import argparse

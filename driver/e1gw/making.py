@@ -1,14 +1,13 @@
-"""Writes whole configurations of e1gw, and checks those that there are: e1gw-config(1).
+"""Writes whole configurations of e1gw, and checks existing ones: e1gw-config(1).
 
   e1gw-config [--trunk N] [VALUES]                     prints a configuration of thirty circuits
   e1gw-config --write NAME [--trunk N] [VALUES]        writes NAME.toml and NAME.options
   e1gw-config --write NAME --tie OTHER [VALUES]        writes those of both ends of a tie
-  e1gw-config --check FILE..                           says what is wrong with files, and ports that two have
+  e1gw-config --check FILE..                           prints faults of files, and ports that two have
 
 Trunk N of a machine has the ports from 24002 + 100 (N - 1) on and the metrics at 9100 + N, so trunks never clash.
 
-The status is 0 where all was written or nothing was found, and else 2.
-"""
+The status is 0 if everything was written or nothing was found, else 2."""
 from __future__ import annotations
 
 import argparse

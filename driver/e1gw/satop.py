@@ -1,10 +1,9 @@
 """A trunk as an emulated circuit: SAToP over UDP (RFC 4553), all 2048 kbit/s as bits in packets of one size.
 
-The clock is that of the packets that come: each packet that is due is answered by one, at no more than a thousandth
-above the rate of a trunk. Where none comes for 100 ms, this machine's clock goes on in their place, with octets of
-ones, and what is sent says that packets are missing; so the lines of the trunk age as they do on a dead one. With a
-clock of its own this end gives the rate at all times, for an other end that answers packet for packet itself.
-"""
+The received packets are the clock: one is sent for each one played, at no more than a thousandth above the trunk's
+rate. After 100 ms without packets this machine's clock takes over with octets of ones, and packets sent say that
+packets are missing; so the trunk's lines time out as on a dead one. With its own clock this end always gives the rate,
+for another end that uses loop timing."""
 from __future__ import annotations
 
 import argparse

@@ -1,10 +1,9 @@
-"""The octets of an emulated circuit's time slots: those that `e1gw align` gives, a process beside the gateway.
+"""The octets of an emulated circuit's time slots, from `e1gw align`, a process alongside the gateway.
 
-What is due goes in, and as much comes out in the same turn. The driver's own alignment sees the same bits: the process
-tells nothing but octets, so that one tells the bit offset, the searches and the losses. Where the process has ended, or
-is not there in time, the driver's own octets stand in, so that no call ends by it and nothing is late. A process that
-has ended, or stands still, is begun anew and aligned by what came last.
-"""
+Due octets go in, and as many come out in the same turn. The process returns only octets, so the driver's own alignment
+reads the same bits and reports the bit offset, the searches and the losses. If the process has ended or is late, the
+driver's own octets replace its octets, so no call ends and nothing is late. A process that has ended or is stuck is
+restarted and aligned by the last octets."""
 from __future__ import annotations
 
 import select

@@ -1,11 +1,10 @@
-"""The octets of the time slots, from octets whose bits are aligned to nothing.
+"""The octets of the time slots, from unaligned octets.
 
-Frame alignment (ITU-T G.704, 2.3; G.706, 4.1) is looked for at every bit. A stream is seen by its windows: for each
-bit the octet that ends there. Alignment is found at the first window that has the frame alignment signal, 512 bits
-after one that has it, where the window between them has bit 2. It is kept while the windows of slot 0 are right, and
-lost by the third wrong signal in a row, or the third octet without bit 2 between signals. Before the first octet the
-line has ones.
-"""
+Frame alignment (ITU-T G.704, 2.3; G.706, 4.1) is searched for at every bit. A stream is read by its windows: for each
+bit the octet that ends there. Alignment is found at the first window with the frame alignment signal that is 512 bits
+after another one, if the window between them has bit 2. It holds while the windows of slot 0 are right, and is lost by
+the third errored signal in a row, or the third octet without bit 2 between signals. Before the first octet the line has
+ones."""
 from __future__ import annotations
 
 FRAME = 256             # bits

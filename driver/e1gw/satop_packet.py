@@ -1,9 +1,7 @@
-"""Packets of SAToP over UDP (RFC 4553): the RTP header, where there is to be one, the control word and octets of the
-trunk.
+"""Packets of SAToP over UDP (RFC 4553): an RTP header, if expected, the control word and octets of the trunk.
 
-The control word has four zero bits, L (what is carried is not valid), R (the other end misses packets), two reserved
-bits, FRG (0), LEN (all octets of the datagram where they are fewer than 64, else 0) and the sequence number.
-"""
+The control word has four zero bits, L (the payload is invalid), R (the other end misses packets), two reserved bits,
+FRG (0), LEN (the number of all octets if it is below 64, else 0) and the sequence number."""
 from __future__ import annotations
 
 import struct

@@ -1,12 +1,11 @@
-"""One circuit of a tie line: the command that follows from how its two ends stand.
+"""One circuit of a tie line: the command that follows from the states of its two ends.
 
 At one end the circuit is incoming, and its exchange seizes it; at the other end it is outgoing, and the gateway seizes
-it there for each call. What is done follows from states and never from a message, so whatever was lost on the way is
-made good by the next one that comes. There is no clock here and nothing is sent: `wants` is a function of a value.
+it for each call. Commands follow from states and never from a message, so a lost message is made up for by the next
+one. There is no clock here and nothing is sent: `wants` is a function of a value.
 
-A call has a name, which the incoming end gives it. The outgoing end keeps the name of the call that was last passed on
-to it; so both know whether what stands there belongs to this call, to an earlier one or to none.
-"""
+The incoming end names each call. The outgoing end keeps the name of the last call passed on to it; so both know whether
+the state there belongs to this call, to an earlier one or to none."""
 from __future__ import annotations
 
 from dataclasses import dataclass, replace

@@ -1,9 +1,8 @@
 """The codec of each circuit of a tie: G.711 until the call is answered, then the configured one.
 
-The codec follows from the state of the line here alone, and the tie makes the two ends of a call stand alike. So a
-change that is missed is made later, whatever was lost. Between the two changes each end refuses the packets of the
-other codec by their payload type, and plays silence.
-"""
+The codec follows from the state of the local line alone, and the tie brings the two ends of a call to the same state.
+So a missed change is made later. Between the two changes each end refuses the packets of the other codec by their
+payload type, and plays silence."""
 from __future__ import annotations
 
 from typing import Any, NamedTuple

@@ -1,8 +1,7 @@
-"""What the ties of two sites tell one another: lines of JSON.
+"""The messages between the ties of two sites: lines of JSON.
 
-Each begins with a `Greeting` and, once the connection is taken up, tells how all its circuits stand; then each change,
-and a sign of life where nothing else is to be told. Circuits are numbered as at the site that speaks.
-"""
+Each tie begins with a `Greeting` and, once the connection is accepted, sends the state of all its circuits; then each
+change, and keepalives in between. Circuits have the sender's numbers."""
 from __future__ import annotations
 
 import json

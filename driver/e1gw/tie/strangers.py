@@ -1,9 +1,8 @@
-"""Connections that have not greeted yet: how many there may be, and which of them is closed for a new one.
+"""Connections that have not greeted: how many there may be, and which of them is closed for a new one.
 
 Nobody is authenticated at this point, so the number is bounded in all and by address. A connection gets ahead of others
-by what it has shown: octets, then a certificate of the authority. So those who connect and say nothing cannot keep the
-other site out.
-"""
+by what it has shown: octets, then a certificate of the authority. So silent connections cannot keep the other site
+out."""
 from __future__ import annotations
 
 import asyncio
