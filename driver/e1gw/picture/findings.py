@@ -1,4 +1,4 @@
-"""What stands out in a session, in words: what was seen, and what it usually comes from."""
+"""Anomalies of a session in words, with their usual causes."""
 from __future__ import annotations
 
 from collections.abc import Iterator
@@ -11,13 +11,13 @@ from .facts import NOT_OPEN, OPEN, SECOND, Answer, Cell, Facts, Row
 from .slopes import Points, Step, points, slope, steps
 from .svg import Scale, duration
 
-RATE = 20_000               # parts in a million from which on it is no difference of clocks
-SHORT = SECOND // 50        # an alarm of the far end that is shorter is but a wrong bit
+RATE = 20_000               # parts in a million above which it is no difference of clocks
+SHORT = SECOND // 50        # a shorter alarm of the far end is a bit error
 
 
 @dataclass(frozen=True)
 class Finding:
-    """`kind` joins circuits of which the same is to be said; `hint` is the usual cause, and what to do."""
+    """`kind` joins circuits with the same anomaly; `hint` is the usual cause, and what to do."""
     kind: str
     circuit: int            # 0: the trunk
     seen: str
@@ -30,7 +30,7 @@ def times(count: int) -> str:
 
 
 def _clock(row: Row, parts: list[Points], found: list[Step]) -> Iterator[Finding]:
-    """A difference of clocks: the longest stretch without a step that is a slope."""
+    """A difference of clocks: the longest slope without a step."""
     best: tuple[float, float, float] | None = None
     for part in parts:
         cuts = [step.place for step in found]
@@ -85,7 +85,8 @@ def _steps(facts: Facts, rows: list[Row], found: dict[int, list[Step]]) -> Itera
 
 
 def _gaps(facts: Facts, gaps: list[tuple[int, float, int]]) -> Iterator[Finding]:
-    """Moments at which octets of the trunk were lost: the place, the samples, and how many circuits show it."""
+    """Moments at which octets of the trunk were lost: the place, the samples, and the number of circuits that show
+    it."""
     hint = 'the device lost octets (a slip); `codec` for each call resynchronises its jitter buffer'
     if len(gaps) == 1:
         place, ahead, circuits = gaps[0]
@@ -146,7 +147,7 @@ def _refused(row: Row, whole: Cell) -> Iterator[Finding]:
 
 
 def _repeated(row: Row, whole: Cell) -> Iterator[Finding]:
-    """Packets that came once more, and were let go."""
+    """Packets received again and discarded."""
     again = whole.counts.get('repetitions', 0)
     if again:
         all_of = again + whole.admitted + sum(seen[0] for seen in whole.refused.values())
@@ -162,7 +163,7 @@ def _open(row: Row, facts: Facts) -> int:
 
 
 def _silent(row: Row, whole: Cell, opened: int) -> Iterator[Finding]:
-    """Where nothing comes, or nothing but silence."""
+    """No datagrams, or only silence."""
     came = whole.admitted + sum(seen[0] for code, seen in whole.refused.items() if code != NOT_OPEN)
     if opened > SECOND // 2 and not came:
         sent = f': {whole.sent} datagrams were sent to {row.peer}, and none came back' if whole.sent and row.peer else (
@@ -185,7 +186,7 @@ def _silent(row: Row, whole: Cell, opened: int) -> Iterator[Finding]:
 
 
 def _sound(row: Row, whole: Cell, law: str) -> Iterator[Finding]:
-    """What reads like speech in another law, or in another order of words."""
+    """Speech in another law, or in another order of words."""
     here, there = NAMES[law], NAMES[OTHER[law]]
     for way, what, hint in (
             ('came', f'the datagrams received read like {there}, not like {here}',
@@ -202,7 +203,7 @@ def _sound(row: Row, whole: Cell, law: str) -> Iterator[Finding]:
 
 
 def _way(row: Row, whole: Cell) -> Iterator[Finding]:
-    """Whether what is sent arrives, as far as a capture tells."""
+    """Whether what is sent arrives, by a capture."""
     wire = row.wire
     if wire is None:
         return
@@ -223,7 +224,7 @@ def _way(row: Row, whole: Cell) -> Iterator[Finding]:
 
 
 def _strays(facts: Facts) -> Iterator[Finding]:
-    """Datagrams that came to no circuit, and those that could not be sent."""
+    """Datagrams for no circuit, and those that could not be sent."""
     for (host, port), count in sorted(facts.strays.items(), key=lambda each: -each[1]):
         if count > 5:
             yield Finding('stray', 0, f'{count} datagrams came from {host} to port {port}, which no circuit has',
@@ -234,7 +235,7 @@ def _strays(facts: Facts) -> Iterator[Finding]:
 
 
 def _lines(row: Row, whole: Cell) -> Iterator[Finding]:
-    """Calls that did not come up, and commands that were refused."""
+    """Calls that did not come up, and refused commands."""
     unacknowledged, faults = whole.counts.get('unacknowledged', 0), whole.counts.get('faults', 0)
     if unacknowledged:
         yield Finding('unacknowledged', row.number,
@@ -254,7 +255,7 @@ def _lines(row: Row, whole: Cell) -> Iterator[Finding]:
 
 
 def _jitter(row: Row, whole: Cell, parts: list[Points], explained: bool) -> Iterator[Finding]:
-    """A band that is wide."""
+    """A wide band."""
     spread = [cell.high - cell.low for cell in row.cells.values() if cell.admitted > 2]
     wide = max(spread, default=0)
     if wide > 80 and not explained and parts:
@@ -303,7 +304,7 @@ def _trunk(facts: Facts) -> Iterator[Finding]:
 
 
 def findings(facts: Facts) -> list[Finding]:
-    """All that stands out, the trunk first."""
+    """All anomalies, the trunk's first."""
     rows = list(facts.rows.values())
     out = [*_trunk(facts), *_strays(facts)]
     parts = {row.number: points(row, facts.width) for row in rows}

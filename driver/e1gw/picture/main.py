@@ -101,7 +101,7 @@ def given(session: Kept) -> Iterator[bytes]:
 
 
 def port_faults(path: str) -> int:
-    """How often a socket could not send or receive, by the totals that a gateway has printed last."""
+    """How often a socket could not send or receive, by a gateway's last totals."""
     with open(path, encoding='utf-8', errors='replace') as file:
         told = re.findall(r'\bport_faults (\d+)', file.read())
     if not told:
@@ -111,7 +111,7 @@ def port_faults(path: str) -> int:
 
 def facts_of(options: argparse.Namespace, session: Kept, tables: dict[str, Any],
              place: int) -> tuple[Facts, Iterator[bytes]]:
-    """What is known of a session before it is read, and its octets, the first of which is at this place."""
+    """The facts known of a session before it is read, and its octets from this place."""
     facts = Facts(rows_of(tables), span_of(options))
     facts.slips = session.slips and [(place + at, seconds) for at, seconds in session.slips]
     octets = given(session)
@@ -124,7 +124,7 @@ def facts_of(options: argparse.Namespace, session: Kept, tables: dict[str, Any],
 
 
 def gathered(options: argparse.Namespace, session: Kept, config: str, known: Begun | None) -> tuple[Facts, str]:
-    """What is drawn of a session, and a word on how it ended. It begins with a gateway that is known, or new."""
+    """The facts of a session, and a word about its end. It begins with a known gateway, or a new one."""
     wait = options.seizure_wait or session.wait
     tables = with_wait(read_config(config), wait)
     facts, octets = facts_of(options, session, tables, known.place if known else 0)
@@ -144,13 +144,13 @@ def gathered(options: argparse.Namespace, session: Kept, config: str, known: Beg
 
 
 def span_of(options: argparse.Namespace) -> int | None:
-    """The octets of the trunk that are to be shown, where it is not all of them."""
+    """The octets of the trunk to show, if not all."""
     return int(options.last * OCTETS_A_SECOND) if options.last else None
 
 
 def session_of(options: argparse.Namespace) -> tuple[Kept, Begun | None, str]:
-    """The session that was named, what the gateway was when it began, and what is to be said of that. If nothing tells
-    what the gateway was, the session is read as if the gateway had begun there."""
+    """The session named, the gateway at its start, and a note about that. If the gateway is not known, the session is
+    read as if it began there."""
     if not options.session or options.session == '-':
         return Kept(['-']), None, ''
     whole = kept(options.session)
@@ -168,8 +168,8 @@ def session_of(options: argparse.Namespace) -> tuple[Kept, Begun | None, str]:
 
 
 def failure_of(word: str, session: Kept) -> str:
-    """Why a session failed before its end, and where it is no session but octets of a trunk the command that makes one;
-    nothing for one that ends inside a record, as one does that is still written."""
+    """Why a session failed before its end, and for a trunk's octets the command that makes a session of them; nothing
+    for one that ends inside a record, as one still being written."""
     if not word.startswith('fault') or 'Truncated' in word:
         return ''
     raw = raw_words_of(session.files[0]) if session.files[0] != '-' else None
@@ -177,7 +177,7 @@ def failure_of(word: str, session: Kept) -> str:
 
 
 def drawn(options: argparse.Namespace) -> tuple[str, bool]:
-    """The page that was asked for, and whether its session is whole."""
+    """The page asked for, and whether its session is complete."""
     if not options.session and not options.capture:
         raise Trouble('no session and no capture was named')
     session, known, middle = session_of(options)
