@@ -1,4 +1,4 @@
--- A join of parts has no fault, and its parts stand at their places.
+-- A join of parts has no fault, and its parts are at their places.
 use Rattle.std.proofs.Common.{◌≡◌, ◌≢◌, ◌+◌, ◌/◌, ◌%◌, ◌<◌, ◌≤◌, ◌&&◌, not, ℕ, Bool}
 use Rattle.std.proofs.Common.{true, false, cond, eqb, List, [], ◌∷◌, ◌++◌, length, take, drop, slice_index}
 use Rattle.std.proofs.Common.{Option, Some, None, refl, sym, ap, ◌∙◌, arith, length-drop, length-append, inl, inr}
@@ -13,7 +13,7 @@ use Rattle.satop_packet.specs.Fault.{fault, is_short, is_no_rtp, is_no_control, 
 use Rattle.satop_packet.specs.Read.{control_of, content_of}
 use Rattle.satop_packet.specs.Laws.{AreOctets, IsPacketOf}
 
--- what stands at a place is the head of what stands from there on
+-- the item at a place is the head of the rest from there
 at_head : (s : ℕ) (o : List ℕ) → slice_index o s ≡ slice_index (drop s o) 0
 at_head s o = ap (slice_index o) (omega arith) ∙ sym (get_or-drop s o 0 0)
 
@@ -73,13 +73,13 @@ said-right len size h = elim (cases_eq len 0) [
   | inr ne ↦ rw (ne_eqb len 0 ne, eq-eqb len size (h ne)) refl
 ]
 
--- no fault is told where no test is met
+-- no fault is returned if no test is met
 no-fault : (a b c d e : Bool) (f1 f2 f3 f4 f5 : Option SatopFault)
     → a ≡ false → b ≡ false → c ≡ false → d ≡ false → e ≡ false
     → cond a f1 (cond b f2 (cond c f3 (cond d f4 (cond e f5 None)))) ≡ None
 no-fault a b c d e f1 f2 f3 f4 f5 p q r s t = rw (p, q, r, s, t) refl
 
--- where none is told, no test is met
+-- if none is returned, no test is met
 pub untold : (a b c d e : Bool) (f1 f2 f3 f4 f5 : SatopFault)
     → cond a (Some f1) (cond b (Some f2) (cond c (Some f3) (cond d (Some f4) (cond e (Some f5) None)))) ≡ None
     → (a ≡ false) × (b ≡ false) × (c ≡ false) × (d ≡ false) × (e ≡ false)
@@ -95,7 +95,7 @@ pub record Told (rtp : Bool) (o : List ℕ) (p : Content) : Type 0 where
   pub parts : p ≡ content_of rtp o
   pub faultless : fault rtp o ≡ None
 
--- a join of parts has no fault, and its parts stand at their places
+-- a join of parts has no fault, and its parts are at their places
 pub is_told : (rtp : Bool) (o : List ℕ) (p : Content) (reserved len : ℕ) → IsPacket o rtp p reserved len → Told rtp o p
 unfolding content_of control_of
 is_told rtp o p reserved len d =
@@ -158,7 +158,7 @@ first-spelled n false true h el em =
 first-spelled n false false h el em =
     let l : n / 8 % 2 ≢ 1 = eqb-false _ _ el in let m : n / 4 % 2 ≢ 1 = eqb-false _ _ em in omega arith
 
--- a control word and what follows it, by the numbers that stand there
+-- a control word and what follows it, by the numbers at their places
 spelled : (q : List ℕ) → 4 ≤ length q → AreOctets q → slice_index q 0 / 16 ≡ 0
     → q ≡ control_word (control_of 0 q) (slice_index q 0 % 4) (slice_index q 1) ++ drop 4 q
 unfolding control_of
@@ -177,7 +177,7 @@ sequence-fits (a ∷ b ∷ c ∷ d ∷ rest) long fits =
     let fc : c < 256 = fits 2 in let fd : d < 256 = fits 3 in omega arith
 sequence-fits _ long fits = absurd (omega arith)
 
--- a control word at a place is one at the head of what stands from there on
+-- a control word at a place is one at the head of the rest from there
 control-at : (s : ℕ) (o : List ℕ) → control_of s o ≡ control_of 0 (drop s o)
 unfolding control_of
 control-at s o =
@@ -193,7 +193,7 @@ rtp-there true [] long h = absurd (omega arith)
 rtp-there true (x ∷ o) long h =
     let at : x ≡ 128 = eqb-true _ _ (not-false _ h) in (at, length-take-le 12 (x ∷ o) long)
 
--- LEN, where its test is not met
+-- LEN, if its test is not met
 said-true : (len size : ℕ) → (not (eqb len 0) && not (eqb len size)) ≡ false → (len ≡ 0 → ⊥) → len ≡ size
 said-true len size h ne =
     eqb-true len size (not-false _ (rw (ne_eqb len 0 ne) at h))
