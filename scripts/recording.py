@@ -1,9 +1,8 @@
-"""Looks at the recordings of the built program: what scripts/look runs beside its tables.
+"""Tests the recordings of the built program, for scripts/look.
 
-What `serve --record` wrote is replayed: the same octets of the trunk, the same packets of each circuit and the same
-answers to commands must come, as e1gw(1) says. A recording that can't go on (a full device, a limit, a reader that
-goes) changes nothing of its session. Each look is a function of the program and a folder to work in; it yields what is
-wrong.
+A recording of `serve --record` is replayed: it must give the same octets of the trunk, the same packets of each circuit
+and the same answers to commands, as e1gw(1) says. A recording that ends early (a full device, a limit, a reader that
+leaves) changes nothing of its session. Each test is a function of the program and a folder, and yields what is wrong.
 """
 import contextlib
 import os

@@ -1,9 +1,9 @@
-"""Looks at the built program with datagrams over UDP: what scripts/look runs beside its tables.
+"""Tests the built program with datagrams over UDP, for scripts/look.
 
-Each look is a function of the program, a folder to work in and the addresses of this machine; it yields what is not
-as it must be. Circuits are in calls, and the exchange at the other end of the trunk is that of exchange.py. What must
-come is what the manual says: a circuit plays the datagrams of its own port, in order, after `prefill`, and its packets
-go to its own peer from its own port, numbered from `sequence` on.
+Each test is a function of the program, a folder and the addresses of this machine, and yields what is wrong. Circuits
+are in calls, and the exchange at the other end of the trunk is that of exchange.py. The manual says what is expected: a
+circuit plays the datagrams of its own port, in order, after `prefill`, and its packets go to its own peer from its own
+port, numbered from `sequence`.
 """
 import contextlib
 import os

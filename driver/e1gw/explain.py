@@ -1,13 +1,13 @@
 """Explains why e1gw refuses a configuration, or cannot open a circuit's socket.
 
-  e1gw-explain FILE                 the line that e1gw says, the key, its line in FILE, and what it may have
-  e1gw-explain --no-sockets FILE    the configuration alone
+  e1gw-explain FILE                 prints e1gw's line, the key, its line in FILE, and the allowed values
+  e1gw-explain --no-sockets FILE    checks only the configuration
 
-The checks are those of docs/CONFIGURATION.md, in its order, so the fault is the one that `e1gw check` tells. Where the
-configuration has none, each socket that `e1gw serve` would open is opened and closed again, in the order of the
-circuits, and the first that can't be is told with its cause. (Where that e1gw runs already, its own ports are in use.)
+The checks are those of e1gw.toml(5), in its order, so the fault is that of `e1gw check`. If there is none, each socket
+that `e1gw serve` would open is opened and closed again, in the order of the circuits, and the first failure is printed
+with its cause. (If that e1gw is running, its own ports are in use.)
 
-The status is 0 where nothing was found, 1 for a socket, and 2 for the configuration."""
+The status is 0 if nothing was found, 1 for a socket, and 2 for the configuration."""
 from __future__ import annotations
 
 import argparse
@@ -20,7 +20,7 @@ from dataclasses import dataclass
 from typing import Any, Callable
 
 LONGEST, DEEPEST = 65_536, 80
-MOST_SHOWN = 120            # characters of a value, or of what the reader of TOML says
+MOST_SHOWN = 120            # characters of a value, or of the TOML reader's words
 KINDS = {'Syntax': 1, 'UnknownKey': 2, 'Missing': 3, 'WrongType': 4, 'OutOfRange': 5, 'Twice': 6, 'LawCodec': 7,
          'TooLong': 8}
 CODECS = ('pcma', 'pcmu', 'g726-16', 'g726-24', 'g726-32', 'g726-40')
@@ -28,7 +28,7 @@ CODECS = ('pcma', 'pcmu', 'g726-16', 'g726-24', 'g726-32', 'g726-40')
 
 @dataclass
 class Fault(Exception):
-    """The first fault of a configuration: its kind, the place of its table or 0, the key, and what is wrong."""
+    """The first fault of a configuration: its kind, its table's place or 0, the key, and the reason."""
 
     kind: str
     place: int
@@ -39,7 +39,7 @@ class Fault(Exception):
 
 @dataclass
 class Key:
-    """What a key may have: its type, a test of the values, and the values as a reader wants them."""
+    """The values of a key: their type, a test, and words for a reader."""
 
     type: type
     holds: Callable[[Any], bool]
@@ -69,7 +69,7 @@ TYPES = {int: 'a whole number', str: 'a text in quotes', list: 'a list of tables
 
 # ---- the file ----
 
-# Comments and strings. One without an end is all that follows, so that this takes no more time than the text is long.
+# Comments and strings. One without an end is all the rest, so that the time is linear in the text.
 PASSED_OVER = re.compile(r'''\#[^\n]*|"""(?:[^\\]|\\.)*?(?:"""|\Z)|\'{3}.*?(?:\'{3}|\Z)|"(?:[^"\\\n]|\\.)*+"?'''
                          r'''|\'[^\'\n]*+\'?''', re.DOTALL)
 NO_KEY = re.compile(r'[^\w.\t -]')
@@ -77,8 +77,8 @@ BRACKETS = {'[': 1, '{': 1, ']': -1, '}': -1}
 
 
 def check_depth(text: str) -> None:
-    """e1gw's limits of depth: parts of a key and values within values. It comes first, since the reader of TOML takes
-    time by the square of a key's parts."""
+    """e1gw's limits of depth: parts of a key and nested values. They come first, because the TOML reader takes time by
+    the square of a key's parts."""
     bare = PASSED_OVER.sub(lambda found: 's' + '\n' * found[0].count('\n'), text)
     depth = 0
     for number, line in enumerate(bare.split('\n'), 1):
@@ -87,11 +87,11 @@ def check_depth(text: str) -> None:
         for each in line:
             depth += BRACKETS.get(each, 0)
             if depth > DEEPEST:
-                raise Fault('Syntax', 0, '', f'values stand within values more than {DEEPEST} deep', number)
+                raise Fault('Syntax', 0, '', f'values are nested more than {DEEPEST} deep', number)
 
 
 def check_numbers(table: dict[str, Any]) -> None:
-    """A limit that the reader here does not have: 64 bits."""
+    """A limit that the TOML reader does not have: 64 bits."""
     left: list[Any] = [table]
     while left:
         value = left.pop()
@@ -102,7 +102,7 @@ def check_numbers(table: dict[str, Any]) -> None:
 
 
 def float_of(text: str) -> float:
-    """A number with a point or an exponent. e1gw takes none that is too large for 64 bits."""
+    """A number with a point or an exponent, at most what e1gw accepts in 64 bits."""
     value = float(text)
     if math.isinf(value) and 'inf' not in text:
         raise Fault('Syntax', 0, '', f'the number {cut(text)} is too large')
@@ -110,35 +110,35 @@ def float_of(text: str) -> float:
 
 
 def cut(text: str) -> str:
-    """A text on one line, and not all of a long one."""
+    """A text on one line, shortened."""
     shown = text if text.isprintable() else repr(text)
     return shown if len(shown) <= MOST_SHOWN else f'{shown[:MOST_SHOWN]}..'
 
 
 def parsed(octets: bytes) -> dict[str, Any]:
-    """The table that a file is."""
+    """The table of a file."""
     if len(octets) > LONGEST:
-        raise Fault('TooLong', 0, '', f'the file has more than the {LONGEST} octets that it may have')
+        raise Fault('TooLong', 0, '', f'the file has more than the {LONGEST} octets allowed')
     try:
         text = octets.decode('utf-8').removeprefix('\N{ZERO WIDTH NO-BREAK SPACE}')
         check_depth(text)
         table = tomllib.loads(text, parse_float=float_of)
     except UnicodeDecodeError as error:
         line = octets[:error.start].count(b'\n') + 1
-        raise Fault('Syntax', 0, '', 'there is an octet that is no UTF-8', line) from error
+        raise Fault('Syntax', 0, '', 'an octet is not UTF-8', line) from error
     except tomllib.TOMLDecodeError as error:
         found = re.search(r'\(at line (\d+)', str(error))
         line = int(found[1]) if found else octets.rstrip().count(b'\n') + 1
-        raise Fault('Syntax', 0, '', f'no TOML: {cut(str(error))}', line) from error
+        raise Fault('Syntax', 0, '', f'not TOML: {cut(str(error))}', line) from error
     except (ValueError, RecursionError) as error:
         # (int() takes no more than 4,300 digits.)
-        raise Fault('Syntax', 0, '', f'no TOML: {cut(str(error))}') from error
+        raise Fault('Syntax', 0, '', f'not TOML: {cut(str(error))}') from error
     check_numbers(table)
     return table
 
 
 def line_of(text: str, place: int, key: str) -> int | None:
-    """The line of a key in the table at this place, or of the table where it has no such key."""
+    """The line of a key in the table at this place, or of the table without such a key."""
     at, head = 0, None
     for number, line in enumerate(text.split('\n'), 1):
         if re.match(r'\s*\[\[\s*["\']?circuit["\']?\s*\]\]', line):
@@ -157,11 +157,11 @@ def check_key(table: dict[str, Any], place: int, name: str, key: Key, needed: st
     """A key's value: Missing, then WrongType, then OutOfRange."""
     if name not in table:
         if needed:
-            raise Fault('Missing', place, name, f'{name} is not there: {needed}; it is {key.values}')
+            raise Fault('Missing', place, name, f'{name} is missing: {needed}; it has to be {key.values}')
         return
     value = table[name]
     if type(value) is not key.type:
-        raise Fault('WrongType', place, name, f'{name} has to be {TYPES[key.type]}; it may have: {key.values}')
+        raise Fault('WrongType', place, name, f'{name} has to be {TYPES[key.type]}: {key.values}')
     if not key.holds(value):
         raise Fault('OutOfRange', place, name, f'{name} is {cut(repr(value))}, and has to be {key.values}')
 
@@ -169,24 +169,25 @@ def check_key(table: dict[str, Any], place: int, name: str, key: Key, needed: st
 def check_names(table: dict[str, Any], place: int, known: dict[str, Key]) -> None:
     unknown = [name for name in table if name not in known]
     if unknown:
-        raise Fault('UnknownKey', place, unknown[0], f'{cut(unknown[0])} is no key here; there are {", ".join(known)}')
+        raise Fault('UnknownKey', place, unknown[0],
+                    f'{cut(unknown[0])} is not a key here; the keys are {", ".join(known)}')
 
 
 def payload_key(codec: str) -> Key:
-    """The payload types that a codec may have."""
+    """The payload types of a codec."""
     fixed = {'pcma': 8, 'pcmu': 0}.get(codec)
     values = 'a whole number from 96 to 127' if fixed is None else f'{fixed}, or a whole number from 96 to 127'
     return Key(int, lambda value: bool(value == fixed or 96 <= value <= 127), f'{values} (codec {codec})')
 
 
 def needs(table: dict[str, Any], name: str, codec: str) -> str | None:
-    """Why a key has to be there, or None."""
+    """Why a key is required, or None."""
     other = {'local_port': 'peer_port', 'peer_port': 'local_port'}.get(name)
     if name == 'number':
         return 'each circuit has one'
     if name == 'payload' and codec.startswith('g726'):
         return 'G.726 has no payload type of its own'
-    return f'there is a {other}, and a circuit has both or none' if other in table else None
+    return f'{other} is there, and a circuit has both or none' if other in table else None
 
 
 def check_circuit(table: dict[str, Any], place: int, law: str, before: list[dict[str, Any]]) -> None:
@@ -199,7 +200,7 @@ def check_circuit(table: dict[str, Any], place: int, law: str, before: list[dict
         check_key(table, place, name, key, needs(table, name, codec))
         codec = table.get('codec', codec) if name == 'codec' else codec
     if codec == ('pcmu' if law == 'A' else 'pcma'):
-        raise Fault('LawCodec', place, 'codec', f'{codec} is G.711 of the other law than the trunk\'s, "{law}"')
+        raise Fault('LawCodec', place, 'codec', f'{codec} is not G.711 in the law of the trunk, "{law}"')
     for name in ('number', 'local_port'):
         for at, other in enumerate(before, 1):
             if name in table and other.get(name) == table[name]:
@@ -207,7 +208,7 @@ def check_circuit(table: dict[str, Any], place: int, law: str, before: list[dict
 
 
 def check(octets: bytes) -> dict[str, Any]:
-    """The table that a configuration is; Fault where it is none."""
+    """The table of a configuration, or Fault."""
     table = parsed(octets)
     check_names(table, 0, TOP_KEYS)
     for name, key in TOP_KEYS.items():
@@ -223,7 +224,7 @@ def check(octets: bytes) -> dict[str, Any]:
 # ---- the sockets ----
 
 def address(host: str, port: int, name: str) -> tuple[int, Any]:
-    """The family and the first address of a host; ValueError where it has none."""
+    """The family and the first address of a host; ValueError without one."""
     try:
         family, _, _, _, where = socket.getaddrinfo(host, port, type=socket.SOCK_DGRAM)[0]
     except (OSError, UnicodeError) as error:
@@ -242,8 +243,8 @@ def socket_fault(host: str, circuit: dict[str, Any]) -> str | None:
     except ValueError as error:
         return str(error)
     except OSError as error:
-        why = {errno.EADDRINUSE: f'port {port} is in use (ss -ulpn tells by whom)',
-               errno.EADDRNOTAVAIL: f'host "{host}" is no address of this machine (ip addr lists them)',
+        why = {errno.EADDRINUSE: f'port {port} is in use (ss -ulpn shows by whom)',
+               errno.EADDRNOTAVAIL: f'host "{host}" is not an address of this machine (ip addr lists them)',
                errno.EACCES: f'port {port} is below 1024, and needs a privilege'}
         return why.get(error.errno or 0, str(error))
     if family != peer:
@@ -263,13 +264,13 @@ def first_socket_fault(table: dict[str, Any]) -> tuple[int, str] | None:
 # ---- the words ----
 
 def read_octets(path: str) -> bytes:
-    """The octets of a configuration, and of a longer file one more than it may have."""
+    """The octets of a configuration, at most one more than allowed."""
     with open(path, 'rb') as file:
         return file.read(LONGEST + 1)
 
 
 def words_of(fault: Fault, path: str, octets: bytes) -> str:
-    """The file, the line and what is wrong."""
+    """The file, the line and the reason."""
     line = fault.line or line_of(octets.decode('utf-8', 'replace'), fault.place, fault.key)
     return f'{path}:{line}: {fault.text}' if line else f'{path}: {fault.text}'
 
@@ -288,7 +289,7 @@ def config_words(path: str) -> str | None:
 
 
 def socket_words(path: str, number: int) -> str | None:
-    """Why the socket of a circuit cannot be opened, in words; None if it can by now."""
+    """Why the socket of a circuit cannot be opened, in words; None if it can now."""
     try:
         table = check(read_octets(path))
     except (Fault, OSError):
@@ -300,9 +301,9 @@ def socket_words(path: str, number: int) -> str | None:
 
 
 def gateway_words(line: str, path: str) -> str | None:
-    """What stands behind a line with which `e1gw serve` ended at its start, in words; None for another line."""
+    """The words for a line with which `e1gw serve` ended at its start; None for another line."""
     if found := re.fullmatch(r'socket (\d+)', line):
-        return socket_words(path, int(found[1])) or 'its port is free by now, or its peer is not reached'
+        return socket_words(path, int(found[1])) or 'its port is free now, or its peer cannot be reached'
     if line == 'cannot open the recording':
         return 'the driver reads what the gateway takes from a pipe, /dev/fd: is /proc mounted?'
     return None

@@ -1,4 +1,4 @@
-"""What the system refuses, in words that name what was refused: no number of an error stands alone."""
+"""Errors of the system in words that name what was refused, never a number alone."""
 from __future__ import annotations
 
 import argparse
@@ -19,12 +19,12 @@ def words_of_fault(fault: BaseException, what: str = '') -> str:
 
 
 def named(fault: OSError, what: str) -> OSError:
-    """The same fault, which says what it is of."""
+    """The same error, which names what it is about."""
     return OSError(fault.errno or 0, words_of_fault(fault, what))
 
 
 def words_of_refusal(refusal: Refusal, circuit: int, role: Role) -> str:
-    """The words of a refusal, and behind `wrong role` which end gives such a command."""
+    """The words of a refusal; for `wrong role` also which end gives such a command."""
     if refusal is not CommandRefusal.WRONG_ROLE:
         return refusal.words
     whose = ('the exchange seizes and clears it' if role is Role.INCOMING
@@ -33,15 +33,15 @@ def words_of_refusal(refusal: Refusal, circuit: int, role: Role) -> str:
 
 
 def options_words() -> str:
-    """Where the options of a unit stand, for who reads that they are wrong; nothing where no unit started this."""
+    """The file with a unit's options, behind an error in them; nothing if no unit started this."""
     path = os.environ.get('E1GW_OPTIONS')
     if not path:
         return ''
-    return f'; its options stand in {path}' if os.path.exists(path) else f'; {path} is not there, which has its options'
+    return f'; its options are in {path}' if os.path.exists(path) else f'; {path}, which has its options, is missing'
 
 
 def number(least: float, most: float, kind: type = int) -> Callable[[str], Any]:
-    """What reads a number of an option; a number outside is refused with the least and the most."""
+    """A reader of a number for an option; a number outside is refused with the range."""
     def read(text: str) -> Any:
         value = kind(text)
         if not least <= value <= most:
@@ -51,7 +51,7 @@ def number(least: float, most: float, kind: type = int) -> Callable[[str], Any]:
 
 
 class Parser(argparse.ArgumentParser):
-    """A parser that says where the options of a unit stand."""
+    """A parser that names the file of a unit's options."""
 
     def error(self, message: str) -> NoReturn:
         super().error(message + options_words())

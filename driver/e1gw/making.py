@@ -1,14 +1,13 @@
-"""Writes whole configurations of e1gw, and checks those that there are: e1gw-config(1).
+"""Writes whole configurations of e1gw, and checks existing ones: e1gw-config(1).
 
   e1gw-config [--trunk N] [VALUES]                     prints a configuration of thirty circuits
   e1gw-config --write NAME [--trunk N] [VALUES]        writes NAME.toml and NAME.options
   e1gw-config --write NAME --tie OTHER [VALUES]        writes those of both ends of a tie
-  e1gw-config --check FILE..                           says what is wrong with files, and ports that two have
+  e1gw-config --check FILE..                           prints faults of files, and ports that two have
 
 Trunk N of a machine has the ports from 24002 + 100 (N - 1) on and the metrics at 9100 + N, so trunks never clash.
 
-The status is 0 where all was written or nothing was found, and else 2.
-"""
+The status is 0 if everything was written or nothing was found, else 2."""
 from __future__ import annotations
 
 import argparse
@@ -21,19 +20,19 @@ from .explain import CODECS, Fault, check, config_words, read_octets
 from .faults import number, words_of_fault
 from .session import CIRCUITS
 
-FIRST, APART, TRUNKS = 24_002, 100, 64      # ports of a trunk: one for RTP and the next one free for each circuit
+FIRST, APART, TRUNKS = 24_002, 100, 64      # ports of a trunk: for each circuit one for RTP and the next one unused
 SAME_HOST = 10_000                          # ports between the two ends of a tie on one machine
 METRICS = 9100
 ROLES = ('outgoing', 'incoming', 'odd', 'even')
 
 
 class Usage(Exception):
-    """What is wrong with the values."""
+    """Wrong values."""
 
 
 @dataclass(frozen=True)
 class Plan:
-    """What a configuration is made from."""
+    """The values of a configuration."""
 
     trunk: int
     law: str
@@ -48,7 +47,7 @@ class Plan:
     first_peer: int
 
     def other_end(self, trunk: int) -> Plan:
-        """The plan of the other end: hosts and ports change places, and the end that seizes is the other one."""
+        """The plan of the other end: hosts, ports and the seizing end are swapped."""
         other = {'outgoing': 'incoming', 'incoming': 'outgoing', 'odd': 'even', 'even': 'odd'}
         return replace(self, trunk=trunk, role=other[self.role], host=self.peer, peer=self.host,
                        first_local=self.first_peer, first_peer=self.first_local)
@@ -72,7 +71,7 @@ def table_of(plan: Plan, circuit: int) -> str:
 
 
 def text_of(plan: Plan) -> str:
-    """The whole configuration. Usage where e1gw would refuse it."""
+    """The whole configuration, or Usage if e1gw would refuse it."""
     head = (f'# Thirty circuits of one trunk, made by e1gw-config(1); e1gw.toml(5) has each key.\n'
             f'# The jitter buffer (prefill) is {plan.prefill / 8:g} ms deep.\n'
             f'law = "{plan.law}"\nhost = "{plan.host}"\n')
@@ -104,7 +103,7 @@ def plan_of(asked: argparse.Namespace) -> Plan:
 # ---- what is written ----
 
 def write_new(path: str, text: str, over: bool) -> None:
-    """Writes a file; one that is there already is kept, unless it is to be written over."""
+    """Writes a new file; an existing one is kept unless it is to be overwritten."""
     with open(path, 'w' if over else 'x', encoding='utf-8') as file:
         file.write(text)
     print(path)
@@ -120,7 +119,7 @@ def write_all(asked: argparse.Namespace, plan: Plan) -> None:
     there = [path for name, _ in ends for ending in ('toml', 'options')
              if os.path.exists(path := os.path.join(asked.folder, f'{name}.{ending}'))]
     if there and not asked.over:
-        raise Usage(f'{", ".join(there)}: there already; --over writes over it, and nothing was written')
+        raise Usage(f'{", ".join(there)}: already there; nothing was written (--over overwrites)')
     for name, text, options in texts:
         path = os.path.join(asked.folder, name)
         write_new(f'{path}.toml', text, asked.over)
@@ -133,14 +132,14 @@ EXAMPLE = 'example.toml'
 
 
 def doors_of(table: dict[str, Any]) -> dict[tuple[str, int], int]:
-    """The address and port of each circuit that has one."""
+    """The address and port of each circuit that has them."""
     host = table.get('host', '127.0.0.1')
     return {(host, circuit['local_port']): circuit['number'] for circuit in table.get('circuit', [])
             if 'local_port' in circuit}
 
 
 def clash_words(path: str, other: str, clashes: list[tuple[int, str, int]]) -> str:
-    """What is said of the circuits of a file, with address and port, that another file has a circuit at."""
+    """The words for circuits of a file whose address and port another file has."""
     circuit, door, far = clashes[0]
     if len(clashes) == 1:
         return f'{path}, circuit {circuit}: {door} is also the port of {other}, circuit {far}'
@@ -149,8 +148,8 @@ def clash_words(path: str, other: str, clashes: list[tuple[int, str, int]]) -> s
 
 
 def check_files(paths: list[str]) -> bool:
-    """Prints what is wrong with each, and which two have ports in common; returns whether nothing is. Ports of the
-    package's example.toml are free, since no unit has that name."""
+    """Prints what is wrong with each file, and which ports two have in common; returns whether nothing is. Ports of the
+    package's example.toml are free, because no unit has that name."""
     good, taken = True, dict[tuple[str, int], tuple[str, int]]()
     for path in paths:
         if why := config_words(path):
@@ -177,11 +176,11 @@ def check_files(paths: list[str]) -> bool:
 def parser() -> argparse.ArgumentParser:
     words = argparse.ArgumentParser(prog='e1gw-config', description=__doc__, usage=argparse.SUPPRESS,
                                     formatter_class=argparse.RawDescriptionHelpFormatter)
-    words.add_argument('--check', nargs='+', metavar='FILE', help='checks configurations, and that no port is in two')
+    words.add_argument('--check', nargs='+', metavar='FILE', help='checks configurations and finds ports used twice')
     words.add_argument('--write', metavar='NAME', help='writes NAME.toml and NAME.options')
     words.add_argument('--tie', metavar='OTHER', help='with --write, the other end of a tie: OTHER.toml, OTHER.options')
-    words.add_argument('--folder', default='.', help='where files are written [default: here]')
-    words.add_argument('--over', action='store_true', help='writes over files that are there')
+    words.add_argument('--folder', default='.', help='the folder for the files [default: this one]')
+    words.add_argument('--over', action='store_true', help='overwrites existing files')
     words.add_argument('--device', default='--unix /run/card/NAME', metavar='OPTIONS',
                        help='what e1gw-trunk(1) is to open, in .options [default: --unix /run/card/NAME]')
     values = words.add_argument_group('values')
@@ -196,7 +195,7 @@ def parser() -> argparse.ArgumentParser:
     values.add_argument('--role', choices=ROLES, default='outgoing',
                         help='circuits that e1gw seizes: all, none, odd or even ones [default: outgoing, all]')
     values.add_argument('--host', default='127.0.0.1', help='the address of this end [default: 127.0.0.1]')
-    values.add_argument('--peer', default='127.0.0.1', metavar='HOST', help='that of the other [default: 127.0.0.1]')
+    values.add_argument('--peer', default='127.0.0.1', metavar='HOST', help='that of the far end [default: 127.0.0.1]')
     values.add_argument('--first-local', type=number(1, 65_535), metavar='PORT',
                         help='the port of circuit 1 here [default: by --trunk]')
     values.add_argument('--first-peer', type=number(1, 65_535), metavar='PORT',
@@ -208,7 +207,7 @@ def run(asked: argparse.Namespace) -> int:
     if asked.check:
         return 0 if check_files(asked.check) else 2
     if asked.tie and (not asked.write or asked.tie == asked.write):
-        raise Usage('--tie wants --write, and another name')
+        raise Usage('--tie needs --write and another name')
     plan = plan_of(asked)
     if asked.write:
         write_all(asked, plan)

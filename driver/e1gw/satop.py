@@ -1,10 +1,9 @@
 """A trunk as an emulated circuit: SAToP over UDP (RFC 4553), all 2048 kbit/s as bits in packets of one size.
 
-The clock is that of the packets that come: each packet that is due is answered by one, at no more than a thousandth
-above the rate of a trunk. Where none comes for 100 ms, this machine's clock goes on in their place, with octets of
-ones, and what is sent says that packets are missing; so the lines of the trunk age as they do on a dead one. With a
-clock of its own this end gives the rate at all times, for an other end that answers packet for packet itself.
-"""
+The received packets are the clock: one is sent for each one played, at no more than a thousandth above the trunk's
+rate. After 100 ms without packets this machine's clock takes over with octets of ones, and packets sent say that
+packets are missing; so the trunk's lines time out as on a dead one. With its own clock this end always gives the rate,
+for another end that uses loop timing."""
 from __future__ import annotations
 
 import argparse
@@ -25,9 +24,9 @@ from .trunks import Trunk, host_and_port
 GONE = 0.100                # seconds without a packet of the stream
 WOKEN = 0.020               # seconds by which a read is later than it should be, where this process stood still; and
 #                             those in which what came meanwhile may still be on its way to the socket
-CLOSE = 1e-6                # seconds; a moment so near has come
-MOST_BEHIND = 1.0           # seconds that are made up for at once, after this process stood still
-MOST_DATAGRAMS = 1000       # of one read
+CLOSE = 1e-6                # seconds; a moment this close is due
+MOST_BEHIND = 1.0           # seconds made up for at once, after this process stalled
+MOST_DATAGRAMS = 1000       # octets of one read
 FASTEST = 1.001             # times the rate of a trunk, over longer than MOST_BEHIND; a trunk is within 1.00005
 SIZES = range(FRAME, 1280 + 1, FRAME)
 JITTERS = range(0, 501)
@@ -37,13 +36,13 @@ Tell = Callable[[dict[str, Any]], None]
 
 @dataclass(frozen=True)
 class Circuit:
-    """How an emulated circuit is set; the same at both ends, but for jitter, fill and clock."""
+    """The settings of an emulated circuit; both ends agree on all except jitter, fill and clock."""
 
     size: int = 256                 # octets of the trunk in a packet
-    jitter: int = 4                 # packets that wait for those before them
-    rtp: int | None = None          # the payload type of the RTP header, if there is to be one
+    jitter: int = 4                 # depth of the jitter buffer in packets
+    rtp: int | None = None          # the payload type of the RTP header, if there is one
     fill: Fill = Fill.AGAIN
-    own_clock: bool = False         # this end gives the rate
+    own_clock: bool = False         # whether this end gives the rate
 
     def __post_init__(self) -> None:
         if self.size not in SIZES:
@@ -55,24 +54,24 @@ class Circuit:
 
     @property
     def seconds(self) -> float:
-        """How long a packet lasts."""
+        """The length of a packet."""
         return self.size / OCTETS_A_SECOND
 
 
 class Flag:
-    """Something that packets say: up from the first on that says so, until none does for 100 ms."""
+    """A flag of packets: on from the first packet with it, off after 100 ms without one."""
 
     def __init__(self) -> None:
         self.up = False
         self._last = 0.0
 
     def seen(self, now: float) -> bool:
-        """It is said; returns whether that is new."""
+        """Notes the flag; returns whether that is new."""
         new, self.up, self._last = not self.up, True, now
         return new
 
     def gone(self, now: float) -> bool:
-        """Whether it ends now."""
+        """Whether the flag goes off now."""
         if not self.up or now - self._last < GONE:
             return False
         self.up = False
@@ -98,13 +97,13 @@ class Satop(Trunk):
         self._raw, self._ready, self._rest = bytearray(), bytearray(), bytearray()  # due; aligned; to be sent
         self._sequence, self._timestamp = secrets.randbelow(SEQUENCES), secrets.randbits(32)
         self._ssrc = secrets.randbits(32)
-        self._heard = self._reached = clock()   # the last packet; up to when octets were given
-        self._listens_until = self._heard       # before that no silence is judged
+        self._heard = self._reached = clock()   # the last packet; the time up to which octets were given
+        self._listens_until = self._heard       # no silence is assumed before
         self._allowed, self._counted = MOST_BEHIND / circuit.seconds, self._heard   # packets, and when they were
         self.silent = False
         self._remote, self._fault = Flag(), Flag()
-        self._offset: int | None = None         # the one that was told
-        self._found, self._since = 0, 0.0       # alignments, and when the last one was
+        self._offset: int | None = None         # the last one reported
+        self._found, self._since = 0, 0.0       # alignments, and the time of the last one
         self.counts = dict.fromkeys(('received', 'sent', 'unsent', 'faulty', 'ticks', 'silences'), 0)
         self.malformed: Counter[Fault] = Counter()
         self._plan()
@@ -116,14 +115,14 @@ class Satop(Trunk):
         self._slots.close()
         self._socket.close()
 
-    # ---- what comes ----
+    # ---- receiving ----
 
     def read(self, most: int) -> bytes:
         now = self._clock()
         if self.deadline is not None and now - self.deadline > WOKEN:
             self._listens_until = now + WOKEN
         self._allow(now)
-        # All that waits in the socket, before silence is judged or this machine's clock gives anything.
+        # All that is queued in the socket, before silence is assumed or this machine's clock gives anything.
         self._receive(now)
         self._play_due()
         self._keep_time(now)
@@ -143,7 +142,7 @@ class Satop(Trunk):
             self._raw.clear()
 
     def _plan(self) -> None:
-        """When `read` is to be called though nothing comes."""
+        """Plans the next call of `read` without a packet."""
         if self._ready:
             self.deadline = self._clock()
         elif self.silent or self._circuit.own_clock:
@@ -154,7 +153,7 @@ class Satop(Trunk):
             self.deadline = max(self._heard + GONE, self._listens_until)
 
     def _allow(self, now: float) -> None:
-        """Two ends that both answer packet for packet would drive each other ever faster; so there is a bound."""
+        """Two ends with loop timing would drive each other ever faster; this bounds the rate."""
         more = (now - self._counted) * FASTEST / self._circuit.seconds
         self._allowed = min(self._allowed + more, MOST_BEHIND / self._circuit.seconds)
         self._counted = now
@@ -171,7 +170,7 @@ class Satop(Trunk):
             try:
                 datagram = self._socket.recv(2048)
             except ConnectionError:
-                continue            # nobody listens at the other end yet
+                continue            # nobody receives at the other end yet
             except OSError:
                 return
             self._take(datagram, now)
@@ -199,7 +198,7 @@ class Satop(Trunk):
             self._play_due()
 
     def _heed(self, packet: Packet, now: float) -> None:
-        """Takes the bits L and R."""
+        """Takes bits L and R."""
         self.counts['faulty'] += packet.lost
         if packet.lost and self._fault.seen(now):
             self._say('far end fault', on=True)
@@ -207,15 +206,15 @@ class Satop(Trunk):
             self._say('far end misses packets', on=True)
 
     def _keep_pace(self, now: float) -> None:
-        """Plays what the buffer has too much while this machine's clock has octets due: where this process stood still
-        as many packets wait in the socket, and the last of them would be too far ahead."""
+        """Plays packets above the buffer's depth while this machine's clock has octets due. After a stall as many
+        packets are queued in the socket, and the last of them would be too far ahead."""
         self._reached = max(self._reached, now - MOST_BEHIND)
         while self._playout.waiting > self._circuit.jitter and now - self._reached + CLOSE >= self._circuit.seconds:
             self._reached += self._circuit.seconds
             self._raw += self._playout.tick()
 
     def _keep_time(self, now: float) -> None:
-        """Gives what is due by this machine's clock."""
+        """Gives the octets due by this machine's clock."""
         if not self.silent and now - self._heard > GONE - CLOSE and now > self._listens_until - CLOSE:
             self.silent = True
             self.counts['silences'] += 1
@@ -233,7 +232,7 @@ class Satop(Trunk):
         if self._circuit.own_clock:
             self._playout.trim()
 
-    # ---- what is sent ----
+    # ---- sending ----
 
     def write(self, octets: bytes) -> None:
         self._rest += octets
@@ -252,17 +251,17 @@ class Satop(Trunk):
             self._socket.send(datagram)
             self.counts['sent'] += 1
         except OSError:
-            # The other end misses it as one that the network lost.
+            # The other end misses it like one lost by the network.
             self.counts['unsent'] += 1
 
-    # ---- what is told ----
+    # ---- reporting ----
 
     def _say(self, what: str, **more: object) -> None:
         if self.tell:
             self.tell({'event': 'satop', 'what': what, **more})
 
     def _missing(self, why: str | None) -> None:
-        """The octets of `e1gw align` are missing for this reason, or there again."""
+        """The octets of `e1gw align` are missing for this reason, or back."""
         self._say('own alignment', on=why is not None, **({'why': why} if why else {}))
 
     def _tell_changes(self, now: float) -> None:
@@ -294,7 +293,7 @@ class Satop(Trunk):
 # ---- opening ----
 
 def connected(local: tuple[str, int], peer: tuple[str, int]) -> socket.socket:
-    """A UDP socket at one address that hears and sends to the other alone. OSError where there is none."""
+    """A UDP socket connected to one address. OSError if it cannot be opened."""
     family, _, _, _, address = socket.getaddrinfo(*peer, type=socket.SOCK_DGRAM)[0]
     own = socket.getaddrinfo(*local, family=family, type=socket.SOCK_DGRAM)[0][4]
     end = socket.socket(family, socket.SOCK_DGRAM)
@@ -309,16 +308,16 @@ def connected(local: tuple[str, int], peer: tuple[str, int]) -> socket.socket:
 
 
 def ends_of(text: str) -> tuple[tuple[str, int], tuple[str, int]]:
-    """LOCAL:PORT,PEER:PORT. ValueError where it is something else."""
+    """LOCAL:PORT,PEER:PORT, or ValueError."""
     local, comma, peer = text.partition(',')
     if not comma:
-        raise ValueError(f'{text} is no LOCAL:PORT,PEER:PORT')
+        raise ValueError(f'{text} is not LOCAL:PORT,PEER:PORT')
     return host_and_port(local), host_and_port(peer)
 
 
 def open_satop(local_and_peer: str, circuit: Circuit = Circuit(), program: str | None = None) -> Satop:
-    """The trunk at LOCAL:PORT,PEER:PORT, aligned by this program. ValueError where that is none, OSError where no
-    socket opens there."""
+    """The trunk at LOCAL:PORT,PEER:PORT, aligned by this program. ValueError for other text, OSError without a
+    socket."""
     try:
         return Satop(connected(*ends_of(local_and_peer)), circuit, program=program)
     except OSError as fault:
@@ -326,21 +325,21 @@ def open_satop(local_and_peer: str, circuit: Circuit = Circuit(), program: str |
 
 
 def add_arguments(parser: argparse.ArgumentParser) -> None:
-    """The options of an emulated circuit, beside --satop with its two ends."""
+    """The options of an emulated circuit, besides --satop with its two ends."""
     group = parser.add_argument_group('SAToP (RFC 4553)')
     group.add_argument('--satop-size', type=int, default=256, metavar='OCTETS',
                        help='octets of the trunk in a packet, a multiple of 32 [default: 256, 1 ms]')
     group.add_argument('--satop-jitter', type=int, default=4, metavar='PACKETS',
-                       help='packets that wait for those before them [default: 4]')
-    group.add_argument('--satop-rtp', type=int, metavar='TYPE', help='packets have an RTP header of this payload type')
+                       help='depth of the jitter buffer in packets [default: 4]')
+    group.add_argument('--satop-rtp', type=int, metavar='TYPE', help='adds an RTP header with this payload type')
     group.add_argument('--satop-fill', choices=[fill.value for fill in Fill], default=Fill.AGAIN.value,
-                       help='what stands in for a lost packet: the octets of the multiframe before, or ones '
+                       help='what replaces a lost packet: the octets of the multiframe before, or ones '
                        '[default: again]')
     group.add_argument('--satop-clock', choices=('packets', 'own'), default='packets',
-                       help='the rate is that of the packets that come, or of this machine [default: packets]')
+                       help='the clock: the received packets, or this machine [default: packets]')
 
 
 def circuit_of(options: argparse.Namespace) -> Circuit:
-    """What these options set. ValueError where it can't be."""
+    """The circuit of these options, or ValueError."""
     return Circuit(options.satop_size, options.satop_jitter, options.satop_rtp, Fill(options.satop_fill),
                    options.satop_clock == 'own')

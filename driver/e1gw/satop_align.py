@@ -1,10 +1,9 @@
-"""The octets of an emulated circuit's time slots: those that `e1gw align` gives, a process beside the gateway.
+"""The octets of an emulated circuit's time slots, from `e1gw align`, a process alongside the gateway.
 
-What is due goes in, and as much comes out in the same turn. The driver's own alignment sees the same bits: the process
-tells nothing but octets, so that one tells the bit offset, the searches and the losses. Where the process has ended, or
-is not there in time, the driver's own octets stand in, so that no call ends by it and nothing is late. A process that
-has ended, or stands still, is begun anew and aligned by what came last.
-"""
+Due octets go in, and as many come out in the same turn. The process returns only octets, so the driver's own alignment
+reads the same bits and reports the bit offset, the searches and the losses. If the process has ended or is late, the
+driver's own octets replace its octets, so no call ends and nothing is late. A process that has ended or is stuck is
+restarted and aligned by the last octets."""
 from __future__ import annotations
 
 import select
@@ -14,37 +13,37 @@ from typing import Callable
 from .filters import MOST_INSIDE, Filter
 from .satop_bits import BitAligner
 
-IN_TIME = 0.005             # seconds that octets are waited for
-STILL = 0.5                 # seconds without an octet that is due after which the process is begun anew
-AGAIN = 1.0                 # seconds between two begins
-HISTORY = 4096              # octets by which a process that is begun anew is aligned: 16 ms
+IN_TIME = 0.005             # seconds to wait for octets
+STILL = 0.5                 # seconds without a due octet after which the process is restarted
+AGAIN = 1.0                 # seconds between two starts
+HISTORY = 4096              # octets by which a restarted process is aligned: 16 ms
 
 Missing = Callable[[str | None], None]
 
 
 class Gone(Exception):
-    """The process has ended, or stands still; in words."""
+    """The process has ended or is stuck; the words say which."""
 
 
 class SlotAligner:
-    """Aligns a stream of bits; without a program the driver does it by itself. `missing` is called with what is wrong
-    with the process once its octets are missing, and with None once they are there again."""
+    """Aligns a stream of bits; without a program the driver does it itself. `missing` is called with the reason once
+    the process's octets are missing, and with None once they are back."""
 
     def __init__(self, program: str | None = None, missing: Missing = lambda why: None) -> None:
         self.bits = BitAligner()                # the driver's own
         self.stood_in = self.renewed = self.differing = 0
         self._program, self._missing = program, missing
-        self._history = bytearray()             # what came last
+        self._history = bytearray()             # the last octets
         self._process: Filter | None = None
         self._poll = select.poll()
-        self._gave = self._begun = float('-inf')    # when all that was due was there, or some came; when it was begun
+        self._gave = self._begun = float('-inf')    # when all due octets, or some, arrived; when it was started
         self._is_missing = False
         if program:
             self._begin(time.monotonic())
 
     @property
     def inside(self) -> int:
-        """Octets that the process was given, and that have not come out."""
+        """Octets inside the process."""
         return self._process.inside if self._process else 0
 
     def octets(self, raw: bytes) -> bytes:
@@ -65,7 +64,7 @@ class SlotAligner:
         return given + own[len(given):]
 
     def _given(self, raw: bytes, now: float) -> bytes:
-        """What the process gives of these octets in time, from the first one on."""
+        """The octets that the process returns for these in time, from the first one."""
         process = self._process
         if process is None:
             self._begin(now)
@@ -82,7 +81,7 @@ class SlotAligner:
             return b''
 
     def _begin(self, now: float) -> None:
-        """Begins the process; what came last is given to it, and thrown away when it comes out."""
+        """Starts the process with the last octets, and discards what it returns for them."""
         if now - self._begun < AGAIN:
             return
         self.renewed += self._begun > 0
@@ -97,12 +96,12 @@ class SlotAligner:
         self._process.give(bytes(self._history))
 
     def _is_in_step(self, process: Filter, now: float) -> bool:
-        """Throws away what has come out, for which others stood in; whether that was all."""
+        """Discards returned octets that were replaced; whether none are left."""
         process.send()
         while process.inside and self._taken(process, process.inside):
             self._gave = now
         if process.inside and now - self._gave >= STILL:
-            raise Gone('e1gw align stands still')
+            raise Gone('e1gw align is stuck')
         if process.inside:
             return False
         self._gave = now
@@ -110,7 +109,7 @@ class SlotAligner:
         return True
 
     def _in_time(self, process: Filter, count: int, until: float) -> bytes:
-        """So many octets, or those that come until then."""
+        """So many octets, or those that arrive until then."""
         out = b''
         while len(out) < count and self._poll.poll(max(0.0, until - time.monotonic()) * 1000):
             out += self._taken(process, count - len(out))

@@ -1,37 +1,36 @@
-"""The octets of the time slots, from octets whose bits are aligned to nothing.
+"""The octets of the time slots, from unaligned octets.
 
-Frame alignment (ITU-T G.704, 2.3; G.706, 4.1) is looked for at every bit. A stream is seen by its windows: for each
-bit the octet that ends there. Alignment is found at the first window that has the frame alignment signal, 512 bits
-after one that has it, where the window between them has bit 2. It is kept while the windows of slot 0 are right, and
-lost by the third wrong signal in a row, or the third octet without bit 2 between signals. Before the first octet the
-line has ones.
-"""
+Frame alignment (ITU-T G.704, 2.3; G.706, 4.1) is searched for at every bit. A stream is read by its windows: for each
+bit the octet that ends there. Alignment is found at the first window with the frame alignment signal that is 512 bits
+after another one, if the window between them has bit 2. It holds while the windows of slot 0 are right, and is lost by
+the third errored signal in a row, or the third octet without bit 2 between signals. Before the first octet the line has
+ones."""
 from __future__ import annotations
 
 FRAME = 256             # bits
 TWO_FRAMES = 2 * FRAME
-TOLERATED = 2           # wrong signals in a row that are borne
+TOLERATED = 2           # errored signals in a row that are tolerated
 SIGNAL, SIGNAL_BITS, BIT_2 = 0x1B, 0x7F, 0x40
-UNMOVED = 7             # the bit of an octet, 0 to 7, at which windows end that are the octets as they come
-# Octets that are kept: the window of two frames before one of the next octets begins among them.
+UNMOVED = 7             # the last bit, 0 to 7, of windows that are the octets received
+# Octets to keep: the window of two frames before one of the next octets begins among them.
 KEPT = 66
 
 
 class BitAligner:
-    """Gives one octet for each, at the offset of the last alignment that was found, and less than an octet late."""
+    """Returns one octet for each, at the offset of the last alignment found, less than an octet late."""
 
     def __init__(self) -> None:
         self._before = b'\xff' * KEPT
-        self._since = 8 * KEPT      # where the search began, counted as all places from the first octet that is kept
-        self._signal: int | None = None     # where slot 0 comes next; None while it is looked for
-        self._even = False          # whether the frame alignment signal stands there
-        self._wrong = [0, 0]        # in a row: octets without the signal, and signals
+        self._since = 8 * KEPT      # where the search began; all places count from the first octet kept
+        self._signal: int | None = None     # the next place of slot 0; None without alignment
+        self._even = False          # whether it has the frame alignment signal
+        self._wrong = [0, 0]        # errored in a row: octets without the signal, and signals
         self._ends = UNMOVED
         self.found = self.lost = 0
 
     @property
     def offset(self) -> int | None:
-        """By how many bits the other end's octets come late, 0 to 7, where alignment was ever found."""
+        """The bit offset of the other end's octets, 0 to 7, once alignment was found."""
         return (self._ends + 1) % 8 if self.found else None
 
     @property
@@ -61,7 +60,7 @@ class BitAligner:
         self.found += 1
 
     def _follow(self, stream: bytes) -> bool:
-        """Looks at slot 0 up to the end of the stream; returns whether alignment stands there."""
+        """Reads slot 0 to the end of the stream; returns whether there still is alignment."""
         if self._signal is None:
             return False
         while self._signal < 8 * len(stream):
@@ -78,7 +77,7 @@ class BitAligner:
 
 
 def windows(stream: bytes, start: int, end: int, ends: int) -> bytes:
-    """The windows that end at this bit of the octets from start to end, one for each; start is at least 1."""
+    """The windows that end at this bit of the octets from start to end; start is at least 1."""
     if ends == UNMOVED:
         return stream[start:end]
     if start >= end:
@@ -88,7 +87,7 @@ def windows(stream: bytes, start: int, end: int, ends: int) -> bytes:
 
 
 def first_confirmed(stream: bytes, since: int) -> int | None:
-    """The end of the first window behind those that were kept whose signal is confirmed by two windows since then."""
+    """The end of the first window, behind those kept, whose signal is confirmed by two windows since then."""
     size = 8 * len(stream)
     first = max(since + TWO_FRAMES, 8 * KEPT)
     if first >= size:

@@ -1,5 +1,4 @@
-"""Packets of SAToP over UDP (RFC 4553): the RTP header, where there is to be one, the control word and octets of the
-trunk.
+"""Packets of SAToP over UDP (RFC 4553): an RTP header, if expected, the control word and octets of the trunk.
 
 The control word has four zero bits, L (what is carried is not valid), R (the other end misses packets), two reserved
 bits and two of FRG, which are ignored on receipt, LEN (all octets of the datagram if they are fewer than 64, else 0)
@@ -20,16 +19,16 @@ SEQUENCES = 1 << 16
 
 
 class Fault(IntEnum):
-    """Why a datagram is no packet, in the order in which the faults are looked for."""
+    """Why a datagram is not a packet; the first that applies is returned."""
     SHORT = 1               # fewer octets than the headers have
-    NO_RTP_HEADER = 2       # no fixed RTP header where there is to be one
+    NO_RTP_HEADER = 2       # no fixed RTP header although one is expected
     NO_CONTROL_WORD = 3     # the first four bits of the control word are not zero
     OTHER_LENGTH = 4        # LEN is neither zero nor the number of octets
     OTHER_SIZE = 5          # not as many octets of the trunk as the circuit's packets have
 
 
 class Packet(NamedTuple):
-    """What a packet says and carries."""
+    """The contents of a packet."""
     lost: bool
     remote: bool
     sequence: int
@@ -37,7 +36,7 @@ class Packet(NamedTuple):
 
 
 def parse(datagram: bytes, rtp: bool) -> Packet | Fault:
-    """The packet that a datagram is, or the first fault that it has. The octets of the trunk may be of any number."""
+    """The packet of a datagram, or its first fault. The trunk's octets may be of any number."""
     at = RTP if rtp else 0
     if len(datagram) < at + CONTROL:
         return Fault.SHORT
@@ -65,5 +64,5 @@ def spell(packet: Packet, header: bytes = b'') -> bytes:
 
 
 def distance(sequence: int, other: int) -> int:
-    """By how many packets a sequence number is ahead of another one, the shorter way round."""
+    """How many packets a sequence number is ahead of another, the shorter way."""
     return (sequence - other + SEQUENCES // 2) % SEQUENCES - SEQUENCES // 2

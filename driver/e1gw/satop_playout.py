@@ -1,4 +1,4 @@
-"""Packets in the order of their sequence numbers, and octets that stand in for those that do not come in time."""
+"""Packets in the order of their sequence numbers, with octets that replace missing ones."""
 from __future__ import annotations
 
 from collections import OrderedDict
@@ -8,15 +8,15 @@ from enum import Enum
 from .satop_packet import SEQUENCES, distance
 from .session import MULTIFRAME, OCTETS_A_SECOND
 
-AGAIN_OCTETS = 2048         # 8 ms; what is missing for longer is ones, so that nobody takes it for a trunk
-REMEMBERED = 1024           # sequence numbers that were passed without their packet
+AGAIN_OCTETS = 2048         # 8 ms; a longer gap is filled with ones, so that nobody takes it for a trunk
+REMEMBERED = 1024           # sequence numbers skipped without their packet
 RUN_PACKETS, RUN_SECONDS = 8, 0.050
 FASTER = 1.5                # times the rate of a trunk
 SPARE = 16                  # packets
 
 
 class Fill(str, Enum):
-    """What stands in for a packet: the octets one signalling multiframe before, or ones."""
+    """What replaces a packet: the octets one signalling multiframe before, or ones."""
 
     AGAIN = 'again'
     ONES = 'ones'
@@ -24,20 +24,20 @@ class Fill(str, Enum):
 
 @dataclass
 class Counts:
-    """What became of packets."""
+    """The counts of packets."""
 
-    lost: int = 0           # were not there when they were due, and a later one was
-    late: int = 0           # came after what stood in for them
-    doubled: int = 0        # came once more
-    reordered: int = 0      # came after a later one, and in time
-    astray: int = 0         # had a number far from what is played
-    filled: int = 0         # octets stood in for so many
-    resyncs: int = 0        # the stream was taken to begin anew
+    lost: int = 0           # missing when due although a later one was there
+    late: int = 0           # arrived after their replacement was played
+    doubled: int = 0        # arrived twice
+    reordered: int = 0      # arrived out of order, but in time
+    astray: int = 0         # with a number far from what is played
+    filled: int = 0         # replaced by other octets
+    resyncs: int = 0        # restarts of the stream
 
 
 @dataclass
 class Run:
-    """Packets in a row, each the next of the one before it, at a place that is none of this stream."""
+    """Consecutive packets at a place that does not belong to this stream."""
 
     since: float
     last: int
@@ -45,27 +45,27 @@ class Run:
 
 
 class Playout:
-    """A jitter buffer. A packet is due once `jitter` later ones have come."""
+    """A jitter buffer. A packet is due once `jitter` later ones have arrived."""
 
     def __init__(self, size: int, jitter: int, reach: int, fill: Fill = Fill.AGAIN) -> None:
         self.size, self.jitter, self.reach, self.fill = size, jitter, reach, fill
         self.counts = Counts()
         self._waiting: dict[int, bytes] = {}
         self._missed: OrderedDict[int, None] = OrderedDict()
-        self._next: int | None = None       # the sequence number that is played next
-        self._end = 0                       # the one behind the last that came
+        self._next: int | None = None       # the next sequence number to play
+        self._end = 0                       # the one behind the last received
         self._run: Run | None = None
         self._played = b''                  # the last MULTIFRAME octets
-        self._gap = 0                       # octets that were filled in a row
-        self._idle = False                  # something was played for a packet behind the last that came
-        self._primed = False                # by a clock of this end: `jitter` packets have waited
+        self._gap = 0                       # octets filled in a row
+        self._idle = False                  # a packet behind the last received was replaced
+        self._primed = False                # by this end's clock: `jitter` packets are queued
 
     @property
     def waiting(self) -> int:
         return len(self._waiting)
 
     def put(self, sequence: int, octets: bytes, now: float) -> bool:
-        """Takes a packet; returns whether it is one that will be played, or that waits to be."""
+        """Takes a packet; returns whether it will be played."""
         if self._next is None or self._idle and distance(sequence, self._next) > self.jitter:
             self._begin(sequence)
         assert self._next is not None
@@ -90,7 +90,7 @@ class Playout:
         self._primed = False
 
     def _begins_anew(self, sequence: int, ahead: int, now: float) -> bool:
-        """Of a packet behind or far ahead of what is played: whether it and those before it are a stream anew."""
+        """Whether a packet behind or far ahead, with those before it, is a restarted stream."""
         if sequence in self._missed:
             del self._missed[sequence]
             self.counts.late += 1
@@ -107,7 +107,7 @@ class Playout:
         if run.packets < RUN_PACKETS or lasted < RUN_SECONDS:
             return False
         if run.packets * self.size > FASTER * OCTETS_A_SECOND * lasted:
-            # What was held back on the way comes faster than a trunk goes; that is late, and no stream anew.
+            # Packets held back by the network come faster than a trunk; these are late, and no new stream.
             self._run = Run(now, sequence)
             return False
         self.counts.resyncs += 1
@@ -115,24 +115,24 @@ class Playout:
         return True
 
     def is_due(self) -> bool:
-        """Whether a packet is due by those that have come."""
+        """Whether a packet is due by those received."""
         return self._next is not None and distance(self._end, self._next) > self.jitter
 
     def due(self, most: int) -> list[bytes]:
-        """The octets of each packet that is due, of at most so many."""
+        """The octets of each packet that is due, at most so many."""
         out: list[bytes] = []
         while len(out) < most and self.is_due():
             out.append(self.play())
         return out
 
     def tick(self) -> bytes:
-        """The octets that are due by a clock of this end: those of the next packet, once `jitter` ones wait."""
+        """The octets due by this end's clock: those of the next packet, once `jitter` are queued."""
         if self._next is not None and distance(self._end, self._next) >= self.jitter:
             self._primed = True
         return self.play() if self._primed else self._keep(self._fill())
 
     def trim(self) -> None:
-        """Goes on where the buffer is as full as it should be, where the other end is faster than this one."""
+        """Trims the buffer to its depth if the other end is faster than this one."""
         if self._next is not None and distance(self._end, self._next) > 3 * self.jitter + SPARE:
             self.counts.resyncs += 1
             while distance(self._end, self._next) > self.jitter:
@@ -140,7 +140,7 @@ class Playout:
                 self._next = (self._next + 1) % SEQUENCES
 
     def play(self) -> bytes:
-        """The octets of the next packet, whether it has come or not."""
+        """The octets of the next packet, received or not."""
         if self._next is None:
             return self._keep(self._fill())
         octets = self._waiting.pop(self._next, None)

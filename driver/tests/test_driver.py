@@ -455,13 +455,13 @@ class Refused(support.Folder):
             status, said = self.run_driver('--config', config, '--unix', os.path.join(self.folder, 'none'), '--reopen')
         lines = [line.removeprefix('e1gw-trunk: ') for line in said.splitlines()]
         at = lines.index('gateway: socket 3')
-        self.assertEqual((status, lines[at + 1]), (1, f'port {port} is in use (ss -ulpn tells by whom)'))
+        self.assertEqual((status, lines[at + 1]), (1, f'port {port} is in use (ss -ulpn shows by whom)'))
 
     def test_options_that_a_unit_lacks(self) -> None:
         none = os.path.join(self.folder, 'west.options')
         with unittest.mock.patch.dict(os.environ, {'E1GW_OPTIONS': none}):
             status, said = self.run_driver('--config', self.good)
-        self.assertEqual((status, f'{none} is not there' in said), (2, True))
+        self.assertEqual((status, f'{none}, which has its options, is missing' in said), (2, True))
 
     def test_whose_datagrams_are_received(self) -> None:
         words = ('--in', '/dev/null', '--out', '/dev/null')

@@ -88,12 +88,12 @@ class Made(support.Folder):
         self.made('--write', 'old')
         with open(self.path('bad.toml'), 'w', encoding='utf-8') as file:
             file.write('law = "A"\ncodecc = 1\n')
-        for words, told in ((['--law', 'mu', '--codec', 'pcma'], 'other law'),
+        for words, told in ((['--law', 'mu', '--codec', 'pcma'], 'not G.711 in the law'),
                             (['--first-local', '65500', '--first-peer', '9002'], 'local_port'),
-                            (['--write', 'old'], 'old.toml, ./old.options: there already; --over'),
-                            (['--tie', 'east'], '--tie wants --write'),
+                            (['--write', 'old'], 'old.toml, ./old.options: already there; nothing was written (--over'),
+                            (['--tie', 'east'], '--tie needs --write'),
                             (['--trunk', '65'], '1 to 64'), (['--check', 'none.toml'], 'none.toml: No such file'),
-                            (['--check', 'bad.toml'], 'bad.toml:2: codecc is no key here')):
+                            (['--check', 'bad.toml'], 'bad.toml:2: codecc is not a key here')):
             with self.subTest(words=words):
                 status, said, fault = self.made(*words)
                 self.assertEqual((status, told in said + fault), (2, True), said + fault)

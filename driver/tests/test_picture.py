@@ -379,9 +379,9 @@ class Drawn(unittest.TestCase):
         live = Live({}, 60)
         live.taped(b'T\0\0\1x')
         live.answered(b'T\0\0\2xy')
-        self.assertIn('It goes on no more: fault 1 BadKind', self.checked(live.page()))
+        self.assertIn('It is not updated any more: fault 1 BadKind', self.checked(live.page()))
         live.taped(b'more')
-        self.assertIn('goes on no more', self.checked(live.page()))
+        self.assertIn('not updated any more', self.checked(live.page()))
         behind = Live({}, 60)
         for _ in range(200):
             behind.taped(trunk_record(bytes(60_000)))

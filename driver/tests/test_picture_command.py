@@ -184,17 +184,17 @@ class Run(Drawn):
         config, given, answers = self.small()
         nothing = os.path.join(self.folder, 'nothing')
         for words, status, said in (
-                (['--config', config], 1, 'no session was named'),
+                (['--config', config], 1, 'no session and no capture was named'),
                 (['--answers', answers, given], 1, 'no configuration'),
                 (['--config', config, '--answers', answers, nothing], 1, 'No such file'),
                 (['--config', nothing, '--answers', answers, given], 1, 'No such file'),
                 (['--config', config, '--program', nothing, given], 1, 'No such file'),
                 (['--config', config, '--answers', config, given], 1, 'BadKind'),
                 (['--config', config, '--capture', config, given], 1, 'no local_port'),
-                (['--last', '5 parsecs', given], 2, 'no time'),
+                (['--last', '5 parsecs', given], 2, 'is not a time such as'),
                 (['--circuits', '0-3', given], 2, '1 to 30'),
-                (['--circuits', 'x', given], 2, 'no list of circuits'),
-                (['--begin', 'noon', given], 2, 'no time'),
+                (['--circuits', 'x', given], 2, 'is not a list of circuits'),
+                (['--begin', 'noon', given], 2, 'is not a time such as'),
                 (['--config', config, '--answers', answers, '-o', nothing + '/x', given], 1, 'No such file')):
             with self.subTest(words):
                 page, line = self.drawn(*words, status=status)

@@ -176,7 +176,7 @@ class Missing(Case):
         self.bound('IN_TIME', 0.005)
         self.bound('AGAIN', 0.0)
         os.kill(aligner_of(os.getpid()), signal.SIGSTOP)
-        self.until(aligner, ['e1gw align stands still', None])
+        self.until(aligner, ['e1gw align is stuck', None])
         self.assertEqual(aligner.renewed, 1)
         self.bound('IN_TIME', SECONDS)
         self.goes_on(aligner)
@@ -204,7 +204,7 @@ class Missing(Case):
         aligner = self.aligner(self.script('exec sleep 60'))
         self.bound('IN_TIME', 0.005)
         self.turns(aligner, 700, wait=.001)
-        self.assertEqual(self.told, ['e1gw align stands still'])
+        self.assertEqual(self.told, ['e1gw align is stuck'])
         self.assertLess(aligner.inside, 1000 * SIZE)
 
 

@@ -111,5 +111,5 @@ class Call(unittest.TestCase):
         self.assertEqual((west.state(), east.state()), ('answered', 'answered'))
         self.assertEqual(begun, {name: east.transport(name) for name in begun})
         self.assertEqual(east.transport('align_differing'), 0)
-        for why in ('ended by signal 9', 'stands still'):
+        for why in ('ended by signal 9', 'is stuck'):
             self.assertEqual(east.said().count(f'satop: own alignment: e1gw align {why}'), 1)

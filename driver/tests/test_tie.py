@@ -105,7 +105,7 @@ class Doors(unittest.TestCase):
             with self.subTest(host):
                 status, error, events = self.said('--listen', f'{host}:7301')
                 self.assertEqual((status, events, error.count('\n')), (2, [], 1))
-                self.assertIn('no loopback address', error)
+                self.assertIn('not a loopback address', error)
                 self.assertIn('--insecure', error)
 
     def test_loopback(self) -> None:

@@ -5,12 +5,17 @@ import os
 import sys
 import tempfile
 import unittest
+from unittest import mock
 
 SCRIPTS = os.path.dirname(os.path.dirname(os.path.abspath(__file__)))
 sys.dont_write_bytecode = True
+sys.path.insert(0, SCRIPTS)
+import tree                     # noqa: E402
 LOADER = importlib.machinery.SourceFileLoader('docs', os.path.join(SCRIPTS, 'docs'))
 
-LIB = """/// Doubles.
+LIB = """//! A small crate.
+
+/// Doubles.
 ///
 /// ```rust
 /// let twice = double(2);      // four
@@ -36,10 +41,6 @@ fn two_and_two(rt: HostRuntime) {
 PROVED = """# What is proved
 
 ## `small`, a crate
-
-Tests: `two_and_two`.
-
-Wrong bodies refused: `double_is_three`.
 """
 
 
@@ -51,7 +52,10 @@ class Tree(unittest.TestCase):
         LOADER.exec_module(self.docs)
         folder = tempfile.TemporaryDirectory()
         self.addCleanup(folder.cleanup)
-        self.docs.TOP, self.docs.OUTSIDE = folder.name, 0
+        self.docs.OUTSIDE = 0
+        patched = mock.patch.object(tree, 'TOP', folder.name)
+        patched.start()
+        self.addCleanup(patched.stop)
         self.put('crates.txt', 'small:\n')
         self.put('crates/small/src/lib.rt', LIB)
         self.put('crates/small/src/tests.rt', TESTS)
@@ -59,28 +63,36 @@ class Tree(unittest.TestCase):
         self.put('docs/PROVED.md', PROVED)
 
     def put(self, path: str, text: str) -> None:
-        whole = os.path.join(self.docs.TOP, path)
+        whole = os.path.join(tree.TOP, path)
         os.makedirs(os.path.dirname(whole), exist_ok=True)
         with open(whole, 'w', encoding='utf-8') as file:
             file.write(text)
 
     def test_all_as_it_should_be(self) -> None:
-        self.assertEqual([*self.docs.wrong_examples(), *self.docs.wrong_names()], [])
+        self.assertEqual([*self.docs.wrong_examples(), *self.docs.wrong_names(), *self.docs.wrong_heads()], [])
 
     def test_examples_that_stand_in_no_test(self) -> None:
         self.put('crates/small/src/tests.rt', TESTS.replace('4', '5').replace(' 1 ', '1  '))
         self.assertEqual([line.split(': ')[0] for line in self.docs.wrong_examples()],
-                         ['crates/small/src/lib.rt:3', 'crates/small/src/lib.rt:10'])
+                         ['crates/small/src/lib.rt:5', 'crates/small/src/lib.rt:12'])
         self.docs.OUTSIDE = 2
         self.assertEqual(list(self.docs.wrong_examples()), [])
 
-    def test_names_that_are_not_told_or_not_there(self) -> None:
-        self.put('crates/small/src/tests.rt', TESTS.replace('two_and_two', 'two_and_three'))
-        self.put('crates/small/must-fail/double_is_five.edit', '')
-        self.assertEqual(list(self.docs.wrong_names()), [
-            'docs/PROVED.md: small: does not name the test two_and_three',
-            'docs/PROVED.md: small: names the test two_and_two, which is not there',
-            'docs/PROVED.md: small: does not name the wrong body double_is_five'])
+    def test_crate_without_a_section_wrong_bodies_or_a_head(self) -> None:
+        self.put('crates.txt', 'small:\nbare: small arrayvec\nsmall_tests: small\n')
+        self.put('crates/bare/src/lib.rt', '//! No end\n\npub fn f() {}\n')
+        self.put('crates/small/must-fail/three.edit', '')
+        self.assertEqual([*self.docs.wrong_names(), *self.docs.wrong_heads()], [
+            'crates/small/must-fail/three: its name is no sentence of words',
+            'docs/PROVED.md: no section of bare', 'crates/bare: no wrong body in must-fail',
+            'crates/bare/src/lib.rt: does not begin with a sentence'])
+
+    def test_what_a_crate_has(self) -> None:
+        self.put('crates.txt', 'small:\nsmall_tests: small\n')
+        self.put('crates/small_tests/src/small_tests.rt', TESTS.replace('two_and_two', 'elsewhere'))
+        self.assertEqual(tree.summary('crates/small/src/lib.rt'), 'A small crate.')
+        self.assertEqual(tree.tests(), {'small': ['two_and_two', 'elsewhere'], 'small_tests': []})
+        self.assertEqual(tree.wrong_bodies_of('small'), ['double_is_three'])
 
     def test_links_out_of_the_package(self) -> None:
         self.put('scripts/package', 'for file in OPERATING TIE; do\n')

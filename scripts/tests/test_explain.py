@@ -1,4 +1,4 @@
-"""scripts/explain: the faults of docs/CONFIGURATION.md, each at its key and line."""
+"""scripts/explain: the faults of e1gw.toml(5), each at its key and line."""
 import os
 import resource
 import socket
@@ -12,10 +12,10 @@ ONE = 'law = "A"\n[[circuit]]\nnumber = 1\n'
 
 # what is told of a text: the first line, the line in the file, and words of the explanation
 FAULTS = [
-    ('law = A', 'config 1 Syntax at 0', 1, 'no TOML'),
-    ('law = "A"\nlaw = "A"', 'config 1 Syntax at 0', 2, 'no TOML'),
+    ('law = A', 'config 1 Syntax at 0', 1, 'not TOML'),
+    ('law = "A"\nlaw = "A"', 'config 1 Syntax at 0', 2, 'not TOML'),
     (ONE + 'ssrc = 9223372036854775808', 'config 1 Syntax at 0', None, '64 bits'),
-    ('law = "A"\nlax = "A"', 'config 2 UnknownKey at 0', 2, 'lax is no key here'),
+    ('law = "A"\nlax = "A"', 'config 2 UnknownKey at 0', 2, 'lax is not a key here'),
     (ONE + '\nname = "x"', 'config 2 UnknownKey at 1', 5, 'number, role, codec'),
     ('', 'config 3 Missing at 0', None, '"A" or "mu"'),
     ('law = "A"\n[[circuit]]', 'config 3 Missing at 1', 2, 'a whole number from 1 to 30'),
@@ -29,7 +29,7 @@ FAULTS = [
     (ONE + 'ssrc = 4294967296', 'config 5 OutOfRange at 1', 4, '4294967295'),
     (ONE + 'ptime = 25', 'config 5 OutOfRange at 1', 4, '10, 20 or 30'),
     (ONE + '[[circuit]]\nnumber = 1', 'config 6 Twice at 2', 5, 'table 1'),
-    ('law = "mu"\n[[circuit]]\nnumber = 1\ncodec = "pcma"', 'config 7 LawCodec at 1', 4, 'other law'),
+    ('law = "mu"\n[[circuit]]\nnumber = 1\ncodec = "pcma"', 'config 7 LawCodec at 1', 4, 'not G.711 in the law'),
     (' ' * 65537, 'config 8 TooLong at 0', None, '65536'),
 ]
 
@@ -67,28 +67,28 @@ def dotted(parts: int) -> str:
 
 
 # Texts that take the reader of TOML long or beyond its limits, with the line that e1gw says: keys of more than 80 parts
-# and values more than 80 deep are no TOML to it, nor is a number that 64 bits do not hold.
+# and values more than 80 deep are not TOML to it, nor is a number that 64 bits do not hold.
 HOSTILE = [
-    (dotted(80) + ' = 1', 'config 2 UnknownKey at 0', 'no key here'),
+    (dotted(80) + ' = 1', 'config 2 UnknownKey at 0', 'not a key here'),
     (dotted(81) + ' = 1', 'config 1 Syntax at 0', '80 parts'),
     (dotted(30_000) + ' = 1', 'config 1 Syntax at 0', '80 parts'),
     (f'[{dotted(30_000)}]', 'config 1 Syntax at 0', '80 parts'),
     (f'a = {{{dotted(30_000)} = 1}}', 'config 1 Syntax at 0', '80 parts'),
     (' . '.join(['"a"'] * 10_000) + ' = 1', 'config 1 Syntax at 0', '80 parts'),
-    ('a = ' + '[' * 80 + ']' * 80, 'config 2 UnknownKey at 0', 'no key here'),
+    ('a = ' + '[' * 80 + ']' * 80, 'config 2 UnknownKey at 0', 'not a key here'),
     ('a = ' + '[' * 81 + ']' * 81, 'config 1 Syntax at 0', '80 deep'),
-    ('a = ' + '{a = ' * 80 + '1' + '}' * 80, 'config 2 UnknownKey at 0', 'no key here'),
+    ('a = ' + '{a = ' * 80 + '1' + '}' * 80, 'config 2 UnknownKey at 0', 'not a key here'),
     ('a = ' + '{a = ' * 5_000, 'config 1 Syntax at 0', '80 deep'),
-    ('a = ' + f'{{{dotted(80)} = ' * 80 + '1' + '}' * 80, 'config 2 UnknownKey at 0', 'no key here'),
+    ('a = ' + f'{{{dotted(80)} = ' * 80 + '1' + '}' * 80, 'config 2 UnknownKey at 0', 'not a key here'),
     (ONE + 'ssrc = ' + '9' * 5_000, 'config 1 Syntax at 0', 'digits'),
     (ONE + 'ssrc = 0x' + 'f' * 5_000, 'config 1 Syntax at 0', '64 bits'),
     (ONE + 'ssrc = 1e400', 'config 1 Syntax at 0', 'too large'),
     ('#' + '.' * 300 + '\n' + ONE + 'role = "' + '.' * 300 + '"', 'config 5 OutOfRange at 1', '"outgoing"'),
-    ('a = "' + '\\"' * 30_000, 'config 1 Syntax at 0', 'no TOML'),
-    ('"' + 'a' * 60_000 + '" = 1', 'config 2 UnknownKey at 0', 'aaa.. is no key'),
-    ('"\\u001b[31m" = 1', 'config 2 UnknownKey at 0', r"'\x1b[31m' is no key"),
-    ('a = """' + '[.' * 30_000, 'config 1 Syntax at 0', 'no TOML'),
-    ('"' * 60_000, 'config 1 Syntax at 0', 'no TOML'),
+    ('a = "' + '\\"' * 30_000, 'config 1 Syntax at 0', 'not TOML'),
+    ('"' + 'a' * 60_000 + '" = 1', 'config 2 UnknownKey at 0', 'aaa.. is not a key'),
+    ('"\\u001b[31m" = 1', 'config 2 UnknownKey at 0', r"'\x1b[31m' is not a key"),
+    ('a = """' + '[.' * 30_000, 'config 1 Syntax at 0', 'not TOML'),
+    ('"' * 60_000, 'config 1 Syntax at 0', 'not TOML'),
 ]
 
 
@@ -116,7 +116,7 @@ class Sockets(Explained):
 
     def test_a_host_of_another_machine(self) -> None:
         text = 'host = "192.0.2.1"\n' + ONE + 'local_port = 24002\npeer_port = 9'
-        self.assertIn('no address of this machine', self.explained(text)[1][2])
+        self.assertIn('not an address of this machine', self.explained(text)[1][2])
 
     def test_two_families(self) -> None:
         text = ONE + 'local_port = 24002\npeer_port = 9\npeer_host = "::1"'

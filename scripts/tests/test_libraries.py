@@ -143,7 +143,7 @@ class Libraries(Tree):
     def test_help_builds_nothing(self) -> None:
         status, told = self.run_to_end(['libraries', '--help'])
         self.assertEqual(status, 0)
-        self.assertIn('side by side', told)
+        self.assertIn('at a time', told)
         self.assertEqual(self.noted(), [])
 
     def test_lanes(self) -> None:

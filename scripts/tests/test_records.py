@@ -42,7 +42,7 @@ class Printing(unittest.TestCase):
         self.assertEqual(ran('--from', 'x').returncode, 2)
 
     def test_no_rtp(self) -> None:
-        self.assertEqual(ran(given=bytes.fromhex('4401000100')).stdout, b'D  1 1 octets, no RTP: short\n')
+        self.assertEqual(ran(given=bytes.fromhex('4401000100')).stdout, b'D  1 1 octets, not RTP: short\n')
 
     def test_a_session_that_ends_inside_a_record(self) -> None:
         ended = ran(given=bytes.fromhex('54000002D5'))

@@ -41,6 +41,6 @@ place-append = places_are_settled frames frames_are_placed
 pub place-alike : PlacesAreAlike frames
 place-alike = places_are_alike frames frames_are_placed
 
--- no search and no loss reads an octet of another slot than 0: streams that differ there alone are placed alike
+-- no search and no loss reads an octet of another slot than 0: streams that differ only there are placed alike
 pub alike-kept : OtherPlacesAreNotRead frames
 alike-kept = other_places_are_not_read frames frames_are_placed

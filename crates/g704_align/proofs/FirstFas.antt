@@ -1,4 +1,4 @@
--- A search meets the least position of a FAS octet, from where it begins.
+-- A search finds the least position of a FAS octet from its begin.
 use Rattle.std.proofs.Common.{◌≡◌, ℕ, zero, suc, ◌+◌, List, [], ◌∷◌, length, Bool}
 use Rattle.std.proofs.Common.{Option, Some, None, refl, sym, ap, ◌∙◌, arith, inl, inr}
 use Rattle.std.specs.Prelude.{nat_le, ◌&&◌, slice_index, slice_get, if◌then◌else◌}
@@ -34,7 +34,7 @@ first_fas-least (x ∷ s) zero = elim (cases_Bool (is_fas x)) [
       (first_fas-least s 0))
 ]
 
--- what is confirmed does not depend on where positions are counted from
+-- a confirmation does not depend on the origin of positions
 later-confirmed : (f o u a b : Option ℕ) → later (confirmed f o u a b) ≡ confirmed (later f) o u (later a) (later b)
 later-confirmed f None u a b = refl
 later-confirmed f (Some x) None a b = elim (cases_Bool (is_nfas x)) [

@@ -11,24 +11,24 @@ use Rattle.g704_align.specs.Search.{search, confirmed, is_fas, is_nfas}
 use Rattle.g704_align.specs.Loss.{frame_alignment}
 use Rattle.g704_align.proofs.Wrongs.{is_third_wrong-reads}
 
--- what stands at an index does not depend on what follows
+-- the item at an index does not depend on what follows
 slice_get-append : (p q : List ℕ) (i x : ℕ) → slice_get p i ≡ Some x → slice_get (p ++ q) i ≡ Some x
 slice_get-append [] q i x e = cc
 slice_get-append (y ∷ p) q zero x e = e
 slice_get-append (y ∷ p) q (suc i) x e = slice_get-append p q i x e
 
--- nor does it where it is known to be there
+-- nor if it is known to be there
 pub slice_get-within : (p q : List ℕ) (i : ℕ) → i < length p → slice_get (p ++ q) i ≡ Some (get_or p i 0)
 slice_get-within [] q i h = absurd (omega arith)
 slice_get-within (x ∷ p) q zero h = refl
 slice_get-within (x ∷ p) q (suc i) h = slice_get-within p q i (omega arith)
 
--- what stands behind a list stands at its length
+-- the item behind a list is at its length
 pub slice_get-at : (p : List ℕ) (y : ℕ) (ys : List ℕ) → slice_get (p ++ y ∷ ys) (length p) ≡ Some y
 slice_get-at [] y ys = refl
 slice_get-at (x ∷ p) y ys = slice_get-at p y ys
 
--- where the first of the two octets that confirm is wrong, the search goes on past it
+-- if the first of the two confirming octets is wrong, the search goes on past it
 pub confirmed-refuted : (x : ℕ) (f o a b : Option ℕ) → is_nfas x ≡ false → confirmed f (Some x) o a b ≡ a
 confirmed-refuted x f None a b h = rw h refl
 confirmed-refuted x f (Some y) a b h = rw h refl

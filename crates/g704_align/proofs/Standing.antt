@@ -1,4 +1,4 @@
--- What an aligner that stands answers, and how it goes on.
+-- The answers of an aligner with a history, and its next history.
 use Rattle.std.proofs.Common.{◌≡◌, ℕ, ◌-◌, ◌≤◌, ◌%◌, ◌/◌, List, [], ◌∷◌, ◌++◌, length, Bool, true, false}
 use Rattle.std.proofs.Common.{Option, Some, None, refl, sym, ap, ◌∙◌, subst, arith, ltb, eqb, inl, inr}
 use Rattle.std.specs.Prelude.{nat_lt, is_none, ◌==◌}
@@ -21,7 +21,7 @@ use Rattle.g704_align.specs.Placing.{place_of, number_of, frames, place, alarm_a
 use Rattle.g704_align.specs.Aligner.{IsAlignment, Describes, Follows, Stands}
 use Rattle.g704_align.proofs.Searches.{frame_is_framing, search-found}
 
--- the age of an octet of an alignment that stands
+-- the age of an octet of a present alignment
 age-aligned : (b : Option ℕ) (c : List ℕ) (after n age ws wd : ℕ) → IsAlignment age ws wd c → after ≤ n
     → age_in after (alignments_from frame_alignment b c 0) n ≡ Some n
 age-aligned b c after n age ws wd h le =
@@ -78,7 +78,7 @@ place-signal b c x age ws wd h e = elim (cases_Bool (is_third_wrong (c ++ x ∷ 
       subst IsNoSpeech (place-kept b c x age ws wd h kept) (omega arith)
 ]
 
--- where alignment does not stand after the octet, it has no place
+-- without alignment after the octet, it has no place
 pub place-unless_after : (after : Phase) (b : Option ℕ) (c : List ℕ) (x : ℕ) → Follows after b (c ++ x ∷ [])
     → ((a s d : ℕ) → after ≡ Aligned a s d → ⊥) → Hunting ≡ place_since frames b (c ++ x ∷ []) (length c)
 place-unless_after Searching b c x f unless = place-over frames b c x f
@@ -87,7 +87,7 @@ place-unless_after (Candidate age) b c x f unless =
     place-early b (c ++ x ∷ []) (length c) (omega arith)
 place-unless_after (Aligned a s d) b c x f unless = absurd (unless a s d refl)
 
--- nor where it did not stand before
+-- nor without one before
 pub place-unless_before : (before : Phase) (b : Option ℕ) (c : List ℕ) (x : ℕ) → Describes before c
     → ((a s d : ℕ) → before ≡ Aligned a s d → ⊥) → Hunting ≡ place_since frames b (c ++ x ∷ []) (length c)
 place-unless_before Searching b c x f unless = place-early b (c ++ x ∷ []) (length c) (rw f (omega arith))
@@ -95,7 +95,7 @@ place-unless_before (Candidate age) b c x f unless =
     let a = f.counted in let y = f.young in place-early b (c ++ x ∷ []) (length c) (omega arith)
 place-unless_before (Aligned a s d) b c x f unless = absurd (unless a s d refl)
 
--- nor is there one before alignment stands
+-- nor is there one before alignment is found
 pub place-unless_aligned : (phase : Phase) (b : Option ℕ) (c : List ℕ) (x : ℕ) → Describes phase c
     → ((a s d : ℕ) → phase ≡ Aligned a s d → ⊥) → IsNoSpeech (place_since frames b (c ++ x ∷ []) (length c))
 place-unless_aligned phase b c x f unless = subst IsNoSpeech (place-unless_before phase b c x f unless) refl
@@ -107,7 +107,7 @@ pub place-left : (phase : Phase) (history : List ℕ) (octet : ℕ) (h : Stands 
 place-left phase history octet h is =
     subst IsNoSpeech (place-history frames history h.earlier h.since octet h.whole h.over) is
 
--- the aligner stands after one octet more
+-- the aligner has the history with one more octet
 pub stands-follows : (phase : Phase) (history earlier since : List ℕ) (x : ℕ) → history ≡ earlier ++ since
     → IsOver frame_alignment None earlier → Follows phase (last_of None earlier) (since ++ x ∷ [])
     → Stands (record { phase = phase }) (history ++ x ∷ [])
@@ -128,7 +128,7 @@ alarm_of Searching = true
 alarm_of (Candidate age) = true
 alarm_of (Aligned age ws wd) = false
 
--- the alarm, by the octets since all began anew
+-- the alarm, by the octets since the last restart
 alarm-after : (phase : Phase) (earlier since : List ℕ) → IsOver frame_alignment None earlier → Describes phase since
     → alarm_of phase ≡ alarm_after (earlier ++ since)
 alarm-after Searching earlier since over f = rw f (alarm-over frames earlier over)
@@ -146,7 +146,7 @@ alarm-stands : (phase : Phase) (history : List ℕ) → Stands (record { phase =
     → alarm_of phase ≡ alarm_after history
 alarm-stands phase history h = rw h.whole (alarm-after phase h.earlier h.since h.over h.fields)
 
--- the same, where the phase is known
+-- the same, if the phase is known
 pub alarm-in : (phase is : Phase) (history : List ℕ) → phase ≡ is → Stands (record { phase = phase }) history
     → alarm_of is ≡ alarm_after history
 alarm-in phase is history e h = sym (ap alarm_of e) ∙ alarm-stands phase history h

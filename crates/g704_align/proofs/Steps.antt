@@ -54,7 +54,7 @@ candidate-more c x age h kept lt = let n = h.counted in let b = h.begun in recor
   nfas = nfas_at c x age h kept;
 }
 
--- all begins anew after an octet that should be an NFAS octet, and is not
+-- everything restarts after an octet that should be an NFAS octet, and is not
 over_no_nfas : (b : Option ℕ) (c : List ℕ) (x : ℕ) → length c ≡ 32 → is_fas (get_or c 0 0) ≡ true → is_nfas x ≡ false
     → IsOver frame_alignment b (c ++ x ∷ [])
 unfolding search
@@ -183,11 +183,11 @@ module _ (c : List ℕ) (x rest count : ℕ) (found : 64 < length c) (h : Counts
   abbrev Counts : ℕ → Type 0
   Counts n = CountsWrong rest n d × (is_third_wrong d (length c) ≡ false)
 
-  -- from 0, where it is right
+  -- from 0, if it is right
   counts-right : is_wrong d (length c) ≡ false → Counts 0
   counts-right right = (λ k ge lt e. let n = (next_place k ge lt e).0 in rw (n, right) refl, third-is false right)
 
-  -- one higher, where it is wrong
+  -- one higher, if it is wrong
   counts-wrong : is_wrong d (length c) ≡ true → count < 2 → Counts (count + 1)
   counts-wrong wrong lt2 =
       let one = one_more (is_wrong c (length c - 64)) (is_wrong c (length c - 128)) count now lt2 in (
@@ -217,7 +217,7 @@ module _ (c : List ℕ) (x rest count : ℕ) (found : 64 < length c) (h : Counts
 
 -- an alignment after one octet more
 module _ (c : List ℕ) (x age ws wd : ℕ) (h : IsAlignment age ws wd c) where
-  -- its fields, where it is not lost by the octet
+  -- its fields, if it is not lost by the octet
   alignment-more : (ws' wd' : ℕ) → is_third_wrong (c ++ x ∷ []) (length c) ≡ false → CountsWrong 0 ws' (c ++ x ∷ [])
       → CountsWrong 32 wd' (c ++ x ∷ []) → IsAlignment ((age + 1) % 64) ws' wd' (c ++ x ∷ [])
   alignment-more ws' wd' third s d = let f = h.found in let l = length_push c x in let a = h.counted in record {
@@ -231,18 +231,18 @@ module _ (c : List ℕ) (x age ws wd : ℕ) (h : IsAlignment age ws wd c) where
     nfas_count = d;
   }
 
-  -- all begins anew, where it is
+  -- everything restarts, if it is
   lost_by : (b : Option ℕ) → is_third_wrong (c ++ x ∷ []) (length c) ≡ true → IsOver frame_alignment b (c ++ x ∷ [])
   lost_by b third =
       IsOver-lost frame_alignment frame_is_framing b c x
       (λ t. search-found c t h.found h.fas h.nfas h.confirmed) h.kept third
 
-  -- whether the octet is wrong, where a FAS octet is expected
+  -- whether the octet is wrong, if a FAS octet is expected
   wrong-fas : age ≡ 0 → is_wrong (c ++ x ∷ []) (length c) ≡ not (is_fas x)
   wrong-fas e = let a = h.counted in
       rw (is_wrong-fas (c ++ x ∷ []) (length c) h.found (omega arith), get_or_push c x 0 (length c) refl) refl
 
-  -- whether it is, where an NFAS octet is expected
+  -- whether it is, if an NFAS octet is expected
   wrong-nfas : age ≡ 32 → is_wrong (c ++ x ∷ []) (length c) ≡ not (is_nfas x)
   wrong-nfas e = let a = h.counted in
       rw (is_wrong-nfas (c ++ x ∷ []) (length c) h.found (omega arith), get_or_push c x 0 (length c) refl) refl
@@ -266,11 +266,11 @@ module _ (c : List ℕ) (x age ws wd : ℕ) (h : IsAlignment age ws wd c) where
       let r = count-more c x 0 ws h.found h.fas_count (at_rest 0 e) (is_fas x) n (wrong-fas e) counted in
       alignment-more n wd r.1 r.0 (counts-other c x 32 wd begun h.nfas_count (not_at_rest 32 (omega arith)))
 
-  -- which may be the third wrong one
+  -- it may be the third wrong one
   pub fas-third : age ≡ 0 → None ≡ count_after ws (is_fas x) → is_third_wrong (c ++ x ∷ []) (length c) ≡ true
   fas-third e counted = count-lost c x 0 ws h.found h.fas_count (at_rest 0 e) (is_fas x) (wrong-fas e) counted
 
-  -- and then all begins anew
+  -- and then everything restarts
   pub fas-lost : (b : Option ℕ) → age ≡ 0 → None ≡ count_after ws (is_fas x) → IsOver frame_alignment b (c ++ x ∷ [])
   fas-lost b e counted = lost_by b (fas-third e counted)
 
@@ -281,11 +281,11 @@ module _ (c : List ℕ) (x age ws wd : ℕ) (h : IsAlignment age ws wd c) where
       let r = count-more c x 32 wd h.found h.nfas_count (at_rest 32 e) (is_nfas x) n (wrong-nfas e) counted in
       alignment-more ws n r.1 (counts-other c x 0 ws begun h.fas_count (not_at_rest 0 (omega arith))) r.0
 
-  -- which may be the third wrong one
+  -- it may be the third wrong one
   pub nfas-third : age ≡ 32 → None ≡ count_after wd (is_nfas x) → is_third_wrong (c ++ x ∷ []) (length c) ≡ true
   nfas-third e counted = count-lost c x 32 wd h.found h.nfas_count (at_rest 32 e) (is_nfas x) (wrong-nfas e) counted
 
-  -- and then all begins anew
+  -- and then everything restarts
   pub nfas-lost : (b : Option ℕ) → age ≡ 32 → None ≡ count_after wd (is_nfas x) → IsOver frame_alignment b (c ++ x ∷ [])
   nfas-lost b e counted = lost_by b (nfas-third e counted)
 

@@ -39,7 +39,7 @@ is_wrong-other octets k other =
     let l : (k % 32 == 0) ≡ false = ne_eqb (k % 32) 0 other in
     and_left _ _ (and_right (nat_lt 64 k) _ l)
 
--- two alignments are wrong alike at a place where their octets are right alike
+-- two alignments are wrong alike at a place if their octets are right alike
 pub is_wrong-alike : (octets others : List ℕ) (k : ℕ)
     → (64 < k → k % 32 ≡ 0 → is_expected k (slice_index octets k) ≡ is_expected k (slice_index others k))
     → is_wrong octets k ≡ is_wrong others k
@@ -69,7 +69,7 @@ pub is_wrong-append : (c t : List ℕ) (k : ℕ) → k < length c → is_wrong (
 unfolding is_wrong
 is_wrong-append c t k h = rw (get_or_append_left c t 0 k h) refl
 
--- an alignment is lost by octets of slot 0 alone
+-- an alignment is lost by octets of slot 0 only
 pub is_third_wrong-reads : (octets others : List ℕ) (k : ℕ)
     → ((j : ℕ) → j ≤ k → j % 32 ≡ 0 → slice_index octets j ≡ slice_index others j)
     → is_third_wrong octets k ≡ is_third_wrong others k

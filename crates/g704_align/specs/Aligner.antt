@@ -1,4 +1,4 @@
--- What the fields of an aligner say of the octets that it was given.
+-- The history of an aligner: the octets that it received, by its fields.
 use Rattle.std.specs.Prelude.{◌≡◌, ℕ, ◌+◌, ◌-◌, ◌%◌, ◌<◌, ◌≤◌, Bool, true, false, not, ◌&&◌, ◌||◌, ◌==◌}
 use Rattle.std.specs.Prelude.{nat_lt, if◌then◌else◌}
 use Rattle.std.specs.Prelude.{List, [], length, slice_index, Option, Some, None}
@@ -9,7 +9,7 @@ use Rattle.g704_align.specs.declared.alignment.Phase.TheVariants.{Searching, Can
 use Rattle.g704_align.specs.Search.{is_fas, is_nfas}
 use Rattle.g704_align.specs.Loss.{is_wrong, is_third_wrong, frame_alignment}
 
--- A FAS octet came this many octets ago, itself counted, and is not refuted yet.
+-- This many octets ago, that one included, a FAS octet was received that is not refuted yet.
 pub record IsCandidate (age : ℕ) (octets : List ℕ) : Type 0 where
   pub counted : length octets ≡ age
   pub begun : 0 < age
@@ -21,22 +21,23 @@ pub record IsCandidate (age : ℕ) (octets : List ℕ) : Type 0 where
 abbrev pub is_refuted : ℕ → ℕ → Bool
 is_refuted age octet = ((age == 32) && not (is_nfas octet)) || ((age == 64) && not (is_fas octet))
 
--- how many of the two octets 64 and 128 octets before one of this age are wrong, counted from it back
+-- how many of the two octets 64 and 128 octets before one of this age are wrong, without a right one in
+-- between
 abbrev pub wrong_before : List ℕ → ℕ → ℕ
 wrong_before octets age =
     if is_wrong octets (age - 64) then (if is_wrong octets (age - 128) then 2 else 1) else 0
 
--- it is that count at the next age that leaves this rest by 64
+-- a count of consecutive wrong octets, at the next age with this remainder by 64
 abbrev pub CountsWrong : ℕ → ℕ → List ℕ → Type 0
 CountsWrong rest count octets =
     (next : ℕ) → length octets ≤ next → next < length octets + 64 → next % 64 ≡ rest
     → count ≡ wrong_before octets next
 
--- the count after one more octet of its kind, right or wrong; none where that is the third wrong one in a row
+-- the count after one more octet of its kind; none if it is the third wrong one in a row
 abbrev pub count_after : ℕ → Bool → Option ℕ
 count_after count right = if right then Some 0 else (if nat_lt count 2 then Some (count + 1) else None)
 
--- The octets are an alignment that stands, its first FAS octet first.
+-- The octets are a present alignment, from its first FAS octet.
 pub record IsAlignment (age wrong_fas wrong_nfas : ℕ) (octets : List ℕ) : Type 0 where
   pub counted : age ≡ length octets % 64
   pub found : 64 < length octets
@@ -47,7 +48,7 @@ pub record IsAlignment (age wrong_fas wrong_nfas : ℕ) (octets : List ℕ) : Ty
   pub fas_count : CountsWrong 0 wrong_fas octets
   pub nfas_count : CountsWrong 32 wrong_nfas octets
 
--- what the phase says of the octets since all began anew
+-- the octets since the last restart, by the phase
 abbrev pub Describes : Phase → List ℕ → Type 0
 Describes Searching octets = octets ≡ []
 Describes (Candidate age) octets = IsCandidate age octets
@@ -59,6 +60,6 @@ Follows Searching before octets = IsOver frame_alignment before octets
 Follows (Candidate age) before octets = IsCandidate age octets
 Follows (Aligned age wrong_fas wrong_nfas) before octets = IsAlignment age wrong_fas wrong_nfas octets
 
--- the aligner stands after this history: its fields describe the octets since all began anew
+-- the aligner has this history: its fields describe the octets since the last restart
 abbrev pub Stands : Aligner → List ℕ → Type 0
 Stands aligner history = HoldsSince frame_alignment (λ before since. Describes aligner.phase since) history

@@ -1,4 +1,4 @@
--- The octets of a saved aligner: the number of its phase, then the age and the counts that the phase has.
+-- The octets of a saved aligner: the number of its phase, then the phase's age and counts.
 use Rattle.std.specs.Prelude.{ℕ, List, [], ◌∷◌}
 use Rattle.g704_align.specs.declared.alignment.Aligner.{Aligner}
 use Rattle.g704_align.specs.declared.alignment.Phase.{Phase}

@@ -1,4 +1,4 @@
-//! The aligner: one small machine, moved on by each octet.
+//! The frame aligner.
 
 ghost use Rattle.std.specs.Prelude.{◌≡◌, ◌+◌, ◌%◌, ◌<◌, ℕ, List, Option, [], ◌∷◌, ◌++◌, length};
 ghost use Rattle.std.specs.Prelude.{nat_lt, ◌≢◌, IfSome, IfNone};
@@ -17,7 +17,7 @@ const TWO_FRAMES: u8 = 64;
 
 const HALF_FRAME: u8 = 16;
 
-// So many wrong octets in a row alignment stands.
+// Consecutive errored octets tolerated before alignment is lost.
 const TOLERATED: u8 = 2;
 
 // The frame alignment signal, and the bits of a FAS octet that carry it.
@@ -28,30 +28,34 @@ const SIGNAL_BITS: u8 = 0x7f;
 // Bit 2 of an octet, which is set in an NFAS octet.
 const BIT_2: u8 = 0x40;
 
-/// Where an octet stands in its frame.
+/// The place of an octet in its frame.
 #[derive(Clone, Copy, Debug, PartialEq, Eq)]
 pub enum Place {
-    /// Alignment is being looked for.
+    /// No alignment: it is being searched for.
     Hunting,
     /// The octet is in a time slot of a frame.
     Slot {
         /// The number of the time slot, 0 to 31.
         number: u8,
-        /// Whether the frame is one that begins with the frame alignment signal.
+        /// Whether the frame begins with the frame alignment signal.
         fas: bool,
     },
 }
 
-// How far alignment has come. An age counts the octets from the first FAS octet on, itself included.
+// The state of the search.
+//
+// An age counts the octets from the first FAS octet, which is included.
 #[derive(Clone, Copy, Debug, PartialEq, Eq)]
 enum Phase {
-    // No FAS octet is being followed.
+    // No FAS octet has been found.
     Searching,
-    // A FAS octet is being followed.
+    // A FAS octet has been found.
     Candidate {
         age: u8,
     },
-    // Alignment stands. The age is counted modulo two frames; the counts are those of wrong octets in a row.
+    // Frames are aligned.
+    //
+    // The age counts modulo two frames; the counts are those of consecutive errored octets.
     Aligned {
         age: u8,
         wrong_fas: u8,
@@ -59,7 +63,9 @@ enum Phase {
     },
 }
 
-/// Finds frame alignment in a stream of octets, follows it, and tells the place of each octet.
+/// Finds and follows frame alignment in a stream of octets.
+///
+/// It returns the place of each octet.
 ///
 /// ```rust
 /// let mut aligner = Aligner::new();
@@ -74,7 +80,7 @@ pub struct Aligner {
 }
 
 impl Aligner {
-    /// An aligner that has seen no octet, and hunts.
+    /// An aligner at the start of a stream.
     pub fn new() -> Self
         ensures { Stands result [] }
     {
@@ -83,7 +89,7 @@ impl Aligner {
         }
     }
 
-    /// Takes the next octet of the stream and tells its place.
+    /// Takes the next octet and returns its place.
     pub fn octet(&mut self, octet: u8) -> Place
         ensures placed { (history : List ℕ) → Stands self.old history
             → result ≡ place (history ++ octet ∷ []) (length history) }
@@ -97,9 +103,10 @@ impl Aligner {
         }
     }
 
-    /// Passes over the next octet unseen, where alignment stands and the octet is in another slot than 0 and
-    /// 16, and tells its place: it is what `octet` does with any octet there. In slots 0 and 16, and where
-    /// alignment is looked for, nothing is changed, and the octet is for `octet`.
+    /// Skips an octet of a speech slot and returns its place.
+    ///
+    /// In alignment, in slots other than 0 and 16, it does what `octet` does with any octet. Otherwise
+    /// nothing changes, and the octet is for `octet`.
     #[inline]
     pub fn pass(&mut self) -> Option<Place>
         ensures placed { (history : List ℕ) (octet : ℕ) → Stands self.old history
@@ -122,7 +129,7 @@ impl Aligner {
         None
     }
 
-    // Does what `octet` does, for an octet that may be a signal.
+    // Does the work of `octet` for an octet that may be a signal.
     fn follow(&mut self, octet: u8) -> Place
         ensures placed { (history : List ℕ) → Stands self.old history
             → result ≡ place (history ++ octet ∷ []) (length history) }
@@ -135,7 +142,7 @@ impl Aligner {
         place_between(before, self.phase)
     }
 
-    /// Whether the alarm stands: alignment is being looked for. It does before the first octet.
+    /// Whether there is no alignment, as before the first octet.
     pub fn alarm(&self) -> bool
         ensures { (history : List ℕ) → Stands self.now history → result ≡ alarm_after history }
     {
@@ -146,8 +153,7 @@ impl Aligner {
     }
 }
 
-/// Whether the octet is right as a FAS octet: its last seven bits are the frame alignment signal (ITU-T
-/// G.704, 2.3.2).
+/// Whether the last seven bits are the frame alignment signal, as in a FAS octet (ITU-T G.704, 2.3.2).
 #[inline]
 #[tactic(auto, unfolding(crate::specs::Search::is_fas))]
 pub fn is_fas(octet: u8) -> bool
@@ -156,7 +162,7 @@ pub fn is_fas(octet: u8) -> bool
     octet & SIGNAL_BITS == SIGNAL
 }
 
-/// Whether the octet is right as an NFAS octet: its bit 2 is set (ITU-T G.704, 2.3.2).
+/// Whether bit 2 is set, as in an NFAS octet (ITU-T G.704, 2.3.2).
 #[inline]
 #[tactic(auto, unfolding(crate::specs::Search::is_nfas))]
 pub fn is_nfas(octet: u8) -> bool
@@ -165,7 +171,7 @@ pub fn is_nfas(octet: u8) -> bool
     octet & BIT_2 != 0
 }
 
-// The phase after one more octet.
+// The phase after an octet.
 fn phase_after(phase: Phase, octet: u8) -> Phase
     ensures { (before : Option ℕ) (octets : List ℕ) → Describes phase octets
         → Follows result before (octets ++ octet ∷ []) }
@@ -181,7 +187,7 @@ fn phase_after(phase: Phase, octet: u8) -> Phase
     }
 }
 
-// The phase after an octet that a search looks at.
+// The phase after an octet read by a search.
 fn searched(octet: u8) -> Phase
     ensures { (before : Option ℕ) → Follows result before (octet ∷ []) }
 {
@@ -192,7 +198,7 @@ fn searched(octet: u8) -> Phase
     }
 }
 
-// The phase after an octet that comes `age` octets after a FAS octet.
+// The phase after an octet `age` octets after a FAS octet.
 fn after_candidate(age: u8, octet: u8) -> Phase
     ensures { (before : Option ℕ) (octets : List ℕ) → IsCandidate age octets
         → Follows result before (octets ++ octet ∷ []) }
@@ -210,14 +216,14 @@ fn after_candidate(age: u8, octet: u8) -> Phase
     }
 }
 
-// Whether an octet that comes `age` octets after a FAS octet is one that should confirm it, and is wrong.
+// Whether an octet `age` octets after a FAS octet should confirm it, and is wrong.
 fn refutes(age: u8, octet: u8) -> bool
     ensures { result ≡ is_refuted age octet }
 {
     (age == FRAME && !is_nfas(octet)) || (age == TWO_FRAMES && !is_fas(octet))
 }
 
-// The phase after an octet in an alignment.
+// The phase after an octet in alignment.
 fn after_aligned(age: u8, wrong_fas: u8, wrong_nfas: u8, octet: u8) -> Phase
     ensures { (before : Option ℕ) (octets : List ℕ) → IsAlignment age wrong_fas wrong_nfas octets
         → Follows result before (octets ++ octet ∷ []) }
@@ -250,14 +256,14 @@ fn after_aligned(age: u8, wrong_fas: u8, wrong_nfas: u8, octet: u8) -> Phase
     }
 }
 
-// The age of the next octet, counted modulo two frames.
+// The age of the next octet, modulo two frames.
 fn next_age(age: u8) -> u8
     ensures { age < 64 → result ≡ (age + 1) % 64 }
 {
     age.wrapping_add(1) % TWO_FRAMES
 }
 
-// The place of an octet of this age.
+// The place of an octet with this age.
 fn slot_at(age: u8) -> Place
     ensures { result ≡ Slot (age % 32) (nat_lt age 32) }
 {
@@ -267,8 +273,8 @@ fn slot_at(age: u8) -> Place
     }
 }
 
-/// The count of wrong octets in a row after one more octet of its kind, right or wrong; `None` where
-/// alignment is lost by it (ITU-T G.706, 4.1.1).
+/// The count of consecutive errored octets of a kind after one more; `None` if alignment is lost by it (ITU-T
+/// G.706, 4.1.1).
 #[inline]
 pub fn count_after(count: u8, right: bool) -> Option<u8>
     ensures { result ≡ count_after count right }

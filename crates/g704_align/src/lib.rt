@@ -1,4 +1,4 @@
-//! Frame alignment of a 2048 kbit/s stream whose octets are aligned (ITU-T G.704, 2.3; ITU-T G.706, 4.1).
+//! Frame alignment of a 2048 kbit/s stream of aligned octets (ITU-T G.704, 2.3; ITU-T G.706, 4.1).
 #![tactic(auto)]
 
 mod alignment;

@@ -18,7 +18,7 @@ length-eighths (w ∷ s) (suc k) lt = let l = length-eighths s k (omega arith) i
 pub length-octets : (s : List ℕ) → length (octets_along s) ≡ (length s + 7) / 8
 length-octets s = let l = length-eighths s 0 (omega arith) in omega arith
 
--- where they stand
+-- their places
 eighths-at : (s : List ℕ) (k n : ℕ) → slice_index (eighths_after k s) n ≡ slice_index s (k + 8 * n)
 unfolding eighths_after
 eighths-at [] k n = refl
@@ -69,7 +69,7 @@ pub lost-between : (s : List ℕ) (k : ℕ) → k % 8 ≢ 0 → is_lost_at s k �
 unfolding is_lost_at
 lost-between s k ne = rw (ne_eqb (k % 8) 0 ne) refl
 
--- the windows alone decide it that are whole frames behind the first one
+-- only the windows whole frames behind the first one decide it
 pub lost-reads : (windows others : List ℕ) (k : ℕ)
     → ((j : ℕ) → j ≤ k → j % 256 ≡ 0 → slice_index windows j ≡ slice_index others j)
     → is_lost_at windows k ≡ is_lost_at others k

@@ -29,7 +29,7 @@ confirmed-within s k h = elim (cases_lt (k + 512) (length s)) [
       )
 ]
 
--- where all three windows are there, later ones change nothing
+-- if all three windows are there, later ones change nothing
 pub confirmed-append : (s t : List ℕ) (k : ℕ) → k + 512 < length s → is_confirmed (s ++ t) k ≡ is_confirmed s k
 unfolding is_confirmed
 confirmed-append s t k lt =

@@ -1,4 +1,4 @@
--- One window more while alignment is looked for.
+-- One more window without alignment.
 use Rattle.std.proofs.Common.{◌≡◌, ◌≢◌, ℕ, ◌+◌, ◌-◌, ◌<◌, ◌≤◌, ◌%◌, List, [], ◌∷◌, ◌++◌, length, take, drop}
 use Rattle.std.proofs.Common.{true, false, refl, sym, ap, ◌∙◌, arith, inl, inr, append_assoc, length-drop}
 use Rattle.std.specs.Prelude.{slice_index, slice_set}
@@ -29,7 +29,7 @@ hunting-nothing memory l = record {
 next_seen-low : (seen : ℕ) → seen < 1023 → next_seen seen ≡ seen + 1
 next_seen-low seen lt = rw (lt-ltb seen 1023 lt) refl
 
--- and where it is the last
+-- and if it is the last
 next_seen-last : (seen : ℕ) → 1023 ≤ seen → next_seen seen ≡ 512
 next_seen-last seen ge = rw (le-ltb seen 1023 ge) refl
 
@@ -121,11 +121,11 @@ hunting-more seen memory c x h quiet =
           }
     ]
 
--- the count is large enough where the window confirms
+-- the count is large enough if the window confirms
 enough-seen : (seen : ℕ) (memory : List ℕ) (x : ℕ) → confirms seen memory x ≡ true → 512 ≤ seen
 enough-seen seen memory x h = grind (arith, common_steps)
 
--- where the first two windows of three stand
+-- the places of the first two windows of three
 pub aligned-found : (seen : ℕ) (memory c : List ℕ) (x : ℕ) → IsHunting seen memory c
     → confirms seen memory x ≡ true → (a : IsAligned 1 0 0 (c ++ x ∷ [])) × (length a.skipped + 512 ≡ length c)
 aligned-found seen memory c x h sure =

@@ -1,4 +1,4 @@
--- The alignments in the windows since all began anew: none, one that stands, or one that is lost by the last.
+-- The alignments in the windows since the last restart: none, a present one, or one lost by the last window.
 use Rattle.std.proofs.Common.{◌≡◌, ℕ, suc, ◌+◌, ◌<◌, ◌%◌, List, [], ◌∷◌, ◌++◌, length, map, true, false}
 use Rattle.std.proofs.Common.{Bool, Option, Some, None, refl, sym, ap, ◌∙◌, arith, append_assoc}
 use Rattle.std.specs.Prelude.{◌&&◌, nat_le, option_map}
@@ -55,7 +55,7 @@ loss-at sk d o h =
     rw (drop_at sk d (length sk) refl)
     (ap (option_map (λ age. length sk + age)) (least_equals (is_lost_at d) (length d) o h))
 
--- an alignment that stands is the only one
+-- a present alignment is the only one
 pub one-stands : (b : Option ℕ) (sk al : List ℕ) (age ws wd : ℕ) → IsAlignment age ws wd al
     → ((k : ℕ) → k < length sk → is_confirmed (sk ++ al) k ≡ false)
     → alignments_from bit_alignment b (sk ++ al) 0 ≡ record { start = length sk; lost = None } ∷ []
@@ -95,7 +95,7 @@ one-lost b sk al x age ws wd h none third t =
     ∙ rw (found, lost) (ap (onto (record { start = length sk; lost = Some (length sk + length al) }))
     (rw (← len) (alignments-append bit_alignment b c t)))
 
--- so all begins anew after it
+-- so everything restarts after it
 pub over-lost : (b : Option ℕ) (sk al : List ℕ) (x age ws wd : ℕ) → IsAlignment age ws wd al
     → ((k : ℕ) → k < length sk → is_confirmed (sk ++ al) k ≡ false)
     → is_lost_at (al ++ x ∷ []) (length al) ≡ true → IsOver bit_alignment b ((sk ++ al) ++ x ∷ [])
@@ -110,7 +110,7 @@ offset_of-append : (j : ℕ) (ds es : List Alignment) → offset_of j (ds ++ es)
 offset_of-append j [] es = refl
 offset_of-append j (d ∷ ds) es = offset_of-append (d.start % 8) ds es
 
--- the offset after a history, by the windows since all began anew
+-- the offset after a history, by the windows since the last restart
 pub offset-since : (earlier since : List ℕ) (over : IsOver bit_alignment None earlier)
     → offset_after (earlier ++ since)
     ≡ offset_of (offset_of 7 over.earlier)

@@ -1,4 +1,4 @@
--- An aligner that stands, one window more.
+-- An aligner with a history, one more window.
 use Rattle.std.proofs.Common.{◌≡◌, ℕ, ◌+◌, ◌<◌, ◌%◌, List, [], ◌∷◌, ◌++◌, length, map, true, false}
 use Rattle.std.proofs.Common.{None, refl, sym, ap, ◌∙◌, arith, append_assoc, subst}
 use Rattle.std.specs.Prelude.{slice_set}
@@ -17,7 +17,7 @@ use Rattle.g704_bits.proofs.Framing.{confirmed-append}
 use Rattle.g704_bits.proofs.Spans.{none-yet, one-stands, one-lost, over-lost, offset-since}
 use Rattle.g704_bits.proofs.Hunts.{hunting-nothing, hunting-more, aligned-found}
 
--- the offset while nothing was found since all began anew
+-- the offset while nothing was found since the last restart
 offset-quiet : (earlier c : List ℕ) (over : IsOver bit_alignment None earlier)
     → ((k : ℕ) → is_confirmed c k ≡ false) → offset_after (earlier ++ c) ≡ offset_of 7 over.earlier
 offset-quiet earlier c over none =
@@ -25,7 +25,7 @@ offset-quiet earlier c over none =
     ∙ ap (λ ds. offset_of (offset_of 7 over.earlier) (map (moved (length earlier)) ds))
     (none-yet (last_of None earlier) c none)
 
--- where an alignment stands
+-- in alignment
 offset-stands : (earlier sk al : List ℕ) (age ws wd : ℕ) (over : IsOver bit_alignment None earlier)
     → IsAlignment age ws wd al → ((k : ℕ) → k < length sk → is_confirmed (sk ++ al) k ≡ false)
     → offset_after (earlier ++ (sk ++ al)) ≡ (length earlier + length sk) % 8
@@ -34,7 +34,7 @@ offset-stands earlier sk al age ws wd over h none =
     ∙ ap (λ ds. offset_of (offset_of 7 over.earlier) (map (moved (length earlier)) ds))
     (one-stands (last_of None earlier) sk al age ws wd h none)
 
--- where it is lost by the last window
+-- if it is lost by the last window
 offset-lost : (earlier sk al : List ℕ) (x age ws wd : ℕ) (over : IsOver bit_alignment None earlier)
     → IsAlignment age ws wd al → ((k : ℕ) → k < length sk → is_confirmed (sk ++ al) k ≡ false)
     → is_lost_at (al ++ x ∷ []) (length al) ≡ true
@@ -56,7 +56,7 @@ none-longer sk al x age ws wd h none k lt =
     ap (λ s. is_confirmed s k) (sym (append_assoc sk al (x ∷ [])))
     ∙ confirmed-append (sk ++ al) (x ∷ []) k (omega arith) ∙ none k lt
 
--- a history with one window more, as what came since all began anew
+-- a history with one more window, by the windows since the last restart
 one_more : (history earlier since : List ℕ) (x : ℕ) → history ≡ earlier ++ since
     → offset_after (history ++ x ∷ []) ≡ offset_after (earlier ++ (since ++ x ∷ []))
 one_more history earlier since x e =

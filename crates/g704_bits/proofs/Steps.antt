@@ -34,7 +34,7 @@ unfolding is_confirmed
 first-confirmed c age ws wd h =
     rw (← octet-at c 0, ← octet-at c 32, ← octet-at c 64, h.octets.fas, h.octets.nfas, h.octets.confirmed) refl
 
--- an alignment that stands is not lost
+-- a present alignment is not lost
 pub not-lost : (c : List ℕ) (age ws wd : ℕ) → IsAlignment age ws wd c → (k : ℕ) → k < length c
     → is_lost_at c k ≡ false
 not-lost c age ws wd h k lt = elim (cases_eq (k % 8) 0) [
@@ -70,11 +70,11 @@ module _ (c : List ℕ) (x age ws wd : ℕ) (h : IsAlignment age ws wd c) where
         octets = rw (octets-push c x e, n) more;
       }
 
-  -- the age of the octet, where that of the window is whole octets
+  -- the age of the octet, if that of the window is whole octets
   octet-age : (rest : ℕ) → age ≡ 8 * rest → rest < 64 → (length c % 8 ≡ 0) × (length (octets_along c) % 64 ≡ rest)
   octet-age rest e lt = let a = h.counted in let l = length-octets c in (omega arith, omega arith)
 
-  -- the alignment is lost by the window, where it is by the octet
+  -- the window loses the alignment if the octet does
   lost-by : length c % 8 ≡ 0 → is_third_wrong (octets_along c ++ x ∷ []) (length (octets_along c)) ≡ true
       → is_lost_at (c ++ x ∷ []) (length c) ≡ true
   lost-by e third =
@@ -88,7 +88,7 @@ module _ (c : List ℕ) (x age ws wd : ℕ) (h : IsAlignment age ws wd c) where
       let at = octet-age 0 e (omega arith) in
       next-octet n wd at.0 (octets.fas-more (octets_along c) x _ ws wd h.octets n at.1 counted)
 
-  -- which may be the third wrong one
+  -- it may be the third wrong one
   pub fas-lost : age ≡ 0 → None ≡ count_after ws (is_fas x) → is_lost_at (c ++ x ∷ []) (length c) ≡ true
   fas-lost e counted =
       let at = octet-age 0 e (omega arith) in
@@ -101,7 +101,7 @@ module _ (c : List ℕ) (x age ws wd : ℕ) (h : IsAlignment age ws wd c) where
       let at = octet-age 32 e (omega arith) in
       next-octet ws n at.0 (octets.nfas-more (octets_along c) x _ ws wd h.octets n at.1 counted)
 
-  -- which may be the third wrong one
+  -- it may be the third wrong one
   pub nfas-lost : age ≡ 256 → None ≡ count_after wd (is_nfas x) → is_lost_at (c ++ x ∷ []) (length c) ≡ true
   nfas-lost e counted =
       let at = octet-age 32 e (omega arith) in

@@ -1,4 +1,4 @@
--- What the fields of an aligner say of the windows that it was given.
+-- The history of an aligner: the windows that it received, by its fields.
 use Rattle.std.specs.Prelude.{◌≡◌, ℕ, ◌+◌, ◌%◌, ◌<◌, ◌≤◌, Bool, true, false, ◌&&◌, nat_lt, nat_le}
 use Rattle.std.specs.Prelude.{if◌then◌else◌}
 use Rattle.std.specs.Prelude.{List, [], ◌∷◌, ◌++◌, length, slice_index}
@@ -23,18 +23,18 @@ pub record IsHunting (seen : ℕ) (memory windows : List ℕ) : Type 0 where
       → slice_index memory (position % 512) ≡ slice_index windows position
   pub none : (position : ℕ) → is_confirmed windows position ≡ false
 
--- the count after one window more
+-- the count after one more window
 abbrev pub next_seen : ℕ → ℕ
 next_seen seen = if nat_lt seen 1023 then seen + 1 else 512
 
--- by the count and the memory: the window is the third of three that confirm one another
+-- the window is, by the count and the memory, the third of three that confirm one another
 abbrev pub confirms : ℕ → List ℕ → ℕ → Bool
 confirms seen memory window =
     nat_le 512 seen
     && (is_fas (slice_index memory (seen % 512))
     && (is_nfas (slice_index memory ((seen + 256) % 512)) && is_fas window))
 
--- The windows are an alignment that stands, the one of its first signal first: its octets are one.
+-- The windows are a present alignment, from its first signal.
 pub record IsAlignment (age wrong_fas wrong_nfas : ℕ) (windows : List ℕ) : Type 0 where
   pub counted : age ≡ length windows % 512
   pub found : 512 < length windows
@@ -49,19 +49,19 @@ pub record IsAligned (age wrong_fas wrong_nfas : ℕ) (windows : List ℕ) : Typ
   pub none : (position : ℕ) → position < length skipped → is_confirmed windows position ≡ false
   pub fields : IsAlignment age wrong_fas wrong_nfas aligned
 
--- what the phase, and the memory where it hunts, say of the windows since all began anew
+-- the windows since the last restart, by the phase, and the memory without alignment
 abbrev pub Describes : Phase → List ℕ → List ℕ → Type 0
 Describes (Hunting seen) memory windows = IsHunting seen memory windows
 Describes (Aligned age wrong_fas wrong_nfas) memory windows = IsAligned age wrong_fas wrong_nfas windows
 
--- the phase is that of the alignment with one window more, or the search after it is lost by that window
+-- the phase is that of the alignment with one more window, or the search after a loss by that window
 abbrev pub FollowsAlignment : Phase → List ℕ → ℕ → Type 0
 FollowsAlignment (Hunting seen) windows window =
     (seen ≡ 0) × (is_lost_at (windows ++ window ∷ []) (length windows) ≡ true)
 FollowsAlignment (Aligned age wrong_fas wrong_nfas) windows window =
     IsAlignment age wrong_fas wrong_nfas (windows ++ window ∷ [])
 
--- The aligner stands after these windows.
+-- The aligner has this history of windows.
 pub record Stands (aligner : Aligner) (history : List ℕ) : Type 0 where
   pub since : HoldsSince bit_alignment
       (λ before windows. Describes aligner.phase aligner.memory windows) history

@@ -18,44 +18,43 @@ windows_in before octet =
     ∷ window_at before octet 3 ∷ window_at before octet 4 ∷ window_at before octet 5
     ∷ window_at before octet 6 ∷ window_at before octet 7 ∷ []
 
--- the windows of octets that come after this one
+-- the windows of octets after this one
 unfoldable pub windows_after : ℕ → List ℕ → List ℕ
 windows_after before [] = []
 windows_after before (octet ∷ octets) = windows_in before octet ++ windows_after octet octets
 
--- the windows of a stream; before it the line has ones, in which there is no signal
+-- the windows of a stream; the line before it has ones, which contain no signal
 abbrev pub windows_of : List ℕ → List ℕ
 windows_of octets = windows_after 255 octets
 
--- the bit of an octet at which the windows of the last of these alignments end, or this one where there is
--- none
+-- the last bit of windows in the last of these alignments, or this one if there is none
 abbrev pub offset_of : ℕ → List Alignment → ℕ
 offset_of before [] = before
 offset_of before (alignment ∷ others) = offset_of (alignment.start % 8) others
 
--- that of all the alignments in these windows, which may be lost; 7 is that of octets as they come
+-- that of all alignments in these windows, lost ones too; 7 is that of aligned octets
 unfoldable pub offset_after : List ℕ → ℕ
 offset_after windows = offset_of 7 (alignments_of bit_alignment windows)
 
--- the octet of the aligned stream that is returned with the last of these: the window at the offset in it
+-- the octet of the aligned stream returned with the last of these: the window at the offset in it
 unfoldable pub aligned_octet : List ℕ → ℕ
 aligned_octet octets =
     slice_index (windows_of octets) (8 * (length octets - 1) + offset_after (windows_of octets))
 
--- the octets as they come where the far end's octets are this many bits late, after this one
+-- the octets received if the far end's octets are this many bits late, after this one
 unfoldable pub delayed_after : ℕ → ℕ → List ℕ → List ℕ
 delayed_after bits before [] = []
 delayed_after bits before (octet ∷ octets) =
     (256 * before + octet) / 2 ^ bits % 256 ∷ delayed_after bits octet octets
 
--- where the offset is that of octets as they come, what is returned is the octet that came
+-- at the offset of aligned octets the octet received is returned
 abbrev pub AlignedPasses : Type 0
 AlignedPasses =
     (octets : List ℕ) (octet : ℕ) → octet < 256 → offset_after (windows_of (octets ++ octet ∷ [])) ≡ 7
     → aligned_octet (octets ++ octet ∷ []) ≡ octet
 
--- where octets come late by one to seven bits, and the offset is that of the delay, what is returned for an
--- octet is the far end's octet before it
+-- if octets are late by one to seven bits, and the offset is that delay, each octet returns the far end's
+-- octet before it
 abbrev pub DelayedIsReturned : Type 0
 DelayedIsReturned =
     (bits before : ℕ) (octets : List ℕ) (previous octet : ℕ) → 0 < bits → bits < 8
@@ -63,8 +62,7 @@ DelayedIsReturned =
     → offset_after (windows_of (delayed_after bits before (octets ++ previous ∷ octet ∷ []))) ≡ bits - 1
     → aligned_octet (delayed_after bits before (octets ++ previous ∷ octet ∷ [])) ≡ previous
 
--- where octets come late by one to seven bits, each stands whole among the windows, at the offset of the
--- delay
+-- if octets are late by one to seven bits, each is a window at the offset of the delay
 abbrev pub DelayedIsWhole : Type 0
 DelayedIsWhole =
     (bits before : ℕ) (octets : List ℕ) (position : ℕ) → 0 < bits → bits < 8
@@ -72,8 +70,8 @@ DelayedIsWhole =
     → slice_index (windows_of (delayed_after bits before octets)) (8 * (position + 1) + (bits - 1))
     ≡ slice_index octets position
 
--- so the far end's frame alignment is found where it stands: its signal, the octet without it and the signal
--- again, 32 octets apart, are a confirmed signal of the bits, at every delay
+-- the far end's frame alignment is found: its signal, the octet without it and the signal again, 32 octets
+-- apart, are a confirmed signal of the bits, at every delay
 abbrev pub FarEndIsConfirmed : Type 0
 FarEndIsConfirmed =
     (bits before : ℕ) (octets : List ℕ) (position : ℕ) → 0 < bits → bits < 8

@@ -1,4 +1,4 @@
--- Finding frame alignment in a stream of bits: the signal, an octet whose bit 2 is one, and the signal again,
+-- Finding frame alignment in a stream of bits: the signal, an octet whose bit 2 is 1, and the signal again,
 -- 256 bits apart (ITU-T G.706, 4.1.2). The stream is that of its windows: for each bit the octet that ends
 -- there.
 use Rattle.std.specs.Prelude.{ℕ, ◌+◌, Bool, ◌&&◌, nat_le, List, length, slice_index, Option}
@@ -11,7 +11,7 @@ is_confirmed windows position =
     is_fas (slice_index windows position)
     && (is_nfas (slice_index windows (position + 256)) && is_fas (slice_index windows (position + 512)))
 
--- the search from a position on: the first window there that is confirmed
+-- the search from a position: the first confirmed window
 unfoldable pub search : List ℕ → ℕ → Option ℕ
 search windows from =
     least (λ position. nat_le from position && is_confirmed windows position) (length windows)

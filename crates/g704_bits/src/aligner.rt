@@ -1,4 +1,4 @@
-//! The aligner: one small machine, moved on by each window, which is the octet that ends at a bit.
+//! The frame aligner over bits: it reads windows, each the octet that ends at a bit.
 
 ghost use Rattle.std.specs.Prelude.{◌≡◌, ◌+◌, ◌%◌, ◌<◌, ◌≤◌, ◌&&◌, ℕ, nat_le, List, Option, [], ◌∷◌, ◌++◌};
 ghost use Rattle.std.specs.Prelude.{length, slice_index};
@@ -10,21 +10,23 @@ const FRAME: u16 = 256;
 
 const TWO_FRAMES: u16 = 512;
 
-// The last of the counts of windows seen: it goes on with two frames, so that it tells their remainder.
+// The greatest count of windows seen; the count after it is that of two frames, so its remainder is right.
 const LAST_SEEN: u16 = 1023;
 
-// The bit of its octet, 0 to 7, at which windows end that are the octets as they come.
+// The last bit of an octet, 0 to 7, of windows that are the octets received.
 const UNMOVED: u8 = 7;
 
-// How far alignment has come.
+// The state of the search.
 #[derive(Clone, Copy, Debug, PartialEq, Eq)]
 pub(crate) enum Phase {
-    // Looked for, since so many windows: counted up to two frames, and from there modulo two frames.
+    // No alignment since so many windows, counted up to two frames and from there modulo two frames.
     Hunting {
         seen: u16,
     },
-    // Alignment stands. The age counts the windows from the first signal on, modulo two frames; the counts
-    // are those of wrong signals in a row.
+    // Frames are aligned.
+    //
+    // The age counts the windows from the first signal, modulo two frames; the counts are those of
+    // consecutive errored signals.
     Aligned {
         age: u16,
         wrong_fas: u8,
@@ -32,18 +34,20 @@ pub(crate) enum Phase {
     },
 }
 
-// Finds frame alignment in a stream of bits, given the window that ends at each.
+// Finds frame alignment in a stream of bits.
+//
+// It takes the window that ends at each bit.
 #[derive(Debug, Drop)]
 pub(crate) struct Aligner {
     phase: Phase,
-    // At which bit of an octet the last alignment that was found has its windows.
+    // The last bit of windows in the last alignment.
     offset: u8,
-    // While alignment is looked for: the last windows of two frames, each at its number modulo two frames.
+    // Without alignment: the last windows of two frames, each at its number modulo two frames.
     memory: [u8; 512],
 }
 
 impl Aligner {
-    // An aligner that has seen no window.
+    // An aligner at the start of a stream.
     pub(crate) fn new() -> Self
         ensures { Stands result [] }
     {
@@ -54,7 +58,7 @@ impl Aligner {
         }
     }
 
-    // The bit of an octet, 0 to 7, at which the windows of the last alignment end.
+    // The last bit, 0 to 7, of the last alignment's windows.
     pub(crate) fn offset(&self) -> u8
         ensures { result ≡ self.now.offset }
     {
@@ -76,7 +80,7 @@ impl Aligner {
         }
     }
 
-    // Takes a window while alignment is looked for.
+    // Takes a window without alignment.
     fn hunt(&mut self, seen: u16, window: u8, bit: u8)
         requires { self.old.phase ≡ Phase.Hunting seen }
         ensures stands { (history : List ℕ) → Stands self.old history → bit ≡ length history % 8
@@ -97,7 +101,7 @@ impl Aligner {
         }
     }
 
-    // Whether the window confirms the one two frames before it, as the one a frame before it does.
+    // Whether a window confirms the one two frames before it, as does the one a frame before it.
     fn confirms(&self, seen: u16, window: u8) -> bool
         ensures { result ≡ confirms seen self.now.memory window }
     {
@@ -108,7 +112,7 @@ impl Aligner {
     }
 }
 
-// The count of the windows seen after one more.
+// The count of windows seen, after one more.
 fn next_seen(seen: u16) -> u16
     ensures { result ≡ next_seen seen }
 {
@@ -119,7 +123,7 @@ fn next_seen(seen: u16) -> u16
     }
 }
 
-// The phase after a window in an alignment.
+// The phase after a window in alignment.
 fn after_aligned(age: u16, wrong_fas: u8, wrong_nfas: u8, window: u8) -> Phase
     ensures { (windows : List ℕ) → IsAlignment age wrong_fas wrong_nfas windows
         → FollowsAlignment result windows window }
@@ -152,7 +156,7 @@ fn after_aligned(age: u16, wrong_fas: u8, wrong_nfas: u8, window: u8) -> Phase
     }
 }
 
-// The age of the next window, counted modulo two frames.
+// The age of the next window, modulo two frames.
 fn next_age(age: u16) -> u16
     ensures { age < 512 → result ≡ (age + 1) % 512 }
 {

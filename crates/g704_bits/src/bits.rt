@@ -1,4 +1,4 @@
-//! Octets as they come, and the octets of the aligned stream, one for one.
+//! Octets received to octets of the aligned stream, one for one.
 
 ghost use Rattle.std.specs.Prelude.{◌≡◌, ◌+◌, ◌<◌, ℕ, List, [], ◌∷◌, ◌++◌};
 ghost use Rattle.g704_bits.specs.Bits.{aligned_octet, window_at};
@@ -6,15 +6,15 @@ ghost use Rattle.g704_bits.specs.Standing.{StandsAfter};
 
 use crate::aligner::Aligner;
 
-// The line before the first octet: ones, in which there is no signal.
+// The line before the first octet: ones, which contain no signal.
 const BEFORE: u8 = 0xFF;
 
-/// Turns a stream of octets whose bits are not aligned to time slots into the octets of the time slots, one
-/// for one. Each is the eight bits that end at the offset of the last alignment found, in the octet and the
-/// one before it, and is so delayed by none to seven bits.
+/// Aligns octets to time slots, one for one.
 ///
-/// Before the first alignment octets pass as they come. While alignment is lost they pass at the offset that
-/// was the last.
+/// Each octet returned is the eight bits that end at the offset of the last alignment found, in the octet
+/// received and the one before it; so it is delayed by up to seven bits.
+///
+/// Before the first alignment octets pass unchanged. Without alignment they pass at the last offset.
 ///
 /// ```rust
 /// let mut aligner = BitAligner::new();
@@ -26,12 +26,12 @@ const BEFORE: u8 = 0xFF;
 #[derive(Debug, Drop)]
 pub struct BitAligner {
     aligner: Aligner,
-    // The octet that came last.
+    // The last octet received.
     before: u8,
 }
 
 impl BitAligner {
-    /// An aligner that has seen no octet.
+    /// An aligner at the start of a stream.
     pub fn new() -> Self
         ensures { StandsAfter result [] }
     {
@@ -41,7 +41,7 @@ impl BitAligner {
         }
     }
 
-    /// Takes the next octet of the stream and returns the next one of the aligned stream.
+    /// Takes the next octet and returns the next one of the aligned stream.
     pub fn octet(&mut self, octet: u8) -> u8
         ensures reply { (history : List ℕ) → StandsAfter self.old history
             → result ≡ aligned_octet (history ++ octet ∷ []) }
@@ -57,7 +57,7 @@ impl BitAligner {
     }
 }
 
-// The window that ends at this bit of the second of two octets.
+// The window that ends at a bit of the second of two octets.
 fn window_at(before: u8, octet: u8, bit: u8) -> u8
     ensures { bit < 8 → result ≡ window_at before octet bit }
 {

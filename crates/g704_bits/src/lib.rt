@@ -1,5 +1,6 @@
-//! Frame alignment of a 2048 kbit/s stream whose octets are not aligned to time slots (ITU-T G.704, 2.3;
-//! ITU-T G.706, 4.1, over bits), and the octets of its time slots.
+//! Frame alignment of a 2048 kbit/s stream of unaligned octets.
+//!
+//! ITU-T G.704, 2.3 and ITU-T G.706, 4.1, over bits; it returns the octets of the time slots.
 #![tactic(auto)]
 
 mod aligner;

@@ -30,6 +30,6 @@ place-append = places_are_settled multiframes multiframes_are_placed
 pub place-alike : PlacesAreAlike multiframes
 place-alike = places_are_alike multiframes multiframes_are_placed
 
--- no search and no loss reads an octet of another frame than 0: streams that differ there alone are placed alike
+-- no search and no loss reads an octet of another frame than 0: streams that differ only there are placed alike
 pub alike-kept : OtherPlacesAreNotRead multiframes
 alike-kept = other_places_are_not_read multiframes multiframes_are_placed

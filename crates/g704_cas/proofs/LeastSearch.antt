@@ -35,7 +35,7 @@ search-least b (x ∷ s) zero = elim (cases_Bool (is_mfas x && is_not_zero b)) [
       (search-least (Some x) s 0))
 ]
 
--- the octet before a position is the one that stands there
+-- the octet before a position is the one in the list
 octet_before-at : (b : Option ℕ) (s : List ℕ) (k : ℕ) → k < length s → octet_before b s (suc k) ≡ Some (get_or s k 0)
 octet_before-at b [] k lt = absurd (omega arith)
 octet_before-at b (x ∷ s) zero lt = refl

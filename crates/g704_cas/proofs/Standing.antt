@@ -1,4 +1,4 @@
--- What a multiframe aligner that stands answers, and how it goes on.
+-- The answers of a multiframe aligner with a history, and its next history.
 use Rattle.std.proofs.Common.{◌≡◌, ℕ, ◌-◌, ◌%◌, List, [], ◌∷◌, ◌++◌, length, Bool, true, false}
 use Rattle.std.proofs.Common.{Option, Some, None, refl, sym, ap, ◌∙◌, subst, arith}
 use Rattle.std.specs.Prelude.{is_none}
@@ -18,7 +18,7 @@ use Rattle.g704_cas.specs.Placing.{multiframes, alarm_after}
 use Rattle.g704_cas.specs.Aligner.{IsAlignment, Describes, Follows, Stands}
 use Rattle.g704_cas.proofs.Searches.{multiframe_is_framing, search-found}
 
--- the age of an octet of an alignment that stands
+-- the age of an octet of a present alignment
 age-aligned : (b : Option ℕ) (c : List ℕ) (n frame : ℕ) (wrong : Bool) → IsAlignment b frame wrong c
     → age_in 0 (alignments_from multiframe_alignment b c 0) n ≡ Some n
 age-aligned b c n frame wrong h =
@@ -43,7 +43,7 @@ place-next b c x frame frame' wrong wrong' h g =
     let e : frame % 16 ≡ length c % 16 = omega arith in
     rw (age-aligned b (c ++ x ∷ []) (length c) frame' wrong' g) (ap Frame e)
 
--- the aligner stands after one octet more
+-- the aligner has the history with one more octet
 pub stands-follows : (phase : Phase) (history earlier since : List ℕ) (x : ℕ) → history ≡ earlier ++ since
     → IsOver multiframe_alignment None earlier → Follows phase (last_of None earlier) (since ++ x ∷ [])
     → Stands (record { phase = phase }) (history ++ x ∷ [])

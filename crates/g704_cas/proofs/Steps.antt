@@ -41,7 +41,7 @@ not_zero-wrong b c x r = rw (last_of-push b c x) (elim (cases_eq x 0) [
 
 -- an alignment after one octet more
 module _ (b : Option ℕ) (c : List ℕ) (x frame : ℕ) (wrong : Bool) (h : IsAlignment b frame wrong c) where
-  -- its fields, where it is not lost by the octet
+  -- its fields, if it is not lost by the octet
   more : (frame' : ℕ) (wrong' : Bool) → frame' ≡ length (c ++ x ∷ []) % 16
       → is_second_wrong (c ++ x ∷ []) (length c) ≡ false
       → ((k : ℕ) → length (c ++ x ∷ []) ≤ k → k < length (c ++ x ∷ []) + 16 → k % 16 ≡ 0

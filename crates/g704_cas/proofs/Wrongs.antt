@@ -22,7 +22,7 @@ pub is_wrong-last : (c : List ℕ) (x : ℕ) → length c % 16 ≡ 0 → is_wron
 unfolding is_wrong
 is_wrong-last c x r = rw (r, get_or_push c x 0 (length c) refl) refl
 
--- two alignments are wrong alike at a place where their octets are right alike
+-- two alignments are wrong alike at a place if their octets are right alike
 pub is_wrong-alike : (octets others : List ℕ) (k : ℕ)
     → (k % 16 ≡ 0 → is_mfas (slice_index octets k) ≡ is_mfas (slice_index others k))
     → is_wrong octets k ≡ is_wrong others k
@@ -42,7 +42,7 @@ is_second_wrong-alike octets others k alike =
       is_wrong-alike octets others (k - 16) (alike (k - 16) (omega arith)),
     ) refl
 
--- an alignment is lost by octets of frame 0 alone
+-- an alignment is lost by octets of frame 0 only
 pub is_second_wrong-reads : (octets others : List ℕ) (k : ℕ)
     → ((j : ℕ) → j ≤ k → j % 16 ≡ 0 → slice_index octets j ≡ slice_index others j)
     → is_second_wrong octets k ≡ is_second_wrong others k

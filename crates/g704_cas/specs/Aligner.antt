@@ -1,4 +1,4 @@
--- What the fields of a multiframe aligner say of the octets that it was given.
+-- The history of a multiframe aligner: the octets that it received, by its fields.
 use Rattle.std.specs.Prelude.{◌≡◌, ℕ, ◌+◌, ◌-◌, ◌%◌, ◌<◌, ◌≤◌, Bool, true, false, List, [], length}
 use Rattle.std.specs.Prelude.{slice_index}
 use Rattle.std.specs.Prelude.{Option}
@@ -9,7 +9,7 @@ use Rattle.g704_cas.specs.declared.alignment.Phase.TheVariants.{Searching, Align
 use Rattle.g704_cas.specs.Search.{is_mfas, is_not_zero}
 use Rattle.g704_cas.specs.Loss.{is_wrong, is_second_wrong, multiframe_alignment}
 
--- The octets are an alignment that stands, its first one first; the octet before them is not 0.
+-- The octets are a present alignment, from its first one; the octet before them is not 0.
 pub record IsAlignment (before : Option ℕ) (frame : ℕ) (wrong : Bool) (octets : List ℕ) : Type 0 where
   pub after_nonzero : is_not_zero before ≡ true
   pub begun : 0 < length octets
@@ -20,7 +20,7 @@ pub record IsAlignment (before : Option ℕ) (frame : ℕ) (wrong : Bool) (octet
   pub last : (next : ℕ) → length octets ≤ next → next < length octets + 16 → next % 16 ≡ 0
       → wrong ≡ is_wrong octets (next - 16)
 
--- what the phase says of the octets since all began anew, and of the octet before them
+-- the octets since the last restart, and the one before them, by the phase
 abbrev pub Describes : Phase → Option ℕ → List ℕ → Type 0
 Describes (Searching after_nonzero) before octets = (octets ≡ []) × (after_nonzero ≡ is_not_zero before)
 Describes (Aligned frame wrong) before octets = IsAlignment before frame wrong octets
@@ -31,7 +31,6 @@ Follows (Searching after_nonzero) before octets =
     IsOver multiframe_alignment before octets × (after_nonzero ≡ is_not_zero (last_of before octets))
 Follows (Aligned frame wrong) before octets = IsAlignment before frame wrong octets
 
--- The aligner stands after these octets, which are those since it was made or was told of a loss of frame
--- alignment: its fields describe the octets since all began anew.
+-- The aligner has this history: the octets since it was made, or since a loss of frame alignment.
 abbrev pub Stands : MfAligner → List ℕ → Type 0
 Stands aligner history = HoldsSince multiframe_alignment (Describes aligner.phase) history

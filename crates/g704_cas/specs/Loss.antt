@@ -4,11 +4,11 @@ use Rattle.std.specs.Prelude.{ℕ, ◌-◌, ◌%◌, Bool, not, ◌&&◌, ◌==�
 use Rattle.g704_framing.specs.Alignment.{Framing}
 use Rattle.g704_cas.specs.Search.{is_mfas, search}
 
--- of the octets of an alignment: the one of this age is that of a frame 0, and is wrong
+-- the octet with this age in an alignment is that of a frame 0, and is wrong
 unfoldable pub is_wrong : List ℕ → ℕ → Bool
 is_wrong octets age = (age % 16 == 0) && not (is_mfas (slice_index octets age))
 
--- it is wrong, and so is the one 16 octets before it: the second in a row
+-- it and the one 16 octets before it are wrong: the second in a row
 abbrev pub is_second_wrong : List ℕ → ℕ → Bool
 is_second_wrong octets age = nat_lt 0 age && (is_wrong octets age && is_wrong octets (age - 16))
 

@@ -1,4 +1,4 @@
--- Where a circuit's speech and its ABCD bits stand on the trunk.
+-- The places of a circuit's speech and ABCD bits on the trunk.
 use Rattle.std.specs.Prelude.{◌≢◌, ℕ, ◌+◌, ◌-◌, ◌<◌, nat_le, if◌then◌else◌}
 
 -- the time slot of a circuit's speech: slot 16 is not for speech (ITU-T G.704, 5.1.3.2)
@@ -12,7 +12,7 @@ pub record IsSpeechSlot (slot : ℕ) : Type 0 where
   pub not_alignment : slot ≢ 0
   pub not_signalling : slot ≢ 16
 
--- the circuit whose speech is in a time slot of speech
+-- the circuit whose speech is in a speech slot
 abbrev pub circuit_in : ℕ → ℕ
 circuit_in slot = if nat_le slot 15 then slot else slot - 1
 

@@ -1,4 +1,4 @@
--- The octets of a saved multiframe aligner: the number of its phase, then what the phase has.
+-- The octets of a saved multiframe aligner: the number of its phase, then the phase's values.
 use Rattle.std.specs.Prelude.{ℕ, List, [], ◌∷◌}
 use Rattle.saved_octets.specs.Numbers.{flag_octet}
 use Rattle.g704_cas.specs.declared.alignment.MfAligner.{MfAligner}

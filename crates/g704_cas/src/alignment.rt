@@ -1,4 +1,4 @@
-//! The aligner of multiframes: one small machine, moved on by each octet of time slot 16.
+//! The multiframe aligner, over the octets of time slot 16.
 
 ghost use Rattle.std.specs.Prelude.{◌≡◌, ◌+◌, ◌%◌, ◌<◌, ℕ, List, Option, [], ◌∷◌, ◌++◌, length};
 ghost use Rattle.g704_cas.specs.Search.{is_mfas, is_not_zero};
@@ -10,46 +10,49 @@ mod saving;
 
 const FRAMES: u8 = 16;
 
-// Bits 1 to 4 of an octet, which are all 0 in the multiframe alignment signal.
+// Bits 1 to 4 of an octet, which are 0 in the multiframe alignment signal.
 const SIGNAL_BITS: u8 = 0xf0;
 
-/// Where an octet of time slot 16 stands in the multiframe.
+/// The place of an octet of time slot 16 in the multiframe.
 #[derive(Clone, Copy, Debug, PartialEq, Eq)]
 pub enum MfPlace {
-    /// Alignment is being looked for.
+    /// No alignment: it is being searched for.
     Hunting,
-    /// The octet is in the frame of this number, 0 to 15.
+    /// The octet is in the frame with this number, 0 to 15.
     Frame(u8),
 }
 
 #[derive(Clone, Copy, Debug, PartialEq, Eq)]
 enum Phase {
-    // Alignment is being looked for: whether there is an octet before, and it is not 0.
+    // No alignment: whether there is an octet before, and it is not 0.
     Searching { after_nonzero: bool },
-    // Alignment stands: the frame of the next octet, and whether the last octet of a frame 0 was wrong.
+    // Multiframes are aligned: the frame of the next octet, and whether the last octet of a frame 0 was
+    // wrong.
     Aligned { frame: u8, wrong: bool },
 }
 
-// The search before any octet.
+// The search at the start of a stream.
 const AT_FIRST: Phase = Phase::Searching {
     after_nonzero: false,
 };
 
-/// Finds multiframe alignment in the octets of time slot 16, follows it, and tells the frame of each octet.
+/// Finds and follows multiframe alignment in time slot 16.
+///
+/// It returns the frame of each octet.
 #[derive(Clone, Copy, Debug, PartialEq, Eq)]
 pub struct MfAligner {
     phase: Phase,
 }
 
 impl MfAligner {
-    /// An aligner that has seen no octet, and hunts.
+    /// An aligner at the start of a stream.
     pub fn new() -> Self
         ensures { Stands result [] }
     {
         MfAligner { phase: AT_FIRST }
     }
 
-    /// Takes the next octet of time slot 16 and tells its place.
+    /// Takes the next octet of time slot 16 and returns its place.
     pub fn slot16(&mut self, octet: u8) -> MfPlace
         ensures placed { (history : List ℕ) → Stands self.old history
             → result ≡ place (history ++ octet ∷ []) (length history) }
@@ -62,14 +65,14 @@ impl MfAligner {
         place_between(before, self.phase)
     }
 
-    /// Frame alignment is lost: hunts anew, and forgets all octets.
+    /// Restarts after a loss of frame alignment.
     pub fn lost(&mut self)
         ensures { Stands self.new [] }
     {
         self.phase = AT_FIRST;
     }
 
-    /// Whether the alarm stands: alignment is being looked for. It does before the first octet.
+    /// Whether there is no alignment, as before the first octet.
     pub fn alarm(&self) -> bool
         ensures { (history : List ℕ) → Stands self.now history → result ≡ alarm_after history }
     {
@@ -80,7 +83,7 @@ impl MfAligner {
     }
 }
 
-// Whether the octet is right as that of frame 0.
+// Whether the octet is right for frame 0.
 #[tactic(auto, unfolding(crate::specs::Search::is_mfas))]
 fn is_mfas(octet: u8) -> bool
     ensures { result ≡ is_mfas octet }
@@ -88,7 +91,7 @@ fn is_mfas(octet: u8) -> bool
     octet & SIGNAL_BITS == 0
 }
 
-// The phase after one more octet.
+// The phase after an octet.
 fn phase_after(phase: Phase, octet: u8) -> Phase
     ensures { (before : Option ℕ) (octets : List ℕ) → Describes phase before octets
         → Follows result before (octets ++ octet ∷ []) }
@@ -99,7 +102,7 @@ fn phase_after(phase: Phase, octet: u8) -> Phase
     }
 }
 
-// The phase after an octet that a search looks at.
+// The phase after an octet read by a search.
 fn searched(after_nonzero: bool, octet: u8) -> Phase
     ensures { (before : Option ℕ) → after_nonzero ≡ is_not_zero before → Follows result before (octet ∷ []) }
 {
@@ -115,7 +118,7 @@ fn searched(after_nonzero: bool, octet: u8) -> Phase
     }
 }
 
-// The phase after an octet in an alignment.
+// The phase after an octet in alignment.
 fn after_aligned(frame: u8, wrong: bool, octet: u8) -> Phase
     ensures { (before : Option ℕ) (octets : List ℕ) → IsAlignment before frame wrong octets
         → Follows result before (octets ++ octet ∷ []) }

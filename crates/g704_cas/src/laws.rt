@@ -1,4 +1,4 @@
-//! Laws of multiframe alignment, over its definitions alone.
+//! Laws of multiframe alignment, by its definitions alone.
 
 ghost use Rattle.g704_framing.specs.Laws.{IsFraming};
 ghost use Rattle.g704_cas.specs.Search.{SearchIsLeast};
@@ -6,31 +6,32 @@ ghost use Rattle.g704_cas.specs.Loss.{multiframe_alignment};
 ghost use Rattle.g704_framing.specs.Places.{PlacesAreSettled, PlacesAreAlike, OtherPlacesAreNotRead};
 ghost use Rattle.g704_cas.specs.Placing.{multiframes};
 
-/// A search finds the least position, from where it begins, of an octet that is right after one that is not
-/// 0.
+/// A search finds the least position with a right octet behind one that is not 0.
 pub fn search_is_least()
     ensures { SearchIsLeast }
 {}
 
-/// Multiframe alignment is an alignment of the kind that the laws of g704_framing speak of: among others, the
-/// alignments of a list are what searches and losses in turn give.
+/// Multiframe alignment is a framing, so the laws of g704_framing hold.
+///
+/// Among them: the alignments of a list are the results of alternating searches and losses.
 pub fn multiframe_alignment_is_framing()
     ensures { IsFraming multiframe_alignment }
 {}
 
-/// No later octet moves a place, or changes the alarm that stood.
+/// Later octets change no place and no earlier alarm.
 pub fn places_are_settled()
     ensures { PlacesAreSettled multiframes }
 {}
 
-/// Places depend on frame 0 alone: lists whose searches end alike, and which are right or wrong alike in
-/// frame 0 of the first one's alignments, finds and losses included, have the same alignments, places and
-/// alarms.
+/// Places depend on frame 0 alone.
+///
+/// Lists have the same alignments, places and alarms if their searches end alike and they are right or wrong
+/// alike in frame 0 of the first one's alignments, finds and losses included.
 pub fn places_are_alike()
     ensures { PlacesAreAlike multiframes }
 {}
 
-/// No search and no loss reads an octet of another frame than frame 0.
+/// No search and no loss reads an octet outside frame 0.
 pub fn other_places_are_not_read()
     ensures { OtherPlacesAreNotRead multiframes }
 {}

@@ -1,4 +1,4 @@
-//! The numbers of circuits, where they stand on the trunk, and the four signalling bits of one circuit.
+//! Circuit numbers, their places on the trunk, and the four signalling bits of a circuit.
 
 ghost use Rattle.std.specs.Prelude.{◌≡◌, ◌↔◌, ◌⊎◌, ◌+◌, ◌*◌, ◌/◌, ◌%◌, ◌<◌, ◌≤◌, ℕ, Some, IsSomeAnd};
 ghost use Rattle.std.specs.Option.{SomeIff};
@@ -10,18 +10,20 @@ const FIRST_CIRCUIT: u8 = 1;
 
 const LAST_CIRCUIT: u8 = 30;
 
-/// The time slot of signalling, which lies between those of the circuits 15 and 16 (ITU-T G.704, 5.1.3.2).
+/// The time slot of signalling, between those of circuits 15 and 16 (ITU-T G.704, 5.1.3.2).
 pub const SIGNALLING_SLOT: u8 = 16;
 
 // The last of the 32 time slots of a frame.
 const LAST_SLOT: u8 = 31;
 
-// Two circuits have their ABCD bits in one octet: that of the frame's number, and the one this far behind it.
+// The distance of the two circuits that share an octet: the second is this many after the frame's number.
 const LOW_NIBBLES: u8 = 15;
 
 const NIBBLES: u8 = 16;
 
-/// The number of a telephone circuit of the trunk, 1 to 30 (ITU-T G.704, 5.1.3.2). Contracts see the number.
+/// The number of a telephone circuit, 1 to 30 (ITU-T G.704, 5.1.3.2).
+///
+/// Contracts see the number.
 #[derive(Clone, Copy, Debug, PartialEq, Eq)]
 pub struct CircuitNo {
     number: u8,
@@ -40,7 +42,7 @@ impl Model for CircuitNo {
 }
 
 impl CircuitNo {
-    /// The circuit of this number; `None` where it is not from 1 to 30.
+    /// The circuit with this number; `None` if it is not 1 to 30.
     pub fn new(number: u8) -> Option<CircuitNo>
         ensures { SomeIff result ((1 ≤ number) × (number ≤ 30)) number }
     {
@@ -51,8 +53,10 @@ impl CircuitNo {
         }
     }
 
-    /// The circuit whose speech is in this time slot: 1 to 15 in these slots, 16 to 30 in the slots 17 to 31
-    /// (ITU-T G.704, 5.1.3.2). `None` for slot 0, of frame alignment, slot 16, of signalling, and above 31.
+    /// The circuit whose speech is in a time slot.
+    ///
+    /// Circuits 1 to 15 are in slots 1 to 15, circuits 16 to 30 in slots 17 to 31 (ITU-T G.704, 5.1.3.2).
+    /// `None` for slot 0 (frame alignment), slot 16 (signalling), and above 31.
     pub fn in_slot(slot: u8) -> Option<CircuitNo>
         ensures reply { SomeIff result (IsSpeechSlot slot) (circuit_in slot) }
         ensures inverse { (c : ℕ) → 1 ≤ c → c ≤ 30 → (result ≡ Some c) ↔ (slot ≡ slot_of c) }
@@ -66,9 +70,10 @@ impl CircuitNo {
         }
     }
 
-    /// The two circuits whose ABCD bits are in time slot 16 of this frame of a multiframe: n in bits 1 to 4
-    /// and n + 15 in bits 5 to 8 of frame n, 1 to 15 (ITU-T G.704, 5.1.3.2). `None` for frame 0, of
-    /// multiframe alignment, and above 15.
+    /// The two circuits whose ABCD bits are in a frame's slot 16.
+    ///
+    /// In frame n, 1 to 15, circuit n has bits 1 to 4 and circuit n + 15 bits 5 to 8 (ITU-T G.704, 5.1.3.2).
+    /// `None` for frame 0 (multiframe alignment) and above 15.
     pub fn of_frame(frame: u8) -> Option<(CircuitNo, CircuitNo)>
         ensures reply { SomeIff result ((1 ≤ frame) × (frame ≤ 15)) (frame, frame + 15) }
         ensures inverse { (c : ℕ) → 1 ≤ c → c ≤ 30
@@ -94,7 +99,9 @@ impl CircuitNo {
         self.number
     }
 
-    /// The time slot of the circuit's speech: 1 to 15 for these circuits, 17 to 31 for the circuits 16 to 30.
+    /// The time slot of the circuit's speech.
+    ///
+    /// It is 1 to 15 for these circuits, 17 to 31 for circuits 16 to 30.
     pub fn slot(self) -> u8
         ensures value { result ≡ slot_of self }
         ensures range { (1 ≤ self) × (self ≤ 30) }
@@ -108,7 +115,9 @@ impl CircuitNo {
     }
 }
 
-/// The ABCD bits of one circuit, 0 to 15, A being the top bit. Contracts see the number.
+/// The ABCD bits of one circuit, 0 to 15, with A on top.
+///
+/// Contracts see the number.
 #[derive(Clone, Copy, Debug, PartialEq, Eq)]
 pub struct Nibble {
     bits: u8,
@@ -127,7 +136,7 @@ impl Model for Nibble {
 }
 
 impl Nibble {
-    /// The nibble of this value; `None` where it is above 15.
+    /// The nibble with this value; `None` above 15.
     pub fn new(bits: u8) -> Option<Nibble>
         ensures { SomeIff result (bits < 16) bits }
     {
@@ -147,7 +156,7 @@ impl Nibble {
     }
 }
 
-/// The two nibbles of an octet of time slot 16, the high one, bits 1 to 4, first.
+/// The two nibbles of an octet of slot 16, bits 1 to 4 first.
 pub fn nibbles(octet: u8) -> (Nibble, Nibble)
     ensures high { result.0 ≡ octet / 16 }
     ensures low { result.1 ≡ octet % 16 }
@@ -162,7 +171,7 @@ pub fn nibbles(octet: u8) -> (Nibble, Nibble)
     )
 }
 
-/// The octet of time slot 16 with these nibbles, the high one, bits 1 to 4, first.
+/// The octet of slot 16 with these nibbles, bits 1 to 4 first.
 pub fn join(high: Nibble, low: Nibble) -> u8
     ensures value { result ≡ 16 * high + low }
     ensures range { (high < 16) × (low < 16) }

@@ -38,7 +38,7 @@ loss-here n (Some q) e g = elim (cases_lt (suc n) q) [
 ]
 
 module _ (f : Framing) (h : IsFraming f) (b : Option ℕ) (s : List ℕ) (a n k : ℕ) where
-  -- The alignment stands at the octet.
+  -- There is an alignment at the octet.
   in_alignment : (p : ℕ) (l : Option ℕ) (ds : List Alignment) → ds ≡ after_loss f b s l → IsNotBefore p l
       → p + a ≤ suc n → is_before_loss (suc n) l ≡ true → suc n - p ≡ k
       → IsAgeBefore a (suc n) k (age_in a (record { start = p; lost = l } ∷ ds) n)
@@ -61,7 +61,7 @@ module _ (f : Framing) (h : IsFraming f) (b : Option ℕ) (s : List ℕ) (a n k 
         }
   ]
 
-  -- The alignment does not stand at the octet, and neither did it before, or it is lost by the octet.
+  -- There is no alignment at the octet, and there was none before, or it is lost by the octet.
   past_alignment : (p : ℕ) (l : Option ℕ) (ds : List Alignment) → ds ≡ after_loss f b s l
       → is_standing a (record { start = p; lost = l }) (suc n) ≡ false → age_in a ds (suc n) ≡ Some k
       → IsAgeBefore a (suc n) k (age_in a ds n)

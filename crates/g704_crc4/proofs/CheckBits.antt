@@ -86,7 +86,7 @@ pub by-bits : (a b c d : Bool) (w : Remainder) → a ≡ w.c1 → b ≡ w.c2 →
     → record { c1 = a; c2 = b; c3 = c; c4 = d } ≡ w
 by-bits a b c d w p q r s = rw (p, q, r, s) refl
 
--- A check bit of a submultiframe, in the frame in which it is sent.
+-- A check bit of a submultiframe, in its frame.
 check-bit-sent : (octets : List ℕ) (n number : ℕ) → number < 4 → 256 * (n + 2) ≤ length octets
     → si_of (sent_octets octets) (8 * (n + 1) + 2 * number)
     ≡ check_bit (remainder_of (submultiframe n (zeroed octets))) number

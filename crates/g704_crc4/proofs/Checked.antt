@@ -160,7 +160,7 @@ module _ (m : Checker) (h : List ℕ) (x : ℕ) (s : ChecksAfter m h) where
             ∙ ap (λ i. block_event true (is_right all i)) (sym n))
       ]
 
-  -- What an E bit reports is one for Si bits that are the same where E bits are.
+  -- An E bit reports the same for Si bits that are equal at E bits.
   far-end-event-same : (place : ℕ) (a b : Bool) → (place ≡ 416 → a ≡ b) → (place ≡ 480 → a ≡ b)
       → far_end_event place a ≡ far_end_event place b
   far-end-event-same place a b one two = elim (cases_eq place 416) [

@@ -17,7 +17,7 @@ use Rattle.g704_crc4.specs.Tally.{tells_given_up}
 use Rattle.g704_crc4.specs.Receivers.{IsFollowed}
 use Rattle.g704_crc4.proofs.Blocks.{errored-stays, errored-more, errored-none, block-came, excessive-is}
 
--- Once the 8 ms have come, later octets do not change where multiframes begin in them.
+-- After the 8 ms, later octets do not change where multiframes begin in them.
 pub multiframe-stays : (octets : List ℕ) (x : ℕ) → 2112 ≤ length octets
     → multiframe_in (octets ++ x ∷ []) ≡ multiframe_in octets
 unfolding multiframe_in searched_octets
@@ -38,14 +38,14 @@ pub followed-nothing : (octets : List ℕ) → checked_octets octets ≡ [] → 
 unfolding followed is_excessive event_of
 followed-nothing octets e = rw e refl
 
--- What is learned where no thousand has too many errored ones.
+-- The event if no thousand has too many errored ones.
 pub followed-is : (octets checked : List ℕ) (o : Option Event) → checked_octets octets ≡ checked
     → is_excessive checked ≡ false → o ≡ event_of checked
     → option_map (λ event. Received event) o ≡ followed octets
 unfolding followed
 followed-is octets checked o e few is = rw (e, few, is) refl
 
--- What is learned where one has.
+-- The event if one has.
 pub followed-excess : (octets checked : List ℕ) → checked_octets octets ≡ checked → is_excessive checked ≡ true
     → Some GivenUp ≡ followed octets
 unfolding followed
@@ -132,7 +132,7 @@ module _ (m : Following) (octets : List ℕ) (x : ℕ) (s : IsFollowed m octets)
   abbrev e : List ℕ
   e = checked_octets octets ++ x ∷ []
 
-  -- An octet with which no submultiframe is known.
+  -- An octet without a known submultiframe.
   pub no-block : (after : Following) → m.to_come ≡ 0 → after.to_come ≡ 0 → ChecksAfter after.checker e
       → (length e % 256 ≡ 0 → length e ≤ 256) → after.known ≡ m.known → after.errored ≡ m.errored
       → IsFollowed after (octets ++ x ∷ [])
@@ -175,7 +175,7 @@ module _ (m : Following) (octets : List ℕ) (x : ℕ) (s : IsFollowed m octets)
       excessive-is e (known_blocks d) (cond right m.errored (m.errored + 1)) came.0 came.1 (omega arith)
       (total right is)
 
-  -- An octet with which one is known.
+  -- An octet with one.
   pub block : (after : Following) (right : Bool) → m.to_come ≡ 0 → after.to_come ≡ 0 → ChecksAfter after.checker e
       → Some (Block right) ≡ event_of e → after.known ≡ (m.known + 1) % 1000
       → after.errored ≡ (if after.known == 0 then 0 else cond right m.errored (m.errored + 1))

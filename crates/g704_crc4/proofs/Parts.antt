@@ -81,7 +81,7 @@ part-is earlier (x ∷ part) over kept =
     ∙ age-standing 0 (length part) _ standing (omega arith))
     ∙ ap (λ k. drop k (earlier ++ x ∷ part)) from ∙ drop-append_seam earlier (x ∷ part)
 
--- A part that has begun is given up by its next octet, and all begins anew.
+-- A part is given up by its next octet, and everything restarts.
 pub part-over : (before : Option ℕ) (part : List ℕ) (x : ℕ) → 0 < length part
     → ((position : ℕ) → position < length part → parts.is_lost part position ≡ false)
     → is_given_up (aligned_octets (part ++ x ∷ [])) ≡ true → IsOver parts before (part ++ x ∷ [])

@@ -54,7 +54,7 @@ short-kept octets le =
     let other : (length octets == 2113) ≡ false = ne_eqb (length octets) 2113 (omega arith) in
     rw (other, next-few octets (omega arith)) refl
 
--- Multiframes that were found stand after the 8 ms.
+-- Multiframes once found remain after the 8 ms.
 stands-after : (octets : List ℕ) (number : ℕ) → multiframe_in octets ≡ Some number → 2112 < length octets
     → has_multiframes octets ≡ true
 unfolding has_multiframes
@@ -68,7 +68,7 @@ lost-learned before number e lt =
     let none : has_multiframes [] ≡ false = short-none [] (omega arith) in
     rw (stands-after before number e lt, none) refl
 
--- Once they stand, what is learned is learned of submultiframes.
+-- From then on the events are those of submultiframes.
 pub long-learned : (before : List ℕ) (x number : ℕ) → multiframe_in before ≡ Some number → 2112 < length before
     → followed (before ++ x ∷ []) ≡ learned_of before (before ++ x ∷ [])
 unfolding learned_of is_multiframe_found
@@ -123,7 +123,7 @@ none-is octets searched l e none =
     rw (searched-is octets searched l e)
     (least_equals (λ k. begins_multiframe searched (2 * k)) 32 None (λ k lt. none k))
 
--- What is learned with the octet behind the 8 ms, where a multiframe begins in them.
+-- The event of the octet behind the 8 ms, if a multiframe begins in them.
 pub found-learned : (octets : List ℕ) (x number : ℕ) → length octets ≡ 2112 → multiframe_in octets ≡ Some number
     → Some Found ≡ learned_of octets (octets ++ x ∷ [])
 unfolding learned_of is_multiframe_found

@@ -9,7 +9,7 @@ use Rattle.g704_crc4.specs.Aligning.{learned}
 use Rattle.g704_crc4.specs.Tally.{tells_block, tells_errored, tells_far_end, tells_found, tells_lost, tells_given_up}
 use Rattle.g704_crc4.specs.Tally.{times_after, times, count_with, tally_with, tally_of}
 
--- How many octets tell something, with one octet more.
+-- How many octets have an event, with one more octet.
 times-push : (passes : Option Learned → Bool) (before octets : List ℕ) (x : ℕ)
     → times_after passes before (octets ++ x ∷ [])
     ≡ times_after passes before octets + bit_number (passes (learned (before ++ octets) x))

@@ -1,5 +1,5 @@
--- CRC multiframe alignment in the octets of a trunk, and what is learned of its submultiframes (ITU-T G.706,
--- 4.1 to 4.3).
+-- CRC multiframe alignment in the octets of a trunk, and the events of its submultiframes (ITU-T G.706, 4.1
+-- to 4.3).
 use Rattle.std.specs.Prelude.{ℕ, zero, suc, ◌+◌, ◌-◌, ◌*◌, ◌/◌, ◌%◌, Bool, not, ◌&&◌, ◌||◌, ◌==◌}
 use Rattle.std.specs.Prelude.{nat_lt, nat_le, if◌then◌else◌, List, [], ◌∷◌, ◌++◌, length, take, drop}
 use Rattle.std.specs.Prelude.{slice_index, Option, Some, None, option_map, is_none}
@@ -12,34 +12,34 @@ use Rattle.g704_crc4.specs.declared.receiving.Learned.TheVariants.{Found, Lost, 
 use Rattle.g704_crc4.specs.Searching.{begins_multiframe}
 use Rattle.g704_crc4.specs.Checking.{is_right, event_of}
 
--- The last octets, from the one on that came so many octets before the last; none if there is no such number.
+-- The last octets, from the one this many before the last; none without such a number.
 abbrev pub octets_since : List ℕ → Option ℕ → List ℕ
 octets_since octets None = []
 octets_since octets (Some age) = drop (length octets - 1 - age) octets
 
--- The octets of the alignment to which the last octet belongs, from its first one on; none if it belongs to
--- none. Octets of this age and above belong to an alignment.
+-- The octets of the last octet's alignment, from its first one; none if it belongs to none. Octets belong to
+-- an alignment from this age.
 unfoldable pub since_start : Framing → ℕ → List ℕ → List ℕ
 since_start framing after octets =
     octets_since octets (age_in after (alignments_of framing octets) (length octets - 1))
 
 -- The octets of the frame alignment in which the last octet has a time slot (ITU-T G.706, 4.1). The first one
--- is the first FAS octet, so frames begin there, and frames of even number have the frame alignment signal.
--- Frame alignment is found by the octet 64 octets later, and time slots are known from the next one on.
+-- is the first FAS octet, so frames begin there, and even frames have the frame alignment signal. The octet
+-- 64 octets later finds frame alignment, and time slots are known from the next one.
 abbrev pub aligned_octets : List ℕ → List ℕ
 aligned_octets octets = since_start frame_alignment 65 octets
 
--- Of the octets of a frame alignment: the 8 ms in which CRC multiframe alignment is looked for, which are 64
--- frames from the octet on by which frame alignment was found (ITU-T G.706, 4.2).
+-- The 8 ms of a frame alignment in which CRC multiframe alignment is searched for: 64 frames from the octet
+-- by which frame alignment was found (ITU-T G.706, 4.2).
 unfoldable pub searched_octets : List ℕ → List ℕ
 searched_octets octets = take 2048 (drop 64 octets)
 
--- The first double frame of these at which a multiframe begins that has its signal twice within the 8 ms, 2
--- ms or a multiple apart.
+-- The first double frame at which a multiframe begins that has its signal twice within the 8 ms, 2 ms or a
+-- multiple apart.
 unfoldable pub multiframe_in : List ℕ → Option ℕ
 multiframe_in octets = least (λ number. begins_multiframe (searched_octets octets) (2 * number)) 32
 
--- The octet behind the 8 ms is the last one. It is the FAS octet of its frame.
+-- The last octet is the one behind the 8 ms. It is the FAS octet of its frame.
 abbrev pub is_search_over : List ℕ → Bool
 is_search_over octets = length octets == 2113
 
@@ -47,17 +47,17 @@ is_search_over octets = length octets == 2113
 unfoldable pub is_multiframe_found : List ℕ → Bool
 is_multiframe_found octets = is_search_over octets && not (is_none (multiframe_in octets))
 
--- Frame alignment is found false by the last octet: there is no CRC multiframe alignment in 8 ms. The next
--- search begins behind this octet, which is the place of the false signal (ITU-T G.706, 4.2).
+-- Frame alignment is found to be false by the last octet: there is no CRC multiframe alignment in 8 ms. The
+-- next search begins behind this octet, which is the place of the false signal (ITU-T G.706, 4.2).
 unfoldable pub is_false : List ℕ → Bool
 is_false octets = is_search_over octets && is_none (multiframe_in octets)
 
--- CRC multiframe alignment stands at the last octet.
+-- There is CRC multiframe alignment at the last octet.
 unfoldable pub has_multiframes : List ℕ → Bool
 has_multiframes octets = nat_lt 2112 (length octets) && not (is_none (multiframe_in octets))
 
--- The octets from the first multiframe on that begins after the 8 ms, if one begins at this double frame of
--- them. Multiframes begin whole numbers of sixteen frames, which are eight double frames, apart.
+-- The octets from the first multiframe after the 8 ms, if one begins at this double frame of them.
+-- Multiframes begin a multiple of sixteen frames, eight double frames, apart.
 abbrev pub octets_from : List ℕ → Option ℕ → List ℕ
 octets_from octets None = []
 octets_from octets (Some number) = drop (2112 + 64 * (number % 8)) octets
@@ -66,30 +66,29 @@ octets_from octets (Some number) = drop (2112 + 64 * (number % 8)) octets
 unfoldable pub checked_octets : List ℕ → List ℕ
 checked_octets octets = octets_from octets (multiframe_in octets)
 
--- How many of so many numbers, from this one on, pass.
+-- How many of so many numbers, from this one, pass.
 unfoldable pub count_in : (ℕ → Bool) → ℕ → ℕ → ℕ
 count_in passes from zero = 0
 count_in passes from (suc count) =
     if passes (from + count) then count_in passes from count + 1 else count_in passes from count
 
--- The submultiframes of which it is known whether they are errored: the check bits of each come with the
--- next.
+-- The submultiframes known to be right or errored: the check bits of each come with the next.
 abbrev pub known_blocks : List ℕ → ℕ
 known_blocks checked = length checked / 256 - 1
 
--- How many of so many submultiframes, from this one on, are errored.
+-- How many of so many submultiframes, from this one, are errored.
 unfoldable pub errored_in : List ℕ → ℕ → ℕ → ℕ
 errored_in checked from count = count_in (λ number. not (is_right checked number)) from count
 
--- The submultiframes are taken by the thousand. With the last octet it is known of one more of them whether
--- it is errored, and so many of its thousand are: 915 or more (ITU-T G.706, 4.3.2).
+-- With the last octet one more submultiframe is known to be errored, and 915 or more of its thousand are
+-- (ITU-T G.706, 4.3.2). Submultiframes are counted by the thousand.
 unfoldable pub is_excessive : List ℕ → Bool
 is_excessive checked =
     (length checked % 256 == 0) && (nat_lt 256 (length checked)
     && nat_le 915 (errored_in checked (1000 * ((known_blocks checked - 1) / 1000))
     ((known_blocks checked - 1) % 1000 + 1)))
 
--- Frame alignment is given up by the last of its octets.
+-- Frame alignment is given up at its last octet.
 unfoldable pub is_given_up : List ℕ → Bool
 is_given_up octets = is_false octets || is_excessive (checked_octets octets)
 
@@ -98,15 +97,15 @@ unfoldable pub octets_before : List ℕ → ℕ → List ℕ
 octets_before octets zero = []
 octets_before octets (suc position) = octets_before octets position ++ slice_index octets position ∷ []
 
--- The octet at a position, if there is one, as the first of what is found there.
+-- The position of an octet, if there is one, as the first of a result.
 abbrev pub position_in : List ℕ → ℕ → Option ℕ
 position_in [] position = None
 position_in (octet ∷ octets) zero = Some 0
 position_in (octet ∷ octets) (suc position) = option_map suc (position_in octets position)
 
--- The parts of a stream in which frame alignment is looked for, found, kept and lost by the frame alignment
--- signal alone: the first begins at the first octet, each further one behind an octet by which frame
--- alignment was given up, which is the last of its part.
+-- The parts of a stream in which frame alignment is found, kept and lost by the frame alignment signal alone.
+-- The first begins at the first octet, each further one behind the octet by which frame alignment was given
+-- up, which ends its part.
 abbrev pub parts : Framing
 parts = record {
   search = λ before stream from. position_in stream from;
@@ -115,25 +114,25 @@ parts = record {
   is_lost = λ octets age. is_given_up (aligned_octets (octets_before octets (suc age)));
 }
 
--- The part to which an octet belongs that comes after these, up to that octet.
+-- The part of the octet after these, up to that octet.
 unfoldable pub part_before : List ℕ → List ℕ
 part_before octets = since_start parts 0 octets
 
--- What is learned of submultiframes with the last octet of a frame alignment.
+-- The event of submultiframes at the last octet of a frame alignment.
 unfoldable pub followed : List ℕ → Option Learned
 followed octets =
     if is_excessive (checked_octets octets)
     then Some GivenUp
     else option_map (λ event. Received event) (event_of (checked_octets octets))
 
--- What is learned with an octet, by the octets of the frame alignment before it and with it.
+-- The event of an octet, by the octets of the frame alignment before it and with it.
 unfoldable pub learned_of : List ℕ → List ℕ → Option Learned
 learned_of before octets =
     if is_multiframe_found octets
     then Some Found
     else (if has_multiframes before && not (has_multiframes octets) then Some Lost else followed octets)
 
--- What is learned with an octet that comes after these.
+-- The event of the octet after these.
 unfoldable pub learned : List ℕ → ℕ → Option Learned
 learned before octet =
     learned_of (aligned_octets (part_before before)) (aligned_octets (part_before before ++ octet ∷ []))

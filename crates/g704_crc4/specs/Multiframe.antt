@@ -1,6 +1,6 @@
--- Bit 1 of time slot 0 as it is sent (ITU-T G.704, 2.3.3 and table 5B). The frames of a stream begin at its
--- first octet; frames of even number carry the frame alignment signal. A multiframe has sixteen frames and a
--- submultiframe eight.
+-- Bit 1 of time slot 0 as sent (ITU-T G.704, 2.3.3 and table 5B). The frames of a stream begin at its first
+-- octet; even frames carry the frame alignment signal. A multiframe has sixteen frames, a submultiframe
+-- eight.
 use Rattle.std.specs.Prelude.{ℕ, ◌+◌, ◌-◌, ◌/◌, ◌%◌, Bool, true, false, ◌==◌, if◌then◌else◌}
 use Rattle.std.specs.Prelude.{List, [], ◌∷◌, length, slice_index_or}
 use Rattle.g704_framing.specs.Replies.{stream_replies}
@@ -8,7 +8,7 @@ use Rattle.g704_crc4.specs.declared.remainder.Remainder.{Remainder}
 use Rattle.g704_crc4.specs.Remainder.{no_remainder, remainder_of}
 use Rattle.g704_crc4.specs.Submultiframes.{each_at, submultiframe}
 
--- An octet with this bit 1, the Si bit.
+-- An octet with bit 1, the Si bit.
 abbrev pub with_si : Bool → ℕ → ℕ
 with_si si octet = if si then 128 + octet % 128 else octet % 128
 
@@ -26,26 +26,26 @@ signal_bit number =
 abbrev pub si_at : Remainder → ℕ → Bool
 si_at bits frame = if frame % 2 == 0 then check_bit bits (frame / 2 % 4) else signal_bit (frame / 2)
 
--- The octet as it is sent at a place of the stream, with these check bits.
+-- The octet sent at a place of the stream, with these check bits.
 unfoldable pub octet_at : Remainder → ℕ → ℕ → ℕ
 octet_at bits place octet = if place % 32 == 0 then with_si (si_at bits (place / 32 % 16)) octet else octet
 
--- The octets of a stream as they are sent, their check bits replaced by zeros.
+-- The octets of a stream as sent, with check bits replaced by zeros.
 abbrev pub zeroed : List ℕ → List ℕ
 zeroed octets = each_at (octet_at no_remainder) 0 octets
 
--- The check bits that are sent after these octets: the remainder of the submultiframe before, with its check
--- bits replaced by zeros. The first submultiframe has none before it.
+-- The check bits sent after these octets: the remainder of the submultiframe before, with its check bits
+-- replaced by zeros. The first submultiframe has none before it.
 unfoldable pub check_bits_after : List ℕ → Remainder
 check_bits_after before =
     if length before / 256 == 0
     then no_remainder
     else remainder_of (submultiframe (length before / 256 - 1) (zeroed before))
 
--- The octet that is sent for one that comes after these.
+-- The octet sent for the one after these.
 unfoldable pub sent_octet : List ℕ → ℕ → ℕ
 sent_octet before octet = octet_at (check_bits_after before) (length before) octet
 
--- Those for all octets of a stream.
+-- The octets sent for a whole stream.
 abbrev pub sent_octets : List ℕ → List ℕ
 sent_octets octets = stream_replies sent_octet octets

@@ -1,4 +1,4 @@
--- Polynomials over the field of two elements, as ITU-T G.704, 2.3.3.5 speaks of a submultiframe.
+-- Polynomials over the field of two elements, in which ITU-T G.704, 2.3.3.5 describes a submultiframe.
 use Rattle.std.specs.Prelude.{◌≡◌, ℕ, Bool, true, false, List, [], ◌∷◌, slice_index_or, if◌then◌else◌}
 use Rattle.g704_crc4.specs.declared.remainder.Remainder.{Remainder}
 use Rattle.g704_crc4.specs.Remainder.{add, no_remainder, after_bits}
@@ -30,8 +30,8 @@ times (a ∷ p) q = sum (if a then q else []) (times_x (times p q))
 abbrev pub generator : List Bool
 generator = true ∷ true ∷ false ∷ false ∷ true ∷ []
 
--- Bits as a polynomial, the first bit the most significant: with one bit more it is x times what it was, plus
--- the bit.
+-- Bits as a polynomial, the first bit the most significant: one more bit makes it x times itself, plus the
+-- bit.
 unfoldable pub polynomial_after : List Bool → List Bool → List Bool
 polynomial_after p [] = p
 polynomial_after p (bit ∷ bits) = polynomial_after (bit ∷ p) bits
@@ -43,11 +43,11 @@ polynomial_of bits = polynomial_after [] bits
 abbrev pub of_remainder : Remainder → List Bool
 of_remainder left = left.c4 ∷ left.c3 ∷ left.c2 ∷ left.c1 ∷ []
 
--- A polynomial leaves this remainder: it is a multiple of the generator, plus the remainder.
+-- A polynomial has this remainder: it is a multiple of the generator, plus the remainder.
 abbrev pub Leaves : List Bool → Remainder → Type 0
 Leaves p left = (quotient : List Bool) × HaveSameCoefficients p (sum (times generator quotient) (of_remainder left))
 
--- x^4 times the polynomial of the bits leaves the remainder that is sent; its degree is below 4.
+-- x^4 times the polynomial of the bits has the remainder that is sent; its degree is below 4.
 abbrev pub RemainderIsLeft : Type 0
 RemainderIsLeft = (bits : List Bool)
     → Leaves (times_x (times_x (times_x (times_x (polynomial_of bits))))) (after_bits no_remainder bits)

@@ -1,4 +1,4 @@
--- What a receiver holds after some octets.
+-- The history of a receiver: its octets.
 use Rattle.std.specs.Prelude.{◌≡◌, ◌≢◌, ℕ, ◌+◌, ◌-◌, ◌*◌, ◌/◌, ◌%◌, ◌<◌, ◌≤◌, false, List, [], ◌∷◌, ◌++◌}
 use Rattle.std.specs.Prelude.{length, slice_index, take, drop, Some}
 use Rattle.g704_framing.specs.Restart.{HoldsSince}
@@ -13,16 +13,15 @@ use Rattle.g704_crc4.specs.Aligning.{aligned_octets, multiframe_in, checked_octe
 use Rattle.g704_crc4.specs.Aligning.{errored_in, parts}
 use Rattle.g704_crc4.specs.Tally.{tally_of}
 
--- While the 8 ms come: how many of their octets have come, and what they are.
+-- During the 8 ms: the number of their octets received, and these octets.
 pub record IsSearched (count : ℕ) (searched octets : List ℕ) : Type 0 where
   pub counted : count + 64 ≡ length octets
   pub begun : 2 ≤ count
   pub limit : count ≤ 2048
   pub kept : take count searched ≡ drop 64 octets
 
--- What is held of a frame alignment with CRC multiframes once the 8 ms have come: how many octets are to come
--- before the first that is checked, the checker, and how many submultiframes of the present thousand are
--- known, and errored.
+-- After the 8 ms, in a frame alignment with CRC multiframes: the octets before the first to check, the
+-- checker, and how many submultiframes of the present thousand are known, and errored.
 pub record IsFollowed (following : followings.Following) (octets : List ℕ) : Type 0 where
   pub number : ℕ
   pub found : multiframe_in octets ≡ Some number
@@ -34,21 +33,21 @@ pub record IsFollowed (following : followings.Following) (octets : List ℕ) : T
       (1000 * (known_blocks (checked_octets octets) / 1000)) (known_blocks (checked_octets octets) % 1000)
   pub few : following.errored < 915
 
--- What the stage says of the octets of the frame alignment. If there are none, the octet that came last in
--- this part of the stream is kept.
+-- The octets of the frame alignment, by the stage. If there are none, the last octet of this part of the
+-- stream is kept.
 abbrev pub IsStage : Stage → List ℕ → List ℕ → List ℕ → Type 0
 IsStage Hunting searched part octets =
     (octets ≡ []) × (0 < length part → slice_index searched 0 ≡ slice_index part (length part - 1))
 IsStage (Searching count) searched part octets = IsSearched count searched octets
 IsStage (Following following) searched part octets = (2112 < length octets) × IsFollowed following octets
 
--- The octets of a frame alignment with one octet more that has a time slot: the first such, or the next.
+-- The octets of a frame alignment after one more octet with a time slot: the first such, or the next.
 pub record GoesOn (part : List ℕ) (octet : ℕ) (before octets : List ℕ) : Type 0 where
   pub begins : before ≡ [] → (length octets ≡ 66)
       × (0 < length part) × (drop 64 octets ≡ slice_index part (length part - 1) ∷ octet ∷ [])
   pub goes_on : before ≢ [] → octets ≡ before ++ octet ∷ []
 
--- A receiver whose frame alignment is given up begins like a new one.
+-- A receiver whose frame alignment is given up is like a new one.
 pub record BeginsAnew (receiver : Receiver) : Type 0 where
   pub aligner : frames.Stands receiver.aligner []
   pub stage : receiver.stage ≡ Hunting
@@ -60,11 +59,11 @@ pub record ReceivesPart (receiver : Receiver) (part : List ℕ) : Type 0 where
   pub stage : IsStage receiver.stage receiver.searched part (aligned_octets part)
   pub kept : (position : ℕ) → position < length part → parts.is_lost part position ≡ false
 
--- A receiver after these octets.
+-- A receiver with this history of octets.
 abbrev pub ReceivesAfter : Receiver → List ℕ → Type 0
 ReceivesAfter receiver history = HoldsSince parts (λ before part. ReceivesPart receiver part) history
 
--- A checker of a trunk after these octets.
+-- A checker of a trunk with this history of octets.
 pub record ChecksTrunk (checker : TrunkChecker) (history : List ℕ) : Type 0 where
   pub receives : ReceivesAfter checker.receiver history
   pub tally : checker.tally ≡ tally_of history

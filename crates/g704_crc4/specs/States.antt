@@ -1,4 +1,4 @@
--- What the two machines hold after some octets.
+-- The histories of the two machines: their octets.
 use Rattle.std.specs.Prelude.{◌≡◌, ◌≢◌, ℕ, ◌+◌, ◌-◌, ◌*◌, ◌/◌, ◌%◌, ◌<◌, ◌≤◌, nat_le, List, length}
 use Rattle.g704_crc4.specs.declared.sending.Multiframer.{Multiframer}
 use Rattle.g704_crc4.specs.declared.checking.Checker.{Checker}
@@ -7,24 +7,24 @@ use Rattle.g704_crc4.specs.Submultiframes.{submultiframe}
 use Rattle.g704_crc4.specs.Multiframe.{zeroed, check_bits_after}
 use Rattle.g704_crc4.specs.Receiving.{si_of, cleared, remainder_in}
 
--- A multiframer after these octets: how many they are, modulo 2^16; the remainder of the submultiframe that the
--- last octet belongs to, as a number; and that of the one before it, if an octet is yet to come there.
+-- A multiframer after these octets: their number modulo 2^16; the remainder of the last octet's
+-- submultiframe, as a number; and that of the one before it, if more of its octets follow.
 pub record SendsAfter (multiframer : Multiframer) (history : List ℕ) : Type 0 where
   pub place : multiframer.place ≡ length history % 65536
   pub before : length history % 256 ≢ 0 → multiframer.before ≡ crc_number (check_bits_after history)
   pub running :
       multiframer.running ≡ crc_number (remainder_of (submultiframe ((length history - 1) / 256) (zeroed history)))
 
--- A multiframer that is ready for the octet after these: the remainders of the submultiframe to which that
--- octet belongs, as far as it has come, and of the one before it.
+-- A multiframer ready for the octet after these: the remainders of that octet's submultiframe so far, and of
+-- the one before it.
 pub record SendsNext (multiframer : Multiframer) (history : List ℕ) : Type 0 where
   pub place : multiframer.place ≡ length history % 65536
   pub before : multiframer.before ≡ crc_number (check_bits_after history)
   pub running :
       multiframer.running ≡ crc_number (remainder_of (submultiframe (length history / 256) (zeroed history)))
 
--- A checker after these octets: the place of the next octet; the remainders of the submultiframe before, if
--- there is one, and of this one so far; and those check bits of this one that have come.
+-- A checker after these octets: the place of the next octet; the remainders of the previous submultiframe, if
+-- any, and of this one so far; and the check bits of this one so far.
 pub record ChecksAfter (checker : Checker) (history : List ℕ) : Type 0 where
   pub place : checker.place ≡ length history % 512
   pub begun : checker.begun ≡ nat_le 256 (length history)

@@ -1,4 +1,4 @@
--- What a receiver counts of a trunk.
+-- The counts of a trunk.
 use Rattle.std.specs.Prelude.{ℕ, ◌+◌, ◌-◌, ◌^◌, Bool, true, false, not, min, if◌then◌else◌}
 use Rattle.std.specs.Prelude.{List, [], ◌∷◌, ◌++◌, Option, Some}
 use Rattle.g704_crc4.specs.declared.receiving.Learned.{Learned}
@@ -8,13 +8,13 @@ use Rattle.g704_crc4.specs.declared.tallying.Tally.{Tally}
 use Rattle.g704_crc4.specs.Remainder.{bit_number}
 use Rattle.g704_crc4.specs.Aligning.{learned}
 
--- How many of these octets, after others, tell what passes.
+-- How many of these octets, after others, have an event that passes.
 unfoldable pub times_after : (Option Learned → Bool) → List ℕ → List ℕ → ℕ
 times_after passes before [] = 0
 times_after passes before (octet ∷ octets) =
     bit_number (passes (learned before octet)) + times_after passes (before ++ octet ∷ []) octets
 
--- How many octets of a stream do. A count stops at the greatest number.
+-- How many octets of a stream do; the count saturates.
 abbrev pub times : (Option Learned → Bool) → List ℕ → ℕ
 times passes octets = min (times_after passes [] octets) (2 ^ 64 - 1)
 
@@ -30,7 +30,7 @@ tells_errored (Some (Received (Block right))) = not right
 tells_errored (Some GivenUp) = true
 tells_errored _ = false
 
--- An E bit reports one that was errored at the far end.
+-- An E bit reports a submultiframe errored at the far end.
 abbrev pub tells_far_end : Option Learned → Bool
 tells_far_end (Some (Received (FarEnd right))) = not right
 tells_far_end _ = false
@@ -40,18 +40,18 @@ abbrev pub tells_found : Option Learned → Bool
 tells_found (Some Found) = true
 tells_found _ = false
 
--- CRC multiframe alignment is lost: with frame alignment, or since that is given up.
+-- CRC multiframe alignment is lost, with frame alignment or because that is given up.
 abbrev pub tells_lost : Option Learned → Bool
 tells_lost (Some Lost) = true
 tells_lost (Some GivenUp) = true
 tells_lost _ = false
 
--- Frame alignment is given up, 915 of a thousand submultiframes being errored.
+-- Frame alignment is given up, with 915 of a thousand submultiframes errored.
 abbrev pub tells_given_up : Option Learned → Bool
 tells_given_up (Some GivenUp) = true
 tells_given_up _ = false
 
--- What is counted of a stream.
+-- The counts of a stream.
 abbrev pub tally_of : List ℕ → Tally
 tally_of octets = record {
   submultiframes = times tells_block octets;
@@ -62,11 +62,11 @@ tally_of octets = record {
   given_up = times tells_given_up octets;
 }
 
--- A count after what may be one more; it stops at the greatest number.
+-- A count, one higher if an event occurs; it saturates.
 abbrev pub count_with : ℕ → Bool → ℕ
 count_with count more = if more then min (count + 1) (2 ^ 64 - 1) else count
 
--- What is counted with what is learned with one more octet.
+-- The counts after one more octet's event.
 abbrev pub tally_with : Tally → Option Learned → Tally
 tally_with tally learned = record {
   submultiframes = count_with tally.submultiframes (tells_block learned);

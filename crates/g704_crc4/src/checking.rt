@@ -1,4 +1,4 @@
-//! Check bits as they are received.
+//! Received check bits.
 
 ghost use Rattle.std.specs.Prelude.{◌≡◌, ◌+◌, ◌%◌, ◌/◌, ◌<◌, ◌≤◌, ℕ, Bool, if◌then◌else◌, List, Option, [], ◌∷◌, ◌++◌, length, true};
 ghost use Rattle.g704_crc4.specs.Checking.{same, check_bits_with, far_end_event, block_event, event_of};
@@ -11,29 +11,31 @@ ghost use Rattle.g704_crc4.specs.States.{ChecksAfter};
 use crate::remainder::{NO_REMAINDER, Remainder, add, number_after, of_number};
 use crate::{BIT_1, FRAME, MULTIFRAME, SUBMULTIFRAME, TWO_FRAMES};
 
-/// What a receiver learns with an octet.
+/// What a receiver learns from an octet.
 #[derive(Clone, Copy, Debug, PartialEq, Eq)]
 pub enum Event {
-    /// A submultiframe has come: whether its check bits are the remainder of the one before it.
+    /// A submultiframe is complete: whether its check bits are the remainder of the one before it.
     Block {
         /// They are.
         right: bool,
     },
-    /// An E bit has come: whether the far end found a submultiframe right.
+    /// An E bit: whether the far end found a submultiframe right.
     FarEnd {
         /// It did.
         right: bool,
     },
 }
 
-/// What a receiver has counted. Each count stops at the greatest number.
+/// The counts of a receiver.
+///
+/// They saturate.
 #[derive(Clone, Copy, Debug, PartialEq, Eq)]
 pub struct Counts {
     /// Submultiframes that were checked.
     pub blocks: u64,
     /// Errored ones among them.
     pub errored: u64,
-    /// E bits by which the far end reports a submultiframe that was not right there.
+    /// E bits that report a submultiframe errored at the far end.
     pub far_end_errored: u64,
 }
 
@@ -49,18 +51,18 @@ const NO_COUNTS: Counts = Counts {
 pub struct Checker {
     // The place of the next octet in its multiframe.
     place: u16,
-    // The remainder of the submultiframe before.
+    // The remainder of the previous submultiframe.
     before: Remainder,
-    // That of this one so far, as a number.
+    // The remainder of this one so far, as a number.
     running: u8,
-    // The check bits that this one carries, so far.
+    // The check bits of this one so far.
     check_bits: Remainder,
-    // Whether there is a submultiframe before.
+    // Whether there is a previous submultiframe.
     begun: bool,
 }
 
 impl Checker {
-    /// A checker that has received nothing.
+    /// A checker at the start of a stream.
     pub fn new() -> Self
         ensures { ChecksAfter result [] }
     {
@@ -73,7 +75,7 @@ impl Checker {
         }
     }
 
-    /// Takes the next octet of the stream, and returns what is learned with it.
+    /// Takes the next octet and returns what it shows.
     pub fn octet(&mut self, octet: u8) -> Option<Event>
         ensures reply { (history : List ℕ) → ChecksAfter self.old history
             → result ≡ event_of (history ++ octet ∷ []) }
@@ -91,8 +93,9 @@ impl Checker {
         None
     }
 
-    // Takes the first octet of a frame. It is out of line, as what ends a submultiframe is, so that other octets
-    // cost a step of the remainder alone.
+    // Takes the first octet of a frame.
+    //
+    // It is out of line, so that other octets cost only a step of the remainder.
     #[inline(never)]
     fn first_octet(&mut self, octet: u8) -> Option<Event>
         ensures reply { (history : List ℕ) → ChecksAfter self.old history → self.old.place % 32 ≡ 0
@@ -108,7 +111,7 @@ impl Checker {
         far_end_event(place, si)
     }
 
-    // Ends a submultiframe, all of whose octets have been taken.
+    // Ends a complete submultiframe.
     #[inline(never)]
     fn end_submultiframe(&mut self) -> Option<Event>
         ensures reply { result ≡ block_event self.old.begun (same self.old.check_bits self.old.before) }
@@ -124,7 +127,9 @@ impl Checker {
     }
 }
 
-/// Checks octets whose multiframes begin at the first one, and returns the counts.
+/// Checks octets whose multiframes begin at the first one.
+///
+/// Returns the counts.
 pub fn check(octets: &[u8]) -> Counts
     ensures { result ≡ counts_of octets.now }
 {
@@ -136,7 +141,7 @@ pub fn check(octets: &[u8]) -> Counts
     counts
 }
 
-// The counts with what is learned with an octet.
+// The counts with an event.
 fn counts_with(counts: Counts, event: Option<Event>) -> Counts
     ensures { result ≡ counts_with counts event }
 {
@@ -166,7 +171,7 @@ fn errors_with(count: u64, right: bool) -> u64
     }
 }
 
-// What is learned with the last octet of a submultiframe, if there is one before it.
+// The event of a submultiframe's last octet, if there is a previous one.
 fn block_event(begun: bool, right: bool) -> Option<Event>
     ensures { result ≡ block_event begun right }
 {
@@ -177,7 +182,7 @@ fn block_event(begun: bool, right: bool) -> Option<Event>
     }
 }
 
-// What an E bit reports, in frames 13 and 15 of a multiframe.
+// The event of an E bit, in frames 13 and 15 of a multiframe.
 fn far_end_event(place: u16, si: bool) -> Option<Event>
     ensures { result ≡ far_end_event place si }
 {
@@ -188,7 +193,7 @@ fn far_end_event(place: u16, si: bool) -> Option<Event>
     }
 }
 
-// The check bits with this Si bit in place of that of the octet's place, if a check bit is sent there.
+// The check bits with the Si bit of an octet, if it is one of them.
 fn check_bits_with(check_bits: Remainder, place: u16, si: bool) -> Remainder
     ensures { result ≡ check_bits_with check_bits place si }
 {
@@ -201,14 +206,14 @@ fn check_bits_with(check_bits: Remainder, place: u16, si: bool) -> Remainder
     }
 }
 
-// One of two.
+// One of two values.
 fn either(first: bool, a: bool, b: bool) -> bool
     ensures { result ≡ (if first then a else b) }
 {
     if first { a } else { b }
 }
 
-// An octet with its check bit replaced by zero, if it has one.
+// An octet with its check bit cleared, if it has one.
 fn cleared(place: u16, octet: u8) -> u8
     ensures { (position : ℕ) → place ≡ position % 512 → result ≡ cleared_at position octet }
 {
@@ -219,7 +224,7 @@ fn cleared(place: u16, octet: u8) -> u8
     }
 }
 
-// Two remainders are the same.
+// Whether two remainders are equal.
 fn same(a: Remainder, b: Remainder) -> bool
     ensures { result ≡ same a b }
 {

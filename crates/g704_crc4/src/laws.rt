@@ -1,36 +1,36 @@
-//! Laws of what is sent, over the definitions alone.
+//! Laws of what is sent, by the definitions alone.
 
 ghost use Rattle.g704_crc4.specs.Polynomials.{RemainderIsLeft};
 ghost use Rattle.g704_crc4.specs.Checking.{SentIsRight, OneErrorIsFound};
 ghost use Rattle.g704_crc4.specs.Receiving.{LengthIsKept, OthersAreKept, CheckBitsAreRight, SignalIsSent};
 
-/// The four bits are the remainder after multiplication by x^4 and then division, modulo 2, by the generator
-/// polynomial x^4+x+1 of the polynomial of the bits (ITU-T G.704, 2.3.3.5).
+/// The four bits are the remainder of the bits' polynomial, multiplied by x^4 and divided modulo 2 by the
+/// generator x^4+x+1 (ITU-T G.704, 2.3.3.5).
 pub fn remainder_is_left()
     ensures { RemainderIsLeft }
 {}
 
-/// One octet is sent for each that comes.
+/// One octet is sent for each received.
 pub fn length_is_kept()
     ensures { LengthIsKept }
 {}
 
-/// Each bit but bit 1 of time slot 0 is sent as it came.
+/// Each bit except bit 1 of time slot 0 is sent unchanged.
 pub fn others_are_kept()
     ensures { OthersAreKept }
 {}
 
-/// A receiver finds every whole submultiframe right, whatever came.
+/// A receiver finds every whole submultiframe right, whatever was sent through.
 pub fn check_bits_are_right()
     ensures { CheckBitsAreRight }
 {}
 
-/// A receiver finds the multiframe alignment signal in every whole multiframe, whatever came.
+/// A receiver finds the alignment signal in every whole multiframe, whatever was sent through.
 pub fn signal_is_sent()
     ensures { SignalIsSent }
 {}
 
-/// A submultiframe that is received as it was sent is right.
+/// A submultiframe received as it was sent is right.
 pub fn sent_is_right()
     ensures { SentIsRight }
 {}

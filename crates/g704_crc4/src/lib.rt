@@ -1,5 +1,7 @@
-//! CRC-4 multiframes of a 2048 kbit/s stream (ITU-T G.704, 2.3.3; ITU-T G.706, 4): bit 1 of time slot 0
-//! carries the check bits of the submultiframe before, and the signal by which a receiver finds multiframes.
+//! CRC-4 multiframes of a 2048 kbit/s stream (ITU-T G.704, 2.3.3; ITU-T G.706, 4).
+//!
+//! Bit 1 of time slot 0 carries the check bits of the submultiframe before, and the multiframe alignment
+//! signal.
 #![tactic(auto)]
 
 mod checking;
@@ -18,7 +20,7 @@ pub use searching::find_multiframe;
 pub use sending::Multiframer;
 pub use tallying::{Tally, TrunkChecker};
 
-// Octets of a frame, of a double frame, of a submultiframe and of a multiframe.
+// Octets of a frame, a double frame, a submultiframe and a multiframe.
 const FRAME: u16 = 32;
 
 const TWO_FRAMES: u16 = 64;
@@ -27,5 +29,5 @@ const SUBMULTIFRAME: u16 = 256;
 
 const MULTIFRAME: u16 = 512;
 
-// Bit 1 of an octet, the first that is sent: the Si bit in time slot 0.
+// Bit 1 of an octet, the first sent: the Si bit in time slot 0.
 const BIT_1: u8 = 128;

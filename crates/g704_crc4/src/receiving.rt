@@ -1,4 +1,4 @@
-//! CRC multiframe alignment of a trunk, and its submultiframes as they are received.
+//! CRC multiframe alignment of a trunk, and its received submultiframes.
 
 ghost use Rattle.std.specs.Prelude.{◌≡◌, ◌∷◌, ◌++◌, ◌+◌, ◌%◌, ◌<◌, ◌==◌, ℕ, Bool, true, false, List, []};
 ghost use Rattle.std.specs.Prelude.{length, slice_index, nat_le, if◌then◌else◌, Some};
@@ -16,39 +16,39 @@ use g704_align::{Aligner, Place};
 // Octets of 8 ms.
 const SEARCHED: u16 = 2048;
 
-// Submultiframes that are counted together, and how many of them are errored if frame alignment is false.
+// Submultiframes counted together, and the errored ones among them that mean false frame alignment.
 const TOGETHER: u16 = 1000;
 
 const EXCESS: u16 = 915;
 
-/// What a receiver learns with an octet of a trunk.
+/// What a receiver learns from an octet of a trunk.
 #[derive(Clone, Copy, Debug, PartialEq, Eq)]
 pub enum Learned {
     /// CRC multiframe alignment is found.
     Found,
-    /// CRC multiframe alignment is lost, since frame alignment is.
+    /// CRC multiframe alignment is lost with frame alignment.
     Lost,
     /// A submultiframe is errored, the 915th of a thousand: frame alignment is given up.
     GivenUp,
-    /// A submultiframe or an E bit has come.
+    /// A submultiframe or an E bit.
     Received(Event),
 }
 
-// How far CRC multiframe alignment has come.
+// The state of CRC multiframe alignment.
 #[derive(Clone, Copy, Debug, PartialEq, Eq)]
 enum Stage {
-    // Frame alignment is looked for.
+    // There is no frame alignment.
     Hunting,
-    // The 8 ms are coming in which CRC multiframe alignment is looked for.
+    // CRC multiframe alignment is searched for in these 8 ms.
     Searching { count: u16 },
-    // CRC multiframe alignment stands.
+    // CRC multiframes are aligned.
     Following(Following),
 }
 
-// Submultiframes as they come, in a frame alignment with CRC multiframes.
+// Received submultiframes, in a frame alignment with CRC multiframes.
 #[derive(Clone, Copy, Debug, PartialEq, Eq)]
 struct Following {
-    // Octets before the first that is checked.
+    // Octets before the first to check.
     to_come: u16,
     checker: Checker,
     // Submultiframes of the present thousand, and errored ones among them.
@@ -56,17 +56,17 @@ struct Following {
     errored: u16,
 }
 
-/// Follows the CRC multiframes of a trunk from its octets alone.
+/// Follows the CRC multiframes of a trunk by its octets.
 #[derive(Clone, Copy, Debug, PartialEq, Eq)]
 pub struct Receiver {
     aligner: Aligner,
     stage: Stage,
-    // The octets of the 8 ms as they come; before them, the last octet.
+    // The octets of the 8 ms; before them, the last octet.
     searched: [u8; 2048],
 }
 
 impl Receiver {
-    /// A receiver that has received nothing.
+    /// A receiver at the start of a stream.
     pub fn new() -> Self
         ensures { ReceivesAfter result [] }
     {
@@ -77,7 +77,7 @@ impl Receiver {
         }
     }
 
-    /// Takes the next octet of the trunk, and returns what is learned with it.
+    /// Takes the next octet of the trunk and returns what it shows.
     pub fn octet(&mut self, octet: u8) -> Option<Learned>
         ensures reply { (history : List ℕ) → ReceivesAfter self.old history
             → result ≡ learned history octet }
@@ -90,7 +90,7 @@ impl Receiver {
         }
     }
 
-    // Takes an octet that has no time slot.
+    // Takes an octet without a time slot.
     #[inline(never)]
     fn hunt(&mut self, octet: u8) -> Option<Learned>
         ensures reply { (part octets : List ℕ) → IsStage self.old.stage self.old.searched part octets
@@ -106,7 +106,7 @@ impl Receiver {
         if lost { Some(Learned::Lost) } else { None }
     }
 
-    // Takes an octet that has a time slot.
+    // Takes an octet with a time slot.
     fn follow(&mut self, octet: u8) -> Option<Learned>
         ensures reply { (part before octets : List ℕ) → IsStage self.old.stage self.old.searched part before
             → GoesOn part octet before octets → length self.old.searched ≡ 2048
@@ -168,7 +168,7 @@ impl Receiver {
         }
     }
 
-    // Looks for another frame alignment.
+    // Searches for another frame alignment.
     fn begin_anew(&mut self)
         ensures anew { BeginsAnew self.new }
         ensures searched { self.new.searched ≡ self.old.searched }
@@ -178,7 +178,7 @@ impl Receiver {
     }
 }
 
-// Frame alignment is given up by what is learned.
+// Whether frame alignment is given up.
 fn gives_up(learned: Option<Learned>) -> bool
     ensures { result ≡ tells_given_up learned }
 {
@@ -186,8 +186,7 @@ fn gives_up(learned: Option<Learned>) -> bool
 }
 
 impl Following {
-    // Follows multiframes of which one begins at this double frame of the 8 ms, from the octet behind them
-    // on.
+    // Follows multiframes, one of which begins at this double frame of the 8 ms, from the octet behind them.
     fn begun(number: usize, octet: u8) -> Self
         ensures { (octets : List ℕ) → length octets ≡ 2112 → multiframe_in octets ≡ Some number
             → IsFollowed result (octets ++ octet ∷ []) }
@@ -227,7 +226,9 @@ impl Following {
         }
     }
 
-    // Counts a submultiframe, and returns whether too many of its thousand are errored.
+    // Counts a submultiframe.
+    //
+    // Returns whether too many of its thousand are errored.
     fn is_excess(&mut self, right: bool) -> bool
         ensures reply { self.old.errored < 915
             → result ≡ nat_le 915 (if right then self.old.errored else self.old.errored + 1) }

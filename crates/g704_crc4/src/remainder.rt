@@ -1,4 +1,4 @@
-//! The remainder of a polynomial by x^4+x+1, octet by octet.
+//! The remainder of a polynomial by x^4+x+1, computed octet by octet.
 
 ghost use Rattle.std.specs.Prelude.{◌≡◌, ◌≤◌, ◌<◌, ℕ, Bool};
 ghost use Rattle.g704_crc4.specs.declared.remainder.Remainder.{Remainder};
@@ -7,7 +7,7 @@ ghost use Rattle.g704_crc4.specs.Multiframe.{check_bit};
 
 use crate::table::REMAINDERS;
 
-/// The remainder of a polynomial times x^4 by x^4+x+1: the check bits C1 to C4.
+/// The check bits C1 to C4: the remainder of a polynomial times x^4 by x^4+x+1.
 #[derive(Clone, Copy, Debug, PartialEq, Eq)]
 pub struct Remainder {
     /// The coefficient of x^3, sent first.
@@ -28,7 +28,7 @@ pub(crate) const NO_REMAINDER: Remainder = Remainder {
     c4: false,
 };
 
-// The remainder with the bits of an octet more, both as numbers.
+// The remainder after the bits of one more octet, both as numbers.
 pub(crate) fn number_after(left: u8, octet: u8) -> u8
     ensures { (remainder : Remainder) → left ≡ crc_number remainder
         → result ≡ crc_number (after_octet remainder octet) }
@@ -43,7 +43,7 @@ pub(crate) fn add(a: bool, b: bool) -> bool
     if a { !b } else { b }
 }
 
-// The remainder of this number.
+// The remainder with this number.
 pub(crate) fn of_number(number: u8) -> Remainder
     ensures { (bits : Remainder) → number ≡ crc_number bits → result ≡ bits }
 {
@@ -55,7 +55,7 @@ pub(crate) fn of_number(number: u8) -> Remainder
     }
 }
 
-// Of the check bits of this number the one at a place, 0 for C1.
+// The check bit at a place, 0 for C1, of a remainder's number.
 pub(crate) fn check_bit(number: u8, place: u16) -> bool
     ensures { (bits : Remainder) → number ≡ crc_number bits → result ≡ check_bit bits place }
 {

@@ -1,4 +1,4 @@
-//! Where multiframes begin in what is received.
+//! The search for multiframes in received octets.
 
 ghost use Rattle.std.specs.Prelude.{◌≡◌, ◌*◌, ◌<◌, ◌^◌, ℕ, Bool, true, false, IfSome, IfNone};
 ghost use Rattle.g704_crc4.specs.Receiving.{si_of};
@@ -6,8 +6,10 @@ ghost use Rattle.g704_crc4.specs.Searching.{has_signal, begins_multiframe};
 
 use crate::BIT_1;
 
-/// The number of the double frame at which the first multiframe begins, in octets whose double frames begin at
-/// the first one: the multiframe alignment signal is there, and again 2, 4 or 6 ms later.
+/// The double frame at which the first multiframe begins.
+///
+/// Double frames begin at the first octet. The multiframe alignment signal is there, and again 2, 4 or 6 ms
+/// later.
 pub fn find_multiframe(octets: &[u8]) -> Option<usize>
     ensures found { IfSome result (λ number. begins_multiframe octets.now (2 * number) ≡ true) }
     ensures first { IfSome result (λ number. (earlier : ℕ) → earlier < number
@@ -22,7 +24,7 @@ pub fn find_multiframe(octets: &[u8]) -> Option<usize>
     None
 }
 
-// A multiframe begins at this frame.
+// Whether a multiframe begins at this frame.
 #[tactic(auto, unfolding(crate::specs::Searching::begins_multiframe))]
 fn begins_multiframe(octets: &[u8], frame: usize) -> bool
     requires { frame < 2 ^ 60 }
@@ -34,7 +36,7 @@ fn begins_multiframe(octets: &[u8], frame: usize) -> bool
             || has_signal(octets, frame + 48))
 }
 
-// The multiframe alignment signal begins at this frame.
+// Whether the multiframe alignment signal begins at this frame.
 #[tactic(auto, unfolding(crate::specs::Searching::has_signal))]
 fn has_signal(octets: &[u8], frame: usize) -> bool
     requires { frame < 2 ^ 61 }
@@ -48,7 +50,7 @@ fn has_signal(octets: &[u8], frame: usize) -> bool
         && si_of(octets, frame + 11)
 }
 
-// Bit 1 of time slot 0 of a frame; past the end it is zero.
+// Bit 1 of time slot 0 of a frame; zero past the end.
 #[tactic(auto, unfolding(crate::specs::Receiving::si_of))]
 fn si_of(octets: &[u8], frame: usize) -> bool
     ensures { result ≡ si_of octets.now frame }

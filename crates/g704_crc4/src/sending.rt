@@ -1,4 +1,4 @@
-//! Bit 1 of time slot 0 as it is sent.
+//! Bit 1 of time slot 0 as sent.
 
 ghost use Rattle.std.specs.Prelude.{◌≡◌, ◌+◌, ◌%◌, ◌/◌, ◌<◌, ℕ, List, [], ◌∷◌, ◌++◌, length};
 ghost use Rattle.g704_crc4.specs.declared.remainder.Remainder.{Remainder};
@@ -9,20 +9,21 @@ ghost use Rattle.g704_crc4.specs.States.{SendsAfter, SendsNext};
 use crate::remainder::{check_bit, number_after};
 use crate::{BIT_1, FRAME, SUBMULTIFRAME};
 
-/// Puts CRC-4 multiframes into bit 1 of time slot 0 of a stream of octets. The frames begin at the first
-/// octet, and the first one carries the frame alignment signal. No other bit changes.
+/// Puts CRC-4 multiframes into bit 1 of time slot 0.
+///
+/// The frames begin at the first octet, which carries the frame alignment signal. No other bit changes.
 #[derive(Clone, Copy, Debug, PartialEq, Eq)]
 pub struct Multiframer {
-    // The octets so far, modulo 2^16: a whole number of multiframes.
+    // The octets so far, modulo 2^16, a whole number of multiframes.
     place: u16,
-    // The remainder of the submultiframe before that of the last octet, as a number.
+    // The remainder of the submultiframe before the last octet's, as a number.
     before: u8,
-    // The remainder of the submultiframe of the last octet.
+    // The remainder of the last octet's submultiframe.
     running: u8,
 }
 
 impl Multiframer {
-    /// A multiframer that has sent nothing.
+    /// A multiframer at the start of a stream.
     pub fn new() -> Self
         ensures { SendsAfter result [] }
     {
@@ -33,7 +34,7 @@ impl Multiframer {
         }
     }
 
-    /// Takes the next octet of the stream, and returns it as it is sent.
+    /// Takes the next octet and returns it as sent.
     pub fn octet(&mut self, octet: u8) -> u8
         ensures reply { (history : List ℕ) → SendsAfter self.old history
             → result ≡ sent_octet history octet }
@@ -48,8 +49,9 @@ impl Multiframer {
         octet
     }
 
-    // Takes the first octet of a frame. It is out of line, so that thirty-one of thirty-two octets cost a step
-    // of the remainder alone.
+    // Takes the first octet of a frame.
+    //
+    // It is out of line, so that thirty-one of thirty-two octets cost only a step of the remainder.
     #[inline(never)]
     fn first_octet(&mut self, octet: u8) -> u8
         ensures reply { (history : List ℕ) → SendsAfter self.old history → length history % 32 ≡ 0
@@ -75,7 +77,7 @@ impl Multiframer {
     }
 }
 
-// The Si bit of this frame of a multiframe.
+// The Si bit of a frame of a multiframe.
 fn si_at(number: u8, frame: u16) -> bool
     ensures { (bits : Remainder) → number ≡ crc_number bits → result ≡ si_at bits frame }
 {
@@ -86,14 +88,14 @@ fn si_at(number: u8, frame: u16) -> bool
     }
 }
 
-// The multiframe alignment signal and both E bits, numbered from 0.
+// The multiframe alignment signal and both E bits, by number from 0.
 fn signal_bit(number: u16) -> bool
     ensures { result ≡ signal_bit number }
 {
     matches!(number, 2 | 4 | 5 | 6 | 7)
 }
 
-// An octet with this bit 1.
+// An octet with a bit 1.
 fn with_si(octet: u8, si: bool) -> u8
     ensures { result ≡ with_si si octet }
 {

@@ -1,6 +1,6 @@
 //! The remainders of octets.
 
-// The remainder of each octet, times x^4, by x^4+x+1: C1 to C4 as a number, C1 its highest bit.
+// The remainder of each octet times x^4 by x^4+x+1: C1 to C4 as a number, C1 on top.
 pub(crate) static REMAINDERS: [u8; 256] = [
     0, 3, 6, 5, 12, 15, 10, 9, 11, 8, 13, 14, 7, 4, 1, 2, 5, 6, 3, 0, 9, 10, 15, 12, 14, 13, 8, 11,
     2, 1, 4, 7, 10, 9, 12, 15, 6, 5, 0, 3, 1, 2, 7, 4, 13, 14, 11, 8, 15, 12, 9, 10, 3, 0, 5, 6, 4,

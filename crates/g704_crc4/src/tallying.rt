@@ -1,4 +1,4 @@
-//! What is counted of a trunk.
+//! The counts of a trunk.
 
 ghost use Rattle.std.specs.Prelude.{◌≡◌, ◌∷◌, ◌++◌, ℕ, List, [], Some};
 ghost use Rattle.g704_crc4.specs.Receivers.{ChecksTrunk};
@@ -7,24 +7,26 @@ ghost use Rattle.g704_crc4.specs.Tally.{tally_of, tally_with, count_with};
 use crate::checking::Event;
 use crate::receiving::{Learned, Receiver};
 
-/// What was counted of a trunk. Each count stops at the greatest number.
+/// The counts of a trunk.
+///
+/// They saturate.
 #[derive(Clone, Copy, Debug, PartialEq, Eq)]
 pub struct Tally {
     /// Submultiframes that were checked.
     pub submultiframes: u64,
-    /// Errored ones among them.
+    /// Errored submultiframes.
     pub errored: u64,
-    /// E bits by which the far end reports an errored submultiframe.
+    /// E bits that report a submultiframe errored at the far end.
     pub far_end_errored: u64,
-    /// Times that CRC multiframe alignment was found.
+    /// How often CRC multiframe alignment was found.
     pub found: u64,
-    /// Times that it was lost.
+    /// How often it was lost.
     pub lost: u64,
-    /// Times that frame alignment was given up, 915 of a thousand submultiframes being errored.
+    /// How often frame alignment was given up, with 915 of a thousand submultiframes errored.
     pub given_up: u64,
 }
 
-/// Follows a trunk and counts what is learned.
+/// Follows a trunk and counts.
 #[derive(Clone, Copy, Debug, PartialEq, Eq)]
 pub struct TrunkChecker {
     receiver: Receiver,
@@ -32,7 +34,7 @@ pub struct TrunkChecker {
 }
 
 impl TrunkChecker {
-    /// A checker that has received nothing.
+    /// A checker at the start of a stream.
     pub fn new() -> Self
         ensures { ChecksTrunk result [] }
     {
@@ -59,7 +61,7 @@ impl TrunkChecker {
         }
     }
 
-    /// What was counted so far.
+    /// The counts so far.
     pub fn tally(&self) -> Tally
         ensures { (history : List ℕ) → ChecksTrunk self.now history → result ≡ tally_of history }
     {
@@ -67,7 +69,7 @@ impl TrunkChecker {
     }
 }
 
-// What is counted with what is learned with one more octet.
+// The counts after one more octet's event.
 #[inline(never)]
 fn tally_with(tally: Tally, learned: Learned) -> Tally
     ensures { result ≡ tally_with tally (Some learned) }
@@ -100,7 +102,7 @@ fn tally_with(tally: Tally, learned: Learned) -> Tally
     }
 }
 
-// A count after what may be one more.
+// A count, one higher if `more` is set.
 fn count_with(count: u64, more: bool) -> u64
     ensures { result ≡ count_with count more }
 {

@@ -1,4 +1,4 @@
--- Ages in a stream that begins anew after some octets.
+-- Ages in a stream that restarts after some octets.
 use Rattle.std.proofs.Common.{◌≡◌, ℕ, suc, ◌+◌, ◌-◌, ◌<◌, ◌≤◌, List, [], ◌∷◌, ◌++◌, length, map, true, false}
 use Rattle.std.proofs.Common.{Option, Some, None, refl, sym, ap, ◌∙◌, arith, ltb, leb}
 use Rattle.std.specs.Prelude.{option_map}
@@ -10,7 +10,7 @@ use Rattle.g704_framing.specs.Age.{is_before_loss, is_standing, age_in}
 use Rattle.g704_framing.specs.Restart.{moved, IsLostBefore, AllLostBefore, IsOver, last_of}
 use Rattle.g704_framing.proofs.Moves.{map-moved_zero}
 
--- comparing positions does not depend on where they are counted from
+-- comparing positions does not depend on their origin
 ltb-move : (m a b : ℕ) → ltb (m + a) (m + b) ≡ ltb a b
 ltb-move m a b = grind (arith, nat_tests)
 
@@ -23,13 +23,13 @@ before_loss-moved : (m n : ℕ) (o : Option ℕ) → is_before_loss (m + n) (opt
 before_loss-moved m n None = refl
 before_loss-moved m n (Some q) = ltb-move m n q
 
--- nor whether an alignment stands there
+-- nor whether there is an alignment
 standing-moved : (a m n : ℕ) (d : Alignment) → is_standing a (moved m d) (m + n) ≡ is_standing a d n
 standing-moved a m n d =
     let e : m + d.start + a ≡ m + (d.start + a) = omega arith in
     rw (e, leb-move m (d.start + a) n, before_loss-moved m n d.lost) refl
 
--- ages do not depend on where positions are counted from
+-- ages do not depend on the origin of positions
 pub age_in-moved : (a m n : ℕ) (ds : List Alignment) → age_in a (map (moved m) ds) (m + n) ≡ age_in a ds n
 age_in-moved a m n [] = refl
 age_in-moved a m n (d ∷ ds) =

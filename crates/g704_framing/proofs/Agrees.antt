@@ -28,7 +28,7 @@ up_to_loss : (p k n : ℕ) (o : Option ℕ) → k < reach o n → IsUpToLoss (p 
 up_to_loss p k n None lt = tt
 up_to_loss p k n (Some j) lt = omega arith
 
--- a loss is the same where two streams are lost alike up to it
+-- a loss is the same if two streams are lost alike up to it
 pub loss-alike : (f : Framing) (s t : List ℕ) (p : ℕ) → length s ≡ length t
     → IsLostAlike f s t (record { start = p; lost = loss f s p }) → loss f s p ≡ loss f t p
 unfolding loss
@@ -44,7 +44,7 @@ loss-alike f s t p len alike =
     rw n (ap (option_map (λ k. p + k)) (sym (least_equals (f.is_lost (drop p t)) (length c) o other)))
 
 module _ (f : Framing) (h : IsFraming f) (s t : List ℕ) (len : length s ≡ length t) where
-  -- where no search ends there is no alignment
+  -- if no search ends there is no alignment
   empty_ends : (ds : List Alignment) → [] ≡ search_ends_of f ds → [] ≡ ds
   empty_ends [] e = refl
   empty_ends (d ∷ ds) e = cc

@@ -1,4 +1,4 @@
--- Histories after which all begins anew.
+-- Histories after which everything restarts.
 use Rattle.std.proofs.Common.{◌≡◌, ℕ, suc, ◌+◌, ◌<◌, ◌≤◌, List, [], ◌∷◌, ◌++◌, length, map, true, false}
 use Rattle.std.proofs.Common.{Option, Some, None, refl, sym, ap, ◌∙◌, arith, add-one, append_assoc, inl, inr}
 use Rattle.std.specs.Prelude.{option_map}
@@ -22,7 +22,7 @@ lost_later : (m n : ℕ) (o : Option ℕ) → m ≤ n → IsLostBefore m o → I
 lost_later m n None h g = g
 lost_later m n (Some k) h g = omega arith
 
--- also where both are counted from further back
+-- also if both are counted from further back
 lost_moved : (m n : ℕ) (o : Option ℕ) → IsLostBefore n o → IsLostBefore (m + n) (option_map (λ k. m + k) o)
 lost_moved m n None g = g
 lost_moved m n (Some k) g = omega arith
@@ -53,7 +53,7 @@ pub last_of-push : (before : Option ℕ) (octets : List ℕ) (octet : ℕ)
     → last_of before (octets ++ octet ∷ []) ≡ Some octet
 last_of-push b c x = last_of-append b c (x ∷ [])
 
--- all begins anew after two histories of which each is over
+-- everything restarts after two histories that are both over
 pub IsOver-append : (framing : Framing) (before : Option ℕ) (octets others : List ℕ) → IsOver framing before octets
     → IsOver framing (last_of before octets) others → IsOver framing before (octets ++ others)
 IsOver-append f o a b p q = record {
@@ -71,7 +71,7 @@ IsOver-append f o a b p q = record {
       ∙ sym (append_assoc p.earlier (map (moved (length a)) q.earlier) (map (moved (length a + length b)) others)));
 }
 
--- where the search passes over the whole history, it is over
+-- if the search passes over the whole history, it is over
 pub IsOver-passed : (framing : Framing) → IsFraming framing → (before : Option ℕ) (octets : List ℕ)
     → ((rest : List ℕ)
     → framing.search before (octets ++ rest) 0 ≡ framing.search before (octets ++ rest) (length octets))

@@ -154,7 +154,7 @@ module _ (f : Framing) (h : IsFraming f) where
         ∙ ap Some back
   ]
 
-  -- an age that stands whole periods from the first octet, or none
+  -- an age whole periods from the first octet, or none
   read_if : (c : Bool) (age : ℕ) (o : Option ℕ) → age % f.period ≡ 0 → o ≡ None → IsRead f (cond c (Some age) o)
   read_if true age o e i = e
   read_if false age o e i = subst (IsRead f) (sym i) tt
@@ -165,7 +165,7 @@ module _ (f : Framing) (h : IsFraming f) where
       (n : ℕ) → from ≤ suc n → n < length s → IsRead f (age_in a ds n) → slice_index s n ≡ slice_index t n
 
   module _ (s t : List ℕ) (a : ℕ) (le : f.found_at ≤ a) (len : length s ≡ length t) where
-    -- the octets that a search reads have no age, but for the last of them
+    -- the octets read by a search have no age, except the last of them
     search_reads : (p n : ℕ) (o : Option ℕ) → IsNotBefore p o → n < suc (p + f.found_at)
         → IsRead f (age_in a (record { start = p; lost = o } ∷ after_loss f None s o) n)
     search_reads p n o g lt =
@@ -269,7 +269,7 @@ module _ (f : Framing) (h : IsFraming f) where
             (subst (AgreeAlong f s t) (sym first) along, others.1),
           )
 
-    -- where nothing is found there is no alignment
+    -- if nothing is found there is no alignment
     nothing_after : [] ≡ after_search f None t None
     unfolding after_search
     nothing_after = refl

@@ -11,7 +11,7 @@ abbrev pub IsLeast : (ℕ → Bool) → ℕ → Option ℕ → Type 0
 IsLeast passes limit None = (k : ℕ) → k < limit → passes k ≡ false
 IsLeast passes limit (Some n) = (n < limit) × (passes n ≡ true) × ((k : ℕ) → k < n → passes k ≡ false)
 
--- none below the next number passes, where none below this one does and it does not
+-- none below the next number passes, if none below this one does and it does not
 below_suc : (passes : ℕ → Bool) (n : ℕ) → ((k : ℕ) → k < n → passes k ≡ false) → passes n ≡ false
     → (k : ℕ) → k < suc n → passes k ≡ false
 below_suc passes n below here k h =
@@ -62,11 +62,11 @@ least_alike passes others limit None h l = λ k lt. sym (h k lt) ∙ l k lt
 least_alike passes others limit (Some n) h l =
     (l.0, sym (h n (omega arith)) ∙ l.1, λ k lt. sym (h k (omega arith)) ∙ l.2 k lt)
 
--- comparing numbers does not depend on where they are counted from
+-- comparing numbers does not depend on their origin
 pub le-suc : (small large : ℕ) → nat_le (suc small) (suc large) ≡ nat_le small large
 le-suc m n = grind (arith, nat_tests)
 
--- the least that passes, counted from one further back, where the first number does not pass
+-- the least that passes, counted from one further back, if the first number does not pass
 pub least-later : (passes others : ℕ → Bool) (limit : ℕ) (found : Option ℕ) → others 0 ≡ false
     → ((number : ℕ) → others (suc number) ≡ passes number) → IsLeast passes limit found
     → IsLeast others (suc limit) (option_map suc found)

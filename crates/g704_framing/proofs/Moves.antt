@@ -4,7 +4,7 @@ use Rattle.std.specs.Prelude.{option_map}
 use Rattle.g704_framing.specs.Alignment.{Alignment, later_alignment}
 use Rattle.g704_framing.specs.Restart.{moved}
 
--- counted from where it was
+-- counted from the old origin
 pub option_map-zero : (o : Option ℕ) → option_map (λ k. 0 + k) o ≡ o
 option_map-zero None = refl
 option_map-zero (Some k) = ap Some (zero-add k)
@@ -25,7 +25,7 @@ pub same_alignment : (a b : ℕ) (p q : Option ℕ) → a ≡ b → p ≡ q
     → ◌≡◌ {A = Alignment} (record { start = a; lost = p }) (record { start = b; lost = q })
 same_alignment a b p q e f = cc
 
--- the same of all alignments of a list: from where they were
+-- the same for all alignments of a list, from the old origin
 pub map-moved_zero : (ds : List Alignment) → map (moved 0) ds ≡ ds
 map-moved_zero [] = refl
 map-moved_zero (d ∷ ds) =

@@ -43,7 +43,7 @@ places_are_alike p is s t alike =
       ),
     )
 
--- streams that differ in octets of other numbers alone are aligned alike
+-- streams that differ only in octets of other numbers are aligned alike
 pub other_places_are_not_read : {Place : Type 0} (placing : Placing Place) → IsPlacing placing
     → OtherPlacesAreNotRead placing
 unfolding place_in

@@ -7,16 +7,16 @@ use Rattle.g704_framing.specs.Laws.{IsFoundAfter}
 abbrev pub StaysFound : Option ℕ → Option ℕ → Type 0
 StaysFound found more = (position : ℕ) → found ≡ Some position → more ≡ Some position
 
--- also where positions are counted from one further back
+-- also if positions are counted from one further back
 pub later-found : (found more : Option ℕ) → StaysFound found more → StaysFound (later found) (later more)
 later-found None r h p e = cc
 later-found (Some q) r h p e = ap later (h q refl) ∙ e
 
--- nothing found in a stream of so many octets, and what is found when it goes on is found by a later one
+-- if nothing is found in so many octets, a longer stream's find is by a later one
 abbrev pub FoundAfter : ℕ → ℕ → Option ℕ → Option ℕ → Type 0
 FoundAfter found_at count found more = found ≡ None → IsFoundAfter count found_at more
 
--- also where positions are counted from one further back
+-- also if positions are counted from one further back
 pub later-after : (found_at count : ℕ) (found more : Option ℕ) → FoundAfter found_at count found more
     → FoundAfter found_at (suc count) (later found) (later more)
 later-after at count (Some p) r h e = cc

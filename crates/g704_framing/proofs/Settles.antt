@@ -51,7 +51,7 @@ from_later : (from p : ℕ) (o : Option ℕ) → option_map suc o ≡ Some p →
 from_later from p None e h = cc
 from_later from p (Some q) e h = let le = h q refl in let n = same_Some (suc q) p e in omega arith
 
--- what a search finds is not before where it began
+-- a search finds nothing before its begin
 pub search-from : (f : Framing) → IsFraming f → (b : Option ℕ) (s : List ℕ) (from p : ℕ) → f.search b s from ≡ Some p
     → from ≤ p
 search-from f h b [] from p e = let none = h.nothing b from in cc
@@ -70,7 +70,7 @@ Continues end None p = IsNotBefore end p
 Continues end (Some lost) p = p ≡ Some lost
 
 module _ (f : Framing) (h : IsFraming f) where
-  -- the least place at which an alignment is lost, in octets that go on
+  -- the least place at which an alignment is lost, in a longer stream
   least-continues : (c t : List ℕ) (o p : Option ℕ) → IsLeast (f.is_lost c) (length c) o
       → IsLeast (f.is_lost (c ++ t)) (length (c ++ t)) p → Continues (length c) o p
   least-continues c t None None l m = tt

@@ -1,4 +1,4 @@
--- Places, alarms and histories of an aligner, by the octets since all began anew.
+-- Places, alarms and histories of an aligner, by the octets since the last restart.
 use Rattle.std.proofs.Common.{◌≡◌, ℕ, ◌+◌, ◌-◌, ◌<◌, List, [], ◌∷◌, ◌++◌, length, true, Option, None}
 use Rattle.std.proofs.Common.{refl, sym, ap, arith}
 use Rattle.std.specs.Prelude.{is_none}
@@ -20,7 +20,7 @@ place-history p history earlier since x e over =
     rw (e, length-append earlier since, append_assoc earlier since (x ∷ []))
     (ap p.place_of (sym (age-over p.framing None earlier (since ++ x ∷ []) p.placed_from (length since) over)))
 
--- an octet after which all begins anew has none
+-- an octet after which everything restarts has none
 pub place-over : {Place : Type 0} (placing : Placing Place) (before : Option ℕ) (octets : List ℕ) (octet : ℕ)
     → IsOver placing.framing before (octets ++ octet ∷ [])
     → placing.place_of None ≡ place_since placing before (octets ++ octet ∷ []) (length octets)
@@ -29,7 +29,7 @@ place-over p b c x over =
     let l = length_push c x in
     ap p.place_of (sym (age-at_over p.framing b (c ++ x ∷ []) p.placed_from (length c) over (omega arith)))
 
--- the alarm in the whole history, where octets came since
+-- the alarm in the whole history, if octets came since
 pub alarm-since : {Place : Type 0} (placing : Placing Place) (earlier since : List ℕ)
     → IsOver placing.framing None earlier → 0 < length since
     → is_none (age_in placing.framing.found_at (alignments_from placing.framing (last_of None earlier) since 0)
@@ -40,7 +40,7 @@ alarm-since p earlier since over lt =
     rw (length-append earlier since, e)
     (ap is_none (sym (age-over p.framing None earlier since p.framing.found_at (length since - 1) over)))
 
--- and where none did
+-- and if none did
 pub alarm-over : {Place : Type 0} (placing : Placing Place) (earlier : List ℕ) → IsOver placing.framing None earlier
     → true ≡ alarm_in placing (earlier ++ []) (length (earlier ++ []) - 1)
 unfolding alarm_in
@@ -66,7 +66,7 @@ since-more framing holds history earlier since x e over h = record {
   fields = h;
 }
 
--- and what is so where all begins anew after it
+-- and for an octet after which everything restarts
 pub since-anew : (framing : Framing) (holds : Option ℕ → List ℕ → Type 0) (history earlier since : List ℕ) (octet : ℕ)
     → history ≡ earlier ++ since → IsOver framing None earlier
     → IsOver framing (last_of None earlier) (since ++ octet ∷ [])

@@ -14,7 +14,7 @@ loss-later : (f : Framing) (x : ℕ) (s : List ℕ) (p : ℕ) → loss f (x ∷ 
 unfolding loss
 loss-later f x s p = option_map-suc p (least (f.is_lost (drop p s)) (length (drop p s)))
 
--- where there is no alignment, nothing was found
+-- if there is no alignment, nothing was found
 pub none_found : (f : Framing) (b : Option ℕ) (s : List ℕ) (o : Option ℕ) → [] ≡ after_search f b s o → o ≡ None
 unfolding after_search
 none_found f b s None e = refl

@@ -4,39 +4,39 @@ use Rattle.std.specs.Prelude.{ℕ, zero, suc, ◌+◌, Bool, List, [], ◌∷◌
 use Rattle.std.specs.Prelude.{Option, Some, None, option_map}
 use Rattle.g704_framing.specs.Least.{least}
 
--- What sets frame alignment and multiframe alignment apart.
+-- The differences between frame alignment and multiframe alignment.
 pub record Framing : Type 0 where
-  -- where the alignment begins that is found in a stream from a position on; the octet before the stream, if
-  -- any, may be looked at
+  -- the begin of the alignment found in a stream from a position; the octet before the stream, if any, may be
+  -- read
   pub search : Option ℕ → List ℕ → ℕ → Option ℕ
-  -- of the octets of an alignment, its first one first: the age of the octet by which it is found
+  -- the age, in an alignment, of the octet by which it is found
   pub found_at : ℕ
-  -- so many octets apart lie those that keep it
+  -- the distance of the octets that keep it
   pub period : ℕ
-  -- and it is lost by the octet of this age, if it was not before
+  -- whether the octet of this age loses it, if it is not yet lost
   pub is_lost : List ℕ → ℕ → Bool
 
--- An alignment: where its first octet is, and the octet by which it is lost, if it is.
+-- An alignment: the place of its first octet, and the octet by which it is lost, if any.
 pub record Alignment : Type 0 where
   pub start : ℕ
   pub lost : Option ℕ
 
--- the position at which an alignment that begins at this one is lost
+-- the position at which an alignment that begins here is lost
 unfoldable pub loss : Framing → List ℕ → ℕ → Option ℕ
 loss framing stream start =
     option_map (λ age. start + age)
     (least (framing.is_lost (drop start stream)) (length (drop start stream)))
 
--- a position that is counted from the next octet on, counted from this one
+-- a position counted from the next octet, counted from this one
 abbrev pub later : Option ℕ → Option ℕ
 later position = option_map suc position
 
--- an alignment, its positions counted from one octet further back
+-- an alignment with its positions counted from one octet earlier
 abbrev pub later_alignment : Alignment → Alignment
 later_alignment alignment = record { start = suc alignment.start; lost = later alignment.lost }
 
--- the alignments of a stream after this octet, if any: the first search is from this position on, each
--- further one from the octet after a loss
+-- the alignments of a stream after this octet, if any: the first search is from this position, each further
+-- one from the octet after a loss
 unfoldable pub alignments_from : Framing → Option ℕ → List ℕ → ℕ → List Alignment
 alignments_from framing before [] from = []
 alignments_from framing before (octet ∷ stream) (suc from) =
@@ -50,21 +50,20 @@ alignments_from framing before (octet ∷ stream) zero = elim (framing.search be
       ])
 ]
 
--- all the alignments of a stream
+-- all alignments of a stream
 abbrev pub alignments_of : Framing → List ℕ → List Alignment
 alignments_of framing stream = alignments_from framing None stream 0
 
--- the positions of the octets by which alignments are found, one after another
+-- the positions of the octets by which alignments are found
 abbrev pub search_ends_of : Framing → List Alignment → List ℕ
 search_ends_of framing alignments = map (λ alignment. alignment.start + framing.found_at) alignments
 
--- the alignments that come after a loss, by a search from the octet after it on
+-- the alignments after a loss, by a search from the octet after it
 unfoldable pub after_loss : Framing → Option ℕ → List ℕ → Option ℕ → List Alignment
 after_loss framing before stream None = []
 after_loss framing before stream (Some lost) = alignments_from framing before stream (suc lost)
 
--- the alignments from what a search has found: the first begins there, and its loss is followed by further
--- ones
+-- the alignments from what a search found: the first begins there, and further ones follow its loss
 unfoldable pub after_search : Framing → Option ℕ → List ℕ → Option ℕ → List Alignment
 after_search framing before stream None = []
 after_search framing before stream (Some start) =

@@ -1,5 +1,5 @@
--- After some histories all begins anew: what comes next is aligned as a stream of its own, but that its first
--- search may look at the last octet before.
+-- After some histories everything restarts: later octets are aligned as a stream of their own, except that
+-- its first search may read the last octet before.
 use Rattle.std.specs.Prelude.{◌≡◌, ℕ, ◌+◌, ◌<◌, List, [], ◌∷◌, ◌++◌, map, length, Option, Some, None}
 use Rattle.std.specs.Prelude.{option_map}
 use Rattle.g704_framing.specs.Alignment.{Framing, Alignment, alignments_from}
@@ -11,7 +11,7 @@ moved before alignment = record {
   lost = option_map (λ position. before + position) alignment.lost;
 }
 
--- lost, and by an octet before this position
+-- lost by an octet before this position
 abbrev pub IsLostBefore : ℕ → Option ℕ → Type 0
 IsLostBefore position None = ⊥
 IsLostBefore position (Some lost) = lost < position
@@ -26,14 +26,15 @@ abbrev pub last_of : Option ℕ → List ℕ → Option ℕ
 last_of before [] = before
 last_of before (octet ∷ octets) = last_of (Some octet) octets
 
--- the alignments of these octets are lost, and whatever comes after them is searched as a stream of its own
+-- the alignments of these octets are lost, and later octets are searched as a stream of their own
 pub record IsOver (framing : Framing) (before : Option ℕ) (octets : List ℕ) : Type 0 where
   pub earlier : List Alignment
   pub all_lost : AllLostBefore (length octets) earlier
   pub anew : (rest : List ℕ) → alignments_from framing before (octets ++ rest) 0
       ≡ earlier ++ map (moved (length octets)) (alignments_from framing (last_of before octets) rest 0)
 
--- All began anew within a history, and this is so of the octets since, and of the octet before them, if any.
+-- Everything restarted within a history, and this holds of the octets since, and of the octet before them, if
+-- any.
 pub record HoldsSince (framing : Framing) (holds : Option ℕ → List ℕ → Type 0) (history : List ℕ)
     : Type 0 where
   pub earlier : List ℕ

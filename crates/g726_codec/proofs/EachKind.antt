@@ -38,7 +38,7 @@ reset_stands law kind =
     λ s. record { law = law; kind = kind; encoder = encoder_after law kind []; decoder = s } in
     ap with_encoder none.0 ∙ ap with_decoder none.1
 
--- a codec that stands gives the words of the next octets, and stands after them
+-- a codec with a history gives the words of the next octets, and then has the longer one
 pub after_octets : (law : Law) (kind : CodecKind) (given words octets coded : List ℕ)
     → coded ≡ words_by (tables_of kind) law (encoder_after law kind given) octets
     → (enc law kind (given ++ octets) ≡ enc law kind given ++ coded)
@@ -51,7 +51,7 @@ after_octets law kind given words octets coded e =
       ap with (next_encoder (tables_of kind) law given octets _ _ coded refl e refl),
     )
 
--- one gives the octets of the next words, and stands after them
+-- it gives the octets of the next words, and then has the longer one
 pub after_words : (law : Law) (kind : CodecKind) (octets given words coded : List ℕ)
     → coded ≡ octets_by (tables_of kind) law (decoder_after kind given) words
     → (dec law kind (given ++ words) ≡ dec law kind given ++ coded)

@@ -48,13 +48,13 @@ after_more : (t : Option RateTables) (s : Variables) (words later : List ℕ)
 after_more None s words later = refl
 after_more (Some r) s words later = state_after_more r s words later
 
--- an encoder that stands after octets gives the words of the next ones, and stands after them
+-- an encoder with a history gives the words of the next octets, and then has the longer one
 pub next_words : (t : Option RateTables) (law : Law) (given octets : List ℕ) (old : Variables) (words : List ℕ)
     → old ≡ after_by t at_reset (words_by t law at_reset given) → words ≡ words_by t law old octets
     → words_by t law at_reset (given ++ octets) ≡ words_by t law at_reset given ++ words
 next_words t law given octets old words e f = rw (words_more t law at_reset given octets, ← e, ← f) refl
 
--- and stands after them
+-- and then has the longer one
 pub next_encoder : (t : Option RateTables) (law : Law) (given octets : List ℕ) (old new : Variables) (words : List ℕ)
     → old ≡ after_by t at_reset (words_by t law at_reset given) → words ≡ words_by t law old octets
     → new ≡ after_by t old words → new ≡ after_by t at_reset (words_by t law at_reset (given ++ octets))
@@ -65,13 +65,13 @@ next_encoder t law given octets old new words e f g =
       ← e,
     ) g
 
--- a decoder that stands after words gives the octets of the next ones, and stands after them
+-- a decoder with a history gives the octets of the next words, and then has the longer one
 pub next_octets : (t : Option RateTables) (law : Law) (given words : List ℕ) (old : Variables) (octets : List ℕ)
     → old ≡ after_by t at_reset given → octets ≡ octets_by t law old words
     → octets_by t law at_reset (given ++ words) ≡ octets_by t law at_reset given ++ octets
 next_octets t law given words old octets e f = rw (octets_more t law at_reset given words, ← e, ← f) refl
 
--- and stands after them
+-- and then has the longer one
 pub next_decoder : (t : Option RateTables) (given words : List ℕ) (old new : Variables)
     → old ≡ after_by t at_reset given → new ≡ after_by t old words → new ≡ after_by t at_reset (given ++ words)
 next_decoder t given words old new e f = rw (after_more t at_reset given words, ← e) f

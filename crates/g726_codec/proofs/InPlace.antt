@@ -15,7 +15,7 @@ rest_kept : (now old : List ℕ) (i word : ℕ) → drop i now ≡ drop i old
 rest_kept now old i word e =
     drop-set-lt (i + 1) now i word (omega arith) ∙ sym (drop-drop 1 i now) ∙ ap (drop 1) e ∙ drop-drop 1 i old
 
--- the octet that is coded next is as it was
+-- the next octet to code is unchanged
 same_octet : (now old : List ℕ) (i : ℕ) → drop i now ≡ drop i old → get_or now i 0 ≡ get_or old i 0
 same_octet now old i e =
     let none : i + 0 ≡ i = omega arith in
@@ -23,7 +23,7 @@ same_octet now old i e =
     ∙ get_or-drop i old 0 0
     ∙ ap (λ (n : ℕ). get_or old n 0) none
 
--- an encoder has gone from one state to another by the octets of a slice before a place: their words stand there now
+-- an encoder went from one state to another by the octets of a slice before a place: their words are there now
 pub record IsCodedTo (r : RateTables) (law : Law) (first s : Variables) (old now : List ℕ) (i : ℕ) : Type 0 where
   pub len : length now ≡ length old
   pub rest : drop i now ≡ drop i old

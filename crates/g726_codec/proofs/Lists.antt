@@ -68,7 +68,7 @@ complement_fits : (is_complement : Bool) (whole magnitude : ℕ) → magnitude <
 complement_fits true whole magnitude h = omega (arith, h)
 complement_fits false whole magnitude h = h
 
--- a word is below 2 ^ bits where there are fewer thresholds than that
+-- a word is below 2 ^ bits if there are fewer thresholds than that
 word_fits : (r : RateTables) (d : ℤ) (y : ℕ) → length r.thresholds < 2 ^ r.bits → quantised r d y < 2 ^ r.bits
 unfolding quantised
 word_fits r d y few =

@@ -11,7 +11,7 @@ use Rattle.g726_tone.specs.Adaptation as adaptation
 use Rattle.g726_predict.specs.Predictor.{Prediction, se, tone, updated}
 use Rattle.g726_predict.specs.Predictor as prediction
 
--- the variables of an encoder or a decoder that are kept from one sample to the next
+-- the variables that an encoder or a decoder keeps from sample to sample
 pub record Variables : Type 0 where
   pub adaptation : Adaptation
   pub prediction : Prediction
@@ -30,7 +30,7 @@ addb r s word =
     let magnitude = reconstructed r word (scale s.adaptation) in
     wrap16 (signed (word_is_negative r.bits word) magnitude +ℤ se s.prediction)
 
--- the state after a sample, of an encoder and of a decoder alike: it goes by the word alone
+-- the state after a sample, of an encoder or a decoder: it follows from the word alone
 unfoldable pub stepped : RateTables → Variables → ℕ → Variables
 stepped r s word =
     let negative = word_is_negative r.bits word in
@@ -46,26 +46,26 @@ stepped r s word =
 abbrev pub sp : RateTables → Law → Variables → ℕ → ℕ
 sp r law s word = compress law (addb r s word)
 
--- SYNC: a code stays where ID, the order of the word that it gives, is IM, that of the received word. Where
--- ID is below IM the next more positive code is given, else the next more negative one
+-- SYNC: a code stays if its word has the order of the received one (ID is IM). If ID is below IM the next
+-- more positive code is returned, otherwise the next more negative one
 abbrev pub adjusted : Law → ℕ → ℕ → ℕ → ℕ
 adjusted law code id im =
     if id == im then code else (if nat_lt id im then next_up law code else next_down law code)
 
--- SYNC: SD, the octet of a word: SP, expanded and quantised again, gives the word that is compared
+-- SYNC: SD, the octet of a word. SP, expanded and quantised again, gives the word to compare
 unfoldable pub sync : RateTables → Law → Variables → ℕ → ℕ
 sync r law s word =
     let code = sp r law s word in
     adjusted law code (word_order r.bits (word_for r s (expand law code))) (word_order r.bits word)
 
--- the words of octets, from a state on
+-- the words of octets, from a state
 abbrev pub words_from : RateTables → Law → Variables → List ℕ → List ℕ
 words_from r law s [] = []
 words_from r law s (octet ∷ octets) =
     let word = word_for r s (expand law octet) in
     word ∷ words_from r law (stepped r s word) octets
 
--- the octets of words, from a state on
+-- the octets of words, from a state
 abbrev pub octets_from : RateTables → Law → Variables → List ℕ → List ℕ
 octets_from r law s [] = []
 octets_from r law s (word ∷ words) = sync r law s word ∷ octets_from r law (stepped r s word) words

@@ -15,7 +15,7 @@ bits_of G24 = 3
 bits_of G32 = 4
 bits_of G40 = 5
 
--- the tables of the rate of a kind. G.711 has none: its octets are their own words, and it keeps nothing
+-- the tables of a kind's rate. G.711 has none: its octets are their own words, and it keeps nothing
 abbrev pub tables_of : CodecKind → Option RateTables
 tables_of G711 = None
 tables_of G16 = Some tables16
@@ -23,12 +23,12 @@ tables_of G24 = Some tables24
 tables_of G32 = Some tables32
 tables_of G40 = Some tables40
 
--- by the tables, if any: the word that an encoder gives for an octet, from its variables
+-- by the tables, if any: the word of an octet, from an encoder's variables
 abbrev pub word_by : Option RateTables → Law → Variables → ℕ → ℕ
 word_by None law s octet = octet
 word_by (Some r) law s octet = word_for r s (expand law octet)
 
--- the octet that a decoder gives for a word
+-- the octet of a word, from a decoder's variables
 abbrev pub octet_by : Option RateTables → Law → Variables → ℕ → ℕ
 octet_by None law s word = word
 octet_by (Some r) law s word = sync r law s word
@@ -42,7 +42,7 @@ abbrev pub octets_by : Option RateTables → Law → Variables → List ℕ → 
 octets_by None law s words = words
 octets_by (Some r) law s words = octets_from r law s words
 
--- the variables after words, of an encoder and of a decoder alike
+-- the variables after words, of an encoder or a decoder
 abbrev pub after_by : Option RateTables → Variables → List ℕ → Variables
 after_by None s words = s
 after_by (Some r) s words = state_after r s words
@@ -54,7 +54,7 @@ enc law kind octets = words_by (tables_of kind) law at_reset octets
 unfoldable pub dec : Law → CodecKind → List ℕ → List ℕ
 dec law kind words = octets_by (tables_of kind) law at_reset words
 
--- the variables of the encoder after octets, and of the decoder after words. Those of G.711 stay as at reset
+-- the variables of the encoder after octets, and of the decoder after words. Those of G.711 stay at reset
 unfoldable pub encoder_after : Law → CodecKind → List ℕ → Variables
 encoder_after law kind octets =
     after_by (tables_of kind) at_reset (words_by (tables_of kind) law at_reset octets)
@@ -69,14 +69,14 @@ pub record CodecState : Type 0 where
   pub encoder : Variables
   pub decoder : Variables
 
--- a codec whose encoder has given words, and one whose decoder has taken words
+-- a codec whose encoder has sent words, and one whose decoder has received words
 abbrev pub after_encoding : CodecState → List ℕ → CodecState
 after_encoding c words = record c { encoder = after_by (tables_of c.kind) c.encoder words }
 
 abbrev pub after_decoding : CodecState → List ℕ → CodecState
 after_decoding c words = record c { decoder = after_by (tables_of c.kind) c.decoder words }
 
--- a codec after these octets to encode and these words to decode, since its reset
+-- a codec after octets to encode and words to decode, since its reset
 abbrev pub codec_after : Law → CodecKind → List ℕ → List ℕ → CodecState
 codec_after law kind octets words = record {
   law = law;

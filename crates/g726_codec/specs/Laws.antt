@@ -5,7 +5,7 @@ use Rattle.g726_codec.specs.Kinds.{bits_of, enc, dec, codec_after}
 use Rattle.g726_codec.specs.declared.CodecKind.{CodecKind}
 use Rattle.g726_codec.specs.declared.CodecKind.TheVariants.{G711}
 
--- a word for each octet, and an octet for each word
+-- one word for each octet, and one octet for each word
 abbrev pub OneWordAnOctet : Type 0
 OneWordAnOctet = (law : Law) (kind : CodecKind)
     → ((octets : List ℕ) → length (enc law kind octets) ≡ length octets)
@@ -22,7 +22,7 @@ PrefixesComeFirst = (law : Law) (kind : CodecKind)
     → ((octets later : List ℕ) → take (length octets) (enc law kind (octets ++ later)) ≡ enc law kind octets)
     × ((words later : List ℕ) → take (length words) (dec law kind (words ++ later)) ≡ dec law kind words)
 
--- of no octets there are no words, and of no words no octets
+-- no octets give no words, and no words give no octets
 abbrev pub NothingIsCoded : Type 0
 NothingIsCoded = (law : Law) (kind : CodecKind) → (enc law kind [] ≡ []) × (dec law kind [] ≡ [])
 
@@ -31,7 +31,7 @@ abbrev pub SpeechIsItsOwnWords : Type 0
 SpeechIsItsOwnWords =
     (law : Law) (octets : List ℕ) → (enc law G711 octets ≡ octets) × (dec law G711 octets ≡ octets)
 
--- a codec of G.711 keeps nothing of what it was given
+-- a codec of G.711 keeps nothing
 abbrev pub NothingIsKept : Type 0
 NothingIsKept = (law : Law) (octets words : List ℕ)
     → codec_after law G711 octets words ≡ codec_after law G711 [] []

@@ -17,7 +17,7 @@ text_of G24 = codes "g726-24"
 text_of G32 = codes "g726-32"
 text_of G40 = codes "g726-40"
 
--- the name of this text, if it is one
+-- the name with this text, if there is one
 abbrev pub codec_named : List ℕ → Option CodecName
 codec_named text = find (λ name. bytes_eq text (text_of name)) (Pcma ∷ Pcmu ∷ G16 ∷ G24 ∷ G32 ∷ G40 ∷ [])
 
@@ -30,7 +30,7 @@ name_of _ kinds.G24 = G24
 name_of _ kinds.G32 = G32
 name_of _ kinds.G40 = G40
 
--- the codec that is named
+-- the kind of the named codec
 abbrev pub kind_of : CodecName → CodecKind
 kind_of Pcma = kinds.G711
 kind_of Pcmu = kinds.G711

@@ -1,5 +1,5 @@
 -- The octets of a saved codec: the variables of the encoder, then those of the decoder. The law and the kind
--- are not among them: a codec that is loaded has those that the caller names. G.711 keeps nothing.
+-- are not among them: the caller gives them when it loads. G.711 keeps nothing.
 use Rattle.std.specs.Prelude.{ℕ, List, [], ◌++◌, ◌≡◌, Option, Some, None}
 use Rattle.g726_quant.specs.Tables.{RateTables}
 use Rattle.g726_tone.specs.Adaptation.{InRange}
@@ -24,7 +24,7 @@ saved_by (Some r) encoder decoder = saved_variables encoder ++ saved_variables d
 unfoldable pub saved_codec : CodecState → List ℕ
 saved_codec c = saved_by (tables_of c.kind) c.encoder c.decoder
 
--- by the tables, if any: the variables of both fit. Those of G.711 are as at reset
+-- by the tables, if any: the variables of both fit. Those of G.711 are at reset
 abbrev pub BothFit : Option RateTables → Variables → Variables → Type 0
 BothFit None encoder decoder = (encoder ≡ at_reset) × (decoder ≡ at_reset)
 BothFit (Some r) encoder decoder = VariablesFit encoder × VariablesFit decoder

@@ -7,7 +7,7 @@ use Rattle.g726_codec.specs.declared.CodecKind.TheVariants as kinds
 use Rattle.g726_codec.specs.declared.any.Codec.{Codec}
 use Rattle.g726_codec.specs.declared.any.Codec.TheVariants.{G711, G16, G24, G32, G40}
 
--- the kind of a codec, the variables of its encoder and those of its decoder. Those of G.711 stay as at reset
+-- the kind of a codec, and the variables of its encoder and its decoder. Those of G.711 stay at reset
 abbrev variables_of : Codec → CodecKind × Variables × Variables
 variables_of G711 = (kinds.G711, at_reset, at_reset)
 variables_of (G16 encoder decoder) = (kinds.G16, encoder, decoder)

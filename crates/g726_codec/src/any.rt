@@ -1,4 +1,4 @@
-//! A codec of any kind.
+//! A codec of any kind: G.711, or G.726 at one of its rates.
 ghost use Rattle.std.specs.Prelude.{◌≡◌, ◌<◌, ◌^◌, ℕ, List, [], ◌∷◌, ◌++◌, length};
 ghost use Rattle.std.specs.List.{All};
 ghost use Rattle.g726_codec.specs.Codec.{at_reset};
@@ -13,7 +13,7 @@ use e1_g711::Law;
 use g726_quant::{R16, R24, R32, R40, Word};
 use std::marker::Model;
 
-// A codec of each kind: an encoder and a decoder. G.711 has no state.
+// An encoder and a decoder of each kind. G.711 has no state.
 #[derive(Drop)]
 enum Codec {
     G711,
@@ -98,8 +98,9 @@ impl Codec {
     }
 }
 
-/// An encoder and a decoder of any kind, in the law of the trunk. Contracts see the law, the kind, and the
-/// variables of the encoder and of the decoder.
+/// An encoder and a decoder of any kind, in the trunk's law.
+///
+/// Contracts see the law, the kind, and the variables of the encoder and of the decoder.
 #[derive(Drop)]
 pub struct AnyCodec {
     law: Law,
@@ -116,7 +117,7 @@ impl Model for AnyCodec {
 }
 
 impl AnyCodec {
-    /// A codec whose encoder and decoder are at reset.
+    /// A codec at reset.
     pub fn new(law: Law, kind: CodecKind) -> AnyCodec
         ensures { result ≡ codec_after law kind [] [] }
     {
@@ -126,7 +127,9 @@ impl AnyCodec {
         }
     }
 
-    /// The word of the next octet, below `2^bits`. An octet of G.711 is its own word.
+    /// The word of the next octet, below `2^bits`.
+    ///
+    /// An octet of G.711 is its own word.
     #[inline(always)]
     pub fn encode(&mut self, octet: u8) -> u8
         ensures bound { result < 2 ^ bits_of self.old.kind }
@@ -142,7 +145,7 @@ impl AnyCodec {
         self.codec.encode(self.law, octet)
     }
 
-    /// Puts the words of the next octets into their places, each below `2^bits`.
+    /// Replaces octets by their words, each below `2^bits`.
     pub fn encode_all(&mut self, octets: &mut [u8])
         ensures len { length octets.new ≡ length octets.old }
         ensures fit { All (λ word. word < 2 ^ bits_of self.old.kind) octets.new }
@@ -159,7 +162,9 @@ impl AnyCodec {
         self.codec.encode_all(self.law, octets);
     }
 
-    /// The octet of the next word, which is below `2^bits`. A word of G.711 is its own octet.
+    /// The octet of the next word, which is below `2^bits`.
+    ///
+    /// A word of G.711 is its own octet.
     #[inline(always)]
     pub fn decode(&mut self, word: u8) -> u8
         requires { word < 2 ^ bits_of self.old.kind }
@@ -175,7 +180,7 @@ impl AnyCodec {
         self.codec.decode(self.law, word)
     }
 
-    /// Puts encoder and decoder back to reset.
+    /// Resets encoder and decoder.
     pub fn reset(&mut self)
         ensures { self.new ≡ codec_after self.old.law self.old.kind [] [] }
     {

@@ -9,7 +9,9 @@ use e1_g711::{Law, compress, next_down, next_up};
 use g726_quant::{Rate, Word, order};
 use std::marker::{Model, PhantomData};
 
-/// A decoder of ITU-T G.726 at a rate. Contracts see the variables of the Recommendation.
+/// A decoder of ITU-T G.726 at one rate.
+///
+/// Contracts see the variables of the Recommendation.
 #[derive(Drop)]
 pub struct Decoder<R: Rate> {
     state: State,
@@ -24,7 +26,7 @@ impl<R: Rate> Model for Decoder<R> {
     ghost view = { λ d. d.state };
 }
 
-// SYNC: the code, or its neighbour toward the received word, by the orders of the two words.
+// SYNC: the code, or its neighbour toward the received word, by the order of the two words.
 fn adjusted(law: Law, code: u8, id: u8, im: u8) -> u8
     ensures { result ≡ adjusted law code id im }
 {
@@ -49,8 +51,10 @@ impl<R: Rate> Decoder<R> {
         }
     }
 
-    /// The octet of the next word, in a law (ITU-T G.726, RECONST to ADDB, COMPRESS, EXPAND, and SUBTA to
-    /// SYNC; the other blocks for the state).
+    /// The octet of the next word in a law.
+    ///
+    /// (ITU-T G.726, RECONST to ADDB, COMPRESS, EXPAND, and SUBTA to SYNC; the other blocks update the
+    /// state.)
     #[inline(always)]
     pub fn decode(&mut self, law: Law, word: Word<R>) -> u8
         ensures octet { result ≡ sync R.tables law self.old word }

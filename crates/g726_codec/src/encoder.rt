@@ -12,7 +12,9 @@ use e1_g711::Law;
 use g726_quant::{Rate, Word};
 use std::marker::{Model, PhantomData};
 
-/// An encoder of ITU-T G.726 at a rate. Contracts see the variables of the Recommendation.
+/// An encoder of ITU-T G.726 at one rate.
+///
+/// Contracts see the variables of the Recommendation.
 #[derive(Drop)]
 pub struct Encoder<R: Rate> {
     state: State,
@@ -39,8 +41,9 @@ impl<R: Rate> Encoder<R> {
         }
     }
 
-    /// The word of the next octet, which is a code of a law (ITU-T G.726, EXPAND to QUAN; the other blocks
-    /// for the state).
+    /// The word of the next octet, a code of a law.
+    ///
+    /// (ITU-T G.726, EXPAND to QUAN; the other blocks update the state.)
     #[inline(always)]
     pub fn encode(&mut self, law: Law, octet: u8) -> Word<R>
         ensures word { result ≡ word_for R.tables self.old (expand law octet) }
@@ -56,7 +59,7 @@ impl<R: Rate> Encoder<R> {
         word
     }
 
-    /// Puts the words of the next octets, codes of a law, into their places.
+    /// Replaces octets, codes of a law, by their words.
     pub fn encode_all(&mut self, law: Law, octets: &mut [u8])
         ensures len { length octets.new ≡ length octets.old }
         ensures fit { All (λ word. word < 2 ^ R.tables.bits) octets.new }

@@ -1,4 +1,4 @@
-//! ITU-T G.726: the encoder and the decoder of a circuit at all four rates, and G.711 beside them.
+//! ITU-T G.726: encoder and decoder of a circuit at all four rates, and ITU-T G.711.
 #![tactic(auto)]
 
 ghost use Rattle.std.specs.Prelude.{◌≡◌};

@@ -24,8 +24,10 @@ pub const G726_32: &str = "g726-32";
 /// The text of [`CodecName::G40`].
 pub const G726_40: &str = "g726-40";
 
-/// A codec by its name: ITU-T G.711 in one of its laws, or ITU-T G.726 at one of its rates. RFC 3551, 4.5.4
-/// and 4.5.14, has these names in capitals.
+/// A codec by its name.
+///
+/// It is ITU-T G.711 in one of its laws, or ITU-T G.726 at one of its rates. RFC 3551, 4.5.4 and 4.5.14, has
+/// these names in capitals.
 #[derive(Clone, Copy, Debug, PartialEq, Eq)]
 pub enum CodecName {
     /// `pcma`, G.711 in A-law.
@@ -57,7 +59,7 @@ impl CodecName {
         }
     }
 
-    /// The codec of this text, if it is a name.
+    /// The codec with this name, if there is one.
     pub fn named(text: &str) -> Option<CodecName>
         ensures { result ≡ codec_named text.now }
     {
@@ -72,7 +74,7 @@ impl CodecName {
         }
     }
 
-    /// The text of the name, of at most seven letters.
+    /// The text of the name, at most seven letters.
     pub fn text(self) -> &'static str
         ensures text { result.now ≡ text_of self }
         ensures len { length result.now ≤ 7 }
@@ -87,7 +89,7 @@ impl CodecName {
         }
     }
 
-    /// The codec that is named.
+    /// The kind of the named codec.
     pub fn kind(self) -> CodecKind
         ensures { result ≡ kind_of self }
     {

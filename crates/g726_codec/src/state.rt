@@ -1,4 +1,4 @@
-//! What an encoder and a decoder of ITU-T G.726 have alike.
+//! The state that an encoder and a decoder of ITU-T G.726 share.
 ghost use Rattle.std.specs.Prelude.{◌≡◌, ◌≤◌, pos, negsuc, ◌≤ℤ◌, ◌+ℤ◌, ◌-ℤ◌};
 ghost use Rattle.e1_g711.specs.Samples.{expand};
 ghost use Rattle.g726_quant.specs.Arithmetic.{signed, wrap16};
@@ -15,7 +15,7 @@ use g726_quant::{Dq, Rate, Word, magnitude, quantise, reconstruct, wrap16};
 use g726_tone::Adapt;
 use std::marker::Model;
 
-// SE and Y, made of the state before a sample.
+// SE and Y, from the state before a sample.
 #[derive(Clone, Copy)]
 pub(crate) struct Forecast {
     pub(crate) se: i16,
@@ -61,7 +61,9 @@ impl State {
         }
     }
 
-    // Moves on by a word. Returns SR, the reconstructed signal.
+    // Updates the state by a word.
+    //
+    // Returns SR, the reconstructed signal.
     pub(crate) fn step<R: Rate>(&mut self, word: Word<R>, forecast: Forecast) -> i16
         requires estimate { forecast.se ≡ se self.old.prediction }
         requires scale { forecast.y ≡ scale self.old.adaptation }

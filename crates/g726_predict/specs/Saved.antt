@@ -6,7 +6,7 @@ use Rattle.g726_predict.specs.Float.{FloatWord}
 use Rattle.g726_predict.specs.Predictor.{Prediction}
 use Rattle.g726_predict.specs.Words.{packed}
 
--- a word in the floating form as its number of 11 bits
+-- a word in floating form as an 11-bit number
 abbrev pub word_number : FloatWord → ℕ
 word_number w = packed w.negative w.exponent w.mantissa
 
@@ -22,7 +22,7 @@ saved_prediction s = flat_map two_octets (saved_numbers s) ++ flag_octet s.pk1 �
 abbrev pub WordFits : FloatWord → Type 0
 WordFits w = (w.exponent ≤ 15) × (w.mantissa ≤ 63)
 
--- each variable is there and has its width, as in every predictor
+-- each variable is there and fits its width, as in every predictor
 pub record PredictionFits (s : Prediction) : Type 0 where
   pub b_count : length s.b ≡ 6
   pub b : All (FitsSigned w16) s.b

@@ -27,8 +27,10 @@ fn bits_of(numbers: [i16; 8]) -> u16x8
     ])
 }
 
-// ACCUM: SEZ and SE, from B1 to B6, A1 and A2 and the words of DQ1 to DQ6, SR1 and SR2. All sums are of 16
-// bits, so SEZ comes from the sum of all without the two products of the poles.
+// ACCUM: SEZ and SE.
+//
+// They come from B1 to B6, A1 and A2 and the words of DQ1 to DQ6, SR1 and SR2. All sums have 16 bits, so SEZ
+// is the sum of all products without the two of the poles.
 pub(crate) fn estimates(coefficients: [i16; 8], words: [u16; 8]) -> (i16, i16)
     requires coefficients { Each1 (FitsSigned w16) coefficients }
     requires words { Each1 (λ w. w < 2048) words }

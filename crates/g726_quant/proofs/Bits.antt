@@ -42,7 +42,7 @@ exponent_is m r low high =
       | inr few ↦ absurd (omega (arith, number_of_bits_holds m, pow_mono {i = number_of_bits m} {j = r} few))
     ]
 
--- the place of the top bit of a number, where that of 0 is taken to be that of 1
+-- the place of the highest bit of a number; 0 counts as 1
 pub exponent_of_max : (m r : ℕ) → 2 ^ r ≤ max m 1 → max m 1 < 2 * 2 ^ r → r ≡ exponent m
 unfolding exponent number_of_bits
 exponent_of_max zero r low high =

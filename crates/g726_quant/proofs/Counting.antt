@@ -36,7 +36,7 @@ rises (x ∷ xs) d zero (suc j) h le few = rises_after x xs d j h (omega arith)
 rises (x ∷ xs) d (suc i) zero h le few = absurd (omega arith)
 rises (x ∷ xs) d (suc i) (suc j) h le few = rises xs d i j (rest_rises x xs h) (omega arith) (omega arith)
 
--- a number that is not above one passes the test where that one does
+-- a number passes the test if a greater one does
 not_above : (x y z : ℤ) → x ≤ℤ y → int_le y z ≡ true → int_le x z ≡ true
 not_above x y z h k = grind (arith, ints)
 
@@ -44,7 +44,7 @@ not_above x y z h k = grind (arith, ints)
 pub parted : (xs : List ℤ) (z : ℤ) → is_rising xs ≡ true → IsPartitionedBy (λ x. int_le x z) xs
 parted xs z h = λ i j d le few passes. not_above (get_or xs i d) (get_or xs j d) z (rises xs d i j h le few) passes
 
--- as many pass as come first, where those and no others pass
+-- as many pass as come first, if those and no others pass
 pub count_first :
     (p : ℤ → Bool) (xs : List ℤ) (i : ℕ) → i ≤ length xs → ((k : ℕ) (d : ℤ) → k < i → p (get_or xs k d) ≡ true) →
     ((k : ℕ) (d : ℤ) → i ≤ k → k < length xs → p (get_or xs k d) ≡ false) → count_by p xs ≡ i

@@ -20,7 +20,7 @@ quantised_extremes : (quantised tables40 (pos 32767) 544 ≡ 15) × (quantised t
 unfolding quantised log exponent number_of_bits
 quantised_extremes = (refl, refl)
 
--- the sign and the magnitude that a word stands for
+-- the sign and the magnitude of a word
 abbrev value : RateTables → ℕ → Bool × ℕ
 value r word = (word_is_negative r.bits word, reconstructed r word 544)
 

@@ -10,7 +10,7 @@ use Rattle.g726_quant.specs.Arithmetic.{wrap16}
 abbrev pub Wraps : ℤ → ℤ → Type 0
 Wraps z w = (negsuc 32767 ≤ℤ w) × (w ≤ℤ pos 32767) × ((k : ℤ) × (z ≡ w +ℤ k *ℤ pos 65536))
 
--- a remainder, or one less 65536 where that is the number of 16 bits
+-- a remainder, or one less 65536 if that is the 16-bit number
 from_remainder :
     (z q : ℤ) (n : ℕ) → n < 65536 → z ≡ pos n +ℤ q *ℤ pos 65536 →
     Wraps z (cond (nat_lt n 32768) (pos n) (negsuc (65536 - suc n)))

@@ -2,15 +2,15 @@
 use Rattle.std.specs.Prelude.{ℕ, zero, suc, ◌/◌, ℤ, pos, neg_ℤ, Bool, if◌then◌else◌}
 use Rattle.std.specs.Int.{int_wrap, w16}
 
--- the number from -32768 to 32767 that is congruent to one modulo 65536
+-- the 16-bit signed number congruent to one modulo 65536
 abbrev pub wrap16 : ℤ → ℤ
 wrap16 z = int_wrap w16 z
 
--- the number of this sign and magnitude
+-- the number with a sign and a magnitude
 abbrev pub signed : Bool → ℕ → ℤ
 signed negative magnitude = if negative then neg_ℤ (pos magnitude) else pos magnitude
 
--- how often a number is halved until it is 0, at most so many times
+-- how often a number can be halved until it is 0, up to a limit
 abbrev pub halvings : ℕ → ℕ → ℕ
 halvings zero m = 0
 halvings (suc most) zero = 0

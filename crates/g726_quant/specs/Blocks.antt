@@ -6,23 +6,23 @@ use Rattle.std.specs.Int.RustNames.{int_le}
 use Rattle.g726_quant.specs.Arithmetic.{number_of_bits}
 use Rattle.g726_quant.specs.Tables.{RateTables, magnitudes}
 
--- LOG: EXP, the place of the top bit of DQM, counted from 0, and 0 for 0
+-- LOG: EXP, the place of the highest bit set in DQM, from 0; 0 for 0
 unfoldable pub exponent : ℕ → ℕ
 exponent dqm = number_of_bits dqm - 1
 
--- LOG: DL, the logarithm of DQM, the magnitude of a difference, with seven bits behind the point
+-- LOG: DL, the logarithm of DQM, a difference's magnitude, with seven fractional bits
 unfoldable pub log : ℕ → ℕ
 log dqm = 128 * exponent dqm + dqm * 2 ^ 7 / 2 ^ exponent dqm % 128
 
--- SUBTB: DLN, that logarithm less that of the scale factor
+-- SUBTB: DLN, DL less the scale factor's logarithm
 abbrev pub subtb : ℕ → ℕ → ℤ
 subtb dl y = pos dl -ℤ pos (y / 2 ^ 2)
 
--- QUAN: the magnitude is the number of thresholds that are not above DLN
+-- QUAN: the magnitude is the number of thresholds at or below DLN
 abbrev pub quan_magnitude : List ℤ → ℤ → ℕ
 quan_magnitude thresholds dln = count_by (λ threshold. int_le threshold dln) thresholds
 
--- QUAN: I is the magnitude, or its complement where DS is 1. With more than two bits 0 is sent as all ones
+-- QUAN: I is the magnitude, or its complement if DS is 1. With more than two bits 0 is sent as all ones
 abbrev pub quan_word : ℕ → Bool → ℕ → ℕ
 quan_word bits ds magnitude =
     if ds || (nat_lt 2 bits && (magnitude == 0)) then 2 ^ bits - 1 - magnitude else magnitude
@@ -39,7 +39,7 @@ quantised r d y = quan r (is_negative d) (subtb (log (unsigned_abs d)) y)
 abbrev pub word_is_negative : ℕ → ℕ → Bool
 word_is_negative bits word = nat_le (magnitudes bits) word
 
--- RECONST: the magnitude of a word, that of its complement where the top bit is set. That of all zeros is 0,
+-- RECONST: the magnitude of a word, that of its complement if the top bit is set. That of all zeros is 0,
 -- also with more than two bits (our choice)
 abbrev pub word_magnitude : ℕ → ℕ → ℕ
 word_magnitude bits word = if word_is_negative bits word then 2 ^ bits - 1 - word else word
@@ -56,7 +56,7 @@ adda dqln y = unsigned_abs (int_rem_euclid (dqln +ℤ pos (y / 2 ^ 2)) (pos 4096
 unfoldable pub antilog : ℕ → ℕ
 antilog dql = if nat_le 2048 dql then 0 else (128 + dql % 128) * 2 ^ 7 / 2 ^ (14 - dql / 2 ^ 7)
 
--- RECONST, ADDA and ANTILOG: the magnitude of DQ, the quantised difference that a word stands for
+-- RECONST, ADDA and ANTILOG: the magnitude of DQ, a word's quantised difference
 unfoldable pub reconstructed : RateTables → ℕ → ℕ → ℕ
 reconstructed r word y = antilog (adda (reconst r (word_magnitude r.bits word)) y)
 
@@ -64,10 +64,10 @@ reconstructed r word y = antilog (adda (reconst r (word_magnitude r.bits word)) 
 abbrev pub word_order : ℕ → ℕ → ℕ
 word_order bits word = if word_is_negative bits word then word - magnitudes bits else word + magnitudes bits
 
--- FUNCTW: WI, the multiplier of a magnitude
+-- FUNCTW: WI, the multiplier for a magnitude
 abbrev pub functw : RateTables → ℕ → ℤ
 functw r magnitude = slice_index_or r.multipliers magnitude (pos 0)
 
--- FUNCTF: FI, the value of the speed control of a magnitude
+-- FUNCTF: FI, the value of the speed control for a magnitude
 abbrev pub functf : RateTables → ℕ → ℕ
 functf r magnitude = slice_index_or r.speed_values magnitude 0

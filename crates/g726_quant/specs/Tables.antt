@@ -4,9 +4,9 @@ use Rattle.std.specs.Prelude.{length}
 use Rattle.std.specs.List.{list_all}
 use Rattle.std.specs.Int.RustNames.{int_le, int_lt}
 
--- what the Recommendation tabulates for a rate: the bits of a code word; the thresholds of block QUAN; DQLN,
--- the logarithms of the quantised differences; W, the multipliers of the scale factor, of block FUNCTW; F,
--- the values of the speed control, of block FUNCTF; and k, the shift of the leak in block UPB
+-- a rate's tables in the Recommendation: the bits of a code word; the thresholds of block QUAN; DQLN, the
+-- logarithms of the quantised differences; W, the multipliers of the scale factor (block FUNCTW); F, the
+-- values of the speed control (block FUNCTF); and k, the shift of the leak (block UPB)
 pub record RateTables : Type 0 where
   pub bits : ℕ
   pub thresholds : List ℤ
@@ -65,11 +65,11 @@ tables40 = record {
   leak = 9;
 }
 
--- how many magnitudes a word of so many bits has
+-- the number of magnitudes of a word with a number of bits
 abbrev pub magnitudes : ℕ → ℕ
 magnitudes bits = 2 ^ (bits - 1)
 
--- a word has 2 to 5 bits, each table has a place for each magnitude, and thresholds lie between magnitudes
+-- a word has 2 to 5 bits, each table has an entry for each magnitude, and thresholds lie between magnitudes
 abbrev pub has_its_places : RateTables → Bool
 has_its_places r = nat_le 2 r.bits && nat_le r.bits 5 && (length r.thresholds + 1 == magnitudes r.bits)
     && (length r.log_levels == magnitudes r.bits) && (length r.multipliers == magnitudes r.bits)

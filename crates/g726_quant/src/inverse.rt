@@ -8,10 +8,10 @@ use crate::logarithm::antilog;
 use crate::rate::{Rate, reconst};
 use crate::word::{Word, magnitude, word_is_negative};
 
-/// DQ, a quantised difference: its sign, which 0 has too, and its magnitude, at most 32767.
+/// DQ, a quantised difference: its sign, also of 0, and its magnitude.
 #[derive(Clone, Copy, Debug, PartialEq, Eq)]
 pub struct Dq {
-    /// DQS, whether the sign is minus; -0 keeps it.
+    /// DQS, whether the sign is minus; -0 has it.
     pub negative: bool,
     /// DQMAG, at most 32767.
     pub mag: u16,
@@ -30,8 +30,9 @@ impl Dq {
     }
 }
 
-/// DQ, the quantised difference that a code word stands for at the scale factor `y`, as +22 for 7 at 544 and
-/// 32 kbit/s (ITU-T G.726, blocks RECONST, ADDA and ANTILOG).
+/// DQ, the quantised difference of a code word at a scale factor.
+///
+/// It is +22 for 7 at `y` = 544 and 32 kbit/s (ITU-T G.726, blocks RECONST, ADDA and ANTILOG).
 #[tactic(auto, unfolding(crate::specs::Blocks::reconstructed))]
 pub fn reconstruct<R: Rate>(word: Word<R>, y: u16) -> Dq
     requires low { 544 ≤ y }
@@ -47,7 +48,7 @@ pub fn reconstruct<R: Rate>(word: Word<R>, y: u16) -> Dq
     }
 }
 
-// DQL, a level with the scale factor, in twelve bits (block ADDA).
+// DQL, a level plus the scale factor, in twelve bits (block ADDA).
 fn adda(dqln: i16, y: u16) -> u16
     requires dqln_low { negsuc 2047 ≤ℤ dqln }
     requires dqln_high { dqln ≤ℤ pos 566 }

@@ -3,7 +3,7 @@
 ghost use Rattle.g726_quant.specs.Laws.{WrapsTo16Bits, NumberOfBitsIsLeast, DlnHasTwelveBits};
 ghost use Rattle.g726_quant.specs.Laws.{AllZerosNeverSent, MagnitudesComeBack};
 
-/// `wrap16` gives a number of 16 bits that differs by a multiple of 65536.
+/// `wrap16` returns a 16-bit number that differs by a multiple of 65536.
 pub fn wraps_to_16_bits()
     ensures { WrapsTo16Bits }
 {}
@@ -13,7 +13,7 @@ pub fn number_of_bits_is_least()
     ensures { NumberOfBitsIsLeast }
 {}
 
-/// At scale factors from 544 to 5120 DLN is a number of twelve bits in two's complement.
+/// At scale factors from 544 to 5120 DLN is a twelve-bit number in two's complement.
 pub fn dln_has_twelve_bits()
     ensures { DlnHasTwelveBits }
 {}
@@ -23,7 +23,7 @@ pub fn all_zeros_never_sent()
     ensures { AllZerosNeverSent }
 {}
 
-/// A word has the magnitude that it was made of.
+/// A word has the magnitude that it was made from.
 pub fn magnitudes_come_back()
     ensures { MagnitudesComeBack }
 {}

@@ -16,8 +16,7 @@ pub use quantiser::quantise;
 pub use rate::{R16, R24, R32, R40, Rate, functf, functw, leak};
 pub use word::{Word, magnitude, order};
 
-/// The number from -32768 to 32767 that is congruent to `z` modulo 65536 (ITU-T G.726, two's complement of 16
-/// bits).
+/// The 16-bit signed number congruent to `z` modulo 65536 (ITU-T G.726, two's complement).
 pub fn wrap16(z: i32) -> i16
     ensures { result ≡ wrap16 z }
 {

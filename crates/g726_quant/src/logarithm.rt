@@ -1,12 +1,12 @@
-//! Logarithms to the base 2 with seven bits behind the point.
+//! Logarithms to base 2 with seven fractional bits.
 
 ghost use Rattle.std.specs.Prelude.{◌≡◌, ◌≤◌, ◌<◌, ◌-◌};
 ghost use Rattle.g726_quant.specs.Blocks.{exponent, log, antilog};
 
-// bit 11 of a logarithm of twelve bits, set where it stands for a number below 1
+// bit 11 of a twelve-bit logarithm, set for a number below 1
 const SIGN_BIT: u16 = 2048;
 
-// EXP, the place of the top bit of a magnitude, counted from 0, and 0 for 0.
+// EXP, the place of the highest bit set, from 0; 0 for 0.
 fn exponent(magnitude: u16) -> u32
     requires { magnitude < 32768 }
     ensures value { result ≡ exponent magnitude }
@@ -27,7 +27,7 @@ pub(crate) fn log(magnitude: u16) -> u16
     (128 * exponent + mantissa) as u16
 }
 
-// DQMAG, the number with a logarithm DQL of twelve bits, 0 where its sign bit is set (block ANTILOG).
+// DQMAG, the number with a twelve-bit logarithm DQL; 0 if its sign bit is set (block ANTILOG).
 #[tactic(auto, unfolding(crate::specs::Blocks::antilog))]
 pub(crate) fn antilog(dql: u16) -> u16
     requires fits { dql < 4096 }

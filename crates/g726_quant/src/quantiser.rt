@@ -8,8 +8,9 @@ use crate::logarithm::log;
 use crate::rate::Rate;
 use crate::word::Word;
 
-/// I, the code word of a difference `d` at the scale factor `y`, as 15 for 0 at 544 and 32 kbit/s (ITU-T
-/// G.726, blocks LOG, SUBTB and QUAN).
+/// I, the code word of a difference at a scale factor.
+///
+/// It is 15 for `d` = 0 at `y` = 544 and 32 kbit/s (ITU-T G.726, blocks LOG, SUBTB and QUAN).
 pub fn quantise<R: Rate>(d: i16, y: u16) -> Word<R>
     requires difference { d ≢ negsuc 32767 }
     requires low { 544 ≤ y }
@@ -36,7 +37,7 @@ fn quan<R: Rate>(ds: bool, dln: i16) -> Word<R>
     Word::quan_word(ds, quan_magnitude(R::thresholds(), dln) as u8)
 }
 
-// QUAN: the number of rising thresholds that are not above DLN.
+// QUAN: the number of rising thresholds at or below DLN.
 fn quan_magnitude(thresholds: &[i16], dln: i16) -> usize
     requires { IsTrue (is_rising thresholds.now) }
     ensures value { result ≡ quan_magnitude thresholds.now dln }

@@ -5,8 +5,9 @@ ghost use Rattle.g726_quant.specs.Tables.{RateTables, magnitudes, has_its_places
 ghost use Rattle.g726_quant.specs.Tables.{tables16, tables24, tables32, tables40};
 ghost use Rattle.g726_quant.specs.Blocks.{functw, functf, reconst};
 
-/// A rate of ITU-T G.726, known by its tables. Each table has an entry for each magnitude of a code word. A
-/// rate is a type without values of its own.
+/// A rate of ITU-T G.726, given by its tables.
+///
+/// Each table has an entry for each magnitude of a code word. A rate is a type without values of its own.
 pub trait Rate: Copy {
     ghost tables: { RateTables };
 
@@ -14,21 +15,21 @@ pub trait Rate: Copy {
 
     ghost LEAK: { ℕ };
 
-    /// The bits of a code word, from 2 to 5.
+    /// The bits of a code word, 2 to 5.
     const BITS: u32;
 
     /// k, the shift of the leak in block UPB, 8 or 9.
     const LEAK: u32;
 
-    /// The thresholds of block QUAN, rising, one less than there are magnitudes.
+    /// The rising thresholds of block QUAN, one less than the magnitudes.
     fn thresholds() -> &'static [i16]
         ensures { result.now ≡ tables.thresholds };
 
-    /// DQLN, the logarithms of the quantised differences, from -2048 to 566.
+    /// DQLN, the logarithms of the quantised differences, -2048 to 566.
     fn log_levels() -> &'static [i16]
         ensures { result.now ≡ tables.log_levels };
 
-    /// W, the multipliers of the scale factor, from -22 to 1122.
+    /// W, the multipliers of the scale factor, -22 to 1122.
     fn multipliers() -> &'static [i16]
         ensures { result.now ≡ tables.multipliers };
 
@@ -187,7 +188,7 @@ impl Rate for R40 {
     ghost laws = { record { bits = refl; leak = refl; places = refl; rising = refl; ranges = refl } };
 }
 
-/// WI, the multiplier of the scale factor at a magnitude of the rate (ITU-T G.726, block FUNCTW).
+/// WI, the multiplier of the scale factor for a magnitude (ITU-T G.726, block FUNCTW).
 pub fn functw<R: Rate>(magnitude: u8) -> i16
     requires { magnitude < magnitudes R.tables.bits }
     ensures value { result ≡ functw R.tables magnitude }
@@ -197,7 +198,7 @@ pub fn functw<R: Rate>(magnitude: u8) -> i16
     R::multipliers()[magnitude as usize]
 }
 
-/// FI, the value of the speed control at a magnitude of the rate (ITU-T G.726, block FUNCTF).
+/// FI, the value of the speed control for a magnitude (ITU-T G.726, block FUNCTF).
 pub fn functf<R: Rate>(magnitude: u8) -> u8
     requires { magnitude < magnitudes R.tables.bits }
     ensures value { result ≡ functf R.tables magnitude }
@@ -215,7 +216,7 @@ pub fn leak<R: Rate>() -> u32
     R::LEAK
 }
 
-// DQLN, the logarithm of the quantised difference at a magnitude of the rate.
+// DQLN, the logarithm of the quantised difference for a magnitude.
 pub(crate) fn reconst<R: Rate>(magnitude: u8) -> i16
     requires { magnitude < magnitudes R.tables.bits }
     ensures value { result ≡ reconst R.tables magnitude }

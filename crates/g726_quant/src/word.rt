@@ -25,7 +25,7 @@ impl<R: Rate> Model for Word<R> {
 }
 
 impl<R: Rate> Word<R> {
-    /// The word of a number, or `None` where it is not below `2^bits`.
+    /// The word with a number, or `None` if it is not below `2^bits`.
     pub fn new(number: u8) -> Option<Word<R>>
         ensures { SomeIff result (number < 2 ^ R.tables.bits) number }
     {
@@ -65,9 +65,10 @@ impl<R: Rate> Word<R> {
     }
 }
 
-/// The magnitude of a word, below `2^(bits-1)`: that of its complement where its top bit is set (ITU-T G.726,
-/// block RECONST). A word of all zeros, which no encoder sends at 24, 32 and 40 kbit/s, has magnitude 0 at
-/// every rate (our choice).
+/// The magnitude of a word, below `2^(bits-1)`.
+///
+/// It is that of the complement if the top bit is set (ITU-T G.726, block RECONST). A word of all zeros,
+/// which no encoder sends at 24, 32 and 40 kbit/s, has magnitude 0 at every rate (our choice).
 pub fn magnitude<R: Rate>(word: Word<R>) -> u8
     ensures value { result ≡ word_magnitude R.tables.bits word }
     ensures bound { result < magnitudes R.tables.bits }
@@ -80,7 +81,7 @@ pub fn magnitude<R: Rate>(word: Word<R>) -> u8
     }
 }
 
-/// The word with its top bit inverted, a number below `2^bits`, as block SYNC of ITU-T G.726 compares words.
+/// The word with its top bit inverted, as block SYNC of ITU-T G.726 compares words.
 pub fn order<R: Rate>(word: Word<R>) -> u8
     ensures value { result ≡ word_order R.tables.bits word }
     ensures bound { result < 2 ^ R.tables.bits }
@@ -93,14 +94,14 @@ pub fn order<R: Rate>(word: Word<R>) -> u8
     }
 }
 
-// Whether the top bit of a word is set, the sign DQS.
+// DQS, whether the top bit of a word is set.
 pub(crate) fn word_is_negative<R: Rate>(number: u8) -> bool
     ensures { result ≡ word_is_negative R.tables.bits number }
 {
     number >= magnitudes::<R>()
 }
 
-// How many magnitudes a word has. It is the top bit of a word too.
+// The number of magnitudes, which is also the value of the top bit.
 fn magnitudes<R: Rate>() -> u8
     ensures value { result ≡ magnitudes R.tables.bits }
     ensures bound { result ≤ 16 }

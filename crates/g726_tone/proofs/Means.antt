@@ -12,7 +12,7 @@ pub record Moved (distance mean least most : ℤ) (divisor : ℕ) : Type 0 where
   pub low : least ≤ℤ (mean +ℤ shr_z distance divisor)
   pub high : (mean +ℤ shr_z distance divisor) ≤ℤ most
 
--- so it is where the mean and the target lie within the bounds
+-- so it is if the mean and the target are within the bounds
 pub moved : (distance mean least most : ℤ) (divisor : ℕ) → negsuc 65535 ≤ℤ least → most ≤ℤ pos 65536 → least ≤ℤ mean
     → mean ≤ℤ most → least ≤ℤ (mean +ℤ distance) → (mean +ℤ distance) ≤ℤ most → Moved distance mean least most divisor
 moved (pos a) mean least most n l m mean_low mean_high low high =

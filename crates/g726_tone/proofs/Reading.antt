@@ -4,11 +4,11 @@ use Rattle.std.proofs.lemmas.Int.{ints, to_z-of_z}
 use lib.Signed.{mag}
 use Rattle.g726_tone.specs.Adaptation.{Adaptation, IsKept, InRange}
 
--- a number of 32 bits is read as it was written
+-- a 32-bit number is read as it was written
 pub once : (z : ℤ) → mag z < 2147483648 → to_z w32 (of_z w32 z) ≡ z
 once z few = to_z-of_z w32 z (record { sfits = few })
 
--- also where it is written and read twice
+-- also if it is written and read twice
 pub twice : (z : ℤ) → mag z < 2147483648 → to_z w32 (of_z w32 (to_z w32 (of_z w32 z))) ≡ z
 twice z few = ap (λ y. to_z w32 (of_z w32 y)) (once z few) ∙ once z few
 

@@ -4,7 +4,7 @@ use Rattle.gw_config.specs.declared.fault.Kind.{Kind}
 use Rattle.gw_config.specs.declared.fault.Kind.TheVariants.{Syntax, UnknownKey, Missing, WrongType}
 use Rattle.gw_config.specs.declared.fault.Kind.TheVariants.{OutOfRange, Twice, LawCodec, TooLong}
 
--- the number that is told
+-- the number of a kind
 abbrev pub kind_number : Kind → ℕ
 kind_number Syntax = 1
 kind_number UnknownKey = 2

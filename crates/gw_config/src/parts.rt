@@ -1,4 +1,4 @@
-//! What the top level and one table say, once each value is read.
+//! The values of the top level and of one table.
 
 ghost use Rattle.std.specs.Prelude.{◌≡◌, ◌≤◌, true, is_some};
 ghost use Rattle.toml.specs.View.{items_view};
@@ -11,7 +11,7 @@ use gw_circuit::CircuitConfig;
 use q421_line::Role;
 use toml::Value;
 
-/// What the top level says.
+/// The values of the top level.
 #[derive(Clone, Copy)]
 pub(crate) struct Top<'a> {
     pub law: Law,
@@ -21,7 +21,7 @@ pub(crate) struct Top<'a> {
     ghost are_tables: { is_some (tables_of (items_view tables.now)) ≡ true },
 }
 
-/// Which circuit a table is of, and how its speech is coded.
+/// The circuit of a table, and its codec.
 #[derive(Clone, Copy)]
 pub(crate) struct Speech {
     /// 1 to 30.
@@ -33,7 +33,7 @@ pub(crate) struct Speech {
     ghost type_fits: { payload_type ≤ 127 },
 }
 
-/// How the datagrams of a circuit are made and played out.
+/// The packets and the playout of a circuit.
 #[derive(Clone, Copy)]
 pub(crate) struct Stream {
     /// 10, 20 or 30 ms.
@@ -47,7 +47,7 @@ pub(crate) struct Stream {
     ghost prefill_fits: { prefill ≤ 1600 },
 }
 
-/// Where the datagrams of a circuit come in and go, before the text of the host is copied.
+/// The ports and the peer of a circuit, before the host's text is copied.
 #[derive(Clone, Copy)]
 pub(crate) struct Ends<'a> {
     pub local_port: u16,
@@ -55,7 +55,7 @@ pub(crate) struct Ends<'a> {
     pub peer_port: u16,
 }
 
-/// What a table says.
+/// The values of a table.
 #[derive(Clone, Copy)]
 pub(crate) struct Entry<'a> {
     /// 1 to 30.

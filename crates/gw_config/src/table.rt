@@ -1,4 +1,4 @@
-//! What one table of the list `circuit` says by itself.
+//! The values of one table of the list `circuit`.
 
 ghost use Rattle.std.specs.Prelude.{◌≡◌, ◌≤◌, ◌||◌, ◌==◌, IsTrue, IfOk, Some, None, codes, option_map, Ok};
 ghost use Rattle.toml.specs.Data.{as_integer};
@@ -37,7 +37,7 @@ const CIRCUIT_KEYS: [&str; 12] = [
     "peer_host",
 ];
 
-// The greatest `prefill`, in samples: that of a circuit's playout.
+// The greatest `prefill` in samples, that of a circuit's playout.
 const MAX_PREFILL: u32 = 1600;
 
 // The payload type of a codec: that of the table, or the codec's own.
@@ -80,7 +80,7 @@ fn speech_of(law: Law, table: &Table) -> Result<Speech, Kind>
     })
 }
 
-// The SSRC of a circuit is by default its number; all else that is counted begins at 0.
+// The SSRC of a circuit is its number by default; other numbers begin at 0.
 #[tactic(auto, unfolding(crate::specs::Meaning::stream_of))]
 fn stream_of(number: u8, table: &Table) -> Result<Stream, Kind>
     ensures { read_as stream_view result ≡ stream_of number (table_view table.now) }
@@ -99,7 +99,7 @@ fn stream_of(number: u8, table: &Table) -> Result<Stream, Kind>
     })
 }
 
-// The port at a key. It may be absent only where the other one is, of whatever type that is.
+// The port at a key. It may be missing only if the other one is, whatever that one's type.
 #[tactic(auto, unfolding(crate::specs::Keys::value_at))]
 fn port_at(table: &Table, key: &str, other: &str) -> Result<Option<u16>, Kind>
     ensures { result ≡ port_at key.now other.now (table_view table.now) }
@@ -120,7 +120,7 @@ fn port_at(table: &Table, key: &str, other: &str) -> Result<Option<u16>, Kind>
     }
 }
 
-// Both ports and the host, or none; `peer_host` is looked at without ports too.
+// Both ports and the host, or none; `peer_host` is checked without ports too.
 #[tactic(auto, unfolding(crate::specs::Meaning::ports_at))]
 fn ports_at<'a>(table: &'a Table) -> Result<Option<Ends<'a>>, Kind>
     ensures { read_as ports_view result ≡ ports_at (table_view table.now) }
@@ -138,7 +138,7 @@ fn ports_at<'a>(table: &'a Table) -> Result<Option<Ends<'a>>, Kind>
     }
 }
 
-// A circuit's settings, whose values were tested when they were read.
+// A circuit's settings, from values that were already checked.
 fn settings(speech: &Speech, stream: &Stream) -> CircuitConfig
     ensures { settings_view result ≡ settings (speech_view speech.now) (stream_view stream.now) }
 {
@@ -155,7 +155,7 @@ fn settings(speech: &Speech, stream: &Stream) -> CircuitConfig
     .unwrap()
 }
 
-// What a table says, or its first fault: unknown keys, then the keys in their order, then the law.
+// The values of a table, or its first fault: unknown keys, then the keys in order, then the law.
 #[tactic(auto, unfolding(crate::specs::Meaning::entry_of))]
 pub(crate) fn entry_of<'a>(law: Law, table: &'a Table) -> Result<Entry<'a>, Kind>
     ensures { read_as entry_view result ≡ entry_of law (table_view table.now) }

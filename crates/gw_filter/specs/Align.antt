@@ -1,4 +1,4 @@
--- Octets whose bits come at any offset, and the octets of the time slots, from a source to a sink.
+-- Octets of an unaligned trunk, and those of its time slots, from a source to a sink.
 use Rattle.std.specs.Prelude.{ℕ, List, [], ◌∷◌, ◌++◌}
 use Rattle.g704_bits.specs.Bits.{aligned_octet}
 use Rattle.gw_records.specs.declared.outcome.Totals.{Totals}
@@ -6,11 +6,11 @@ use Rattle.gw_records.specs.declared.outcome.RunFault.{RunFault}
 use Rattle.gw_records.specs.Streams.{SourceState, SinkState}
 use Rattle.gw_filter.specs.Filter.{Filters, FiltersUntil}
 
--- The octet of the time slots for an octet that comes after these.
+-- The octet of the time slots returned for the one after these.
 abbrev pub align_reply : List ℕ → ℕ → ℕ
 align_reply before octet = aligned_octet (before ++ octet ∷ [])
 
--- The source gave octets up to its end, and the sink took the octets of the time slots for all of them.
+-- The source gave octets to its end, and the sink took the time slots' octets for all of them.
 abbrev pub Aligns : SourceState → SourceState → SinkState → SinkState → Totals → Type 0
 Aligns source source' sink sink' totals = Filters align_reply source source' sink sink' totals
 

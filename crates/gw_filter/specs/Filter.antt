@@ -8,11 +8,11 @@ use Rattle.gw_records.specs.declared.outcome.RunFault.TheVariants.{Read, Write}
 use Rattle.gw_records.specs.Streams.{SourceState, SinkState, Gives, GivesUp, Breaks, at_most}
 use Rattle.gw_records.specs.Outcome.{nothing_counted}
 
--- The totals where so many octets were read.
+-- The totals after so many octets.
 abbrev pub filter_totals : ℕ → Totals
 filter_totals count = record nothing_counted { octets = at_most count }
 
--- The source gave octets up to its end, and the sink took a reply for each of them.
+-- The source gave octets to its end, and the sink took a reply for each of them.
 pub record Filters (reply : List ℕ → ℕ → ℕ) (source source' : SourceState) (sink sink' : SinkState) (totals : Totals)
     : Type 0 where
   pub octets : List ℕ
@@ -23,13 +23,14 @@ pub record Filters (reply : List ℕ → ℕ → ℕ) (source source' : SourceSt
   pub no_read : source'.failures ≡ source.failures
   pub no_write : sink'.failures ≡ sink.failures
 
--- It gave these octets, and the filter has taken them.
+-- The source gave these octets, and the filter took them.
 pub record HasTakenAll (Has : List ℕ → Type 0) (reply : List ℕ → ℕ → ℕ) (source source' : SourceState)
     (sink sink' : SinkState) (totals : Totals) : Type 0 where
   pub filters : Filters reply source source' sink sink' totals
   pub taken : Has filters.octets
 
--- A read failed, or there were 2 ^ 62 of them, each of which gave an octet. The sink took a reply for each octet.
+-- A read failed, or there were 2 ^ 62 of them, each of which gave an octet. The sink took a reply for each
+-- octet.
 pub record FiltersUntilRead (reply : List ℕ → ℕ → ℕ) (source source' : SourceState) (sink sink' : SinkState)
     : Type 0 where
   pub octets : List ℕ
@@ -46,7 +47,7 @@ pub record FiltersUntilWrite (reply : List ℕ → ℕ → ℕ) (source source' 
   pub breaks : Breaks sink sink' (stream_replies reply octets)
   pub no_read : source'.failures ≡ source.failures
 
--- How a filter ends before the end of the source: by a read or a write, and by no other fault.
+-- The end of a filter before that of the source: by a read or a write, and by no other fault.
 abbrev pub FiltersUntil : (List ℕ → ℕ → ℕ) → SourceState → SourceState → SinkState → SinkState → RunFault → Type 0
 FiltersUntil reply source source' sink sink' Read = FiltersUntilRead reply source source' sink sink'
 FiltersUntil reply source source' sink sink' Write = FiltersUntilWrite reply source source' sink sink'

@@ -46,18 +46,19 @@ impl OctetFilter for TrunkChecker {
     }
 }
 
-/// What was counted of a trunk whose CRC-4 multiframes were checked.
+/// The counts of a checked trunk.
 #[derive(Clone, Copy, Debug, PartialEq, Eq)]
 pub struct Checked {
     /// The octets.
     pub totals: Totals,
-    /// What was learned of the multiframes.
+    /// The counts of the multiframes.
     pub tally: Tally,
 }
 
-/// Writes the octets of the time slots of a trunk whose octets come at any offset: one for each octet of the
-/// source, as `g704_bits::BitAligner` returns them. All of them are written before the source is read again.
-/// The octets are counted. No memory is taken.
+/// Writes the octets of the time slots of an unaligned trunk.
+///
+/// It writes one octet for each octet of the source, as `g704_bits::BitAligner` returns it; all are written
+/// before the source is read again. The octets are counted. No memory is taken.
 ///
 /// ```rust
 /// // 600 octets, three bits late; a program has FromRead::new(rt.stdin()) and ToWrite::new(rt.stdout())
@@ -68,8 +69,8 @@ pub struct Checked {
 ///
 /// # Errors
 ///
-/// [`RunFault::Read`] where the source failed, or after 2^62 reads: the octets for all that it gave are
-/// written. [`RunFault::Write`] where the sink failed: it has a prefix of what would be written.
+/// [`RunFault::Read`] if the source failed, or after 2^62 reads: the octets for all that it gave are
+/// written. [`RunFault::Write`] if the sink failed: it has a prefix of what would be written.
 pub fn align_stream<S: Source, K: Sink>(source: &mut S, sink: &mut K) -> Result<Totals, RunFault>
     requires { CanBegin (S.tells source.old) (K.tells sink.old) }
     ensures ok { IfOk result (Aligns
@@ -80,10 +81,11 @@ pub fn align_stream<S: Source, K: Sink>(source: &mut S, sink: &mut K) -> Result<
     octets_through(&mut BitAligner::new(), source, sink)
 }
 
-/// Writes the octets of a trunk with CRC-4 multiframes in bit 1 of their time slot 0: one for each octet of
-/// the source, as `g704_crc4::Multiframer` returns them. The frames begin at the first octet, as those that a
-/// gateway sends. All of them are written before the source is read again. The octets are counted. No memory
-/// is taken.
+/// Writes a trunk's octets with CRC-4 multiframes.
+///
+/// It writes one octet for each octet of the source, as `g704_crc4::Multiframer` returns it. The frames begin
+/// at the first octet, as those of a gateway. All are written before the source is read again. The octets are
+/// counted. No memory is taken.
 ///
 /// # Errors
 ///
@@ -98,9 +100,10 @@ pub fn crc4_stream<S: Source, K: Sink>(source: &mut S, sink: &mut K) -> Result<T
     octets_through(&mut Multiframer::new(), source, sink)
 }
 
-/// Writes the octets of a trunk as they came, and counts what its CRC-4 multiframes tell, as
-/// `g704_crc4::TrunkChecker` finds them. All of them are written before the source is read again. No memory
-/// is taken.
+/// Writes a trunk's octets unchanged and counts its CRC-4 multiframes.
+///
+/// The counts are those of `g704_crc4::TrunkChecker`. All octets are written before the source is read again.
+/// No memory is taken.
 ///
 /// # Errors
 ///

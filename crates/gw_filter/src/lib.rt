@@ -1,4 +1,4 @@
-//! Filters of a trunk: from a source to a sink, one octet for each.
+//! Filters of a trunk: one octet to the sink for each octet of the source.
 #![tactic(auto)]
 
 mod filters;

@@ -1,4 +1,4 @@
-//! The form of a filter, and its octets from a source to a sink.
+//! The trait of a filter, and its loop from a source to a sink.
 
 ghost use Rattle.std.specs.Prelude.{◌≡◌, ◌-◌, ◌^◌, ◌<◌, ◌∷◌, ◌++◌, ℕ, List, [], length, IfOk, IfErr};
 ghost use Rattle.g704_framing.specs.Replies.{replies_after};
@@ -10,15 +10,15 @@ use gw_records::{MAX_READS, NO_TOTALS, RunFault, Sink, Source, Totals, read_behi
 // Room for each read: 32 KiB, an eighth of a second of the trunk.
 const BUFFER_LEN: usize = 32_768;
 
-/// A machine that takes octets and returns one for each.
+/// Takes octets and returns one for each.
 pub trait OctetFilter {
-    /// The machine has taken these octets.
+    /// The filter has taken these octets.
     ghost has_taken: { Self → List ℕ → Type 0 };
 
-    /// The octet that it returns for one that comes after these.
+    /// The octet returned for the one after these.
     ghost reply_after: { List ℕ → ℕ → ℕ };
 
-    /// Takes the next octet, and returns one for it.
+    /// Takes the next octet and returns one for it.
     fn next_octet(&mut self, octet: u8) -> u8
         ensures reply { (history : List ℕ) → has_taken self.old history
             → result ≡ reply_after history octet }
@@ -26,7 +26,7 @@ pub trait OctetFilter {
             → has_taken self.new (history ++ octet ∷ []) };
 }
 
-// Puts what the filter returns in the place of the next octets of the stream.
+// Replaces the next octets of the stream by those that the filter returns.
 fn filter_all<F: OctetFilter>(filter: &mut F, octets: &mut [u8])
     ensures len { length octets.new ≡ length octets.old }
     ensures replies { (history : List ℕ) → F.has_taken filter.old history
@@ -39,13 +39,14 @@ fn filter_all<F: OctetFilter>(filter: &mut F, octets: &mut [u8])
     }
 }
 
-/// Writes one octet for each octet of the source, as the filter returns them. All of them are written before
-/// the source is read again. The octets are counted. No memory is taken.
+/// Writes the filter's octet for each octet of the source.
+///
+/// All are written before the source is read again. The octets are counted. No memory is taken.
 ///
 /// # Errors
 ///
-/// [`RunFault::Read`] if the source failed, or after 2^62 reads: the octets for all that it gave are
-/// written. [`RunFault::Write`] if the sink failed: it has a prefix of what would be written.
+/// [`RunFault::Read`] if the source failed, or after 2^62 reads: the octets for all that it gave are written.
+/// [`RunFault::Write`] if the sink failed: it has a prefix of what would be written.
 pub fn octets_through<F: OctetFilter, S: Source, K: Sink>(
     filter: &mut F,
     source: &mut S,

@@ -7,7 +7,7 @@ ghost use Rattle.gw_listing.specs.Row.{space, left, right};
 
 use arrayvec::ArrayString;
 
-// Adds so many spaces.
+// Adds spaces.
 fn push_spaces(line: &mut ArrayString<96>, count: usize)
     requires { array_string_len line.old + count ≤ 96 }
     ensures bytes { line.new.bytes ≡ line.old.bytes ++ replicate count space }
@@ -18,7 +18,7 @@ fn push_spaces(line: &mut ArrayString<96>, count: usize)
     }
 }
 
-// Adds a column of this width with a text at its left.
+// Adds a text, left-aligned in a column of this width.
 pub(crate) fn push_left(line: &mut ArrayString<96>, width: usize, text: &str)
     requires fits { length text.now ≤ width }
     requires room { array_string_len line.old + width ≤ 96 }
@@ -29,7 +29,7 @@ pub(crate) fn push_left(line: &mut ArrayString<96>, width: usize, text: &str)
     push_spaces(line, width - text.len());
 }
 
-// How many digits a number has in decimal.
+// The number of decimal digits of a number.
 fn decimal_len(n: u32) -> usize
     ensures { result ≡ length (decimal n) }
 {
@@ -46,7 +46,7 @@ pub(crate) fn push_digit(line: &mut ArrayString<96>, digit: u32)
     line.push((b'0' + digit as u8) as char);
 }
 
-// Adds a number in decimal, by hand: `write!` may fail, and a line cannot.
+// Adds a number in decimal. (By hand: `write!` can fail, and a line cannot.)
 fn push_decimal(line: &mut ArrayString<96>, n: u32)
     requires { array_string_len line.old + length (decimal n) ≤ 96 }
     ensures { line.new.bytes ≡ line.old.bytes ++ decimal n }
@@ -59,7 +59,7 @@ fn push_decimal(line: &mut ArrayString<96>, n: u32)
     push_digit(line, n % 10);
 }
 
-// Adds a column of this width with a number at its right.
+// Adds a number, right-aligned in a column of this width.
 pub(crate) fn push_right(line: &mut ArrayString<96>, width: usize, n: u32)
     requires fits { length (decimal n) ≤ width }
     requires room { array_string_len line.old + width ≤ 96 }

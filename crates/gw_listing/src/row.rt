@@ -1,4 +1,4 @@
-//! The row of a circuit: the names of its columns' values, and the columns in their order.
+//! The row of a circuit: names and columns.
 
 ghost use Rattle.std.specs.Prelude.{◌≡◌, ◌≤◌, ◌+◌, [], ◌++◌, length};
 ghost use Rattle.arrayvec.specs.ArrayString.{array_string_len};
@@ -50,7 +50,7 @@ fn push_pair(line: &mut ArrayString<96>, pair: Pair)
     push_digit(line, bits % 2);
 }
 
-// Adds the pair that is recognised, or two hyphens where none is.
+// Adds the recognised pair, or two hyphens if there is none.
 fn push_recognised(line: &mut ArrayString<96>, pair: Option<Pair>)
     requires { array_string_len line.old + 2 ≤ 96 }
     ensures bytes { line.new.bytes ≡ line.old.bytes ++ recognised_text pair }

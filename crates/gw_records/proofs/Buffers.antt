@@ -24,7 +24,7 @@ pub behind : (xs buf post : List ℕ) (filled n : ℕ) → filled ≤ length xs 
 behind xs buf post filled n q r =
     rw (length-take-le filled xs q, take-append-le n buf post r) at (take-append-add (take filled xs) (buf ++ post) n)
 
--- where more octets may matter the octets are few
+-- if more octets may matter, the octets are few
 pub open_is_short : (kinds : Kinds) (octets : List ℕ) (ending : Ending) → ((i : ℕ) → slice_index octets i < 256)
     → end_of kinds octets ≡ Some ending → is_open ending ≡ true → length octets < 65540
 unfolding is_cut

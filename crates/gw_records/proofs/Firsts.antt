@@ -1,4 +1,4 @@
--- The record that stands first.
+-- The first record of octets.
 use Rattle.gw_records.proofs.Common.{◌≡◌, ◌≢◌, ◌+◌, ◌*◌, ◌<◌, ◌≤◌, ◌^◌, ◌⊎◌, inl, inr, ℕ, suc, true, false, List, []}
 use Rattle.gw_records.proofs.Common.{◌∷◌, Bool, cond, Option, Some, None, nat_lt, ◌==◌, SomeIff, Ok, ok_or, length}
 use Rattle.gw_records.proofs.Common.{take, get_or, refl, sym, ◌∙◌, length-take-le, arith, slice_index, nat_tests}
@@ -99,14 +99,14 @@ first_octets : (n : ℕ) (rest : List ℕ) → n ≤ length rest → (n ≡ 1 �
     × (n ≡ 2 → take n rest ≡ get_or rest 0 0 ∷ get_or rest 1 0 ∷ [])
 first_octets n rest h = (λ e. rw e (grind (arith, common_steps)), λ e. rw e (grind (arith, common_steps)))
 
--- a head that is told is that of the first octets, which say no bad command
+-- the head returned is that of the first octets, which have no bad command
 pub head_told : (octets : List ℕ) (o : Option Head) (head : Head)
     → SomeIff o (has_bad_command octets ≡ false) (head_of octets) → ok_or o endings.BadCommand ≡ Ok head
     → (has_bad_command octets ≡ false) × (head_of octets ≡ head)
 head_told octets None head h e = cc
 head_told octets (Some x) head h e = (h.0, let same : x ≡ head = cc in sym h.1 ∙ same)
 
--- the record that stands first is good where nothing is wrong with it
+-- the first record is good if nothing is wrong with it
 pub good_first : (kinds : Kinds) (octets : List ℕ) → ((i : ℕ) → slice_index octets i < 256) → 4 ≤ length octets
     → has_bad_kind kinds octets ≡ false → has_bad_circuit octets ≡ false → has_bad_length octets ≡ false
     → 4 + body_len octets ≤ length octets → has_bad_command octets ≡ false

@@ -66,7 +66,7 @@ more_go kinds (r ∷ rs) (r' ∷ rs') rest rest' ending' e g g' h' =
     let all = more_go kinds rs rs' rest rest' ending' others g.1 g'.1 h' in
     (all.0, let same : rs' ≡ rs ++ all.0 = all.1 in cc, all.2, all.3)
 
--- .. and are all of it where they are followed by an end
+-- .. and are all of it if an end follows them
 same_end : (kinds : Kinds) (rs others : List Record) (rest rest' : List ℕ) (ending ending' : Ending)
     → rest ≡ flat_map spelled others ++ rest' → AllByRecursion (IsGood kinds) others
     → end_of kinds rest ≡ Some ending → end_of kinds rest' ≡ Some ending' → (rs ≡ rs ++ others) × (ending ≡ ending')

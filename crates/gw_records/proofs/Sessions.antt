@@ -26,7 +26,7 @@ pub goes_up : {T E : Type 0} {e : E} (P : E → Type 0) (r : Result T E) (f : E)
 goes_up P (Ok x) f up met p = tt
 goes_up P (Err y) f up met p = rw (up, met) p
 
--- where a session stands between two records: what it has read are good records, and what its reader holds
+-- a session between two records: what it has read are good records and what its reader holds
 pub record Stage (kinds : Kinds) (source source' : SourceState) (sink sink' : SinkState) (reader : Reader)
     (octets : List ℕ) (records : List Record) : Type 0 where
   pub gives : Gives source source' octets
@@ -177,7 +177,7 @@ gives_up totals w r same ends kept done = (
   r.awaited,
 )
 
--- a session ends where its records end so
+-- a session ends if its records end so
 pub ends_so : {kinds : Kinds} {a b : SourceState} {c d : SinkState} {Done : Totals → List Record → Type 0}
     (Begun : List Record → Type 0) (ending : Ending) (totals : Totals) (result : Result Totals RunFault)
     → (e : Ends kinds a b c d Done ending) → (is_open ending ≡ true → IsAtEnd b.to_come) → totals ≡ e.0.totals

@@ -5,7 +5,7 @@ use Rattle.gw_records.proofs.Common.{get_or-drop, nat_tests, Kinds, Ending, Firs
 use Rattle.gw_records.proofs.Common.{end_of, IsFirst, record_at, EachIsRead}
 use Rattle.gw_records.proofs.Firsts.{good_first, found_in}
 
--- where octets are no end, a record stands first
+-- if octets are no end, they begin with a record
 first_of_none : (kinds : Kinds) (octets : List ℕ) → ((i : ℕ) → slice_index octets i < 256) → end_of kinds octets ≡ None
     → (f : First) × IsFirst kinds f octets
 unfolding is_cut

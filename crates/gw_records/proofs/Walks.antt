@@ -3,7 +3,7 @@ use Rattle.gw_records.proofs.ByHand.{List, [], ◌∷◌, refl, Ura, Val, vstruc
 use Rattle.gw_records.proofs.ByHand.{‵, ◌$◌, move, fjoin, fpack, feq_i, RattleType, Valss, nothing}
 use denote.Struct.Struct.{Struct, within}
 
--- a struct by its fields alone: what it owns does not read its name
+-- a struct by its fields alone: what it owns does not depend on its name
 abbrev pub plainly : List RattleType → RattleType
 plainly Rs = Struct (record { name = []; args = []; types = []; fields = Rs })
 

@@ -1,4 +1,4 @@
--- Writes one after another, and what they leave where octets are known.
+-- Writes one after another, and their result if octets are known.
 use Rattle.gw_records.proofs.Common.{◌+◌, ◌≡◌, ◌-◌, ◌<◌, ◌≤◌, ◌^◌, ◌==◌, ◌&&◌, cond, ℕ, List, [], ◌∷◌, ◌++◌, length}
 use Rattle.gw_records.proofs.Common.{take, drop, Option, refl, sym, append_assoc, append-nil, nat_lt, arith}
 use Rattle.gw_records.proofs.Common.{Consumes-nil, Consumes-trans, common_steps, Appends, length-append, ap, ◌∙◌}
@@ -53,13 +53,13 @@ AppendsPrefix-more a b octets more q = record {
   appended = q.appended;
 }
 
--- octets of which some wait, and then a prefix of those that wait and of more
+-- octets of which some are buffered, then a prefix of the buffered ones and of more
 pub AppendsPrefix-behind : (a b c : Option (List ℕ)) (waiting before more : List ℕ)
     → Passes a b waiting before → AppendsPrefix b c (waiting ++ more) → AppendsPrefix a c (before ++ more)
 AppendsPrefix-behind a b c waiting before more p q =
     AppendsPrefix-join a b c p.written (waiting ++ more) (before ++ more) p.appended q (rw (p.whole, append_assoc) refl)
 
--- octets of which few wait, and then a prefix of those that wait and of more
+-- octets of which few are buffered, then a prefix of the buffered ones and of more
 pub AppendsBut-behind : (late : ℕ) (a b c : Option (List ℕ)) (waiting before more : List ℕ) → length waiting ≤ late
     → Passes a b waiting before → AppendsPrefix b c (waiting ++ more) → AppendsBut late a c before (before ++ more)
 unfolding AppendsPrefix-behind AppendsPrefix-join
@@ -104,21 +104,21 @@ pub Passes-join : (a b c : Option (List ℕ)) (waiting waiting' before more : Li
 Passes-join a b c waiting waiting' before more p q =
     rw (p.whole, append_assoc) (Passes-after a b c p.written waiting' (waiting ++ more) p.appended q)
 
--- what passed and what waits are all
+-- what was taken and what is buffered are all
 pub Passes-appended : (a b c : Option (List ℕ)) (waiting octets : List ℕ) → Passes a b waiting octets
     → Appends b c waiting → Appends a c octets
 Passes-appended a b c waiting octets p q = rw (p.whole) (Appends-join a b c p.written waiting p.appended q)
 
--- what was taken whole, with nothing that waits
+-- everything was taken, with nothing buffered
 pub Passes-empty : (a b : Option (List ℕ)) (waiting : List ℕ) {octets : List ℕ} → waiting ≡ [] → Appends a b octets
     → Passes a b waiting octets
 Passes-empty a b waiting e p = rw e (record { written = _; whole = sym (append-nil _); appended = p })
 
--- at the start nothing waits
+-- at the start nothing is buffered
 pub Passes-start : (a : Option (List ℕ)) (waiting : List ℕ) → waiting ≡ [] → Passes a a waiting []
 Passes-start a waiting e = Passes-empty a a waiting e (Appends-none a)
 
--- nothing was written, and what waits is all
+-- nothing was written, and everything is buffered
 pub Passes-none : (a : Option (List ℕ)) (waiting : List ℕ) → Passes a a waiting (waiting ++ [])
 Passes-none a waiting = record { written = []; whole = append-nil waiting; appended = Appends-none a }
 
@@ -143,7 +143,7 @@ Breaks-join a b c waiting before more p e q = record {
   took = AppendsPrefix-behind _ _ _ waiting before more p q.took;
 }
 
--- what waits breaks off
+-- writing the buffer fails
 pub Breaks-waiting : (a b c : SinkState) (waiting octets : List ℕ)
     → Passes a.taken b.taken waiting octets → b.failures ≡ a.failures → Breaks b c waiting → Breaks a c octets
 Breaks-waiting a b c waiting octets p e q = rw (p.whole) (Breaks-after a b c p.written waiting p.appended e q)

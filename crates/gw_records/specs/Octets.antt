@@ -5,7 +5,7 @@ use Rattle.q421_line.specs.declared.Cmd.TheVariants.{Seize, Clear, Answer, Clear
 use Rattle.g726_codec.specs.declared.CodecKind.{CodecKind}
 use Rattle.g726_codec.specs.declared.CodecKind.TheVariants.{G711, G16, G24, G32, G40}
 
--- the command of an octet from 1 to 6
+-- the command of an octet, 1 to 6
 abbrev pub command_of : ℕ → Cmd
 command_of octet =
     if octet == 1 then Seize else (if octet == 2 then Clear else (if octet == 3 then Answer
@@ -20,7 +20,7 @@ octet_of_command ClearBack = 4
 octet_of_command Block = 5
 octet_of_command Unblock = 6
 
--- the codec of an octet from 1 to 5
+-- the codec of an octet, 1 to 5
 abbrev pub codec_of : ℕ → CodecKind
 codec_of octet =
     if octet == 1 then G711 else (if octet == 2 then G16 else (if octet == 3 then G24

@@ -1,4 +1,4 @@
--- How a session ends, and what it has done by then (module `outcome`).
+-- The end of a session, and its totals (module `outcome`).
 use Rattle.std.specs.Prelude.{◌≡◌, ◌<◌, ℕ, true, List, Result, Ok, Err}
 use Rattle.std.specs.Io.KnownBytes.{IsAtEnd}
 use Rattle.gw_records.specs.declared.outcome.Totals.{Totals}
@@ -20,7 +20,7 @@ fault_number faults.Read = 5
 fault_number faults.Write = 6
 fault_number faults.OutOfMemory = 7
 
--- the answer where the records end so
+-- the result if the records end so
 abbrev pub answer_of : Ending → Totals → Result Totals RunFault
 answer_of endings.End totals = Ok totals
 answer_of endings.BadKind totals = Err faults.BadKind
@@ -31,7 +31,7 @@ answer_of endings.Truncated totals = Err faults.Truncated
 abbrev pub nothing_counted : Totals
 nothing_counted = record { records = 0; octets = 0; datagrams = 0; dropped = 0; port_faults = 0 }
 
--- The source gave octets, which are good records and then end so; this was done with the records, counted by
+-- The source gave octets, which are good records with this end; this was done with the records, counted by
 -- these totals, and no write failed.
 pub record SessionTo (kinds : Kinds) (source source' : SourceState) (sink sink' : SinkState)
     (Done : Totals → List Record → Type 0) (ending : Ending) : Type 0 where
@@ -49,15 +49,14 @@ abbrev pub Ends : Kinds → SourceState → SourceState → SinkState → SinkSt
 Ends kinds source source' sink sink' Done ending =
     SessionTo kinds source source' sink sink' Done ending × (source'.failures ≡ source.failures)
 
--- .. up to the end of the source, and the totals are these
+-- .. to the end of the source, with these totals
 pub record EndsAll (kinds : Kinds) (source source' : SourceState) (sink sink' : SinkState)
     (Done : Totals → List Record → Type 0) (totals : Totals) : Type 0 where
   pub ends : Ends kinds source source' sink sink' Done endings.End
   pub ended : IsAtEnd source'.to_come
   pub totals_are : totals ≡ ends.0.totals
 
--- A write failed: good records stand first in the octets that the source gave, and so much was done with
--- them.
+-- A write failed: the octets given by the source begin with good records, and this was done with them.
 pub record FailsToWrite (kinds : Kinds) (source source' : SourceState) (sink sink' : SinkState)
     (Begun : List Record → Type 0) : Type 0 where
   pub octets : List ℕ
@@ -68,9 +67,9 @@ pub record FailsToWrite (kinds : Kinds) (source source' : SourceState) (sink sin
   pub counted : sink.failures < sink'.failures
   pub no_read : source'.failures ≡ source.failures
 
--- How a session ends before the end of its source: with the fault of the record that is not good, cut only
--- where the source is at its end; by a read, which failed, or there were 2 ^ 62 of them, each of which gave
--- an octet: so no bad record stands first there; or by a write.
+-- The end of a session before that of its source: with the fault of an invalid record, cut only if the source
+-- is at its end; by a read, which failed, or there were 2 ^ 62 of them, each of which gave an octet, so no
+-- invalid record is first there; or by a write.
 abbrev pub EndsUntil : Kinds → SourceState → SourceState → SinkState → SinkState
     → (Totals → List Record → Type 0) → (List Record → Type 0) → RunFault → Type 0
 EndsUntil kinds source source' sink sink' Done Begun faults.BadKind =
@@ -88,7 +87,7 @@ EndsUntil kinds source source' sink sink' Done Begun faults.Write =
     FailsToWrite kinds source source' sink sink' Begun
 EndsUntil kinds source source' sink sink' Done Begun faults.OutOfMemory = ⊥
 
--- .. or for want of memory, with all as it was
+-- .. or out of memory, with everything unchanged
 abbrev pub OrNoMemory : Type 0 → (RunFault → Type 0) → RunFault → Type 0
 OrNoMemory kept Until faults.OutOfMemory = kept
 OrNoMemory kept Until fault = Until fault

@@ -1,4 +1,4 @@
--- What a reader holds, and what reading on brings, for module `reader`.
+-- The octets of a reader, and the result of reading on (module `reader`).
 use Rattle.std.specs.Prelude.{◌≡◌, ◌⊎◌, ◌+◌, ◌*◌, ◌<◌, ◌≤◌, ◌++◌}
 use Rattle.std.specs.Prelude.{ℕ, Bool, true, false, List, [], length, take, drop}
 use Rattle.std.specs.Io.KnownBytes.{IsAtEnd}
@@ -7,15 +7,15 @@ use Rattle.gw_records.specs.declared.reader.Reader.{Reader}
 use Rattle.gw_records.specs.Records.{is_open}
 use Rattle.gw_records.specs.Streams.{SourceState, Gives, at_most}
 
--- the octets that were read and not passed
+-- the octets read and not consumed
 unfoldable pub held : Reader → List ℕ
 held r = drop r.start (take r.filled r.buffer.items)
 
--- how far a reader is from its end: each read and each octet that is passed brings it nearer
+-- the distance of a reader from its end: each read and each octet consumed reduces it
 abbrev pub work_left : Reader → ℕ
 work_left r = 131079 * r.reads_left + length (held r)
 
--- the source gave octets, which are held behind the others
+-- the source gave octets, which are behind the others
 pub record Brings (source source' : SourceState) (reader reader' : Reader) : Type 0 where
   pub octets : List ℕ
   pub gives : Gives source source' octets
@@ -26,8 +26,7 @@ pub record Brings (source source' : SourceState) (reader reader' : Reader) : Typ
   pub nearer : work_left reader' < work_left reader
   pub same : source'.failures ≡ source.failures
 
--- No octet came, and none is to come where more of them would matter; where they would not, none was asked
--- for.
+-- No octet arrived, and none is to come if more would matter; if not, none was asked for.
 pub record RunsOut (source source' : SourceState) (reader reader' : Reader) (ending : Ending) : Type 0 where
   pub gives : Gives source source' []
   pub holds : held reader' ≡ held reader
@@ -40,8 +39,8 @@ abbrev pub ReadsOn : SourceState → SourceState → Reader → Reader → Endin
 ReadsOn source source' reader reader' ending true = Brings source source' reader reader'
 ReadsOn source source' reader reader' ending false = RunsOut source source' reader reader' ending
 
--- more octets might have changed how those that are held end, and the source gave nothing more: it failed, or
--- there were as many reads as may be
+-- more octets might have changed the end, and the source gave no more: it failed, or the read limit was
+-- reached
 pub record FailsToRead (source source' : SourceState) (reader reader' : Reader) (ending : Ending) : Type 0
   where
     pub awaited : is_open ending ≡ true

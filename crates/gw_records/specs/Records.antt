@@ -12,11 +12,11 @@ use Rattle.gw_records.specs.declared.records.Ending.{Ending}
 use Rattle.gw_records.specs.declared.records.Ending.TheVariants as endings
 use Rattle.gw_records.specs.Octets.{command_of, octet_of_command, codec_of, octet_of_codec}
 
--- a kind, a circuit, a length of 16 bits and the body
+-- a kind, a circuit, a 16-bit length and the body
 abbrev pub record_of : ℕ → ℕ → List ℕ → List ℕ
 record_of kind circuit body = kind ∷ circuit ∷ (big_bytes 2 (length body) ++ body)
 
--- what a session is told
+-- the records of a session
 pub data Record : Type 0 where
   Trunk : (octets : List ℕ) → Record
   Datagram : (circuit : ℕ) → (octets : List ℕ) → Record
@@ -33,7 +33,7 @@ spelled (Record.Codec circuit codec payload_type) = record_of 0x4B circuit (code
 abbrev pub IsCircuit : ℕ → Type 0
 IsCircuit circuit = (1 ≤ circuit) × (circuit ≤ 30)
 
--- a record of a kind that is read
+-- a record of an accepted kind
 abbrev pub IsGood : Kinds → Record → Type 0
 IsGood kinds (Record.Trunk octets) = (kinds.trunk ≡ true) × (length octets < 2 ^ 16)
 IsGood kinds (Record.Datagram circuit octets) =
@@ -43,7 +43,7 @@ IsGood kinds (Record.Command circuit command) =
 IsGood kinds (Record.Codec circuit codec payload_type) =
     (kinds.codecs ≡ true) × IsCircuit circuit × (1 ≤ codec) × (codec ≤ 5) × (payload_type ≤ 127)
 
--- the length of the body, as the third and the fourth octet say it
+-- the length of the body by the third and fourth octet
 abbrev pub body_len : List ℕ → ℕ
 body_len octets = slice_index octets 2 * 256 + slice_index octets 3
 
@@ -53,7 +53,7 @@ is_command octets = slice_index octets 0 == 0x43
 abbrev pub is_codec : List ℕ → Bool
 is_codec octets = slice_index octets 0 == 0x4B
 
--- what is wrong with a record that stands first in octets, of which there are four at least
+-- the fault of the first record of octets, of which there are at least four
 unfoldable pub has_bad_kind : Kinds → List ℕ → Bool
 has_bad_kind kinds octets = let kind = slice_index octets 0 in
     not (kinds.trunk && kind == 0x54 || kinds.datagrams && kind == 0x44 || kinds.commands && kind == 0x43
@@ -76,7 +76,7 @@ has_bad_command octets =
     || is_codec octets && (nat_lt (slice_index octets 4) 1 || nat_lt 5 (slice_index octets 4)
     || nat_lt 127 (slice_index octets 5))
 
--- how octets end at whose front no whole good record stands
+-- how octets end that do not begin with a whole good record
 unfoldable pub end_of : Kinds → List ℕ → Option Ending
 end_of kinds octets =
     if length octets == 0 then Some endings.End
@@ -88,26 +88,26 @@ end_of kinds octets =
     else (if has_bad_command octets then Some endings.BadCommand
     else None))))))
 
--- more octets may follow that change it
+-- more octets may change this end
 abbrev pub is_open : Ending → Bool
 is_open endings.End = true
 is_open endings.Truncated = true
 is_open _ = false
 
--- these good records stand first
+-- the octets begin with these good records
 pub record Begins (kinds : Kinds) (octets : List ℕ) (records : List Record) : Type 0 where
   pub rest : List ℕ
   pub whole : octets ≡ flat_map spelled records ++ rest
   pub good : AllByRecursion (IsGood kinds) records
 
--- the octets are these good records, and a rest that ends so
+-- the octets are these good records, and a rest with this end
 pub record Reads (kinds : Kinds) (octets : List ℕ) (records : List Record) (ending : Ending) : Type 0 where
   pub rest : List ℕ
   pub whole : octets ≡ flat_map spelled records ++ rest
   pub good : AllByRecursion (IsGood kinds) records
   pub ends : end_of kinds rest ≡ Some ending
 
--- what the first octets say
+-- the head of the first octets
 unfoldable pub head_of : List ℕ → Head
 head_of octets =
     if slice_index octets 0 == 0x54 then heads.Trunk
@@ -116,18 +116,18 @@ head_of octets =
     then heads.Command (slice_index octets 1) (command_of (slice_index octets 4))
     else heads.Codec (slice_index octets 1) (codec_of (slice_index octets 4)) (slice_index octets 5)))
 
--- the record of this head and body
+-- the record with this head and body
 abbrev pub named : Head → List ℕ → Record
 named heads.Trunk body = Record.Trunk body
 named (heads.Datagram circuit) body = Record.Datagram circuit body
 named (heads.Command circuit command) body = Record.Command circuit (octet_of_command command)
 named (heads.Codec circuit codec payload_type) body = Record.Codec circuit (octet_of_codec codec) payload_type
 
--- the record that stands first
+-- the record that is first
 abbrev pub record_at : First → List ℕ → Record
 record_at f octets = named f.head (drop 4 (take f.len octets))
 
--- a good record stands first
+-- the octets begin with a good record
 pub record IsFirst (kinds : Kinds) (f : First) (octets : List ℕ) : Type 0 where
   pub more : 4 ≤ f.len
   pub fits : f.len ≤ length octets

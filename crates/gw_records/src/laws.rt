@@ -1,12 +1,12 @@
 //! Laws of records, proved by functions that do nothing.
 ghost use Rattle.gw_records.specs.Laws.{AtMostOneReading, MoreKeepsRecords, EachIsRead};
 
-/// Octets are read as records in one way: the same whole records and the same end.
+/// Octets are read as records in one way.
 pub fn at_most_one_reading()
     ensures { AtMostOneReading }
 {}
 
-/// Octets that come later keep the whole records that are there.
+/// More octets keep the whole records that are there.
 pub fn more_keeps_records()
     ensures { MoreKeepsRecords }
 {}

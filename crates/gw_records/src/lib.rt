@@ -1,4 +1,4 @@
-//! Records in octets that come and go: what sessions of any kind have in common.
+//! Records in octets, read and written by sessions of any kind.
 #![tactic(auto)]
 
 pub mod laws;

@@ -1,4 +1,4 @@
-//! Octets that passed and calls of ports, as proofs see them. Nothing of it is there when the program runs.
+//! Octets that passed and calls of ports, for proofs. Nothing of it exists at run time.
 ghost use Rattle.std.specs.Prelude.{◌≡◌, ℕ, List, [], ◌∷◌, ◌++◌, take};
 ghost use Rattle.std.specs.Borrow.{ftrue};
 ghost use Rattle.gw_records.specs.Ports.{PortCall, calls_of, receive_call, send_call};
@@ -21,8 +21,9 @@ const SEND_FAILED: u8 = 4;
 // Octets that passed without a call.
 const NO_CALL: u8 = 5;
 
-/// Octets that passed, one after another, and those calls of ports with which they passed. It takes no
-/// memory, and its functions do nothing.
+/// Octets that passed, and the calls of ports that passed some of them.
+///
+/// It takes no memory, and its functions do nothing.
 #[derive(Drop)]
 pub struct Log {
     pub ghost octets: { List ℕ },
@@ -34,14 +35,14 @@ impl Model for Log {
 }
 
 impl Log {
-    /// The log before any octet and any call.
+    /// The log before any octet and call.
     pub fn new() -> Log
         ensures { result ≡ record { octets = []; calls = [] } }
     {
         Log {}
     }
 
-    // Appends the first octets of these, as many as `_len` says, and the call of this kind for a circuit.
+    // Appends the first `_len` of these octets, and the call of this kind for a circuit.
     fn add(&mut self, _kind: u8, _circuit: u8, _octets: &[u8], _len: usize)
         ensures { self.new ≡ record {
           octets = self.old.octets ++ take _len _octets.now;
@@ -49,7 +50,7 @@ impl Log {
         } }
     {}
 
-    /// Appends the first octets of these, as many as `len` says, with no call.
+    /// Appends the first `len` of these octets without a call.
     #[inline]
     pub fn append(&mut self, octets: &[u8], len: usize)
         ensures { self.new.octets ≡ self.old.octets ++ take len octets.now }
@@ -57,7 +58,7 @@ impl Log {
         self.add(NO_CALL, 0, octets, len);
     }
 
-    /// Appends a receive for a circuit, by its result and the room then.
+    /// Appends a receive for a circuit, by its result and the room afterwards.
     #[inline]
     pub fn received(
         &mut self,
@@ -86,7 +87,9 @@ impl Log {
     }
 }
 
-/// A value as it was at the start. It takes no memory, and its function does nothing.
+/// A value as it was at the start.
+///
+/// It takes no memory, and its function does nothing.
 #[derive(Drop)]
 pub struct AtStart<T> {
     of: PhantomData<T>,
@@ -98,7 +101,7 @@ impl<T> Model for AtStart<T> {
 }
 
 impl<T> AtStart<T> {
-    /// What the value is now.
+    /// The present value.
     pub fn of(_value: &T) -> AtStart<T>
         ensures { result.value ≡ _value.now }
     {

@@ -5,7 +5,7 @@ ghost use Rattle.gw_records.specs.Octets.{command_of, octet_of_command, codec_of
 use g726_codec::CodecKind;
 use q421_line::Cmd;
 
-/// The command of an octet; `None` where it is not from 1 to 6.
+/// The command of an octet; `None` if it is not 1 to 6.
 pub fn command_of(octet: u8) -> Option<Cmd>
     ensures { SomeIff result ((1 ≤ octet) × (octet ≤ 6)) (command_of octet) }
 {
@@ -34,7 +34,7 @@ pub fn octet_of_command(command: Cmd) -> u8
     }
 }
 
-/// The codec of an octet; `None` where it is not from 1 to 5.
+/// The codec of an octet; `None` if it is not 1 to 5.
 pub fn codec_of(octet: u8) -> Option<CodecKind>
     ensures { SomeIff result ((1 ≤ octet) × (octet ≤ 5)) (codec_of octet) }
 {

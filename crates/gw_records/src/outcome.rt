@@ -1,26 +1,28 @@
-//! How a session ends, and what it has done by then.
+//! The end of a session, and its totals.
 ghost use Rattle.std.specs.Prelude.{◌≡◌};
 ghost use Rattle.gw_records.specs.Outcome.{fault_number, answer_of};
 
 use crate::records::Ending;
 use thiserror::Error;
 
-/// What a session has done. Each count stays at the greatest u64 once it is there.
+/// The totals of a session.
+///
+/// Each count saturates.
 #[derive(Clone, Copy, Debug, PartialEq, Eq)]
 pub struct Totals {
-    /// Records that were read whole.
+    /// Records read whole.
     pub records: u64,
     /// Octets of trunk records.
     pub octets: u64,
-    /// Datagrams that were written or sent.
+    /// Datagrams written or sent.
     pub datagrams: u64,
-    /// Datagrams that were refused or passed over.
+    /// Datagrams refused or skipped.
     pub dropped: u64,
     /// Faults of ports.
     pub port_faults: u64,
 }
 
-/// The totals before anything is done.
+/// The totals at the start.
 pub const NO_TOTALS: Totals = Totals {
     records: 0,
     octets: 0,
@@ -29,16 +31,18 @@ pub const NO_TOTALS: Totals = Totals {
     port_faults: 0,
 };
 
-/// Why a session ended before the end of its source. The printed form is the program's line for it.
+/// Why a session ended before its source.
+///
+/// The printed form is the program's line for it.
 #[derive(Clone, Copy, Debug, PartialEq, Eq, Error)]
 pub enum RunFault {
-    /// A record of a kind that this session does not read.
+    /// A record of a kind that this session does not accept.
     #[error("fault 1 BadKind")]
     BadKind,
-    /// A circuit that a record of this kind can't have.
+    /// A circuit that a record of this kind cannot have.
     #[error("fault 2 BadCircuit")]
     BadCircuit,
-    /// A command or codec record of another length than theirs, or one that says what is none.
+    /// A command or codec record of the wrong length, or with an unknown value.
     #[error("fault 3 BadCommand")]
     BadCommand,
     /// The source ended inside a record.
@@ -47,10 +51,10 @@ pub enum RunFault {
     /// The source failed, or there were 2^62 reads.
     #[error("fault 5 Read")]
     Read,
-    /// The sink failed, or took none of a nonempty piece.
+    /// The sink failed, or took nothing of a nonempty piece.
     #[error("fault 6 Write")]
     Write,
-    /// Memory was refused, before the first octet was read.
+    /// Memory was refused before the first octet was read.
     #[error("out of memory")]
     OutOfMemory,
 }
@@ -73,7 +77,7 @@ impl RunFault {
     }
 }
 
-/// What a session returns whose records end so.
+/// The result of a session whose records end so.
 pub fn answer(ending: Ending, totals: Totals) -> Result<Totals, RunFault>
     ensures { result ≡ answer_of ending totals }
 {

@@ -1,4 +1,4 @@
-//! Where datagrams come from, and where they go.
+//! The ports of circuits: datagrams received and sent.
 ghost use Rattle.std.specs.Prelude.{◌≤◌, length, IfOk, IfSome};
 ghost use Rattle.gw_records.specs.Ports.{PortsState, Receives, Sends, CountsFault, KeepsSends, KeepsReceives};
 
@@ -10,15 +10,16 @@ use thiserror::Error;
 #[error("a port failed")]
 pub struct PortFault;
 
-/// Where the datagrams of circuits come from, and where they go.
+/// Receives and sends the datagrams of circuits.
 pub trait Ports {
-    /// What the ports tell of themselves: how many of their receives and of their sends have failed, up to
-    /// the greatest u64, and, where they are known, the datagrams that wait at each circuit, those that were
-    /// given, those that sends took, and all calls in their order, each with what came of it.
+    /// What the ports report: the numbers of failed receives and sends, which saturate, and, if known, the
+    /// datagrams waiting at each circuit, those received, those sent, and all calls in order with their
+    /// results.
     ghost tells: { Self → PortsState };
 
-    /// Takes out the first datagram that waits at a circuit, puts it to the front of `room`, and answers its
-    /// length. None where none waits. `room` has place for any datagram.
+    /// Receives one datagram of a circuit into `room` and returns its length.
+    ///
+    /// None if none is waiting. `room` has place for any datagram.
     fn receive(&mut self, circuit: CircuitNo, room: &mut [u8]) -> Result<Option<usize>, PortFault>
         requires { 65536 ≤ length room.old }
         ensures bound { IfOk result (λ got. IfSome got (λ n. n ≤ length room.new)) }

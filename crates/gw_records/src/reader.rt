@@ -1,4 +1,4 @@
-//! The buffer of octets that were read, from whose front records are taken in place.
+//! The buffer of octets read, from which records are taken in place.
 ghost use Rattle.std.specs.Prelude.{◌≡◌, ◌+◌, ◌<◌, ◌≤◌, [], vec_len, length, take, IfOk, OnErr};
 ghost use Rattle.gw_records.specs.Streams.{CountsRead, CountsTurn, Refills, Gives};
 ghost use Rattle.gw_records.specs.Records.{is_open};
@@ -13,10 +13,10 @@ const RECORD_LEN: usize = 65_539;
 
 const BUFFER_LEN: usize = 2 * RECORD_LEN;
 
-/// A session gives up after so many reads.
+/// Read limit: a session ends with `Read` after this many.
 pub const MAX_READS: u64 = 1 << 62;
 
-/// The octets that were read and not yet passed.
+/// The octets read and not yet consumed.
 #[derive(Drop)]
 pub struct Reader {
     buffer: Vec<u8>,
@@ -35,7 +35,9 @@ fn is_open(ending: Ending) -> bool
     matches!(ending, Ending::End | Ending::Truncated)
 }
 
-/// Reads octets behind the first ones of a buffer, and returns how many.
+/// Reads octets behind the first ones of a buffer.
+///
+/// Returns how many.
 pub fn read_behind<S: Source>(
     source: &mut S,
     buffer: &mut [u8],
@@ -62,7 +64,7 @@ impl Reader {
     ghost use Rattle.gw_records.specs.Records.{end_of};
     ghost use Rattle.gw_records.specs.Reader.{held, ReadsOn, FailsToRead};
 
-    /// A reader that holds nothing.
+    /// An empty reader.
     #[tactic(auto, unfolding(crate::specs::Reader::held))]
     pub fn new(alloc: Global) -> Result<Reader, AllocError>
         ensures holds { IfOk result (λ r. held r ≡ []) }
@@ -76,7 +78,7 @@ impl Reader {
         })
     }
 
-    /// What is held.
+    /// The octets in the buffer.
     #[tactic(auto, unfolding(crate::specs::Reader::held))]
     pub fn held(&self) -> &[u8]
         ensures { result.now ≡ held self.now }
@@ -84,7 +86,7 @@ impl Reader {
         &self.buffer[self.start..self.filled]
     }
 
-    /// Passes octets, which are then held no longer.
+    /// Consumes octets.
     #[tactic(auto, unfolding(crate::specs::Reader::held))]
     pub fn pass(&mut self, len: usize)
         requires { len ≤ length (held self.old) }
@@ -94,7 +96,7 @@ impl Reader {
         self.start += len;
     }
 
-    // Moves what is held to the front of the buffer.
+    // Moves the octets to the front of the buffer.
     #[tactic(auto, unfolding(crate::specs::Reader::held))]
     fn compact(&mut self)
         ensures holds { held self.new ≡ held self.old }
@@ -107,9 +109,10 @@ impl Reader {
         self.start = 0;
     }
 
-    // Makes room behind what is held. Octets are moved only when the room is used up: where more octets are
-    // wanted, at most half of the buffer is held, so that no move copies more octets than were read since the
-    // last one.
+    // Makes room behind the octets.
+    //
+    // They move only when the room is used up. If more are wanted, at most half of the buffer is in use, so
+    // no move copies more octets than were read since the last one.
     #[tactic(auto, unfolding(crate::specs::Reader::held))]
     fn make_room(&mut self)
         requires { length (held self.old) < 131078 }
@@ -125,7 +128,9 @@ impl Reader {
         }
     }
 
-    // Reads octets behind those that are held, and returns how many.
+    // Reads octets behind those in the buffer.
+    //
+    // Returns how many.
     fn refill<S: Source>(&mut self, source: &mut S) -> Result<usize, SourceFault>
         requires room { length (held self.old) < 131078 }
         requires turn { 0 < self.old.reads_left }
@@ -144,8 +149,9 @@ impl Reader {
         Ok(n)
     }
 
-    /// Reads on where more octets may change how those that are held end, and returns whether octets came.
-    /// There is no read while a whole record, or one that can't be good any more, stands first.
+    /// Reads more if that may change how the octets end.
+    ///
+    /// Returns whether octets arrived. It does not read while a whole or an invalid record is first.
     pub fn read_on<S: Source>(
         &mut self,
         kinds: &Kinds,

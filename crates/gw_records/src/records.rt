@@ -1,4 +1,4 @@
-//! Records, and what stands first in octets.
+//! Records, and the first one in octets.
 ghost use Rattle.std.specs.Prelude.{◌≡◌, ◌≢◌, ◌+◌, ◌<◌, ◌≤◌, ◌^◌};
 ghost use Rattle.std.specs.Prelude.{false, length, slice_index, Some, SomeIff, IfOk, IfErr};
 ghost use Rattle.gw_records.specs.Records.{IsCircuit, IsFirst, head_of, end_of, body_len, record_of};
@@ -11,7 +11,7 @@ use g704_cas::CircuitNo;
 use g726_codec::CodecKind;
 use q421_line::Cmd;
 
-/// How many octets stand before the body of a record.
+/// The octets before the body of a record.
 pub const FRONT_LEN: usize = 4;
 
 /// Octets of the trunk.
@@ -23,7 +23,7 @@ pub const COMMAND: u8 = 0x43;
 /// A codec for a circuit.
 pub const CODEC: u8 = 0x4B;
 
-/// Which kinds of record are read.
+/// The kinds of record that are accepted.
 #[derive(Clone, Copy, Debug, PartialEq, Eq)]
 pub struct Kinds {
     pub trunk: bool,
@@ -32,7 +32,7 @@ pub struct Kinds {
     pub codecs: bool,
 }
 
-/// How records end.
+/// The end of records.
 #[derive(Clone, Copy, Debug, PartialEq, Eq)]
 pub enum Ending {
     End,
@@ -42,7 +42,7 @@ pub enum Ending {
     Truncated,
 }
 
-/// What a record is, but for the octets of its body.
+/// A record without the octets of its body.
 #[derive(Clone, Copy, Debug, PartialEq, Eq)]
 pub enum Head {
     Trunk,
@@ -51,7 +51,7 @@ pub enum Head {
     Codec(CircuitNo, CodecKind, u8),
 }
 
-/// A whole record that stands first, and its length.
+/// A whole first record, and its length.
 #[derive(Clone, Copy, Debug, PartialEq, Eq)]
 pub struct First {
     pub head: Head,
@@ -106,7 +106,7 @@ fn has_bad_length(held: &[u8]) -> bool
     }
 }
 
-// What the first octets of a whole record say; `None` where they say what is no command or codec.
+// The head of a whole record's first octets; `None` for an unknown command or codec.
 #[tactic(auto, unfolding(crate::specs::Records::has_bad_command, crate::specs::Records::head_of))]
 fn head_of(held: &[u8]) -> Option<Head>
     requires kind { slice_index held.now 0 ≢ 0x54 → slice_index held.now 0 ≢ 0x44
@@ -126,8 +126,9 @@ fn head_of(held: &[u8]) -> Option<Head>
     }
 }
 
-/// The good record that stands first, whole, or how the octets end. It is inlined, so that a session that
-/// reads one kind tests for no other.
+/// The valid whole record that is first, or how the octets end.
+///
+/// It is inlined, so that a session that accepts one kind tests for no other.
 #[inline(always)]
 #[tactic(auto, unfolding(crate::specs::Records::end_of, crate::specs::Records::is_cut))]
 pub fn first_record(kinds: &Kinds, held: &[u8]) -> Result<First, Ending>
@@ -157,7 +158,7 @@ pub fn first_record(kinds: &Kinds, held: &[u8]) -> Result<First, Ending>
     Ok(First { head, len })
 }
 
-/// The record of a datagram that is sent.
+/// The record of a datagram sent.
 pub fn datagram_record(circuit: u8, datagram: &[u8]) -> ArrayVec<u8, 256>
     requires { length datagram.now ≤ 252 }
     ensures { result.items ≡ record_of 0x44 circuit datagram.now }

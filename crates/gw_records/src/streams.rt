@@ -1,4 +1,4 @@
-//! Where octets come from, and where they go.
+//! Sources and sinks of octets.
 ghost use Rattle.std.specs.Prelude.{◌≡◌, ◌<◌, ◌≤◌, ◌++◌, ℕ, List, [], length, IfOk, Some};
 ghost use Rattle.std.specs.Io.KnownBytes.{ReadConsumes, WriteAppends};
 ghost use Rattle.gw_records.specs.Streams.{SourceState, SinkState, CountsRead, CountsTurn, CountsWrite};
@@ -20,12 +20,13 @@ pub struct SinkFault;
 
 /// Gives octets.
 pub trait Source {
-    /// What the source tells of itself: how many of its reads have failed and how many have not, each up to
-    /// the greatest u64, and, where they are known, the octets that it gave and those to come.
+    /// What the source reports: how many reads have failed and how many have not, each saturating, and, if
+    /// known, the octets that it gave and those to come.
     ghost tells: { Self → SourceState };
 
-    /// Reads octets to the front of `buf`, and returns how many. It returns 0 for a nonempty slice only where
-    /// no octet is to come.
+    /// Reads octets to the front of `buf` and returns how many.
+    ///
+    /// It returns 0 for a nonempty slice only if no octet is to come.
     fn read(&mut self, buf: &mut [u8]) -> Result<usize, SourceFault>
         ensures bound { IfOk result (λ n. n ≤ length buf.new) }
         ensures gives { WriteAppends (tells self.old).given (tells self.new).given result buf.new }
@@ -36,19 +37,21 @@ pub trait Source {
 
 /// Takes octets.
 pub trait Sink {
-    /// What the sink tells of itself: how many of its writes have failed, up to the greatest u64, one that
-    /// took none of a nonempty piece among them, and, where they are known, the octets that it took.
+    /// What the sink reports: how many writes have failed, saturating, also those that took nothing of a
+    /// nonempty piece, and, if known, the octets that it took.
     ghost tells: { Self → SinkState };
 
-    /// Takes octets from the front of `octets`, and returns how many.
+    /// Takes octets from the front of `octets` and returns how many.
     fn write(&mut self, octets: &[u8]) -> Result<usize, SinkFault>
         ensures bound { IfOk result (λ n. n ≤ length octets.now) }
         ensures takes { WriteAppends (tells self.old).taken (tells self.new).taken result octets.now }
         ensures counts { CountsWrite (tells self.old).failures (tells self.new).failures result octets.now };
 }
 
-/// A reader of std as a source. Each error of the reader is a failure, an interruption too. The octets that
-/// it gave are known of every reader, of standard input too: those that the calls of the reader gave.
+/// A std reader as a source.
+///
+/// Each error of the reader is a failure, also an interruption. The octets that its calls gave are known of
+/// every reader, also of standard input.
 #[derive(Drop)]
 pub struct FromRead<R> {
     reader: R,
@@ -58,7 +61,7 @@ pub struct FromRead<R> {
 }
 
 impl<R: Read> FromRead<R> {
-    /// The source of what the reader gives, with no read yet.
+    /// A source of the reader's octets, not yet read.
     pub fn new(reader: R) -> Self
         ensures { result ≡ record {
           reader = reader;
@@ -99,10 +102,11 @@ impl<R: Read> Source for FromRead<R> {
     }
 }
 
-/// A writer of std as a sink. Each error of the writer is a failure, and so is a write that took nothing. The
-/// octets that it took are known of every writer, of standard output and of files too: what the writer was
-/// known to hold at the start, and then those that its calls took. Where the writer tells what it holds, it
-/// holds these.
+/// A std writer as a sink.
+///
+/// Each error of the writer is a failure, also a write that took nothing. The octets that it took are known
+/// of every writer, also of standard output and files: those it was known to hold at the start, then those
+/// that its calls took. If the writer tells what it holds, it holds these.
 #[derive(Drop)]
 pub struct ToWrite<W: Write> {
     writer: W,
@@ -114,7 +118,7 @@ pub struct ToWrite<W: Write> {
 }
 
 impl<W: Write> ToWrite<W> {
-    /// The sink that hands its octets to the writer, with no failure yet.
+    /// A sink over the writer, without failures.
     pub fn new(writer: W) -> Self
         ensures writer { result.writer ≡ writer }
         ensures failed { result.failed ≡ 0 }

@@ -1,4 +1,4 @@
-//! Octets on their way to a sink.
+//! Octets to write to a sink.
 ghost use Rattle.std.specs.Prelude.{◌≡◌, ◌-◌, ◌<◌, ◌++◌, [], length, IfErr, OnOk, OnErr};
 ghost use Rattle.std.specs.Io.KnownBytes.{Appends};
 ghost use Rattle.gw_records.specs.Streams.{CanCount, Puts, Writes, Breaks};
@@ -7,13 +7,13 @@ use crate::outcome::RunFault;
 use crate::streams::Sink;
 use arrayvec::ArrayVec;
 
-// How many octets wait at most before they are written.
+// The most octets buffered before a write.
 const OUTPUT_LEN: usize = 65_536;
 
 /// Octets that are written before the next read.
 pub type OutputBuffer = ArrayVec<u8, 65_536>;
 
-/// A trunk record on its way out: four octets and the longest body.
+/// A trunk record to write: four octets and the longest body.
 pub type TrunkRecord = ArrayVec<u8, 65_539>;
 
 /// Writes all of the octets.
@@ -35,7 +35,7 @@ pub fn write_all<K: Sink>(sink: &mut K, octets: &[u8]) -> Result<(), RunFault>
     Ok(())
 }
 
-/// Writes the octets that wait.
+/// Writes the buffered octets.
 #[inline]
 pub fn flush<K: Sink>(sink: &mut K, waiting: &mut OutputBuffer) -> Result<(), RunFault>
     requires { CanCount (K.tells sink.old).failures }
@@ -49,7 +49,7 @@ pub fn flush<K: Sink>(sink: &mut K, waiting: &mut OutputBuffer) -> Result<(), Ru
     write_waiting(sink, waiting)
 }
 
-// Writes the octets that wait, of which there are some.
+// Writes the buffered octets, if there are some.
 #[inline(never)]
 fn write_waiting<K: Sink>(sink: &mut K, waiting: &mut OutputBuffer) -> Result<(), RunFault>
     requires { CanCount (K.tells sink.old).failures }
@@ -61,7 +61,7 @@ fn write_waiting<K: Sink>(sink: &mut K, waiting: &mut OutputBuffer) -> Result<()
     Ok(())
 }
 
-/// Puts octets behind those that wait, which are written first where there is no room for both.
+/// Adds octets to the buffer; if both do not fit, it is written first.
 pub fn put<K: Sink>(sink: &mut K, waiting: &mut OutputBuffer, octets: &[u8]) -> Result<(), RunFault>
     requires { CanCount (K.tells sink.old).failures }
     ensures { Puts (K.tells sink.old) (K.tells sink.new) waiting.new.items
@@ -76,7 +76,7 @@ pub fn put<K: Sink>(sink: &mut K, waiting: &mut OutputBuffer, octets: &[u8]) -> 
     Ok(())
 }
 
-// Puts octets where none wait, or writes them where they are too many to wait.
+// Buffers octets in an empty buffer, or writes them if they are too many.
 fn put_first<K: Sink>(
     sink: &mut K,
     waiting: &mut OutputBuffer,

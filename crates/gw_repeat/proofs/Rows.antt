@@ -6,7 +6,7 @@ use Rattle.gw_repeat.specs.Repetition.{timestamp_of, repetition}
 abbrev row : ℕ → ℕ → List ℕ
 row high low = 128 ∷ 8 ∷ 0 ∷ 1 ∷ 0 ∷ 0 ∷ high ∷ low ∷ 0 ∷ 0 ∷ 0 ∷ 7 ∷ []
 
--- behind the second datagram the first is sent again, where one is repeated behind the next
+-- behind the second datagram the first is sent again, if one is repeated behind the next
 next_one : repetition 1 160 (row 0 160 ∷ row 0 0 ∷ []) ≡ row 0 0 ∷ []
 unfolding timestamp_of
 next_one = refl
@@ -20,7 +20,7 @@ third_one : repetition 2 160 (row 1 64 ∷ row 0 160 ∷ row 0 0 ∷ []) ≡ row
 unfolding timestamp_of
 third_one = refl
 
--- .. and not where a gap lies between them: 480 does not follow 160
+-- .. and not across a gap: 480 does not follow 160
 over_gap : repetition 2 160 (row 1 224 ∷ row 0 160 ∷ row 0 0 ∷ []) ≡ []
 unfolding timestamp_of
 over_gap = refl

@@ -71,7 +71,7 @@ due (suc m) words datagram datagrams some = rw (continues_first words datagram m
     (due_by m datagram (last_run words datagrams) (has_room datagram)
     (continues words datagram (last_run words datagrams)))
 
--- one more call comes first where the latest are first
+-- one more call comes first in a list with the latest first
 pub latest_first : {X : Type 0} (calls : List X) (call : X) → reverse (calls ++ call ∷ []) ≡ call ∷ reverse calls
 latest_first calls call = reverse-append calls (call ∷ [])
 
@@ -81,7 +81,7 @@ pub held_still : (n : ℕ) (words : List ℕ) (call : PortCall) (calls : List Po
 held_still n words call calls held quiet are = λ i d below.
     rw (latest_first calls call, quiet (i + 1)) (are i d below)
 
--- where the last 0 datagrams are held, none is
+-- of the last 0 datagrams none is held
 none_of : (n words : ℕ) (datagrams packets : List (List ℕ)) → n ≡ 0 → packets ≡ take n (last_run words datagrams)
     → packets ≡ []
 none_of n words datagrams packets is last = rw is at last
@@ -90,7 +90,7 @@ none_of n words datagrams packets is last = rw is at last
 none_first : (n : ℕ) (run packets : List (List ℕ)) → n ≡ 0 → packets ≡ [] → packets ≡ take n run
 none_first n run packets is empty = rw (empty, is) refl
 
--- where none is held, none is after any calls
+-- if none is held, none is after any calls
 pub held_none : (n : ℕ) (words : List ℕ) (calls more : List PortCall) (held : List Held) → n ≡ 0
     → AreHeld n words calls held → AreHeld n words more held
 held_none n words calls more held is are = λ i d below. record {
@@ -152,7 +152,7 @@ behind_send n words circuit datagram (Ok x) calls again held some is sends = rw 
 behind_send n words circuit datagram (Err e) calls again held some is sends = rw (sends, is.last)
     (ap (map (PortCall.Took circuit)) (due n (words_at words circuit) datagram (sent_of circuit (reverse calls)) some))
 
--- none is sent behind a send where none is to be repeated
+-- none is sent behind a send if none is to be repeated
 pub behind_none : (n : ℕ) (words : List ℕ) (circuit : ℕ) (datagram : List ℕ) (r : Result (Unit {0}) PortFault)
     (calls : List PortCall) → n ≡ 0
     → [] ≡ repeats_behind n (words_at words) (send_call circuit datagram r) (reverse calls)
@@ -184,7 +184,7 @@ repeated_lists n words calls call again old between new has grew sends = record 
   repeats = rw (latest_first calls call) (again, reverse has.more, reversed has.more again call, sends, has.repeats);
 }
 
--- .. where the calls below are known
+-- .. if the calls below are known
 pub repeated_more : (n : ℕ) (words : List ℕ) (calls : List PortCall) (call : PortCall) (again : List PortCall)
     (old between grown new : Option (List PortCall)) → IfKnown old between (HasRepeated n words calls)
     → Grows between grown (call ∷ []) → Grows grown new again
@@ -224,7 +224,7 @@ repeated_receive n words calls circuit r room opened old new has receives =
     repeated_more n words calls (receive_call circuit r room) [] opened old.calls new.calls new.calls has
     (receive_grew old new circuit r room receives) (grew_none new.calls) (behind_receive n words circuit r room calls)
 
--- .. after a send where none is to be repeated
+-- .. after a send if none is to be repeated
 pub repeated_send : (n : ℕ) (words : List ℕ) (calls : List PortCall) (circuit : ℕ) (datagram : List ℕ)
     (r : Result (Unit {0}) PortFault) (opened : Option (List PortCall)) (old new : PortsState) → n ≡ 0
     → IfKnown opened old.calls (HasRepeated n words calls) → Sends old new circuit r datagram

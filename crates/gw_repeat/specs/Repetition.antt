@@ -1,4 +1,4 @@
--- Which datagrams of a circuit are sent again.
+-- Which datagrams of a circuit are repeated.
 use Rattle.std.specs.Prelude.{◌+◌, ◌%◌, ◌^◌, ◌==◌, ◌&&◌, nat_le, if◌then◌else◌, ℕ, zero, suc, Bool, false}
 use Rattle.std.specs.Prelude.{List, [], ◌∷◌, take, drop, length}
 use Rattle.byteorder.specs.Endian.{big_number}
@@ -11,27 +11,27 @@ timestamp_of datagram = big_number 4 (take 4 (drop 4 datagram))
 abbrev pub has_room : List ℕ → Bool
 has_room datagram = nat_le 12 (length datagram) && nat_le (length datagram) 252
 
--- A datagram follows the latest of these, which are the latest first: its first word is the next behind the
--- words of that packet.
+-- A datagram follows the latest of these (the latest first): its first word is the next behind that packet's
+-- words.
 abbrev pub continues : ℕ → List ℕ → List (List ℕ) → Bool
 continues words datagram [] = false
 continues words datagram (latest ∷ earlier) =
     timestamp_of datagram == (timestamp_of latest + words) % 2 ^ 32
 
--- a datagram, and behind it those before it, the latest first, if it follows them
+-- a datagram in front of those before it, the latest first, if it follows them
 abbrev pub with_next : ℕ → List ℕ → List (List ℕ) → List (List ℕ)
 with_next words datagram earlier =
     if has_room datagram
     then datagram ∷ (if continues words datagram earlier then earlier else [])
     else []
 
--- the last of a circuit's datagrams, given the latest first, as far back as each follows the one before it
+-- the last consecutive datagrams of a circuit, all with the latest first
 abbrev pub last_run : ℕ → List (List ℕ) → List (List ℕ)
 last_run words [] = []
 last_run words (datagram ∷ earlier) = with_next words datagram (last_run words earlier)
 
--- What is sent again behind the first of these datagrams of a circuit, given the latest first: that which was
--- sent n datagrams before it, if all from it on follow one another; none where n is 0.
+-- The datagram sent again behind the first of these, which are a circuit's, the latest first: the one n
+-- datagrams before it, if all from it on are consecutive; none if n is 0.
 abbrev pub repetition : ℕ → ℕ → List (List ℕ) → List (List ℕ)
 repetition zero words datagrams = []
 repetition (suc n) words datagrams = take 1 (drop (suc n) (last_run words datagrams))

@@ -11,7 +11,7 @@ use byteorder::{BigEndian, ByteOrder};
 use std::alloc::{AllocError, Global};
 use std::collections::VecDeque;
 
-// The last datagrams of a circuit, the latest first, as far as they follow one another.
+// The last consecutive datagrams of a circuit, the latest first.
 #[derive(Drop)]
 pub(crate) struct Held {
     pub(crate) packets: VecDeque<Packet>,
@@ -27,7 +27,7 @@ fn timestamp_of(datagram: &[u8]) -> u32
 }
 
 impl Held {
-    // Room for so many datagrams, and none held.
+    // An empty queue with room for so many datagrams.
     pub(crate) fn open(alloc: Global, count: u8) -> Result<Held, AllocError>
         ensures { IfOk result (λ h. (h.packets.items ≡ []) × (count ≤ deque_capacity h.packets)) }
     {
@@ -35,7 +35,7 @@ impl Held {
         Ok(Held { packets })
     }
 
-    // Whether a datagram follows the latest that is held.
+    // Whether a datagram follows the latest in the queue.
     fn continued_by(&self, words: u8, datagram: &[u8]) -> bool
         requires { 12 ≤ length datagram.now }
         ensures { result ≡ continues words datagram.now (held_octets self.now.packets.items) }
@@ -49,7 +49,7 @@ impl Held {
         }
     }
 
-    // Takes out the first that is held where there are so many.
+    // Takes out the oldest datagram of a full queue.
     fn make_room(&mut self, count: u8) -> Option<Packet>
         requires some { 0 < count }
         requires few { length self.old.packets.items ≤ count }
@@ -64,8 +64,9 @@ impl Held {
         self.packets.pop_back()
     }
 
-    // Holds a datagram, and lets go those that it does not follow. Where there is no more room the first
-    // that is held goes out.
+    // Adds a datagram, and drops those that it does not follow.
+    //
+    // Returns the oldest one of a full queue.
     pub(crate) fn keep(&mut self, count: u8, words: u8, datagram: &[u8]) -> Option<Packet>
         requires some { 0 < count }
         requires few { length self.old.packets.items ≤ count }

@@ -1,4 +1,4 @@
-//! A datagram that is held.
+//! A datagram in the queue.
 
 ghost use Rattle.std.specs.Prelude.{◌≡◌, ◌≤◌, length, true, false, IfSome, IfNone};
 ghost use Rattle.gw_repeat.specs.Repetition.{has_room};
@@ -8,7 +8,7 @@ use arrayvec::ArrayVec;
 // The octets of a fixed header (RFC 3550, 5.1).
 const HEADER_LEN: usize = 12;
 
-// A datagram that is held: a fixed header, and 30 ms of speech in G.711 at most.
+// A datagram in the queue: a fixed header, and at most 30 ms of G.711.
 #[derive(Drop)]
 pub(crate) struct Packet {
     pub(crate) octets: ArrayVec<u8, 252>,
@@ -24,7 +24,7 @@ impl Packet {
         self.octets.as_slice()
     }
 
-    // A datagram as it is held, unless it has no fixed header or is longer than any of a circuit.
+    // Copies a datagram, unless it has no fixed header or is longer than a circuit's.
     pub(crate) fn of(datagram: &[u8]) -> Option<Packet>
         ensures found { IfSome result (λ p.
             (p.octets.items ≡ datagram.now) × (has_room datagram.now ≡ true)) }

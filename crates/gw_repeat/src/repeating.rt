@@ -1,4 +1,4 @@
-//! Ports over ports that send each datagram of a circuit a second time.
+//! Ports over other ports that send each datagram of a circuit twice.
 
 ghost use Rattle.std.specs.Prelude.{◌≡◌, ◌<◌, ◌≤◌, ◌-◌, ◌+◌, [], length, drop, vec_len, slice_index};
 ghost use Rattle.std.specs.Prelude.{slice_index_or, take, ℕ, IfOk, IfSome};
@@ -16,12 +16,14 @@ use std::alloc::{AllocError, Global};
 
 const CIRCUITS: usize = 30;
 
-/// Behind how many datagrams one is sent again, at most.
+/// The greatest distance of a repetition, in datagrams.
 pub const MOST: u8 = 8;
 
-/// Ports over others: each datagram of a circuit goes to those below when it is sent, and again behind that
-/// which is sent so many datagrams later, if all from it on follow one another in their timestamps. Receives
-/// pass through. The ports as they were and all calls are known to proofs alone.
+/// Ports over other ports that send each datagram twice.
+///
+/// A datagram goes to the ports below when it is sent, and again behind the one sent so many datagrams later,
+/// if all from it on are consecutive by their timestamps. Receives pass through. The original ports and all
+/// calls are ghost data.
 #[derive(Drop)]
 pub struct Repeating<P: Ports> {
     pub(crate) ports: P,
@@ -37,8 +39,9 @@ pub struct Repeating<P: Ports> {
         (HasRepeated count words log.calls) ∥₁ },
 }
 
-// Sends the datagram of a circuit that is due behind this one, if there is one. Its failure changes nothing:
-// the ports count it.
+// Sends the circuit's datagram that is due behind this one, if there is one.
+//
+// A failure changes nothing: the ports below count it.
 #[inline(never)]
 fn send_due<P: Ports>(
     ports: &mut P,
@@ -79,8 +82,10 @@ pub fn packet_words(circuits: &[CircuitConfig; 30]) -> [u8; 30]
 }
 
 impl<P: Ports + Drop> Repeating<P> {
-    /// Ports over these, which send each datagram again behind the one that is so many later, or never where
-    /// that is 0; of each circuit with the words of its packets.
+    /// Wraps ports so that each datagram is sent twice.
+    ///
+    /// It is sent again behind the one so many later, or never if that is 0. The words are those of a packet
+    /// of each circuit.
     pub fn open(
         alloc: Global,
         ports: P,

@@ -36,7 +36,7 @@ records_split s k i (suc n) words =
     let place : packet_len s * (i + n) ≡ packet_len s * i + packet_len s * n = omega arith in
     rw (next, records_split s k i n words, drop-drop, number, place, append_assoc) refl
 
--- the records of the first i packets are the front of those of n, where i is at most n
+-- the records of the first i packets are the front of those of n, if i is at most n
 pub first_packets : (s : StreamSpec) (k : ℕ) (words : List ℕ) (i n : ℕ) → i ≤ n
     → (rest : List ℕ) × (records_from s k words n ≡ records_from s k words i ++ rest)
 first_packets s k words i n h =
@@ -50,7 +50,7 @@ full_are s octets count left e h =
     let whole : length octets ≡ count * packet_len s + left = omega (arith, e) in
     rw (whole, div-mul-add count (packet_len s) left h) refl
 
--- where the packet after this one begins
+-- the begin of the packet after this one
 pub next_place : (s : StreamSpec) (octets rest others : List ℕ) (count len : ℕ) → len ≡ packet_len s
     → rest ≡ drop (packet_len s * count) octets → others ≡ drop len rest
     → others ≡ drop (packet_len s * (count + 1)) octets
@@ -93,7 +93,7 @@ full_behind {s} {given = given} {sent = sent} {held = held} {count = count} coun
     let full = full_are s given count (length held) (given_len counted way) h in
     (rw (full, way.words) (records_from-append s 0 sent held count (omega (arith, way.whole))), full)
 
--- so many idle octets does the last packet lack
+-- the number of idle octets that the last packet lacks
 missing : (size left end : ℕ) → left < size → (left ≡ 0 → end ≡ 0) → (0 < left → end ≡ size)
     → (size - left) % size ≡ end - left
 missing size zero end h none one =
@@ -112,7 +112,7 @@ filled_up s octets count left end e h none one =
     let whole : length octets ≡ count * packet_len s + left = omega (arith, e) in
     rw (whole, mod-mul-add count (packet_len s) left h, missing (packet_len s) left end h none one) refl
 
--- where more octets are coded, encoding is under way behind them
+-- after more octets are coded, encoding is under way behind them
 goes_on : {s : StreamSpec} {codec codec' : CodecState} {given sent held : List ℕ} {count : ℕ} (octets coded : List ℕ)
     → IsUnderWay s codec given sent count held → words_for s (given ++ octets) ≡ words_for s given ++ coded
     → HasEncoded s codec' (given ++ octets) → IsUnderWay s codec' (given ++ octets) sent count (held ++ coded)
@@ -122,8 +122,8 @@ goes_on octets coded way words stands = record {
   whole = way.whole;
 }
 
--- where encoding stands between two reads: the source gave octets, of whose words the first are sent, in so many
--- packets whose records are written, and those behind them are held
+-- encoding between two reads: the source gave octets; the first of their words are sent, in so many packets whose
+-- records are written, and those behind them are held
 pub record Encoding (s : StreamSpec) (source source' : SourceState) (sink sink' : SinkState) (codec : CodecState)
     (held : ℕ) (speech : List ℕ) : Type 0 where
   pub given : List ℕ
@@ -152,7 +152,7 @@ reads_no_more {s} {held} {speech} counted w none cause =
       no_write = w.no_write;
     }
 
--- where octets came behind what is held, and are coded in place, encoding is under way behind them
+-- after octets came behind those held and were coded in place, encoding is under way behind them
 pub coded_way : {s : StreamSpec} {held n : ℕ} {old : List ℕ} {a b b' : SourceState}
     {c d : SinkState} {codec codec' : CodecState} (new coded : List ℕ) → (w : Encoding s a b c d codec held old)
     → (r : Refills (take held old) (take (held + n) new) b b' n) → held + n ≤ length new
@@ -171,7 +171,7 @@ coded_way {s} {held} {n} {old} new coded w r o words stands l fit =
       All-append (λ w. w < 2 ^ word_bits s) (take held old) coded w.fit fit,
     )
 
--- where the last packet is filled in place with idle octets, and these are coded, the words of the filled octets are
+-- after the last packet is filled in place with idle octets, and these are coded, the words of the filled octets are
 -- sent and held
 pub filled_way : {s : StreamSpec} {held count : ℕ} {given sent : List ℕ} {codec : CodecState}
     (speech : List ℕ) (codec' : CodecState) (end : ℕ) (quiet coded : List ℕ) → OneWordAnOctet
@@ -218,7 +218,7 @@ moves_on {s} {sent = sent} {window = window} {count = count} n way e h =
           ∙ ap (λ (xs : List ℕ). records_from s 0 sent count ++ xs) (rw whole at same);
     }
 
--- the words left of a buffer stand at its front, and the full packets before them are sent
+-- the words left of a buffer are at its front, and the full packets before them are sent
 pub words_left : {s : StreamSpec} {codec : CodecState} {given sent : List ℕ} {count : ℕ} (buffer new : List ℕ)
     (end left : ℕ) → end ≤ length buffer → IsUnderWay s codec given sent count (take end buffer)
     → All (λ w. w < 2 ^ word_bits s) (take end buffer)
@@ -233,8 +233,8 @@ words_left {s} buffer new end left h way fit w e =
       All-drop (λ w. w < 2 ^ word_bits s) (end - left) (take end buffer) fit,
     )
 
--- where no octet came and the last packet is filled, its records end those of all the octets: where the words of the
--- filled octets are sent and held, the full packets of those that are held are the last ones
+-- if no octet came and the last packet is filled, its records end those of all the octets: if the words of the filled
+-- octets are sent and held, the full packets of those held are the last ones
 pub last_written : {s : StreamSpec} {held n : ℕ} {old window : List ℕ} {a b b' : SourceState}
     {c d : SinkState} {codec codec' : CodecState} (new : List ℕ) → OneWordAnOctet
     → (w : Encoding s a b c d codec held old) → Refills (take held old) (take (held + n) new) b b' n

@@ -40,14 +40,14 @@ words_named : (s : StreamSpec) (head : Head) (body : List ℕ) → IsGood only_d
 words_named s (heads.Datagram circuit) body good = refl
 words_named s _ body good = cc (good.0)
 
--- the words of the record that stands first are those of its body
+-- the words of the first record are those of its body
 pub words_at : {held slice : List ℕ} (s : StreamSpec) (f : First) → IsFirst only_datagrams f held → slice ≡ held
     → record_words s (record_at f held) ≡ datagram_words s (take (f.len - 4) (drop 4 slice))
 words_at {held} s f first e =
     let len : 4 + (f.len - 4) ≡ f.len = omega (arith, first.more) in
     rw (e, ← drop-take 4 (f.len - 4) held, len) (words_named s f.head (drop 4 (take f.len held)) first.good)
 
--- one datagram more: the count of those dropped goes up where it has no words, to the greatest u64 at most
+-- one more datagram: the count of dropped ones rises if it has no words, to the greatest u64 at most
 dropped_more : (n : ℕ) (o : Option (List ℕ)) → cond (is_some o) (min n (2 ^ 64 - 1)) (min (min n (2 ^ 64 - 1) + 1)
     (2 ^ 64 - 1)) ≡ min (n + cond (is_none o) 1 0) (2 ^ 64 - 1)
 dropped_more n None = omega arith
@@ -62,14 +62,14 @@ totals_more s t records r words e f =
     rw (f, ← e) (five (omega (arith, length-append records (r ∷ []))) refl refl (dropped_more dropped (record_words s r)
     ∙ ap (λ (n : ℕ). min n (2 ^ 64 - 1)) (sym (fold_push _ _ records r))) refl)
 
--- where datagrams alone are read no end is a bad command
+-- if only datagrams are read, no end is a bad command
 no_command : (octets : List ℕ) → end_of only_datagrams octets ≡ Some endings.BadCommand → ⊥
 unfolding has_bad_kind has_bad_length has_bad_command
 no_command octets e =
     let t = found_in only_datagrams octets (Some endings.BadCommand) e in
     grind (arith, nat_tests)
 
--- how decoding ends where the records end so
+-- the end of decoding if the records end so
 pub decode_ends : (s : StreamSpec) {a b : SourceState} {c d : SinkState} (ending : Ending) (totals : Totals)
     (result : Result Totals RunFault) → (e : Ends only_datagrams a b c d (DecodesThrough s c d) ending)
     → (is_open ending ≡ true → IsAtEnd b.to_come) → totals ≡ e.0.totals → result ≡ answer_of ending totals

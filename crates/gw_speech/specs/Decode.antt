@@ -18,17 +18,17 @@ use Rattle.gw_records.specs.Streams.{SourceState, SinkState, AppendsPrefix, at_m
 use Rattle.gw_records.specs.Outcome.{nothing_counted, EndsAll, EndsUntil, OrNoMemory}
 use Rattle.gw_speech.specs.Encode.{word_bits}
 
--- a codec of the stream that has decoded these words since its reset, and encoded nothing
+-- a codec of the stream that has decoded these words since its reset and encoded nothing
 abbrev pub HasDecoded : StreamSpec → CodecState → List ℕ → Type 0
 HasDecoded s codec words = codec ≡ codec_after s.law s.codec [] words
 
--- the words of a datagram that was read, if its payload type is that of the stream
+-- the words of a datagram, if its payload type is that of the stream
 abbrev pub words_if : StreamSpec → Result Parts RtpFault → Option (List ℕ)
 words_if s (Ok parts) =
     if parts.header.payload_type == s.payload_type then Some (words_of (word_bits s) parts.payload) else None
 words_if s (Err fault) = None
 
--- the code words in the octets of a datagram of the stream; None where they are refused, or of another type
+-- the code words of a datagram of the stream; None if it is refused or of another type
 unfoldable pub datagram_words : StreamSpec → List ℕ → Option (List ℕ)
 datagram_words s octets = words_if s (read_of octets)
 
@@ -41,11 +41,11 @@ record_words s _ = None
 abbrev pub words_in : StreamSpec → List Record → List ℕ
 words_in s records = flat_map (λ r. unwrap_or (record_words s r) []) records
 
--- the speech of code words, of one decoder from reset: an octet for each word
+-- the speech of code words by one decoder from reset: an octet for each word
 abbrev pub speech_of : StreamSpec → List ℕ → List ℕ
 speech_of s words = dec s.law s.codec words
 
--- the speech of words, from a decoder that has had those before them
+-- the speech of words by a decoder after those before them
 unfoldable pub speech_behind : StreamSpec → List ℕ → List ℕ → List ℕ
 speech_behind s before words = drop (length before) (speech_of s (before ++ words))
 
@@ -53,35 +53,35 @@ speech_behind s before words = drop (length before) (speech_of s (before ++ word
 abbrev pub speech_in : StreamSpec → List Record → List ℕ
 speech_in s records = speech_of s (words_in s records)
 
--- datagrams alone are read
+-- only datagrams are read
 abbrev pub only_datagrams : Kinds
 only_datagrams = record { trunk = false; datagrams = true; commands = false; codecs = false }
 
--- the records, and those whose datagram was passed over
+-- the numbers of records, and of those with a skipped datagram
 abbrev pub decode_totals : StreamSpec → List Record → Totals
 decode_totals s records = record nothing_counted {
   records = at_most (length records);
   dropped = at_most (count_by (λ r. is_none (record_words s r)) records);
 }
 
--- the totals with one record more, whose datagram is decoded or dropped
+-- the totals after one more record, whose datagram is decoded or dropped
 abbrev pub count_record : Totals → Bool → Totals
 count_record t is_decoded = record t {
   records = at_most (t.records + 1);
   dropped = if is_decoded then t.dropped else at_most (t.dropped + 1);
 }
 
--- the sink took the speech of records, and the totals are theirs
+-- the sink took the speech of records, and the totals count them
 abbrev pub DecodesThrough : StreamSpec → SinkState → SinkState → Totals → List Record → Type 0
 DecodesThrough s sink sink' totals records =
     Appends sink.taken sink'.taken (speech_in s records) × (totals ≡ decode_totals s records)
 
--- decoding up to the end of the source
+-- decoding to the end of the source
 abbrev pub DecodesAll : StreamSpec → SourceState → SourceState → SinkState → SinkState → Totals → Type 0
 DecodesAll s source source' sink sink' =
     EndsAll only_datagrams source source' sink sink' (DecodesThrough s sink sink')
 
--- .. or before it, where a write failed with a prefix of the speech of whole records. No record that is read
+-- .. or before it, if a write failed with a prefix of the speech of whole records. No record that is read
 -- here has a command.
 abbrev pub DecodesUntil : StreamSpec → SourceState → SourceState → SinkState → SinkState → RunFault → Type 0
 DecodesUntil s source source' sink sink' faults.BadCommand = ⊥

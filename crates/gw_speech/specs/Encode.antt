@@ -16,7 +16,7 @@ use Rattle.gw_records.specs.Streams.{SourceState, SinkState, Gives, GivesUp, Bre
 use Rattle.gw_records.specs.Records.{record_of}
 use Rattle.gw_records.specs.Outcome.{nothing_counted}
 
--- a codec of the stream that has encoded these octets since its reset, and decoded nothing
+-- a codec of the stream that has encoded these octets since its reset and decoded nothing
 abbrev pub HasEncoded : StreamSpec → CodecState → List ℕ → Type 0
 HasEncoded s codec octets = codec ≡ codec_after s.law s.codec octets []
 
@@ -28,7 +28,7 @@ packet_len s = 8 * s.ptime
 abbrev pub word_bits : StreamSpec → ℕ
 word_bits s = bits_of s.codec
 
--- the code words of speech, of an encoder from reset: a word for each octet
+-- the code words of speech by an encoder from reset: a word for each octet
 abbrev pub words_for : StreamSpec → List ℕ → List ℕ
 words_for s octets = enc s.law s.codec octets
 
@@ -36,7 +36,7 @@ words_for s octets = enc s.law s.codec octets
 abbrev pub packet_at : StreamSpec → List ℕ → ℕ → List ℕ
 packet_at s words k = take (packet_len s) (drop (packet_len s * k) words)
 
--- The header of packet k (RFC 3550, section 5.1): the sequence number goes up by one for each packet, the
+-- The header of packet k (RFC 3550, section 5.1): the sequence number rises by one for each packet, the
 -- timestamp by its samples.
 unfoldable pub header_at : StreamSpec → ℕ → Header
 header_at s k = record {
@@ -50,22 +50,22 @@ header_at s k = record {
 unfoldable pub packet_record : StreamSpec → Header → List ℕ → List ℕ
 packet_record s header words = record_of 0x44 1 (plain_datagram header (octets_of (word_bits s) words))
 
--- the records of the first count packets of these words, whose first one is packet k of the stream
+-- the records of the first count packets of these words, from packet k of the stream
 abbrev pub records_from : StreamSpec → ℕ → List ℕ → ℕ → List ℕ
 records_from s k words zero = []
 records_from s k words (suc count) =
     records_from s k words count ++ packet_record s (header_at s (k + count)) (packet_at s words count)
 
--- the packets that are full
+-- the full packets
 abbrev pub full_packets : StreamSpec → List ℕ → ℕ
 full_packets s octets = length octets / packet_len s
 
--- the octets, and the idle ones that fill the last packet
+-- the octets, with idle ones that fill the last packet
 abbrev pub filled : StreamSpec → List ℕ → List ℕ
 filled s octets =
     octets ++ replicate ((packet_len s - length octets % packet_len s) % packet_len s) (idle_code s.law)
 
--- how many packets the octets make
+-- the number of packets of the octets
 abbrev pub packets : StreamSpec → List ℕ → ℕ
 packets s octets = full_packets s (filled s octets)
 
@@ -81,7 +81,7 @@ records_of s octets = full_records_of s (filled s octets)
 abbrev pub encode_totals : ℕ → Totals
 encode_totals count = record nothing_counted { datagrams = at_most count }
 
--- the source gave octets up to its end, and the sink took the records of all of them
+-- the source gave octets to its end, and the sink took the records of all of them
 pub record Encodes (s : StreamSpec) (source source' : SourceState) (sink sink' : SinkState)
     (totals : Totals) : Type 0 where
   pub octets : List ℕ
@@ -109,7 +109,7 @@ pub record EncodesUntilWrite (s : StreamSpec) (source source' : SourceState) (si
   pub breaks : Breaks sink sink' (records_of s octets)
   pub no_read : source'.failures ≡ source.failures
 
--- how encoding ends before the end of the source: by a read or a write, and by no other fault
+-- the end of encoding before that of the source: by a read or a write, and by no other fault
 abbrev pub EncodesUntil : StreamSpec → SourceState → SourceState → SinkState → SinkState → RunFault → Type 0
 EncodesUntil s source source' sink sink' Read = EncodesUntilRead s source source' sink sink'
 EncodesUntil s source source' sink sink' Write = EncodesUntilWrite s source source' sink sink'
@@ -130,8 +130,8 @@ pub record IsPacket (s : StreamSpec) (progress : Progress) (k : ℕ) : Type 0 wh
   pub header : header_with s progress ≡ header_at s k
   pub counted : progress.datagrams ≡ at_most k
 
--- A codec has encoded the octets that were given, since its reset: the words of the first count packets are
--- sent, and these are held.
+-- A codec has encoded the given octets since its reset: the words of the first count packets were sent, and
+-- these are left.
 pub record IsUnderWay (s : StreamSpec) (codec : CodecState) (given sent : List ℕ) (count : ℕ) (held : List ℕ)
     : Type 0 where
   pub stands : HasEncoded s codec given

@@ -1,4 +1,4 @@
-//! Records of datagrams to their speech.
+//! Records of datagrams to speech.
 ghost use Rattle.std.specs.Prelude.{◌≡◌, ◌-◌, ◌^◌, ◌<◌, ◌∷◌, ◌++◌, ℕ, List, []};
 ghost use Rattle.std.specs.Prelude.{Some, None, MatchOption, OnOk, IfOk, IfErr, is_some, unwrap_or};
 ghost use Rattle.std.specs.List.{All};
@@ -18,7 +18,7 @@ use gw_records::{
 use rtp_pack::Words;
 use std::alloc::Global;
 
-// Datagrams alone are read.
+// Only datagrams are read.
 const DATAGRAMS: Kinds = Kinds {
     trunk: false,
     datagrams: true,
@@ -38,7 +38,7 @@ fn stream_payload<'a>(spec: &StreamSpec, octets: &'a [u8]) -> Option<&'a [u8]>
     }
 }
 
-// Puts an octet behind those that wait, which are written first where there is no room for it.
+// Adds an octet to the output; a full buffer is written first.
 #[inline]
 fn put_octet<K: Sink>(sink: &mut K, waiting: &mut OutputBuffer, octet: u8) -> Result<(), RunFault>
     requires { CanCount (K.tells sink.old).failures }
@@ -52,7 +52,7 @@ fn put_octet<K: Sink>(sink: &mut K, waiting: &mut OutputBuffer, octet: u8) -> Re
     Ok(())
 }
 
-// Puts the speech of words behind the octets that wait, an octet after another.
+// Adds the speech of words to the output, octet by octet.
 fn put_each<K: Sink>(
     spec: &StreamSpec,
     codec: &mut AnyCodec,
@@ -78,7 +78,7 @@ fn put_each<K: Sink>(
     Ok(())
 }
 
-// Puts the speech of a payload behind the octets that wait.
+// Adds the speech of a payload to the output.
 fn put_payload<K: Sink>(
     spec: &StreamSpec,
     codec: &mut AnyCodec,
@@ -112,8 +112,10 @@ fn put_payload<K: Sink>(
     )
 }
 
-// Puts the speech of a datagram behind the octets that wait, and returns whether it is one of the stream. It
-// is a call of its own, so that the codec takes no registers from the loop that reads.
+// Adds the speech of a datagram to the output.
+//
+// Returns whether it is one of the stream. It is out of line, so that the codec takes no registers from the
+// loop.
 #[inline(never)]
 fn put_datagram<K: Sink>(
     spec: &StreamSpec,
@@ -144,7 +146,7 @@ fn put_datagram<K: Sink>(
     }
 }
 
-// The totals with one record more.
+// The totals after one more record.
 fn count_record(totals: Totals, is_decoded: bool) -> Totals
     ensures { result ≡ count_record totals is_decoded }
 {
@@ -159,7 +161,7 @@ fn count_record(totals: Totals, is_decoded: bool) -> Totals
     }
 }
 
-// What decoding has under way: the decoder, the octets that wait to be written, and what was done.
+// The state of decoding: the decoder, the output not yet written, and the totals.
 #[derive(Drop)]
 struct UnderWay {
     codec: AnyCodec,
@@ -173,7 +175,7 @@ impl UnderWay {
     ghost use Rattle.gw_records.specs.Streams.{CanCount, Puts};
     ghost use Rattle.gw_speech.specs.Decode.{HasDecoded, datagram_words, speech_behind, count_record};
 
-    // Before the first record.
+    // The state before the first record.
     fn new(spec: &StreamSpec) -> UnderWay
         ensures stands { HasDecoded spec.now result.codec [] }
         ensures waiting { result.waiting.items ≡ [] }
@@ -186,7 +188,7 @@ impl UnderWay {
         }
     }
 
-    // Acts on a record: puts the speech of its datagram behind the octets that wait, and counts it.
+    // Adds the speech of a record's datagram to the output, and counts it.
     fn act<K: Sink>(
         &mut self,
         spec: &StreamSpec,
@@ -211,12 +213,14 @@ impl UnderWay {
     }
 }
 
-/// Writes the speech in the D records of the source, of any circuits: the code words of one datagram after
-/// another, decoded by one decoder from reset, as octets in the law of `spec`.
+/// Writes the speech of the source's D records, of any circuits.
+///
+/// The code words of one datagram after another are decoded by one decoder from reset, as octets in the law
+/// of `spec`.
 ///
 /// Bits behind the last whole word of a datagram are ignored. A datagram that `rtp_packet::parse` refuses, or
-/// of another payload type than that of `spec`, is counted in `dropped` and passed over. What is complete is
-/// written before the source is read again. Memory is taken once, before the first read.
+/// of another payload type than that of `spec`, counts in `dropped`. Complete speech is written before the
+/// source is read again. Memory is taken once, before the first read.
 ///
 /// ```rust
 /// let spec = StreamSpec::new(Law::A, CodecKind::G711, 8, 0, 0, 0, 20).ok_or("a stream")?;
@@ -230,9 +234,9 @@ impl UnderWay {
 /// # Errors
 ///
 /// The first of [`RunFault::BadKind`], [`RunFault::BadCircuit`] and [`RunFault::Truncated`] that holds of the
-/// records, [`RunFault::Read`] where the source failed, or after 2^62 reads: the speech of all whole records
-/// before it is written. [`RunFault::Write`] where the sink failed: it has a prefix of that speech.
-/// [`RunFault::OutOfMemory`] where memory was refused: nothing is read or written.
+/// records, [`RunFault::Read`] if the source failed, or after 2^62 reads: the speech of all whole records
+/// before it is written. [`RunFault::Write`] if the sink failed: it has a prefix of that speech.
+/// [`RunFault::OutOfMemory`] if memory was refused: nothing is read or written.
 #[inline(never)]
 pub fn decode_stream<S: Source, K: Sink>(
     alloc: Global,

@@ -1,4 +1,4 @@
-//! Speech to the records of its datagrams.
+//! Speech to records of datagrams.
 ghost use Rattle.std.specs.Prelude.{◌≡◌, ◌+◌, ◌-◌, ◌*◌, ◌^◌, ◌<◌, ◌≤◌, ◌++◌};
 ghost use Rattle.std.specs.Prelude.{ℕ, List, [], length, take, IfOk, OnOk, IfErr};
 ghost use Rattle.std.specs.List.{All};
@@ -20,14 +20,14 @@ use gw_records::{
 };
 use rtp_packet::{Header, packetise};
 
-// Room for 32 KiB in each read behind a packet that is not full, which has fewer than 240 octets.
+// Room for a read of 32 KiB behind an incomplete packet of fewer than 240 octets.
 const SPEECH_LEN: usize = 33_008;
 
 const SAMPLES_IN_MS: usize = 8;
 
 const CIRCUIT: u8 = 1;
 
-// What changes from one packet to the next, and how many packets came before, up to the greatest u64.
+// The sequence number and timestamp of the next packet, and the number of packets before it, which saturates.
 #[derive(Clone, Copy, Debug, PartialEq, Eq)]
 struct Progress {
     sequence: u16,
@@ -35,7 +35,7 @@ struct Progress {
     datagrams: u64,
 }
 
-// How many samples a packet has.
+// The samples of a packet.
 fn packet_len(spec: &StreamSpec) -> usize
     ensures value { result ≡ packet_len spec.now }
     ensures least { 0 < result }
@@ -44,7 +44,7 @@ fn packet_len(spec: &StreamSpec) -> usize
     usize::from(spec.ptime) * SAMPLES_IN_MS
 }
 
-// Before the first packet.
+// The state before the first packet.
 fn first_packet(sequence: u16, timestamp: u32) -> Progress
     ensures { (s : StreamSpec) → s.sequence ≡ sequence → s.timestamp ≡ timestamp → IsPacket s result 0 }
 {
@@ -55,7 +55,7 @@ fn first_packet(sequence: u16, timestamp: u32) -> Progress
     }
 }
 
-// One packet on.
+// The state after one more packet.
 #[tactic(auto, unfolding(crate::specs::Encode::header_at))]
 fn next_packet(spec: &StreamSpec, progress: &Progress) -> Progress
     ensures { (k : ℕ) → IsPacket spec.now progress.now k → IsPacket spec.now result (k + 1) }
@@ -67,7 +67,7 @@ fn next_packet(spec: &StreamSpec, progress: &Progress) -> Progress
     }
 }
 
-// The record of the datagram of a packet.
+// The record of a packet's datagram.
 #[tactic(auto, unfolding(crate::specs::Encode::packet_record))]
 fn packet_record(spec: &StreamSpec, progress: &Progress, words: &[u8]) -> ArrayVec<u8, 256>
     requires { IsPayload (word_bits spec.now) words.now }
@@ -84,7 +84,7 @@ fn packet_record(spec: &StreamSpec, progress: &Progress, words: &[u8]) -> ArrayV
     datagram_record(CIRCUIT, datagram.as_slice())
 }
 
-// Puts the record of a packet behind the octets that wait.
+// Adds the record of a packet to the output.
 fn put_packet<K: Sink>(
     spec: &StreamSpec,
     progress: &Progress,
@@ -105,7 +105,9 @@ fn put_packet<K: Sink>(
     )
 }
 
-// Writes the records of the full packets of these words, and returns how many words are left.
+// Writes the records of full packets.
+//
+// Returns how many words are left.
 fn write_packets<K: Sink>(
     spec: &StreamSpec,
     progress: &mut Progress,
@@ -137,7 +139,7 @@ fn write_packets<K: Sink>(
     Ok(rest.len())
 }
 
-// How many words are held once the last packet is filled: none where none were held, else a packet of them.
+// How many words there are once the last packet is filled: none, or a packet.
 fn filled_len(spec: &StreamSpec, held: usize) -> usize
     requires open { held < packet_len spec.now }
     ensures none { held ≡ 0 → result ≡ 0 }
@@ -148,8 +150,9 @@ fn filled_len(spec: &StreamSpec, held: usize) -> usize
     if held == 0 { 0 } else { packet_len(spec) }
 }
 
-// Fills the last packet with idle octets, coded behind the words that are held, and returns how many words
-// are held now.
+// Fills the last packet with idle octets, coded behind the present words.
+//
+// Returns how many words there are.
 fn fill_last(spec: &StreamSpec, codec: &mut AnyCodec, speech: &mut [u8], held: usize) -> usize
     requires kind { codec.old.kind ≡ spec.now.codec }
     requires open { held < packet_len spec.now }
@@ -168,12 +171,13 @@ fn fill_last(spec: &StreamSpec, codec: &mut AnyCodec, speech: &mut [u8], held: u
     end
 }
 
-/// Writes speech as RTP datagrams, each in a D record of circuit 1: the octets of the source, in the law of
-/// `spec`, are coded by one encoder from reset, and go out as packets of `spec.ptime` ms, whose sequence
-/// numbers and timestamps go on from those of `spec`.
+/// Writes speech as RTP datagrams in D records of circuit 1.
 ///
-/// A last packet that is not full is filled with idle octets, which are coded too. All packets that are full
-/// are written before the source is read again. No memory is taken.
+/// The octets of the source, in the law of `spec`, are coded by one encoder from reset, in packets of
+/// `spec.ptime` ms; sequence numbers and timestamps begin with those of `spec`.
+///
+/// An incomplete last packet is filled with idle octets, which are coded too. Full packets are written before
+/// the source is read again. No memory is taken.
 ///
 /// ```rust
 /// let spec = StreamSpec::new(Law::A, CodecKind::G711, 8, 7, 65535, 4294967200, 20).ok_or("a stream")?;
@@ -189,8 +193,8 @@ fn fill_last(spec: &StreamSpec, codec: &mut AnyCodec, speech: &mut [u8], held: u
 ///
 /// # Errors
 ///
-/// [`RunFault::Read`] where the source failed, or after 2^62 reads: the full packets of the octets that it
-/// gave are written. [`RunFault::Write`] where the sink failed: it has a prefix of what would be written.
+/// [`RunFault::Read`] if the source failed, or after 2^62 reads: the full packets of the octets that it
+/// gave are written. [`RunFault::Write`] if the sink failed: it has a prefix of what would be written.
 pub fn encode_stream<S: Source, K: Sink>(
     spec: &StreamSpec,
     source: &mut S,

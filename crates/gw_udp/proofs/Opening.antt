@@ -40,7 +40,7 @@ first_without is_bound refuses looks_up host senders ports earlier circuit fault
 first_without is_bound refuses looks_up host senders ports earlier circuit (faults.Socket c) least most opened is =
     rw is.0 (record { least = least; most = most; earlier = earlier; opened = opened; lacks = is.1 })
 
--- where the first circuits have the sockets of their own ports, and so does the next one, one more has
+-- if the first circuits have the sockets of their own ports, and so does the next one, one more has
 pub one_more : {S : Type 0} (is_bound : Bound S) (looks_up : LookUp) (host : List ℕ) (senders : Senders)
     (ports : List (Option Port)) (endpoints : List (Option (Endpoint S))) (port : Option Port)
     (e : Option (Endpoint S)) (n : ℕ)

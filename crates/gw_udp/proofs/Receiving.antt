@@ -12,14 +12,14 @@ use Rattle.gw_udp.specs.Udp.{ReceivesFrom}
 abbrev some_sender : SocketAddr
 some_sender = V4 (record { ip = record { octets = 0 ∷ 0 ∷ 0 ∷ 0 ∷ [] }; port = 0 })
 
--- where any answer may come with any sender, it may come without one
+-- if an answer may come with any sender, it may come without one
 pub any_of_all : {S : Type 0} (old new : S) (r : Result (Option ℕ) PortFault) (room : List ℕ)
     → ReceivesAny (λ _ _ _ _. ⊤) old new r room
 any_of_all old new (Ok (Some len)) room = (some_sender, tt)
 any_of_all old new (Ok None) room = tt
 any_of_all old new (Err e) room = tt
 
--- where all senders are let in, the first datagram is one that is let in
+-- if all senders are accepted, the first datagram is accepted
 pub first_of_any : {S : Type 0} (receives : Received S) (peer : SocketAddr) (old new : S)
     (r : Result (Option ℕ) PortFault) (room : List ℕ) → ReceivesAny receives old new r room
     → ReceivesFrom receives Any peer old new r room

@@ -1,4 +1,4 @@
--- What the calls of ports did at the sockets of circuits.
+-- The effect of port calls at the sockets of circuits.
 use Rattle.std.specs.Prelude.{◌≡◌, ◌==◌, ◌-◌, ◌≤◌, ℕ, List, [], ◌∷◌, take, filter, slice_index_or}
 use Rattle.std.specs.Prelude.{Option, Some, None, Ok, Err, ⊤}
 use Rattle.gw_records.specs.declared.ports.PortFault.{PortFault}
@@ -15,7 +15,7 @@ circuit_of (PortCall.ReceiveFailed circuit) = circuit
 circuit_of (PortCall.Took circuit octets) = circuit
 circuit_of (PortCall.SendFailed circuit octets) = circuit
 
--- a receive at a socket had this result, and these octets were in front of the room
+-- a receive at a socket had this result, and these octets are at the front of the room
 pub record HasGiven {S : Type 0} (receives : Received S) (octets : List ℕ) (old new : Option (Endpoint S))
     : Type 0 where
   pub len : ℕ
@@ -23,7 +23,7 @@ pub record HasGiven {S : Type 0} (receives : Received S) (octets : List ℕ) (ol
   pub front : octets ≡ take len room
   pub received : ReceivesAt receives old new (Ok (Some len)) room
 
--- a call was one at this socket, or there is none, and it found nothing or was dropped
+-- a call was made at this socket, or without a socket found nothing or was dropped
 abbrev pub HasMade : {S : Type 0} → Received S → Sent S → PortCall → Option (Endpoint S)
     → Option (Endpoint S) → Type 0
 HasMade receives sends (PortCall.Gave circuit octets) old new = HasGiven receives octets old new
@@ -42,7 +42,7 @@ HasMadeAll receives sends [] old new = new ≡ old
 HasMadeAll {S} receives sends (call ∷ calls) old new = (between : Option (Endpoint S))
     × HasMade receives sends call old between × HasMadeAll receives sends calls between new
 
--- a call was one at the socket of its own circuit, and all other sockets are as they were
+-- a call was made at its own circuit's socket, and all other sockets are unchanged
 pub record HasCalledOne {S : Type 0} (receives : Received S) (sends : Sent S) (call : PortCall)
     (old new : List (Option (Endpoint S))) : Type 0 where
   pub some : 1 ≤ circuit_of call
@@ -61,7 +61,7 @@ HasCalled {S} receives sends (call ∷ calls) old new = (between : List (Option 
 abbrev pub calls_for : ℕ → List PortCall → List PortCall
 calls_for circuit calls = filter (λ call. circuit_of call == circuit) calls
 
--- a socket, where there is one, is bound to its address
+-- a socket, if there is one, is bound to its address
 abbrev pub IsBoundTo : {S : Type 0} → Bound S → Option (Endpoint S) → Type 0
 IsBoundTo is_bound None = ⊤
 IsBoundTo is_bound (Some e) = is_bound e.socket e.here.value
@@ -70,21 +70,21 @@ IsBoundTo is_bound (Some e) = is_bound e.socket e.here.value
 abbrev pub AreBound : {S : Type 0} → Bound S → List (Option (Endpoint S)) → Type 0
 AreBound {S} is_bound endpoints = (i : ℕ) → IsBoundTo is_bound (slice_index_or endpoints i None)
 
--- the sockets are as they were opened, and there was no call
+-- the sockets are as opened, and there was no call
 abbrev pub IsFresh : {S : Type 0} → List (Option (Endpoint S)) → List (Option (Endpoint S)) → List PortCall
     → Type 0
 IsFresh endpoints opened calls = (endpoints ≡ opened) × (calls ≡ [])
 
--- The socket of a circuit was bound to its address when it was opened, and what it is now came of the calls for
--- this circuit alone: so what was given to the circuit came from its own socket, and what was taken of it went
--- out there.
+-- The socket of a circuit was bound to its address when it was opened, and its present state follows from the
+-- calls for this circuit alone: what the circuit received came from its own socket, and what it sent went out
+-- there.
 pub record HasOwnSocket {S : Type 0} (is_bound : Bound S) (receives : Received S) (sends : Sent S)
     (circuit : ℕ) (calls : List PortCall) (opened endpoints : List (Option (Endpoint S))) : Type 0 where
   pub bound : IsBoundTo is_bound (slice_index_or opened (circuit - 1) None)
   pub called : HasMadeAll receives sends (calls_for circuit calls) (slice_index_or opened (circuit - 1) None)
       (slice_index_or endpoints (circuit - 1) None)
 
--- .. and so has each circuit
+-- .. and each circuit has its own
 abbrev pub EachHasItsSocket : {S : Type 0} → Bound S → Received S → Sent S → List PortCall
     → List (Option (Endpoint S)) → List (Option (Endpoint S)) → Type 0
 EachHasItsSocket is_bound receives sends calls opened endpoints = (circuit : ℕ) → 1 ≤ circuit

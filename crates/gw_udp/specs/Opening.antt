@@ -1,4 +1,4 @@
--- Why the socket of a circuit is not to be had.
+-- Why the socket of a circuit cannot be opened.
 use Rattle.std.specs.Prelude.{◌≡◌, ◌≢◌, ◌⊎◌, ◌-◌, ◌≤◌, ℕ, List, Option, IsSomeAnd, slice_index_or, ⊤}
 use Rattle.std.specs.Prelude.{string_bytes}
 use Rattle.std.specs.declared.io.Error.{Error}
@@ -16,7 +16,7 @@ use Rattle.gw_udp.specs.declared.udp.Endpoint.{Endpoint}
 use Rattle.gw_udp.specs.declared.udp.OpenFault.{OpenFault}
 use Rattle.gw_udp.specs.declared.udp.OpenFault.TheVariants as faults
 
--- What a failed call for a circuit comes to: want of memory where the system said so, else a fault of this
+-- The fault of a failed call for a circuit: out of memory if the system said so, otherwise a fault of this
 -- circuit.
 abbrev pub Blames : ℕ → kinds.ErrorKind → OpenFault → Type 0
 Blames circuit kind faults.OutOfMemory = kind ≡ errors.OutOfMemory
@@ -30,27 +30,27 @@ pub record AreOfTwoFamilies (looks_up : LookUp) (host : List ℕ) (port : Port) 
   pub peer_is : IsAddressOf looks_up (string_bytes port.peer_host) port.peer_port peer
   pub differ : is_ipv4 (socket_ip here) ≢ is_ipv4 (socket_ip peer)
 
--- the system gave no socket at the host's address
+-- the system refused a socket at the host's address
 pub record IsRefused (refuses : Refused) (looks_up : LookUp) (host : List ℕ) (port : ℕ) : Type 0 where
   pub here : SocketAddr
   pub error : Error
   pub here_is : IsAddressOf looks_up host port here
   pub refused : refuses here error
 
--- A circuit with these ports has no socket: its host or its peer is a name for which the lookup gave no
--- address, or their addresses are of different families, or the system gave no socket at the host's.
+-- A circuit with these ports has no socket: its host or its peer is a name without an address, their
+-- addresses are of different families, or the system refused a socket at the host's.
 abbrev pub LacksSocket : Refused → LookUp → List ℕ → Port → Type 0
 LacksSocket refuses looks_up host port =
     (LacksAddress looks_up host port.local_port
     ⊎ LacksAddress looks_up (string_bytes port.peer_host) port.peer_port)
     ⊎ (AreOfTwoFamilies looks_up host port ⊎ IsRefused refuses looks_up host port.local_port)
 
--- a fault of this circuit, for this reason, or want of memory
+-- a fault of this circuit for this reason, or out of memory
 abbrev pub IsFaultOf : ℕ → Type 0 → OpenFault → Type 0
 IsFaultOf circuit why faults.OutOfMemory = ⊤
 IsFaultOf circuit why (faults.Socket c) = (c ≡ circuit) × why
 
--- the first circuit that has no socket where the configuration has ports for it: all before it had theirs
+-- the first circuit with ports that has no socket: all before it have theirs
 pub record IsFirstWithout {S : Type 0} (is_bound : Bound S) (refuses : Refused) (looks_up : LookUp)
     (host : List ℕ) (senders : Senders) (ports : List (Option Port)) (circuit : ℕ) : Type 0 where
   pub least : 1 ≤ circuit
@@ -60,7 +60,7 @@ pub record IsFirstWithout {S : Type 0} (is_bound : Bound S) (refuses : Refused) 
   pub lacks : (d : Option Port)
       → IsSomeAnd (slice_index_or ports (circuit - 1) d) (LacksSocket refuses looks_up host)
 
--- the sockets are not to be had for this reason: memory was refused, or this is the first circuit without one
+-- the sockets cannot be opened for this reason: memory was refused, or this is the first circuit without one
 abbrev pub FailsToOpen : {S : Type 0} → Bound S → Refused → LookUp → List ℕ → Senders → List (Option Port)
     → OpenFault → Type 0
 FailsToOpen is_bound refuses looks_up host senders ports faults.OutOfMemory = ⊤

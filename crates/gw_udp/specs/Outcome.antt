@@ -1,4 +1,4 @@
--- What the answers of the system's sockets come to.
+-- The results of the system's socket calls.
 use Rattle.std.specs.Prelude.{◌≡◌, ◌≢◌, ◌⊎◌, ⊤, ℕ, pos, Option, Some, None, Result, Ok, Err, IsErrAnd}
 use Rattle.std.specs.IoError.{error_kind, raw_os_error}
 use Rattle.std.specs.declared.io.Error.{Error}
@@ -6,34 +6,33 @@ use Rattle.std.specs.declared.io.ErrorKind.{ErrorKind}
 use Rattle.std.specs.declared.io.ErrorKind.TheVariants.{WouldBlock, ConnectionRefused}
 use Rattle.gw_records.specs.declared.ports.PortFault.{PortFault}
 
--- A receive that would have to wait, or a peer that is not there, which is no fault of the port.
+-- A receive that would have to wait, or an absent peer, which is no fault of the port.
 abbrev pub IsNoFault : ErrorKind → Type 0
 IsNoFault kind = (kind ≡ WouldBlock) ⊎ (kind ≡ ConnectionRefused)
 
--- What a receive with this kind of error comes to: none waits, or a fault.
+-- The result of a receive with this kind of error: none waiting, or a fault.
 abbrev pub IsByKind : {X : Type 0} → ErrorKind → Result (Option X) PortFault → Type 0
 IsByKind kind (Ok got) = (got ≡ None) × IsNoFault kind
 IsByKind kind (Err e) = ¬ IsNoFault kind
 
--- A receive that failed so found that none waits: by the kind of its error, or by the system's number, EAGAIN
--- (11).
+-- A failed receive found none waiting: by the kind of its error, or by the system's number, EAGAIN (11).
 abbrev pub FoundNone : Error → Type 0
 FoundNone error = (raw_os_error error ≡ Some (pos 11)) ⊎ IsNoFault (error_kind error)
 
--- What a receive of the system's comes to: what it gave, None exactly where it failed since none waits, or a
--- fault.
+-- The result of a receive of the system's: the datagram, None exactly if it failed because none is waiting,
+-- or a fault.
 abbrev pub IsReceived : {X : Type 0} → Result X Error → Result (Option X) PortFault → Type 0
 IsReceived (Ok x) r = r ≡ Ok (Some x)
 IsReceived (Err error) (Ok got) = (got ≡ None) × FoundNone error
 IsReceived (Err error) (Err e) = ¬ FoundNone error
 
--- What a send of so many octets comes to: it is well exactly where the system took all of them.
+-- The result of a send of so many octets: it succeeds exactly if the system took all of them.
 abbrev pub IsSent : Result ℕ Error → ℕ → Result (Unit {0}) PortFault → Type 0
 IsSent (Ok taken) len (Ok tt) = taken ≡ len
 IsSent (Ok taken) len (Err e) = taken ≢ len
 IsSent (Err error) len (Ok tt) = ⊥
 IsSent (Err error) len (Err e) = ⊤
 
--- a send was refused, which tells of an earlier datagram
+-- a send was refused for an earlier datagram
 abbrev pub WasRefused : Result ℕ Error → Type 0
 WasRefused sent = IsErrAnd sent (λ error. error_kind error ≡ ConnectionRefused)

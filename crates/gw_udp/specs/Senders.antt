@@ -1,11 +1,11 @@
--- From whom datagrams are taken in.
+-- The senders whose datagrams are accepted.
 use Rattle.std.specs.Prelude.{◌≡◌, ⊤, ℕ, List, codes}
 use Rattle.std.specs.declared.net.socket_addr.SocketAddr.{SocketAddr}
 use Rattle.std.specs.Net.Socket.{socket_ip, socket_port}
 use Rattle.gw_udp.specs.declared.senders.Senders.{Senders}
 use Rattle.gw_udp.specs.declared.senders.Senders.TheVariants.{Any, Host, Peer}
 
--- a datagram from this address is taken in, where the peer's is that one
+-- a datagram from this address is accepted, given the peer's
 abbrev pub IsLetIn : Senders → SocketAddr → SocketAddr → Type 0
 IsLetIn Any from peer = ⊤
 IsLetIn Host from peer = socket_ip from ≡ socket_ip peer

@@ -1,28 +1,28 @@
--- What is said of a socket of datagrams.
+-- The relations of a datagram socket.
 use Rattle.std.specs.Prelude.{ℕ, List, Option, Some, None, Result, Ok, Err}
 use Rattle.std.specs.declared.io.Error.{Error}
 use Rattle.std.specs.declared.net.socket_addr.SocketAddr.{SocketAddr}
 use Rattle.gw_records.specs.declared.ports.PortFault.{PortFault}
 
--- of a socket and the address that it is bound to
+-- relates a socket and the address that it is bound to
 abbrev pub Bound : Type 0 → Type 1
 Bound S = S → SocketAddr → Type 0
 
--- of an address at which the system gave no socket, and its error
+-- relates an address at which the system refused a socket, and its error
 abbrev pub Refused : Type 1
 Refused = SocketAddr → Error → Type 0
 
--- of a socket before and after a receive, what it answered, and the room then
+-- relates a socket before and after a receive, the answer, and the room afterwards
 abbrev pub Received : Type 0 → Type 1
 Received S = S → S → Result (Option (ℕ × SocketAddr)) PortFault → List ℕ → Type 0
 
--- a receive that does not tell the sender answers what one that tells it would have answered
+-- a receive without a sender answers what one with a sender would have answered
 abbrev pub ReceivesAny : {S : Type 0} → Received S → S → S → Result (Option ℕ) PortFault → List ℕ → Type 0
 ReceivesAny receives old new (Ok (Some len)) room =
     (from : SocketAddr) × receives old new (Ok (Some (len, from))) room
 ReceivesAny receives old new (Ok None) room = receives old new (Ok None) room
 ReceivesAny receives old new (Err e) room = receives old new (Err e) room
 
--- of a socket before and after a send, where the datagram was to go, the datagram, and the answer
+-- relates a socket before and after a send, the destination, the datagram, and the answer
 abbrev pub Sent : Type 0 → Type 1
 Sent S = S → S → SocketAddr → List ℕ → Result (Unit {0}) PortFault → Type 0

@@ -1,4 +1,4 @@
--- What the sockets of circuits are, and what a receive and a send for a circuit do.
+-- The sockets of circuits, and the effect of a receive and a send for a circuit.
 use Rattle.std.specs.Prelude.{◌≡◌, ◌≢◌, ◌⊎◌, ◌-◌, ◌<◌, ◌≤◌, ℕ, zero, suc, List, flat_map, slice_index_or, ⊤}
 use Rattle.std.specs.Prelude.{Option, Some, None, Result, Ok, Err, string_bytes}
 use Rattle.std.specs.declared.net.socket_addr.SocketAddr.{SocketAddr}
@@ -23,7 +23,7 @@ pub record IsEndpointOf {S : Type 0} (is_bound : Bound S) (looks_up : LookUp) (h
   pub peer_is : IsAddressOf looks_up (string_bytes port.peer_host) port.peer_port e.peer
   pub one_family : is_ipv4 (socket_ip e.here.value) ≡ is_ipv4 (socket_ip e.peer)
 
--- there is a socket exactly where there are ports, and it is theirs
+-- there is a socket exactly if there are ports, and it is theirs
 abbrev pub IsEndpoint : {S : Type 0} → Bound S → LookUp → List ℕ → Senders → Option Port
     → Option (Endpoint S) → Type 0
 IsEndpoint is_bound looks_up host senders None None = ⊤
@@ -32,19 +32,19 @@ IsEndpoint is_bound looks_up host senders (Some port) None = ⊥
 IsEndpoint is_bound looks_up host senders (Some port) (Some e) =
     IsEndpointOf is_bound looks_up host senders port e
 
--- each of the first circuits, so many, has the socket of its own ports
+-- each of the first so many circuits has the socket of its own ports
 abbrev pub HasEndpoints : {S : Type 0} → Bound S → LookUp → List ℕ → Senders → List (Option Port)
     → List (Option (Endpoint S)) → ℕ → Type 0
 HasEndpoints {S} is_bound looks_up host senders ports endpoints n =
     (i : ℕ) (d : Option Port) (e : Option (Endpoint S)) → i < n
     → IsEndpoint is_bound looks_up host senders (slice_index_or ports i d) (slice_index_or endpoints i e)
 
--- all circuits but this one are as they were
+-- all circuits except this one are unchanged
 abbrev pub KeepsOthers : {S : Type 0} → ℕ → List (Option (Endpoint S)) → List (Option (Endpoint S)) → Type 0
 KeepsOthers {S} c old new = (i : ℕ) (d : Option (Endpoint S)) → i ≢ c - 1
     → slice_index_or new i d ≡ slice_index_or old i d
 
--- a receive at a socket, after earlier ones, gave a datagram of a stranger
+-- a receive at a socket, after earlier ones, gave a stranger's datagram
 pub record Strays {S : Type 0} (receives : Received S) (senders : Senders) (peer : SocketAddr)
     (earlier : S → Type 0) (new : S) : Type 0 where
   pub between : S
@@ -55,14 +55,13 @@ pub record Strays {S : Type 0} (receives : Received S) (senders : Senders) (peer
   pub received : receives between new (Ok (Some (len, from))) room
   pub stranger : ¬ IsLetIn senders from peer
 
--- so many receives at a socket gave datagrams of strangers
+-- so many receives at a socket gave strangers' datagrams
 abbrev pub Skips : {S : Type 0} → Received S → Senders → SocketAddr → ℕ → S → S → Type 0
 Skips receives senders peer zero old new = new ≡ old
 Skips receives senders peer (suc n) old new =
     Strays receives senders peer (Skips receives senders peer n old) new
 
--- the last of them is the result: a datagram that is let in, a fault, or none, as also after sixteen of
--- strangers
+-- the last of them is the result: an accepted datagram, a fault, or none, also after sixteen strangers
 abbrev pub EndsWith : {S : Type 0} → Received S → Senders → SocketAddr → ℕ → S → S
     → Result (Option ℕ) PortFault → List ℕ → Type 0
 EndsWith receives senders peer n old new (Ok (Some len)) room =
@@ -71,7 +70,7 @@ EndsWith receives senders peer n old new (Ok None) room =
     receives old new (Ok None) room ⊎ ((new ≡ old) × (n ≡ 16))
 EndsWith receives senders peer n old new (Err e) room = receives old new (Err e) room
 
--- a receive threw away what strangers had sent, and gave what came then
+-- a receive discarded strangers' datagrams and gave what came then
 pub record ReceivesFrom {S : Type 0} (receives : Received S) (senders : Senders) (peer : SocketAddr)
     (old new : S) (r : Result (Option ℕ) PortFault) (room : List ℕ) : Type 0 where
   pub skipped : ℕ
@@ -80,7 +79,7 @@ pub record ReceivesFrom {S : Type 0} (receives : Received S) (senders : Senders)
   pub skips : Skips receives senders peer skipped old last
   pub ends : EndsWith receives senders peer skipped last new r room
 
--- what a receive did at the socket of one circuit: none was asked, or this one, whose answer is the result
+-- the receive of one circuit: no socket was asked, or this one, whose answer is the result
 abbrev pub ReceivesAt : {S : Type 0} → Received S → Option (Endpoint S) → Option (Endpoint S)
     → Result (Option ℕ) PortFault → List ℕ → Type 0
 ReceivesAt receives None new r room = (new ≡ None) × (r ≡ Ok None)
@@ -89,14 +88,13 @@ ReceivesAt receives (Some e) (Some f) r room =
     (f.here ≡ e.here) × (f.peer ≡ e.peer) × (f.senders ≡ e.senders)
     × ReceivesFrom receives e.senders e.peer e.socket f.socket r room
 
--- a receive for circuit c was one at its own socket
+-- a receive for circuit c is one at its own socket
 abbrev pub EndpointReceives : {S : Type 0} → Received S → ℕ → List (Option (Endpoint S))
     → List (Option (Endpoint S)) → Result (Option ℕ) PortFault → List ℕ → Type 0
 EndpointReceives {S} receives c old new r room = (d : Option (Endpoint S))
     → ReceivesAt receives (slice_index_or old (c - 1) d) (slice_index_or new (c - 1) d) r room
 
--- what a send did at the socket of one circuit: it went to the circuit's peer, or to nobody where there is
--- none
+-- the send of one circuit: it went to the circuit's peer, or nowhere without a socket
 abbrev pub SendsAt : {S : Type 0} → Sent S → Option (Endpoint S) → Option (Endpoint S) → List ℕ
     → Result (Unit {0}) PortFault → Type 0
 SendsAt sends None new datagram r = (new ≡ None) × (r ≡ Ok tt)
@@ -105,23 +103,23 @@ SendsAt sends (Some e) (Some f) datagram r =
     (f.here ≡ e.here) × (f.peer ≡ e.peer) × (f.senders ≡ e.senders)
     × sends e.socket f.socket e.peer datagram r
 
--- a send for circuit c was one at its own socket, to its own peer
+-- a send for circuit c is one by its own socket, to its own peer
 abbrev pub EndpointSends : {S : Type 0} → Sent S → ℕ → List (Option (Endpoint S))
     → List (Option (Endpoint S)) → List ℕ → Result (Unit {0}) PortFault → Type 0
 EndpointSends {S} sends c old new datagram r = (d : Option (Endpoint S))
     → SendsAt sends (slice_index_or old (c - 1) d) (slice_index_or new (c - 1) d) datagram r
 
--- the addresses of a circuit's socket: its own, and its peer's
+-- the addresses of a circuit's socket: its own and its peer's
 abbrev pub addresses_at : {S : Type 0} → Option (Endpoint S) → Option (SocketAddr × SocketAddr)
 addresses_at None = None
 addresses_at (Some e) = Some (e.here.value, e.peer)
 
--- .. of each circuit, of 1 to 30
+-- .. of circuits 1 to 30
 abbrev pub addresses_of : {S : Type 0} → List (Option (Endpoint S)) → Addresses
 addresses_of endpoints circuit = addresses_at (slice_index_or endpoints (circuit - 1) None)
 
--- Sockets tell how many receives and sends have failed, their addresses and all calls, with what the calls gave
--- and took. What waits in the system is not known.
+-- Sockets report how many receives and sends have failed, their addresses, and all calls with what they gave
+-- and took. What is queued in the system is not known.
 abbrev pub told : ℕ → ℕ → Addresses → List PortCall → PortsState
 told receive_failed send_failed addresses calls = record {
   receive_failures = receive_failed;

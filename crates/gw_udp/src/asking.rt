@@ -1,4 +1,4 @@
-//! What a socket that asks another one less often does.
+//! When a resting socket asks the one inside.
 
 ghost use Rattle.std.specs.Prelude.{◌≡◌, ◌<◌, ◌≤◌, length, IfOk, IfErr, IfSome};
 ghost use Rattle.gw_udp.specs.Resting.{RestingIsBound, RestingReceives, RestingSends, rests_after};
@@ -10,8 +10,9 @@ use gw_records::PortFault;
 use std::io;
 use std::net::{Net, SocketAddr};
 
-// How many receives after one that found none are answered without the socket. A circuit receives once in
-// each frame of the trunk, so with these it asks once a millisecond.
+// How many receives after an empty one are answered without the socket.
+//
+// A circuit receives once a frame, so it asks the socket once a millisecond.
 const RESTS: u8 = 7;
 
 // How many receives rest after one with this answer.

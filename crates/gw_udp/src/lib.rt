@@ -1,4 +1,4 @@
-//! The ports of circuits over UDP: sockets, and from whom they take datagrams in.
+//! The ports of circuits over UDP: sockets, and the senders that they accept.
 #![tactic(auto)]
 
 mod asking;

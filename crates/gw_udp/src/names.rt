@@ -1,22 +1,25 @@
-//! What looks the names of hosts up.
+//! Lookups of host names.
 
 ghost use Rattle.gw_udp.specs.Names.{LookUp, SystemLooksUp};
 
 use std::io;
 use std::net::{Net, SocketAddr, ToSocketAddrs};
 
-/// What looks the names of hosts up. The relation is the type's own: a caller that knows nothing of the type
-/// has it of a call alone.
+/// Looks up host names.
+///
+/// The relation is the type's own: a caller that does not know the type has it of a call alone.
 pub trait NameLookup {
-    /// Holds of what looks up, a host, a port, and what it answered.
+    /// Relates the looker-up, a host, a port and the answer.
     ghost looks_up: { Self → LookUp };
 
-    /// The first address of a host, None where it has none. The error is the system's.
+    /// The first address of a host; None if it has none.
+    ///
+    /// The error is the system's.
     fn look_up(&self, host: &str, port: u16) -> io::Result<Option<SocketAddr>>
         ensures { looks_up self.now host.now port result };
 }
 
-/// The system's lookup, by its net.
+/// The system's lookup, through its net.
 impl<N: Net> NameLookup for N {
     ghost looks_up = { λ _. SystemLooksUp };
 

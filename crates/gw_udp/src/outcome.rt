@@ -1,4 +1,4 @@
-//! What the answers of the system's sockets come to.
+//! The results of the system's socket calls.
 
 ghost use Rattle.std.specs.Prelude.{◌↔◌, IsTrue};
 ghost use Rattle.std.specs.IoError.{error_kind};
@@ -8,11 +8,12 @@ use gw_records::PortFault;
 use std::io;
 use std::io::{Error, ErrorKind};
 
-// The system's number where none waits, EAGAIN.
+// The system's error number for "none waiting", EAGAIN.
 const NONE_WAITS: i32 = 11;
 
-// What a receive that the system refused comes to, by the kind of its error: none waits, or a fault. A peer
-// that is not there is no fault of the port.
+// The result of a failed receive by the kind of its error: none waiting, or a fault.
+//
+// An absent peer is no fault of the port.
 #[inline(never)]
 fn by_kind<T>(error: &Error) -> Result<Option<T>, PortFault>
     ensures { IsByKind (error_kind error.now) result }
@@ -23,8 +24,7 @@ fn by_kind<T>(error: &Error) -> Result<Option<T>, PortFault>
     }
 }
 
-/// What a receive of the system's comes to. (That none waits is told most often, by its number, without a look
-/// for its kind.)
+/// The result of a receive of the system's. (EAGAIN is the usual answer, so its number is compared first.)
 #[inline]
 pub fn received<T>(answer: io::Result<T>) -> Result<Option<T>, PortFault>
     ensures { IsReceived answer result }
@@ -40,7 +40,7 @@ pub fn received<T>(answer: io::Result<T>) -> Result<Option<T>, PortFault>
     }
 }
 
-/// Whether a send was refused, which tells of an earlier datagram: this one was not sent.
+/// Whether a send was refused for an earlier datagram, so that this one was not sent.
 pub fn was_refused(answer: &io::Result<usize>) -> bool
     ensures { IsTrue result ↔ WasRefused answer.now }
 {
@@ -50,7 +50,7 @@ pub fn was_refused(answer: &io::Result<usize>) -> bool
     }
 }
 
-/// What a send of so many octets comes to: a fault where the system did not take all of them.
+/// The result of a send: a fault unless the system took all octets.
 pub fn sent(answer: &io::Result<usize>, len: usize) -> Result<(), PortFault>
     ensures { IsSent answer.now len result }
 {

@@ -1,11 +1,12 @@
-//! A socket that asks another one less often.
+//! A socket that asks the one inside less often.
 
 ghost use Rattle.std.specs.Prelude.{◌≡◌, ◌-◌, ◌<◌, ◌≤◌, ◌↔◌, IsTrue};
 
-/// A socket over another one, which it asks in one receive out of eight while none waits: after a receive
-/// that found none it answers the next seven itself, that none waits. A datagram that comes meanwhile stays
-/// in the socket, and is received up to seven octets of its circuit later, 0.9 ms. No receive rests after one
-/// that gave a datagram, so those that wait are received one after the other.
+/// Asks the socket inside in one receive out of eight while none is waiting.
+///
+/// After an empty receive it answers the next seven itself with none. A datagram that arrives meanwhile stays
+/// in the socket, and is received up to seven octets of its circuit later, 0.9 ms. After a datagram no
+/// receive rests, so queued datagrams are received one after another.
 #[derive(Drop)]
 pub struct Resting<S> {
     pub(crate) socket: S,
@@ -14,7 +15,7 @@ pub struct Resting<S> {
 }
 
 impl<S> Resting<S> {
-    // Whether this receive rests, one less of those that do.
+    // Whether this receive rests; it takes one from the rest.
     #[inline]
     pub(crate) fn rests(&mut self) -> bool
         ensures rests { IsTrue result ↔ 0 < self.old.rests }

@@ -1,23 +1,23 @@
-//! From whom datagrams are taken in.
+//! The senders whose datagrams are accepted.
 
 ghost use Rattle.std.specs.Prelude.{◌≡◌, ◌≢◌, ◌↔◌, IfSome, IfNone, IsTrue};
 ghost use Rattle.gw_udp.specs.Senders.{IsLetIn, senders_name};
 
 use std::net::SocketAddr;
 
-/// From whom the datagrams of a circuit are taken in.
+/// The senders whose datagrams a circuit accepts.
 #[derive(Clone, Copy, Debug, PartialEq, Eq)]
 pub enum Senders {
-    /// From any sender.
+    /// Any sender.
     Any,
-    /// From the address of its peer, at any port.
+    /// The address of its peer, at any port.
     Host,
-    /// From the address and the port of its peer.
+    /// The address and the port of its peer.
     Peer,
 }
 
 impl Senders {
-    /// The senders of this name: `any`, `host` or `peer`.
+    /// The senders with this name: `any`, `host` or `peer`.
     pub fn named(name: &str) -> Option<Senders>
         ensures found { IfSome result (λ senders. name.now ≡ senders_name senders) }
         ensures none { IfNone result ((senders : Senders) → name.now ≢ senders_name senders) }
@@ -30,7 +30,7 @@ impl Senders {
         }
     }
 
-    /// Whether a datagram from an address is taken in, where this is the peer's.
+    /// Whether a datagram from an address is accepted, given the peer's.
     pub fn let_in(self, from: SocketAddr, peer: SocketAddr) -> bool
         ensures { IsTrue result ↔ IsLetIn self from peer }
     {

@@ -1,4 +1,4 @@
-//! A socket of datagrams that never waits, and std's as one.
+//! A non-blocking datagram socket, and std's as one.
 
 ghost use Rattle.std.specs.Prelude.{◌≡◌, ◌≤◌, length, IfOk, IfErr, IfSome, ⊤};
 ghost use Rattle.gw_udp.specs.Socket.{Bound, Refused, Received, ReceivesAny, Sent};
@@ -8,51 +8,58 @@ use gw_records::PortFault;
 use std::io;
 use std::net::{Net, SocketAddr, UdpSocket};
 
-/// A socket of datagrams. The relations are the type's own: a caller that knows nothing of the type has them
-/// of a call alone.
+/// A datagram socket.
+///
+/// The relations are the type's own: a caller that does not know the type has them of a call alone.
 pub trait Socket: Drop {
-    /// Holds of a socket and the address that it is bound to.
+    /// Relates a socket and the address that it is bound to.
     ghost is_bound: { Bound Self } = { λ _ _. ⊤ };
 
-    /// Holds of an address at which the system gave no socket, and its error.
+    /// Relates an address at which the system refused a socket, and its error.
     ghost refuses: { Refused } = { λ _ _. ⊤ };
 
-    /// Holds of a socket before and after a receive, what it answered, and the room then.
+    /// Relates a socket before and after a receive, the answer, and the room afterwards.
     ghost receives: { Received Self } = { λ _ _ _ _. ⊤ };
 
-    /// Holds of a socket before and after a send, where the datagram was to go, the datagram, and the answer.
+    /// Relates a socket before and after a send, the destination, the datagram, and the answer.
     ghost sends: { Sent Self } = { λ _ _ _ _ _. ⊤ };
 
-    /// A socket at an address, whose calls never wait. The error is the system's.
+    /// Opens a non-blocking socket at an address.
+    ///
+    /// The error is the system's.
     fn bind<N: Net>(net: &N, address: SocketAddr) -> io::Result<Self>
     where
         Self: Sized,
         ensures ok { IfOk result (λ s. is_bound s address) }
         ensures err { IfErr result (λ e. refuses address e) };
 
-    /// Names the one sender whose datagrams the system lets through from then on. The error is the system's;
-    /// all senders are let through then.
+    /// Restricts the system's socket to one sender.
+    ///
+    /// The error is the system's; then all senders are accepted.
     fn connect(&self, peer: SocketAddr) -> io::Result<()>;
 
-    /// Takes out the first datagram that waits, puts it to the front of `room`, and answers its length, in
-    /// octets, and its sender. None where none waits.
+    /// Receives one datagram into `room` and returns its length and sender.
+    ///
+    /// None if none is waiting.
     fn receive(&mut self, room: &mut [u8]) -> Result<Option<(usize, SocketAddr)>, PortFault>
         ensures bound { IfOk result (λ got. IfSome got (λ g. g.0 ≤ length room.new)) }
         ensures receives { receives self.old self.new result room.new };
 
-    /// Takes out the first datagram that waits, as [`receive`](Socket::receive) does, and answers its length
-    /// alone, in octets.
+    /// Receives one datagram as [`receive`](Socket::receive) does and returns only its length.
     fn receive_any(&mut self, room: &mut [u8]) -> Result<Option<usize>, PortFault>
         ensures bound { IfOk result (λ got. IfSome got (λ n. n ≤ length room.new)) }
         ensures receives { ReceivesAny receives self.old self.new result room.new };
 
-    /// Sends a datagram to an address. A fault where the system did not take all of it.
+    /// Sends a datagram to an address.
+    ///
+    /// A fault unless the system took all of it.
     fn send(&mut self, datagram: &[u8], to: SocketAddr) -> Result<(), PortFault>
         ensures { sends self.old self.new to datagram.now result };
 }
 
-// Std's. What its calls do with the system's socket is in no clause; what comes of their answers is in those
-// of `outcome`.
+// Std's socket.
+//
+// No clause says what its calls do with the system's; those of `outcome` say what follows from their answers.
 impl Socket for UdpSocket {
     fn bind<N: Net>(net: &N, address: SocketAddr) -> io::Result<UdpSocket> {
         let socket = UdpSocket::bind(net, address)?;

@@ -1,4 +1,4 @@
-//! The sockets that a configuration asks for.
+//! The sockets of a configuration.
 
 ghost use Rattle.std.specs.Prelude.{IfOk, IfErr, string_bytes};
 ghost use Rattle.gw_udp.specs.Names.{SystemLooksUp};
@@ -13,7 +13,7 @@ use gw_config::Config;
 use std::alloc::Global;
 use std::net::Net;
 
-/// Opens the sockets of a configuration, which take in the datagrams of these senders.
+/// Opens the sockets of a configuration for these senders.
 pub fn open_sockets<S: Socket>(
     net: &impl Net,
     alloc: Global,

@@ -1,4 +1,4 @@
-//! The ports of circuits as sockets, each opened for its own circuit.
+//! The ports of circuits: one socket for each circuit.
 
 ghost use Rattle.std.specs.Prelude.{◌≡◌, ◌≤◌, vec_len, length, IfOk, IfErr, IfSome, IsSomeAnd, string_bytes};
 ghost use Rattle.std.specs.IoError.{error_kind};
@@ -21,20 +21,20 @@ use std::net::{IpAddr, Net, SocketAddr};
 
 const CIRCUITS: usize = 30;
 
-// How many datagrams of strangers are thrown away by one receive.
+// The most strangers' datagrams that one receive discards.
 const MOST_STRANGERS: usize = 16;
 
-/// Why sockets are not to be had.
+/// Why sockets cannot be opened.
 #[derive(Clone, Copy, Debug, PartialEq, Eq)]
 pub enum OpenFault {
     /// Memory was refused.
     OutOfMemory,
-    /// The socket of the circuit of this number can't be opened, its host or its peer has no address, or the
-    /// addresses of both are of different families.
+    /// The socket of this circuit cannot be opened, its host or its peer has no address, or their addresses
+    /// are of different families.
     Socket(u8),
 }
 
-/// The socket of a circuit, the address that it is bound to, where its datagrams go, and from whom they come.
+/// A circuit's socket, its own address, its peer's, and the senders it accepts.
 #[derive(Drop)]
 pub struct Endpoint<S> {
     socket: S,
@@ -43,8 +43,10 @@ pub struct Endpoint<S> {
     senders: Senders,
 }
 
-/// A socket for each circuit that has ports. A circuit without ports receives none, and its datagrams are
-/// dropped. The sockets as they were opened and all calls are known to proofs alone.
+/// A socket for each circuit that has ports.
+///
+/// A circuit without ports receives none, and its datagrams are dropped. The sockets as opened and all calls
+/// are ghost data.
 #[derive(Drop)]
 pub struct UdpPorts<S: Socket> {
     pub(crate) endpoints: Vec<Option<Endpoint<S>>>,
@@ -57,7 +59,7 @@ pub struct UdpPorts<S: Socket> {
     ghost called: { ∥ HasCalled S.receives S.sends log.calls opened.value.items endpoints.items ∥₁ },
 }
 
-// Why a socket is not to be had: want of memory, or else a fault of this circuit.
+// The fault of an error: out of memory, or a fault of this circuit.
 fn fault_of(circuit: u8, error: &Error) -> OpenFault
     ensures { Blames circuit (error_kind error.now) result }
 {
@@ -67,7 +69,7 @@ fn fault_of(circuit: u8, error: &Error) -> OpenFault
     }
 }
 
-// The address of a host, with this port: where it is a name, the first one that a lookup of it gives.
+// The address of a host with this port: the first of a lookup if it is a name.
 fn address_of<L: NameLookup>(
     names: &L,
     circuit: u8,
@@ -90,7 +92,7 @@ fn address_of<L: NameLookup>(
     }
 }
 
-// The socket of a circuit by its configuration.
+// Opens a circuit's socket by its configuration.
 fn open_endpoint<S: Socket, L: NameLookup>(
     net: &impl Net,
     names: &L,
@@ -114,7 +116,7 @@ fn open_endpoint<S: Socket, L: NameLookup>(
         Err(error) => return Err(fault_of(circuit, &error)),
     };
     if let Senders::Peer = senders {
-        // The system throws away what strangers send, at less cost; where it does not, each receive does.
+        // The system discards strangers' datagrams at less cost; if it does not, each receive does.
         let _ = socket.connect(peer);
     }
     Ok(Endpoint {
@@ -125,7 +127,7 @@ fn open_endpoint<S: Socket, L: NameLookup>(
     })
 }
 
-// The socket of a circuit, where it has ports.
+// Opens the socket of a circuit, if it has ports.
 fn endpoint_of<S: Socket, L: NameLookup>(
     net: &impl Net,
     names: &L,
@@ -144,9 +146,10 @@ fn endpoint_of<S: Socket, L: NameLookup>(
     }
 }
 
-// Receives at a socket what its senders may send. What comes from others is thrown away: so many datagrams at
-// most, and then none is said to wait, so that a flood of them ends a turn too. (It is apart from the plain
-// receive, which looks at no address.)
+// Receives a datagram of an accepted sender.
+//
+// Discards at most MOST_STRANGERS others, then returns none, so a flood cannot stall the turn. (It is apart
+// from the plain receive, which reads no address.)
 #[inline(never)]
 fn receive_let_in<S: Socket>(
     socket: &mut S,
@@ -170,7 +173,7 @@ fn receive_let_in<S: Socket>(
     Ok(None)
 }
 
-// Receives at a socket what its senders may send; where all may, its first datagram.
+// Receives a datagram of an accepted sender; if all are accepted, the first one.
 #[inline]
 fn receive_from<S: Socket>(
     socket: &mut S,
@@ -187,7 +190,7 @@ fn receive_from<S: Socket>(
     }
 }
 
-// Receives at the socket of a circuit.
+// Receives at a circuit's socket.
 fn receive_at<S: Socket>(
     endpoints: &mut Vec<Option<Endpoint<S>>>,
     circuit: CircuitNo,
@@ -212,7 +215,7 @@ fn receive_at<S: Socket>(
     }
 }
 
-// Sends by the socket of a circuit, to its peer.
+// Sends by a circuit's socket to its peer.
 #[inline(never)]
 fn send_from<S: Socket>(
     endpoints: &mut Vec<Option<Endpoint<S>>>,
@@ -233,7 +236,9 @@ fn send_from<S: Socket>(
 }
 
 impl<S: Socket> UdpPorts<S> {
-    /// Opens the sockets of the circuits that have ports, in rising order, each at `host` and its local port.
+    /// Opens the sockets of the circuits that have ports.
+    ///
+    /// In rising order, each at `host` and its local port.
     pub fn open(
         net: &impl Net,
         alloc: Global,

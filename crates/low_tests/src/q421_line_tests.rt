@@ -63,8 +63,8 @@ fn outgoing_call(rt: HostRuntime) {
     assert_eq!(rt; line.command(Answer), Err(LineFault::WrongRole));
 }
 
-// The signal of a seizure by which a line that never hears its acknowledgement releases it, where the wait is this
-// after so many signals of it.
+// The signal at which a line releases an unacknowledged seizure, if this wait is given after so many signals
+// of it.
 fn released_by(rt: &impl Abort, after: u16, wait: u16) -> u16 {
     let mut line = Line::new(Outgoing);
     let _sent = give(rt, &mut line, IDLE);

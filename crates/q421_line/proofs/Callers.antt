@@ -24,7 +24,7 @@ recognised-by_ten = (refl, recognised-replicate, recognised-short)
 pub seizure-released : SeizuresAreReleased
 seizure-released = seizure-short
 
--- none lasts a hundred where no wait was given
+-- none lasts a hundred if no wait was given
 pub seizure-released_by_the_hundredth : SeizuresAreReleasedByTheHundredth
 seizure-released_by_the_hundredth = seizure-hundredth
 
@@ -34,13 +34,13 @@ outcome-refused : (line : Signalling) (led : Result State LineFault) (fault : Li
 outcome-refused line (Ok state) fault refused = cc
 outcome-refused line (Err other) fault refused = refl
 
--- a refused command leaves the signalling as it was
+-- a refused command changes nothing of the signalling
 pub signalling-refused : RefusedCommandsChangeNothing
 signalling-refused role items asked fault refused =
     signalling-push role items (command asked)
     ∙ outcome-refused (signalling role items) (command_outcome role asked (signalling role items).state) fault refused
 
--- a wait changes the wait alone
+-- a wait changes only the wait
 pub signalling-waiting : WaitsChangeNothingElse
 signalling-waiting role items signals = signalling-push role items (wait signals)
 

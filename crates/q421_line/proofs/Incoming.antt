@@ -49,7 +49,7 @@ unfolding next_state
 next_by-of state None h = h
 next_by-of state (Some pair) h = next-of state pair h
 
--- nor does the count of a seizure, which there is none of
+-- nor does the count of a seizure, because there is none
 count-of : (most : ℕ) (pairs : List ℕ) (before after : State) (seized_for : ℕ) → IsOfIncoming before
     → IsOfIncoming after → IsOfIncoming (after_count most pairs before after seized_for).state
 count-of most pairs Idle after seized_for b a = a

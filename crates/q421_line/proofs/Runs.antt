@@ -17,13 +17,13 @@ reverse-push pairs pair = reverse-append pairs (pair ∷ [])
 pub run_of-push : (pair : ℕ) (pairs : List ℕ) → run_of pair (pairs ++ pair ∷ []) ≡ 1 + run_of pair pairs
 run_of-push pair pairs = rw (reverse-push pairs pair, eq-eqb pair pair refl) refl
 
--- no run of a pair ends the list where another is its last
+-- no run of a pair ends the list if another is its last
 no-run : (pair : ℕ) (backwards : List ℕ) → (slice_get backwards 0 ≡ Some pair → ⊥)
     → prefix_len (λ other. other == pair) backwards ≡ 0
 no-run pair [] other = refl
 no-run pair (last ∷ backwards) other = rw (ne_eqb last pair (λ same. other (ap Some same))) refl
 
--- the run begins anew
+-- the run restarts
 pub run-first : (recognition : Recognition) (pair : ℕ) (pairs : List ℕ) → HasHeard recognition pairs
     → (recognition.latest ≡ Some pair → ⊥) → 1 ≡ min 10 (run_of pair (pairs ++ pair ∷ []))
 run-first recognition pair pairs heard other =
@@ -36,7 +36,7 @@ first-of-enough : (pair : ℕ) (pairs : List ℕ) → 9 ≤ prefix_len (λ other
 first-of-enough pair pairs enough =
     let is_enough : leb 9 (prefix_len (λ other. other == pair) pairs) ≡ true = le-leb 9 _ enough in rw is_enough refl
 
--- with one pair more, that pair is recognised where its run is ten by then, and else what was before
+-- after one more pair, that pair is recognised if its run is ten by then, otherwise the former one
 pub recognised-ten : (pair : ℕ) (pairs : List ℕ) → 10 ≡ min 10 (run_of pair (pairs ++ pair ∷ []))
     → recognised (pairs ++ pair ∷ []) ≡ Some pair
 unfolding recognised

@@ -16,13 +16,13 @@ use Rattle.q421_line.specs.Laws.{IsSeizedThrough, waits, wait_after}
 use Rattle.q421_line.specs.Laws.{SeizuresAreReleased, SeizuresAreReleasedByTheHundredth}
 use Rattle.q421_line.proofs.Steps.{signalling-push, most-counted}
 
--- a command leaves the wait
+-- a command keeps the wait
 most-obeyed : (line : Signalling) (led : Result State LineFault)
     → (after_outcome line led).released_after ≡ line.released_after
 most-obeyed line (Ok state) = refl
 most-obeyed line (Err fault) = refl
 
--- the wait of a line after items is the last one among them, and else what it was
+-- the wait of a line after items is the last one among them, or the former one
 most-last : (role : Role) (line : Signalling) (items : List Item)
     → (fold (after_item role) line items).released_after
     ≡ fold (λ earlier latest. latest) line.released_after (waits items)
@@ -42,13 +42,13 @@ most-is : (role : Role) (items : List Item) → (signalling role items).released
 unfolding signalling
 most-is role items = most-last role at_first items
 
--- a line stays Seized with one signal more: its count goes up by one, and has not reached the wait
+-- a line that stays Seized with one more signal: its count rises by one, and has not reached the wait
 pub record GoesUp (most seized_for : ℕ) (line : Signalling) : Type 0 where
   pub up : line.seized_for ≡ seized_for + 1
   pub below : seized_for + 1 < most
   pub same : line.released_after ≡ most
 
--- each signal through which a line stays Seized does so
+-- a line that stays Seized through signals does so through each
 count-up : (most : ℕ) (pairs : List ℕ) (after : State) (seized_for : ℕ)
     → (after_count most pairs Seized after seized_for).state ≡ Seized
     → GoesUp most seized_for (after_count most pairs Seized after seized_for)
@@ -92,7 +92,7 @@ signal-up role items heard was stays =
     (count-up-from line.released_after pairs line.state (next_by role line.state (recognised pairs)) line.seized_for was
     (sym (ap (λ (z : Signalling). z.state) push) ∙ stays))
 
--- the first of the signals through which a line stays Seized does so
+-- a line that stays Seized through signals does so through the first
 first-up : (role : Role) (items : List Item) (heard : Option ℕ) (signals : List (Option ℕ))
     → IsSeizedThrough role items (heard ∷ signals)
     → GoesUp (signalling role items).released_after (signalling role items).seized_for
@@ -109,7 +109,7 @@ others-through role items heard signals through count within =
     ap (λ z. (signalling role z).state) (append_assoc items (signal heard ∷ []) (map signal (take count signals)))
     ∙ through (suc count) (omega arith)
 
--- so the count of a line that stays Seized through signals has not reached the wait with the last of them
+-- so the count of a line that stays Seized through signals has not reached the wait at the last of them
 signals-up : (role : Role) (items : List Item) (heard : Option ℕ) (signals : List (Option ℕ))
     → IsSeizedThrough role items (heard ∷ signals)
     → (signalling role items).seized_for + length (heard ∷ signals) < (signalling role items).released_after
@@ -131,7 +131,7 @@ seizure-short role items (heard ∷ signals) through =
     let up = signals-up role items heard signals through in
     let is = most-is role items in omega arith
 
--- nor a hundred, where no wait was given
+-- nor a hundred, if no wait was given
 pub seizure-hundredth : SeizuresAreReleasedByTheHundredth
 seizure-hundredth role items signals none through =
     let is : wait_after items ≡ 100 = ap (λ all. fold (λ earlier latest. latest) 100 all) none in

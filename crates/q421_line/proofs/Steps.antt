@@ -1,4 +1,4 @@
--- A line that stands, one signal, command or wait later.
+-- A line with a history, one more signal, command or wait.
 use Rattle.std.proofs.Common.{◌≡◌, ℕ, ◌+◌, Bool, true, false, cond, ◌&&◌, List, [], ◌∷◌, ◌++◌, Option}
 use Rattle.std.proofs.Common.{refl, sym, ap, subst, ◌∙◌}
 use Rattle.std.specs.Prelude.{nat_le, Ok, Err}
@@ -23,7 +23,7 @@ pub signalling-push : (role : Role) (items : List Item) (item : Item)
 unfolding signalling
 signalling-push role items item = fold_push (after_item role) at_first items item
 
--- a signal leaves the known pairs as they were with it
+-- a signal keeps the known pairs that it made
 pairs-counted : (most : ℕ) (pairs : List ℕ) (before after : State) (seized_for : ℕ)
     → (after_count most pairs before after seized_for).pairs ≡ pairs
 pairs-counted most pairs before after seized_for =
@@ -36,7 +36,7 @@ pairs-counted most pairs before after seized_for =
     go true false = refl
     go false released = refl
 
--- and the wait as it was
+-- and the wait
 pub most-counted : (most : ℕ) (pairs : List ℕ) (before after : State) (seized_for : ℕ)
     → (after_count most pairs before after seized_for).released_after ≡ most
 most-counted most pairs before after seized_for =
@@ -49,7 +49,7 @@ most-counted most pairs before after seized_for =
     go true false = refl
     go false released = refl
 
--- the line stands after a signal
+-- the line has the history with the signal
 pub stands-signal : (old : Line) (role : Role) (items : List Item) (heard : Option ℕ) (recognition : Recognition)
     (next state : State) (seized_for : ℕ)
     → Stands old role items
@@ -98,7 +98,7 @@ outcome-is old role items asked stands =
     ap (λ s. command_outcome role asked s) (sym stands.state_is)
     ∙ ap (λ r. command_outcome r asked old.state) (sym stands.role_is)
 
--- the line stands after a command that is obeyed
+-- the line has the history with an accepted command
 pub stands-obeyed : (old : Line) (role : Role) (items : List Item) (asked : Cmd) (state : State) → Stands old role items
     → Ok state ≡ command_outcome old.role asked old.state
     → Stands (record old { state = state; seized_for = 0 }) role (items ++ command asked ∷ [])
@@ -115,7 +115,7 @@ stands-obeyed old role items asked state stands is_outcome =
       heard = subst (λ known. HasHeard old.recognition known) (ap (λ (z : Signalling). z.pairs) whole) stands.heard;
     }
 
--- the line stands after a command that is refused, as it was
+-- the unchanged line has the history with a refused command
 pub stands-refused : (old : Line) (role : Role) (items : List Item) (asked : Cmd) (fault : LineFault)
     → Stands old role items
     → Err fault ≡ command_outcome old.role asked old.state → Stands old role (items ++ command asked ∷ [])
@@ -132,7 +132,7 @@ stands-refused old role items asked fault stands is_outcome =
       heard = subst (λ known. HasHeard old.recognition known) (ap (λ (z : Signalling). z.pairs) whole) stands.heard;
     }
 
--- the line stands after a wait
+-- the line has the history with the wait
 pub stands-waiting : (old : Line) (role : Role) (items : List Item) (signals : ℕ) → Stands old role items
     → Stands (record old { released_after = signals }) role (items ++ wait signals ∷ [])
 stands-waiting old role items signals stands =

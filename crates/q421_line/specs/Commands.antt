@@ -1,5 +1,5 @@
--- What an operator can ask of a line, which are the signals that one end of a circuit sends by ITU-T Q.421,
--- and what is refused.
+-- The commands of an operator, which are the signals of one end of a circuit by ITU-T Q.421, and their
+-- refusals.
 use Rattle.std.specs.Prelude.{ℕ, Bool, true, false, if◌then◌else◌, Result, Ok, Err}
 use Rattle.q421_line.specs.declared.Role.{Role}
 use Rattle.q421_line.specs.declared.Role.TheVariants.{Outgoing, Incoming}
@@ -20,8 +20,8 @@ fault_number NotSeized = 3
 fault_number NotInCall = 4
 fault_number NotBlocked = 5
 
--- the command is for lines of this role (ITU-T Q.421): seizing and clear-forward are forward signals,
--- answer, clear-back and blocking are backward ones
+-- the command is for this role (ITU-T Q.421): seizing and clear-forward are forward signals, answer,
+-- clear-back and blocking are backward ones
 abbrev pub is_for : Role → Cmd → Bool
 is_for Outgoing Seize = true
 is_for Outgoing Clear = true
@@ -32,8 +32,8 @@ is_for Incoming Block = true
 is_for Incoming Unblock = true
 is_for Incoming asked = false
 
--- the state that a command leads to in a line of its own role, or why it is refused (ITU-T Q.421 for the
--- states in which each signal is sent; the faults are ours)
+-- the state after a command for the line's role, or why it is refused (ITU-T Q.421 for the states in which
+-- each signal is sent; the faults are ours)
 abbrev pub own_command_outcome : Cmd → State → Result State LineFault
 own_command_outcome Seize Idle = Ok Seized
 own_command_outcome Seize state = Err NotIdle
@@ -52,12 +52,12 @@ own_command_outcome Block state = Err NotIdle
 own_command_outcome Unblock Blocked = Ok Idle
 own_command_outcome Unblock state = Err NotBlocked
 
--- the state that a command leads to, or why it is refused: a command for the other role in every state
+-- the state after a command, or why it is refused; one for the other role is refused in every state
 unfoldable pub command_outcome : Role → Cmd → State → Result State LineFault
 command_outcome role asked state =
     if is_for role asked then own_command_outcome asked state else Err WrongRole
 
--- what is answered to a command: whether it is refused, and why
+-- the answer to a command: whether it is refused, and why
 abbrev pub told_of : Result State LineFault → Result (Unit {0}) LineFault
 told_of (Ok state) = Ok tt
 told_of (Err fault) = Err fault

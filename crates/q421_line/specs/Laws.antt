@@ -1,4 +1,4 @@
--- Laws of line signals (ITU-T Q.421), of every role, state and list of signals, commands and waits.
+-- Laws of line signals (ITU-T Q.421), for every role, state and list of signals, commands and waits.
 use Rattle.std.specs.Prelude.{◌≡◌, ◌≢◌, ℕ, ◌<◌, ◌≤◌, max, List, [], ◌∷◌, ◌++◌, length, map, take, replicate}
 use Rattle.std.specs.Prelude.{fold, Option, Some, None, Err}
 use Rattle.q421_line.specs.declared.Role.{Role}
@@ -12,21 +12,20 @@ use Rattle.q421_line.specs.Tables.{sent_pair, sent_nibble}
 use Rattle.q421_line.specs.Commands.{command_outcome, told_of}
 use Rattle.q421_line.specs.Signalling.{Item, signal, command, wait, signalling}
 
--- A pair is recognised when the last ten known pairs are it, and stays so until another one is. At first none
--- is.
+-- A pair is recognised after ten equal known pairs, until another is. At first none is.
 abbrev pub PairsAreRecognisedByTen : Type 0
 PairsAreRecognisedByTen = (recognised [] ≡ None)
     × ((pairs : List ℕ) (pair : ℕ) → recognised (pairs ++ replicate 10 pair) ≡ Some pair)
     × ((pairs : List ℕ) (pair : ℕ) → run_of pair (pairs ++ pair ∷ []) < 10
     → recognised (pairs ++ pair ∷ []) ≡ recognised pairs)
 
--- a command that is refused leaves a line's signalling as it was
+-- a refused command changes nothing of a line's signalling
 abbrev pub RefusedCommandsChangeNothing : Type 0
 RefusedCommandsChangeNothing = (role : Role) (items : List Item) (asked : Cmd) (fault : LineFault)
     → told_of (command_outcome role asked (signalling role items).state) ≡ Err fault
     → signalling role (items ++ command asked ∷ []) ≡ signalling role items
 
--- the line is Seized after these items, and stays so with each of these signals
+-- the line is Seized after these items, and with each of these signals
 abbrev pub IsSeizedThrough : Role → List Item → List (Option ℕ) → Type 0
 IsSeizedThrough role items signals = (count : ℕ) → count ≤ length signals
     → (signalling role (items ++ map signal (take count signals))).state ≡ Seized
@@ -37,7 +36,7 @@ waits [] = []
 waits (wait signals ∷ items) = signals ∷ waits items
 waits (item ∷ items) = waits items
 
--- the wait after items: the last one among them; 100 signals if there is none
+-- the wait after items: the last one among them, or 100 signals
 abbrev pub wait_after : List Item → ℕ
 wait_after items = fold (λ earlier latest. latest) 100 (waits items)
 
@@ -52,13 +51,13 @@ abbrev pub SeizuresAreReleasedByTheHundredth : Type 0
 SeizuresAreReleasedByTheHundredth = (role : Role) (items : List Item) (signals : List (Option ℕ))
     → waits items ≡ [] → IsSeizedThrough role items signals → length signals < 100
 
--- a wait changes only when a seizure is released, and nothing else of a line's signalling
+-- a wait changes only the release of a seizure
 abbrev pub WaitsChangeNothingElse : Type 0
 WaitsChangeNothingElse = (role : Role) (items : List Item) (signals : ℕ)
     → signalling role (items ++ wait signals ∷ [])
     ≡ record (signalling role items) { released_after = signals }
 
--- what is sent in a state is four bits
+-- the bits sent in a state are four
 abbrev pub SentPairsFit : Type 0
 SentPairsFit = (role : Role) (state : State) → sent_nibble (sent_pair role state) < 16
 

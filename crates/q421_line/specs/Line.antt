@@ -1,4 +1,4 @@
--- What the fields of a line say of the signals, commands and waits that it was given.
+-- The history of a line: the signals, commands and waits that it received, by its fields.
 use Rattle.std.specs.Prelude.{◌≡◌, ℕ, min, List, reverse, slice_get, Some}
 use Rattle.q421_line.specs.declared.Role.{Role}
 use Rattle.q421_line.specs.declared.recognition.Recognition.{Recognition}
@@ -6,14 +6,14 @@ use Rattle.q421_line.specs.declared.signalling.Line.{Line}
 use Rattle.q421_line.specs.Recognition.{run_of, recognised}
 use Rattle.q421_line.specs.Signalling.{Item, signalling}
 
--- the fields after these known pairs: the last one, how many equal ones end the list, up to ten, and the pair
--- that is recognised
+-- the fields after these known pairs: the last one, the number of equal ones at the end, up to ten, and the
+-- recognised pair
 pub record HasHeard (recognition : Recognition) (pairs : List ℕ) : Type 0 where
   pub latest_is : recognition.latest ≡ slice_get (reverse pairs) 0
   pub run_is : (pair : ℕ) → recognition.latest ≡ Some pair → recognition.run ≡ min 10 (run_of pair pairs)
   pub recognised_is : recognition.recognised ≡ recognised pairs
 
--- A line of this role stands after these items: its fields are those of its signalling.
+-- A line in this role has this history: its fields are those of its signalling.
 pub record Stands (line : Line) (role : Role) (items : List Item) : Type 0 where
   pub role_is : line.role ≡ role
   pub state_is : line.state ≡ (signalling role items).state

@@ -1,5 +1,4 @@
--- The octets of a saved line. Its role is not among them: a line that is loaded has the role of its
--- configuration.
+-- The octets of a saved line, without its role: a line that is loaded has the role of its configuration.
 use Rattle.std.specs.Prelude.{ℕ, List, [], ◌∷◌, ◌++◌, Option, Some, None, ◌<◌, ◌^◌, IfSome}
 use Rattle.saved_octets.specs.Numbers.{two_octets}
 use Rattle.q421_line.specs.declared.State.{State}
@@ -27,7 +26,7 @@ saved_pair (Some pair) = pair
 abbrev pub saved_recognition : Recognition → List ℕ
 saved_recognition r = saved_pair r.latest ∷ r.run ∷ saved_pair r.recognised ∷ []
 
--- how many signals the seizure has lasted, and by which of them it is released
+-- the signals that the seizure has lasted, and the number that releases it
 abbrev pub saved_seizure : Line → List ℕ
 saved_seizure line = two_octets line.seized_for ++ two_octets line.released_after
 
@@ -40,7 +39,7 @@ pub record PairsFit (r : Recognition) : Type 0 where
   pub latest : IfSome r.latest (λ pair. pair < 4)
   pub recognised : IfSome r.recognised (λ pair. pair < 4)
 
--- and the signals of a seizure are numbers of 16 bits
+-- and the signals of a seizure are 16-bit numbers
 pub record LineFits (line : Line) : Type 0 where
   pub pairs : PairsFit line.recognition
   pub seized_for : line.seized_for < 2 ^ 16

@@ -10,29 +10,29 @@ use Rattle.q421_line.specs.Recognition.{pair_of, recognised}
 use Rattle.q421_line.specs.Tables.{next_state}
 use Rattle.q421_line.specs.Commands.{command_outcome}
 
--- what a line is given: a turn to signal, with the nibble that was heard since the one before, if any; a
--- command; or a wait: from now on a seizure that is not acknowledged is released at this number of signals
+-- an event of a line: a turn to signal, with the nibble received since the one before, if any; a command; or
+-- a wait: from now on an unacknowledged seizure is released at this number of signals
 pub data Item : Type 0 where
   signal : Option ℕ → Item
   command : Cmd → Item
   wait : ℕ → Item
 
--- what there is to know of a line after some signals and commands
+-- the state of a line after events
 pub record Signalling : Type 0 where
   -- the known pairs, the latest last
   pub pairs : List ℕ
   pub state : State
-  -- how many signals the present seizure has lasted; 0 in every state but Seized
+  -- the signals that the present seizure has lasted; 0 in every state except Seized
   pub seized_for : ℕ
-  -- at how many signals a seizure that is not acknowledged is released
+  -- the number of signals at which an unacknowledged seizure is released
   pub released_after : ℕ
 
--- a nibble that was heard is one known pair more; where none was heard, none is
+-- a received nibble adds a known pair; none adds nothing
 abbrev pub with_heard : List ℕ → Option ℕ → List ℕ
 with_heard pairs None = pairs
 with_heard pairs (Some nibble) = pairs ++ pair_of nibble ∷ []
 
--- the next state, where a pair is recognised
+-- the next state, if a pair is recognised
 abbrev pub next_by : Role → State → Option ℕ → State
 next_by role state None = state
 next_by role state (Some pair) = next_state role state pair
@@ -51,8 +51,8 @@ with_count released_after pairs state seized_for = record {
   released_after = released_after;
 }
 
--- If a line was and stays Seized, its seizure has lasted one signal more. It is released if
--- these are as many as the wait, or more.
+-- If a line was and stays Seized, its seizure has lasted one signal more, and is released if these are at
+-- least the wait.
 abbrev pub after_count : ℕ → List ℕ → State → State → ℕ → Signalling
 after_count released_after pairs before after seized_for =
     if is_seized before && is_seized after
@@ -61,30 +61,31 @@ after_count released_after pairs before after seized_for =
     else with_count released_after pairs Seized (seized_for + 1))
     else with_count released_after pairs after 0
 
--- a signal: the nibble may make a pair recognised; a recognised pair gives the next state, with every signal
+-- a signal: the nibble may complete the recognition of a pair; the recognised pair gives the next state with
+-- every signal
 abbrev pub after_signal : Role → Signalling → Option ℕ → Signalling
 after_signal role line heard =
     let pairs = with_heard line.pairs heard in
     after_count line.released_after pairs line.state (next_by role line.state (recognised pairs))
     line.seized_for
 
--- a command that is not refused gives the next state; a refused one changes nothing
+-- an accepted command gives the next state; a refused one changes nothing
 abbrev pub after_outcome : Signalling → Result State LineFault → Signalling
 after_outcome line (Err fault) = line
 after_outcome line (Ok state) = with_count line.released_after line.pairs state 0
 
--- one item more
+-- after one more event
 abbrev pub after_item : Role → Signalling → Item → Signalling
 after_item role line (signal heard) = after_signal role line heard
 after_item role line (command asked) = after_outcome line (command_outcome role asked line.state)
 after_item role line (wait signals) = record line { released_after = signals }
 
--- A line has heard nothing at first, and begins in Fault (our choice: it takes no call before the other end
--- is heard). It releases a seizure at its hundredth signal. (A choice: a hundred signals, one every 2 ms, are
--- 200 ms without an acknowledgement, ten times what it takes to be recognised.)
+-- At first a line has received nothing and is in Fault (our choice: it accepts no call before it knows the
+-- other end). It releases a seizure at its hundredth signal. (Our choice: at one every 2 ms this is 200 ms,
+-- ten times the recognition.)
 abbrev pub at_first : Signalling
 at_first = with_count 100 [] Fault 0
 
--- the signalling of a line of this role after a list of signals, commands and waits
+-- the signalling of a line in this role after a list of signals, commands and waits
 unfoldable pub signalling : Role → List Item → Signalling
 signalling role items = fold (after_item role) at_first items

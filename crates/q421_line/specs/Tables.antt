@@ -1,5 +1,5 @@
--- The tables of ITU-T Q.421: what a line sends in each state, and its next state by the pair that it
--- recognises. Pairs are written as bits a and b.
+-- The tables of ITU-T Q.421: what a line sends in each state, and its next state by the recognised pair.
+-- Pairs are written as bits a and b.
 use Rattle.std.specs.Prelude.{ℕ, ◌+◌, ◌*◌, Bool, true, false, ◌==◌, if◌then◌else◌}
 use Rattle.q421_line.specs.declared.Role.{Role}
 use Rattle.q421_line.specs.declared.Role.TheVariants.{Outgoing, Incoming}
@@ -33,15 +33,15 @@ sent_pair Incoming Releasing = 0b11
 abbrev pub sent_nibble : ℕ → ℕ
 sent_nibble pair = 4 * pair + 1
 
--- a row of a table: the next state by the recognised pair, for 10, 11, 01 and 00 in this order
+-- a row of a table: the next state by the recognised pair, for 10, 11, 01 and 00
 abbrev pub by_pair : State → State → State → State → ℕ → State
 by_pair at_10 at_11 at_01 at_00 pair =
     if pair == 0b10 then at_10 else (if pair == 0b11 then at_11 else (if pair == 0b01 then at_01 else at_00))
 
 -- The next state of an outgoing line by the backward pair (ITU-T Q.421): 10 is idle; 11 blocking, seizing
--- acknowledged or clear-back; 01 answer; 00 nothing. (Our choices: a pair that means nothing in a state is a
--- fault, which the next idle or blocking ends; a release waits for idle alone, since whatever else is heard
--- belongs to the call that is cleared.)
+-- acknowledged or clear-back; 01 answer; 00 nothing. (Our choices: a meaningless pair is a fault, which the
+-- next idle or blocking ends; a release waits for idle alone, because anything else belongs to the call being
+-- cleared.)
 abbrev pub next_outgoing : State → ℕ → State
 next_outgoing Idle = by_pair Idle Blocked Fault Fault
 next_outgoing Blocked = by_pair Idle Blocked Fault Fault
@@ -53,9 +53,9 @@ next_outgoing ClearedBack = by_pair Fault ClearedBack Answered Fault
 next_outgoing Releasing = by_pair Idle Releasing Releasing Releasing
 
 -- The next state of an incoming line by the forward pair (ITU-T Q.421): 10 is idle or clear-forward; 00
--- seizing; 11 and 01, with bit b set, are unexpected. (Our choices: clear-forward is answered by idle
--- at once, since nothing else is to be released; a failure is a fault, which idle ends; a block is lifted by
--- the operator alone, so that a blocked line passes over all that it hears.)
+-- seizing; 11 and 01, with bit b set, are unexpected. (Our choices: clear-forward is answered by idle at
+-- once, because nothing else has to be released; a failure is a fault, which idle ends; only the operator
+-- lifts a block, so a blocked line ignores what it receives.)
 abbrev pub next_incoming : State → ℕ → State
 next_incoming Idle = by_pair Idle Fault Fault Acked
 next_incoming Acked = by_pair Idle Fault Fault Acked
@@ -67,12 +67,12 @@ next_incoming Fault = by_pair Idle Fault Fault Fault
 next_incoming Seized = by_pair Idle Fault Fault Fault
 next_incoming Releasing = by_pair Idle Fault Fault Fault
 
--- the next state of a line of this role
+-- the next state of a line in this role
 unfoldable pub next_state : Role → State → ℕ → State
 next_state Outgoing = next_outgoing
 next_state Incoming = next_incoming
 
--- the speech path is open: in a call, from the acknowledgement of its seizure on (ITU-T Q.421)
+-- the speech path is open: in a call, from the acknowledgement of its seizure (ITU-T Q.421)
 unfoldable pub is_open : State → Bool
 is_open Acked = true
 is_open Answered = true

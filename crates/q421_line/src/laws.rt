@@ -1,33 +1,35 @@
-//! Laws of line signals, over their definitions alone.
+//! Laws of line signals, by their definitions alone.
 
 ghost use Rattle.q421_line.specs.Laws.{PairsAreRecognisedByTen, SeizuresAreReleased};
 ghost use Rattle.q421_line.specs.Laws.{SeizuresAreReleasedByTheHundredth, RefusedCommandsChangeNothing};
 ghost use Rattle.q421_line.specs.Laws.{WaitsChangeNothingElse, SentPairsFit, IncomingIsNeverSeized};
 
-/// A pair is recognised when the last ten known pairs are it, and stays so until another one is. At first
-/// none is.
+/// A pair is recognised after ten equal known pairs, until another is.
+///
+/// At first none is recognised.
 pub fn pairs_are_recognised_by_ten()
     ensures { PairsAreRecognisedByTen }
 {}
 
-/// A seizure lasts fewer signals than the wait, whatever is received; fewer than a hundred if no wait was
-/// given.
+/// A seizure lasts fewer signals than the wait, whatever is received.
+///
+/// It lasts fewer than a hundred if no wait was given.
 pub fn seizures_are_released()
     ensures by_the_wait { SeizuresAreReleased }
     ensures by_the_hundredth { SeizuresAreReleasedByTheHundredth }
 {}
 
-/// A command that is refused leaves a line's signalling as it was.
+/// A refused command changes nothing of a line's signalling.
 pub fn refusals_change_nothing()
     ensures { RefusedCommandsChangeNothing }
 {}
 
-/// A wait changes only when a seizure is released, and nothing else of a line's signalling.
+/// A wait changes only the release of a seizure.
 pub fn waits_change_nothing_else()
     ensures { WaitsChangeNothingElse }
 {}
 
-/// What a line sends in any state is a nibble, below 16.
+/// A line sends four bits in every state.
 pub fn sent_nibbles_fit()
     ensures { SentPairsFit }
 {}

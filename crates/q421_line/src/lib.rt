@@ -1,5 +1,6 @@
-//! Line signals of one telephone circuit: the digital line signalling of ITU-T Q.421, in bits a and b of
-//! the circuit's nibble of time slot 16.
+//! Line signals of one telephone circuit: digital line signalling of ITU-T Q.421.
+//!
+//! It uses bits a and b of the circuit's nibble of time slot 16.
 #![tactic(auto)]
 
 ghost use Rattle.std.specs.Prelude.{◌≡◌};
@@ -16,44 +17,46 @@ mod tables;
 pub use pairs::Pair;
 pub use signalling::Line;
 
-/// At which end of a circuit a line is. Circuits are one-way.
+/// The end of a circuit at which a line is.
+///
+/// Circuits are one-way.
 #[derive(Clone, Copy, Debug, PartialEq, Eq)]
 pub enum Role {
-    /// The end that seizes the circuit: it sends forward signals and hears backward ones.
+    /// The end that seizes: it sends forward signals and receives backward ones.
     Outgoing,
-    /// The end that is seized: it sends backward signals and hears forward ones.
+    /// The end that is seized: it sends backward signals and receives forward ones.
     Incoming,
 }
 
-/// The state of a line (ITU-T Q.421). What each end sends in it is given as bits a and b.
+/// The state of a line (ITU-T Q.421), with the bits a and b that each end sends.
 #[derive(Clone, Copy, Debug, PartialEq, Eq)]
 pub enum State {
-    /// Free to be seized: 10 forward and backward.
+    /// Free: 10 forward and backward.
     Idle,
-    /// Outgoing: the seizing signal is sent, 00 forward, and its acknowledgement awaited.
+    /// Outgoing: the seizing signal is sent, 00 forward, and not yet acknowledged.
     Seized,
     /// In a call, not answered: 00 forward, seizing acknowledgement 11 backward.
     Acked,
-    /// In a call, answered: 00 forward, answer 01 backward.
+    /// In an answered call: 00 forward, answer 01 backward.
     Answered,
-    /// In a call, the called party has hung up: 00 forward, clear-back 11 backward.
+    /// In a call whose called party has hung up: 00 forward, clear-back 11 backward.
     ClearedBack,
     /// Outgoing: clear-forward is sent, 10 forward, until the other end is idle.
     Releasing,
-    /// Not to be seized: 10 forward, blocking 11 backward.
+    /// Blocked: 10 forward, blocking 11 backward.
     Blocked,
-    /// The other end's signals make no sense here, or none is known yet: 10 forward, 11 backward.
+    /// The other end's signals are unexpected or not yet known: 10 forward, 11 backward.
     Fault,
 }
 
-/// What an operator can ask of a line.
+/// The commands of an operator.
 #[derive(Clone, Copy, Debug, PartialEq, Eq)]
 pub enum Cmd {
     /// Outgoing: seizes an idle circuit.
     Seize,
     /// Outgoing: ends a call or a seizure (clear-forward).
     Clear,
-    /// Incoming: answers a call, or answers it again after clear-back.
+    /// Incoming: answers a call, also after clear-back.
     Answer,
     /// Incoming: the called party hangs up (clear-back).
     ClearBack,
@@ -63,16 +66,18 @@ pub enum Cmd {
     Unblock,
 }
 
-/// Why a command is refused. `WrongRole` comes before all others.
+/// Why a command is refused.
+///
+/// `WrongRole` comes before all others.
 #[derive(Clone, Copy, Debug, PartialEq, Eq, Error)]
 pub enum LineFault {
-    /// The command is for lines of the other role.
+    /// The command is for the other role.
     #[error("the command is for the other role")]
     WrongRole,
     /// The line is not idle, which seizing and blocking need.
     #[error("the line is not idle")]
     NotIdle,
-    /// No call waits to be answered.
+    /// No call is waiting for an answer.
     #[error("the line is not seized")]
     NotSeized,
     /// There is no call to be cleared.

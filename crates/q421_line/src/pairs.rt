@@ -7,13 +7,15 @@ ghost use Rattle.q421_line.specs.Tables.{sent_nibble};
 use g704_cas::Nibble;
 use std::marker::Model;
 
-// How many values bits c and d have together.
+// The number of values of bits c and d together.
 const C_D_VALUES: u8 = 4;
 
-// Bits c and d as they are sent: 0 and 1 (ITU-T Q.421).
+// Bits c and d as sent: 0 and 1 (ITU-T Q.421).
 const SENT_C_D: u8 = 0b01;
 
-/// The bits a and b of a circuit in one direction (ITU-T Q.421). Contracts see the number 2a + b, 0 to 3.
+/// Bits a and b of a circuit in one direction (ITU-T Q.421).
+///
+/// Contracts see the number 2a + b, 0 to 3.
 #[derive(Clone, Copy, Debug, PartialEq, Eq)]
 pub struct Pair {
     bits: u8,
@@ -49,7 +51,7 @@ impl Pair {
         self.bits
     }
 
-    // The pair of this number.
+    // The pair with this number.
     pub(crate) fn of_bits(bits: u8) -> Self
         requires { bits < 4 }
         ensures { result ≡ bits }
@@ -57,7 +59,7 @@ impl Pair {
         Pair { bits }
     }
 
-    // The nibble that is sent for the pair.
+    // The nibble to send for the pair.
     pub(crate) fn nibble(self) -> Nibble
         ensures value { result ≡ sent_nibble self }
         ensures in_range { result < 16 }

@@ -1,4 +1,4 @@
-//! Which pair is recognised in what a line hears.
+//! Recognition of received pairs.
 
 ghost use Rattle.std.specs.Prelude.{◌≡◌, ℕ, ◌↔◌, List, [], ◌∷◌, ◌++◌, min, IsTrue};
 ghost use Rattle.q421_line.specs.Recognition.{run_of};
@@ -10,14 +10,14 @@ mod saving;
 use crate::pairs::Pair;
 use g704_cas::Nibble;
 
-// A pair is recognised when the last ten known pairs are it: one every 2 ms, they take 20 ms (our choice).
+// Equal known pairs after which a pair is recognised: at one every 2 ms, 20 ms (our choice).
 const RECOGNISED_AFTER: u8 = 10;
 
 #[derive(Clone, Copy, Debug, PartialEq, Eq)]
 pub(crate) struct Recognition {
     // The last known pair.
     latest: Option<Pair>,
-    // How many equal pairs came last, at most `RECOGNISED_AFTER`.
+    // The number of equal pairs at the end, at most `RECOGNISED_AFTER`.
     run: u8,
     recognised: Option<Pair>,
 }
@@ -33,7 +33,9 @@ impl Recognition {
         }
     }
 
-    // Takes what was heard, if anything. Where nothing was, the known pairs stay as they are.
+    // Takes the received nibble, if any.
+    //
+    // Without one the known pairs stay as they are.
     pub(crate) fn hear(&mut self, heard: Option<Nibble>)
         ensures { (pairs : List ℕ) → HasHeard self.old pairs → HasHeard self.new (with_heard pairs heard) }
     {
@@ -43,7 +45,7 @@ impl Recognition {
         }
     }
 
-    // Takes one known pair more.
+    // Takes one more known pair.
     fn hear_pair(&mut self, pair: Pair)
         ensures { (pairs : List ℕ) → HasHeard self.old pairs → HasHeard self.new (pairs ++ pair ∷ []) }
     {
@@ -54,7 +56,7 @@ impl Recognition {
         }
     }
 
-    // How many equal pairs come last once this one came, at most `RECOGNISED_AFTER`.
+    // The number of equal pairs at the end, this one included, at most `RECOGNISED_AFTER`.
     fn run_with(&self, pair: Pair) -> u8
         ensures { (pairs : List ℕ) → HasHeard self.now pairs
             → result ≡ min 10 (run_of pair (pairs ++ pair ∷ [])) }

@@ -15,11 +15,10 @@ use crate::recognition::Recognition;
 use crate::{Cmd, LineFault, Role, State, tables};
 use g704_cas::Nibble;
 
-// By which of its signals a seizure without acknowledgement is released, until a line is given another wait:
-// one every 2 ms, they take 200 ms.
+// Signals after which an unacknowledged seizure is released by default: at one every 2 ms, 200 ms.
 const RELEASED_AFTER: u16 = 100;
 
-/// The line signals of one circuit at one end of it (ITU-T Q.421).
+/// The line signals of one end of a circuit (ITU-T Q.421).
 ///
 /// ```rust
 /// let mut line = Line::new(Role::Outgoing);                   // nothing is known of the other end
@@ -34,16 +33,17 @@ const RELEASED_AFTER: u16 = 100;
 pub struct Line {
     role: Role,
     state: State,
-    // How many signals the present seizure has lasted; 0 in every state but `Seized`.
+    // The signals that the present seizure has lasted; 0 in every state except `Seized`.
     seized_for: u16,
-    // At how many signals a seizure that is not acknowledged is released.
+    // The number of signals after which an unacknowledged seizure is released.
     released_after: u16,
     recognition: Recognition,
 }
 
 impl Line {
-    /// A line in this role that has heard nothing. It begins in `Fault`, and releases a seizure at its
-    /// hundredth signal.
+    /// A line in this role that has received nothing.
+    ///
+    /// It begins in `Fault`, and releases a seizure at its hundredth signal.
     pub fn new(role: Role) -> Self
         ensures { Stands result role [] }
     {
@@ -56,10 +56,10 @@ impl Line {
         }
     }
 
-    /// The line's turn to signal, which comes once in a multiframe of 2 ms: takes the nibble that was heard
-    /// since the one before, if any, and answers the nibble that is sent. The pair that is recognised leads
-    /// to the next state, with every signal. A seizure that is not acknowledged within its wait is
-    /// released.
+    /// Takes the received nibble, if any, and returns the one to send.
+    ///
+    /// This is the line's turn, once in a multiframe of 2 ms. With every signal the recognised pair gives the
+    /// next state. A seizure that is not acknowledged within its wait is released.
     pub fn signal(&mut self, heard: Option<Nibble>) -> Nibble
         ensures sent { (role : Role) (items : List Item) → Stands self.old role items
             → result ≡ sent_nibble (sent_pair role (signalling role (items ++ signal heard ∷ [])).state) }
@@ -80,8 +80,10 @@ impl Line {
         self.sent().nibble()
     }
 
-    /// Does what an operator asks. `WrongRole` where the command is for the other role, and else the
-    /// command's own fault where the state is none for it. A refused command changes nothing.
+    /// Does what an operator asks.
+    ///
+    /// `WrongRole` if the command is for the other role; otherwise the command's own fault if it is not
+    /// possible in the state. A refused command changes nothing.
     pub fn command(&mut self, asked: Cmd) -> Result<(), LineFault>
         ensures answer { (role : Role) (items : List Item) → Stands self.old role items
             → result ≡ told_of (command_outcome role asked (signalling role items).state) }
@@ -94,8 +96,10 @@ impl Line {
         Ok(())
     }
 
-    /// Sets the wait for an acknowledgement: from now on a seizure is released at this number of signals,
-    /// or at the next signal if it has lasted longer already. One signal comes every 2 ms.
+    /// Sets the wait for an acknowledgement.
+    ///
+    /// From now on a seizure is released at this number of signals, or at the next signal if it has lasted
+    /// longer already. One signal comes every 2 ms.
     pub fn release_after(&mut self, signals: u16)
         ensures { (role : Role) (items : List Item) → Stands self.old role items
             → Stands self.new role (items ++ wait signals ∷ []) }
@@ -111,7 +115,7 @@ impl Line {
         self.state
     }
 
-    /// The pair that is sent in the present state, also between a command and the next signal.
+    /// The pair sent in the present state, also between a command and the next signal.
     pub fn sent(&self) -> Pair
         ensures { (role : Role) (items : List Item) → Stands self.now role items
             → result ≡ sent_pair role (signalling role items).state }
@@ -119,7 +123,7 @@ impl Line {
         tables::sent_pair(self.role, self.state)
     }
 
-    /// The pair that is recognised: `None` until the first is, and never again.
+    /// The recognised pair, `None` until the first is recognised.
     pub fn recognised(&self) -> Option<Pair>
         ensures { (role : Role) (items : List Item) → Stands self.now role items
             → result ≡ recognised (signalling role items).pairs }
@@ -136,7 +140,7 @@ impl Line {
     }
 }
 
-// The next state, where a pair is recognised.
+// The next state, if a pair is recognised.
 fn next_by(role: Role, state: State, recognised: Option<Pair>) -> State
     ensures { result ≡ next_by role state recognised }
 {
@@ -146,8 +150,7 @@ fn next_by(role: Role, state: State, recognised: Option<Pair>) -> State
     }
 }
 
-// After a signal that leads from one state to another: the state, and how many signals its seizure has
-// lasted.
+// The state after a signal, and how many signals its seizure has lasted.
 fn count_seizure(released_after: u16, before: State, after: State, seized_for: u16) -> (State, u16)
     ensures state { (pairs : List ℕ)
         → result.0 ≡ (after_count released_after pairs before after seized_for).state }

@@ -1,4 +1,4 @@
-//! The tables of ITU-T Q.421: what a line sends, where signals lead it, and what an operator can ask of it.
+//! The tables of ITU-T Q.421: what a line sends, its next state by a signal, and the commands it accepts.
 
 ghost use Rattle.std.specs.Prelude.{◌≡◌};
 ghost use Rattle.q421_line.specs.Tables.{sent_pair, is_open, next_state, next_outgoing, next_incoming};
@@ -7,7 +7,7 @@ ghost use Rattle.q421_line.specs.Commands.{is_for, own_command_outcome, command_
 use crate::pairs::Pair;
 use crate::{Cmd, LineFault, Role, State};
 
-// A signal of both directions, by its bits a and b.
+// A signal in both directions, by bits a and b.
 const IDLE: u8 = 0b10;
 
 // Forward signals.
@@ -55,7 +55,7 @@ pub(crate) fn is_open(state: State) -> bool
     matches!(state, State::Acked | State::Answered | State::ClearedBack)
 }
 
-// The next state of a line by the pair that it recognises.
+// The next state of a line by the recognised pair.
 #[tactic(auto, unfolding(crate::specs::Tables::next_state))]
 pub(crate) fn next_state(role: Role, state: State, recognised: Pair) -> State
     ensures { result ≡ next_state role state recognised }
@@ -66,7 +66,7 @@ pub(crate) fn next_state(role: Role, state: State, recognised: Pair) -> State
     }
 }
 
-// By the backward pair. A pair that means nothing in a state is a fault, but in a release, which idle alone
+// The next state by the backward pair. A meaningless pair is a fault, except in a release, which idle alone
 // ends.
 fn next_outgoing(state: State, backward: Pair) -> State
     ensures { result ≡ next_outgoing state backward }
@@ -94,7 +94,8 @@ fn next_outgoing(state: State, backward: Pair) -> State
     }
 }
 
-// By the forward pair. Bit b set is unexpected, and a fault; clear-forward is answered by idle at once.
+// The next state by the forward pair. Bit b set is unexpected and a fault; clear-forward is answered by idle
+// at once.
 fn next_incoming(state: State, forward: Pair) -> State
     ensures { result ≡ next_incoming state forward }
 {
@@ -116,7 +117,7 @@ fn next_incoming(state: State, forward: Pair) -> State
         (ClearedBack, SEIZING) => ClearedBack,
         (ClearedBack, _) => Fault,
 
-        // An operator's block is lifted by the operator alone.
+        // Only the operator lifts a block.
         (Blocked, _) => Blocked,
 
         // No incoming line is in the last two.
@@ -125,7 +126,7 @@ fn next_incoming(state: State, forward: Pair) -> State
     }
 }
 
-// The state that a command leads to, or why it is refused.
+// The state after a command, or why it is refused.
 #[tactic(auto, unfolding(crate::specs::Commands::command_outcome))]
 pub(crate) fn command_outcome(role: Role, asked: Cmd, state: State) -> Result<State, LineFault>
     ensures { result ≡ command_outcome role asked state }
@@ -136,8 +137,7 @@ pub(crate) fn command_outcome(role: Role, asked: Cmd, state: State) -> Result<St
     own_command_outcome(asked, state)
 }
 
-// Whether a command is for lines of this role: outgoing ones send forward signals, incoming ones backward
-// signals.
+// Whether a command is for this role: outgoing lines send forward signals, incoming ones backward signals.
 fn is_for(role: Role, asked: Cmd) -> bool
     ensures { result ≡ is_for role asked }
 {
@@ -150,7 +150,7 @@ fn is_for(role: Role, asked: Cmd) -> bool
     }
 }
 
-// The same for a command that is for lines of this role.
+// The outcome of a command that is for this role.
 fn own_command_outcome(asked: Cmd, state: State) -> Result<State, LineFault>
     ensures { result ≡ own_command_outcome asked state }
 {

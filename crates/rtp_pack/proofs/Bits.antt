@@ -1,4 +1,4 @@
--- Numbers of so many bits, in the arithmetic of 16-bit numbers.
+-- Numbers of a few bits, in the arithmetic of 16-bit numbers.
 use Rattle.std.proofs.Common.{◌≡◌, ◌+◌, ◌-◌, ◌*◌, ◌/◌, ◌%◌, ◌^◌, ◌<◌, ◌≤◌, ℕ, pow-add, arith}
 use Rattle.std.proofs.lemmas.Nat.{mul-add-lt, shr_below, shl_whole, one_shl}
 

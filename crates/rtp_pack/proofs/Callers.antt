@@ -29,7 +29,7 @@ reads_back k ws size payload =
     = ap (λ (m : ℕ). m / k) eight ∙ mul-div_cancel_left (length ws) (omega (arith, size)) in
     rw (length-bytes_low_first 0 n (payload_number k ws), back, count) (number-back k ws payload.each)
 
--- so many words are so many
+-- the words of a number of words are that many
 length-words_from : (k i count n : ℕ) → length (words_from k i count n) ≡ count
 length-words_from k i zero n = refl
 length-words_from k i (suc count) n = ap (λ (m : ℕ). suc m) (length-words_from k (suc i) count n)

@@ -1,4 +1,4 @@
--- What holds of words and octets by their definitions (RFC 3551, section 4.5.4), whatever the code does.
+-- Properties of words and octets that follow from their definitions (RFC 3551, section 4.5.4).
 use Rattle.std.specs.Prelude.{◌≡◌, ◌^◌, ◌<◌, ℕ, List, length}
 use Rattle.std.specs.List.{All}
 use Rattle.rtp_pack.specs.Payload.{IsWordSize, IsPayload, octets_of, words_of, whole_words_of}
@@ -8,7 +8,7 @@ abbrev pub ReadsBack : Type 0
 ReadsBack =
     (k : ℕ) (words : List ℕ) → IsWordSize k → IsPayload k words → words_of k (octets_of k words) ≡ words
 
--- octets give as many words as fit whole into their bits
+-- octets give as many words as their bits hold
 abbrev pub WordsAreCounted : Type 0
 WordsAreCounted = (k : ℕ) (octets : List ℕ) → length (words_of k octets) ≡ whole_words_of k (length octets)
 

@@ -2,8 +2,7 @@
 
 ghost use Rattle.std.specs.Prelude.{◌≡◌, ◌+◌, ◌*◌, ◌/◌, ◌%◌, ◌^◌, ◌<◌, ◌≤◌};
 
-// Bits that were taken in and not yet given out: the number that they make, the first of them lowest, and how
-// many they are.
+// Bits received and not yet given out: their number, the first lowest, and their count.
 #[derive(Clone, Copy, Debug)]
 pub(crate) struct BitBuffer {
     pub(crate) number: u16,
@@ -12,7 +11,7 @@ pub(crate) struct BitBuffer {
 }
 
 impl BitBuffer {
-    // No bit waits.
+    // An empty buffer.
     pub(crate) fn none() -> Self
         ensures number { result.number ≡ 0 }
         ensures count { result.count ≡ 0 }
@@ -23,7 +22,7 @@ impl BitBuffer {
         }
     }
 
-    // A number of so many bits waits, above those that do already.
+    // Adds a number of so many bits above the present ones.
     #[inline]
     #[tactic(auto, using(crate::proofs::Bits::bits_above))]
     pub(crate) fn push(&mut self, number: u8, bits: u8)
@@ -37,7 +36,7 @@ impl BitBuffer {
         self.count += bits;
     }
 
-    // The number of the first bits that wait, which do so no longer.
+    // Takes the number of the first bits.
     #[inline]
     #[tactic(auto, using(crate::proofs::Bits::bits_behind))]
     pub(crate) fn pop(&mut self, bits: u8) -> u8

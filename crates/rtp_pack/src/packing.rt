@@ -1,4 +1,4 @@
-//! Words are packed into octets.
+//! Packs words into octets.
 
 ghost use Rattle.std.specs.Prelude.{◌≡◌, []};
 ghost use Rattle.rtp_pack.specs.Payload.{IsWordSize, IsPayload, octets_of};
@@ -7,9 +7,10 @@ use crate::OCTET_BITS;
 use crate::bit_buffer::BitBuffer;
 use arrayvec::ArrayVec;
 
-/// Makes `out` the payload of these words of `bits` bits (RFC 3551, 4.5.4). What `out` held before is gone.
+/// Packs words of `bits` bits into `out` (RFC 3551, 4.5.4).
 ///
-/// Each word is below 2^`bits`, and together they are a whole number of octets, 240 at most.
+/// The former contents of `out` are lost. Each word is below 2^`bits`, and together they are a whole number
+/// of octets, 240 at most.
 pub fn pack(bits: u8, words: &[u8], out: &mut ArrayVec<u8, 240>)
     requires size { IsWordSize bits }
     requires words { IsPayload bits words.now }
@@ -24,7 +25,7 @@ pub fn pack(bits: u8, words: &[u8], out: &mut ArrayVec<u8, 240>)
     }
 }
 
-// Packs words that run on across octets.
+// Packs words that cross octets.
 fn pack_across(bits: u8, words: &[u8], out: &mut ArrayVec<u8, 240>)
     requires size { IsWordSize bits }
     requires words { IsPayload bits words.now }

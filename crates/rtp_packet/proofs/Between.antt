@@ -7,7 +7,7 @@ use Rattle.std.proofs.lemmas.List.{take-append-drop, drop-drop, length-take-le, 
 use Rattle.std.proofs.lemmas.List.Elements.{All-head, All-tail}
 use Rattle.rtp_packet.specs.Read.{between}
 
--- the items of a list, and what is told past its end, are octets
+-- the items of a list, and the default past its end, are octets
 abbrev pub AreOctets : List ℕ → Type 0
 AreOctets o = (i : ℕ) → slice_index o i < 256
 
@@ -30,12 +30,12 @@ length-between a b o h =
     let l : length (drop a o) ≡ length o - a = length-drop a o in
     length-take-le (b - a) (drop a o) (omega arith)
 
--- the first of two lists that stand from a place on
+-- the first of two lists that begin at a place
 pub between-first : (a b : ℕ) (o xs ys : List ℕ) → drop a o ≡ xs ++ ys → b - a ≡ length xs → between a b o ≡ xs
 between-first a b o xs ys there span =
     ap (λ (k : ℕ). take k (drop a o)) span ∙ ap (take (length xs)) there ∙ take_at xs ys (length xs) refl
 
--- the second of two lists that stand from a place on
+-- the second of two lists that begin at a place
 pub drop-second : (a b : ℕ) (o xs ys : List ℕ) → drop a o ≡ xs ++ ys → b ≡ a + length xs → drop b o ≡ ys
 drop-second a b o xs ys there end =
     ap (λ (k : ℕ). drop k o) end ∙ sym (drop-drop (length xs) a o) ∙ ap (drop (length xs)) there

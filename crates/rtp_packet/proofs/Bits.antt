@@ -4,13 +4,13 @@ use Rattle.std.proofs.lemmas.Bool.{eq-eqb, ne_eqb}
 use Rattle.std.proofs.lemmas.Nat.{pow_pos}
 use Rattle.std.proofs.lemmas.Nat.Bits.{and_pow}
 
--- a binary digit at its worth is not 0 where the digit is 1
+-- a binary digit at its place is not 0 if the digit is 1
 digit-worth : (d worth : ℕ) → d < 2 → 0 < worth → not (eqb (d * worth) 0) ≡ eqb d 1
 digit-worth zero worth digit some = rw (eq-eqb (0 * worth) 0 (omega arith)) refl
 digit-worth (suc zero) worth digit some = rw (ne_eqb (1 * worth) 0 (λ z. omega arith)) refl
 digit-worth (suc (suc d)) worth digit some = absurd (omega arith)
 
--- a bit is set where the digit at its place is 1
+-- a bit is set if the digit at its place is 1
 bit-is_set : (n place : ℕ) → not (eqb (bit_and n (2 ^ place)) 0) ≡ eqb (n / 2 ^ place % 2) 1
 bit-is_set n place = rw (and_pow n place) (digit-worth (n / 2 ^ place % 2) (2 ^ place) (omega arith) (pow_pos place))
 

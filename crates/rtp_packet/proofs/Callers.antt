@@ -26,7 +26,7 @@ pub parts_are_unique : PartsAreUnique
 parts_are_unique octets parts others (count, padding, d) (number, filling, e) =
     (is_told octets parts count padding d).parts ∙ sym (is_told octets others number filling e).parts
 
--- the fault that is told holds, and has the least number of those that hold
+-- the fault returned holds, and has the least number of those that hold
 pub least_fault_is_told : LeastFaultIsTold
 least_fault_is_told o =
     least (has_fault o) (is_short o) (is_other_version o) (is_short_of_sources o) (is_short_of_extension o)
@@ -39,12 +39,12 @@ read_of-datagram octets parts (count, padding, d) =
     let t = is_told octets parts count padding d in
     rw (t.faultless, t.parts) refl
 
--- parts are read where there is no fault, and are those that stand at their places
+-- parts are read if there is no fault, and are those at their places
 unless_fault-ok : (f : Option RtpFault) (at parts : Parts) → unless_fault f at ≡ Ok parts → (f ≡ None) × (parts ≡ at)
 unless_fault-ok None at parts e = (refl, cc)
 unless_fault-ok (Some f) at parts e = absurd (cc)
 
--- a fault is told where there is one
+-- a fault is returned if there is one
 unless_fault-err : (f : Option RtpFault) (at : Parts) (g : RtpFault) → unless_fault f at ≡ Err g → f ≡ Some g
 unless_fault-err None at g e = absurd (cc)
 unless_fault-err (Some f) at g e = cc
@@ -68,7 +68,7 @@ pub read_of-fault : (octets : List ℕ) (f : RtpFault) → fault octets ≡ Some
 unfolding read_of
 read_of-fault octets f e = rw e refl
 
--- octets are read as the parts of which they are the join, and as no others
+-- octets are read as the parts that they join, and as no others
 pub reads_parts : ReadsParts
 reads_parts octets parts each = (read_of-ok octets parts (all-octets octets each), read_of-datagram octets parts)
 
@@ -105,7 +105,7 @@ pub read-exact : (octets : List ℕ) (r : Result Parts RtpFault) → r ≡ read_
     → IsOkAnd r (λ view. view ≡ parts)
 read-exact octets r e parts count padding d = rw (e ∙ read_of-datagram octets parts (count, padding, d)) refl
 
--- what was read has no fault, and what was refused has the fault that was told
+-- what was read has no fault, and what was refused has the fault returned
 pub read-fault : (octets : List ℕ) (r : Result Parts RtpFault) → r ≡ read_of octets
     → MatchResult r (λ _. fault octets ≡ None) (λ f. fault octets ≡ Some f)
 unfolding read_of

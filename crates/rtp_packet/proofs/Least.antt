@@ -11,32 +11,32 @@ from-1 : (f : RtpFault) → 1 ≤ fault_number f
 from-1 Short = omega arith
 from-1 _ = omega arith
 
--- where the first fault does not hold, one that does has a number from 2 on
+-- if the first fault does not hold, one that does has a number from 2 on
 from-2 : (holds : RtpFault → Bool) → holds Short ≡ false → (f : RtpFault) → holds f ≡ true → 2 ≤ fault_number f
 from-2 holds a Short h = absurd (cc)
 from-2 holds a _ h = omega arith
 
--- where the first two do not hold, from 3 on
+-- if the first two do not hold, from 3 on
 from-3 : (holds : RtpFault → Bool) → holds Short ≡ false → holds Version ≡ false → (f : RtpFault) → holds f ≡ true
     → 3 ≤ fault_number f
 from-3 holds a b Short h = absurd (cc)
 from-3 holds a b Version h = absurd (cc)
 from-3 holds a b _ h = omega arith
 
--- where the first three do not hold, from 4 on
+-- if the first three do not hold, from 4 on
 from-4 : (holds : RtpFault → Bool) → holds Short ≡ false → holds Version ≡ false → holds ShortSources ≡ false
     → (f : RtpFault) → holds f ≡ true → 4 ≤ fault_number f
 from-4 holds a b c ShortExtension h = omega arith
 from-4 holds a b c BadPadding h = omega arith
 from-4 holds a b c _ h = absurd (cc)
 
--- where the first four do not hold, 5
+-- if the first four do not hold, 5
 from-5 : (holds : RtpFault → Bool) → holds Short ≡ false → holds Version ≡ false → holds ShortSources ≡ false
     → holds ShortExtension ≡ false → (f : RtpFault) → holds f ≡ true → 5 ≤ fault_number f
 from-5 holds a b c d BadPadding h = omega arith
 from-5 holds a b c d _ h = absurd (cc)
 
--- where each of the five does not hold, none does
+-- if none of the five holds, none does
 none-holds : (holds : RtpFault → Bool) → holds Short ≡ false → holds Version ≡ false → holds ShortSources ≡ false
     → holds ShortExtension ≡ false → holds BadPadding ≡ false → (f : RtpFault) → holds f ≡ false
 none-holds holds a b c d e Short = a
@@ -45,7 +45,7 @@ none-holds holds a b c d e ShortSources = c
 none-holds holds a b c d e ShortExtension = d
 none-holds holds a b c d e BadPadding = e
 
--- the first test that is met tells the least fault, and none is met where none holds
+-- the first test that is met gives the least fault, and none is met if none holds
 pub least : (holds : RtpFault → Bool) (a b c d e : Bool) → holds Short ≡ a → holds Version ≡ b → holds ShortSources ≡ c
     → holds ShortExtension ≡ d → holds BadPadding ≡ e
     → MatchOption (cond a (Some Short) (cond b (Some Version) (cond c (Some ShortSources)

@@ -5,7 +5,7 @@ use Rattle.rtp_packet.specs.declared.RtpFault.TheVariants.{Short, Version, Short
 use Rattle.rtp_packet.specs.Fault.{fault}
 use Rattle.rtp_packet.specs.Read.{padding_len, parts_of}
 
--- 15 sources, an extension of no word, a payload of one octet, and what stands last
+-- 15 sources, an extension without words, a payload of one octet, and the last octet
 abbrev full : ℕ → ℕ → List ℕ
 full first last = first ∷ 8 ∷ (replicate 74 0 ++ 0xD5 ∷ last ∷ [])
 

@@ -1,4 +1,4 @@
--- What octets are read as: the parts of a datagram, or the first fault (RFC 3550, sections 5.1 and 5.3.1).
+-- The reading of octets: the parts of a datagram, or the first fault (RFC 3550, sections 5.1 and 5.3.1).
 use Rattle.std.specs.Prelude.{◌+◌, ◌%◌, ◌-◌, ℕ, Bool, nat_le, if◌then◌else◌, List, take, drop}
 use Rattle.std.specs.Prelude.{length, slice_index, Option, None, Some, Result, Ok, Err}
 use Rattle.byteorder.specs.Endian.{big_number}
@@ -7,7 +7,7 @@ use Rattle.rtp_packet.specs.declared.RtpFault.{RtpFault}
 use Rattle.rtp_packet.specs.Rtp.{Extension, Parts}
 use Rattle.rtp_packet.specs.Fault.{fault, says_padded, says_extended, sources_end, extension_end, last_octet}
 
--- the fields of the first twelve octets that the header keeps (RFC 3550, 5.1)
+-- the fields of a header, in the first twelve octets (RFC 3550, 5.1)
 unfoldable pub header_of : List ℕ → Header
 header_of octets = record {
   payload_type = slice_index octets 1 % 128;
@@ -24,7 +24,7 @@ marker_of octets = nat_le 128 (slice_index octets 1)
 abbrev pub between : ℕ → ℕ → List ℕ → List ℕ
 between low high octets = take (high - low) (drop low octets)
 
--- the extension, where the X bit is set: its 16-bit field and its words (RFC 3550, 5.3.1)
+-- the extension, if the X bit is set: its 16-bit field and its words (RFC 3550, 5.3.1)
 unfoldable pub extension_of : List ℕ → Option Extension
 extension_of octets =
     if says_extended octets
@@ -34,11 +34,11 @@ extension_of octets =
     })
     else None
 
--- how many octets the padding has, where the P bit is set as many as the last octet says (RFC 3550, 5.1)
+-- the number of octets of padding, the value of the last octet if the P bit is set (RFC 3550, 5.1)
 unfoldable pub padding_len : List ℕ → ℕ
 padding_len octets = if says_padded octets then last_octet octets else 0
 
--- the parts of octets without fault, each by its place
+-- the parts of octets without fault, by their places
 unfoldable pub parts_of : List ℕ → Parts
 parts_of octets = record {
   header = header_of octets;
@@ -53,6 +53,6 @@ abbrev pub unless_fault : Option RtpFault → Parts → Result Parts RtpFault
 unless_fault None parts = Ok parts
 unless_fault (Some f) parts = Err f
 
--- what octets are read as: their parts, or the first fault
+-- the reading of octets: their parts, or the first fault
 unfoldable pub read_of : List ℕ → Result Parts RtpFault
 read_of octets = unless_fault (fault octets) (parts_of octets)

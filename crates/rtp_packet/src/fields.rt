@@ -7,7 +7,7 @@ ghost use Rattle.rtp_packet.specs.Read.{header_of, marker_of};
 use crate::{HEADER_LEN, Header};
 use byteorder::{BigEndian, ByteOrder};
 
-// In the first octet: below the version, V, which has the top two bits.
+// In the first octet: the bits below the version, V, which has the top two.
 const VERSION_SHIFT: u32 = 6;
 
 // In the first octet: whether padding follows the payload, P.
@@ -51,7 +51,7 @@ pub(crate) fn has_extension(octets: &[u8]) -> bool
     octets[0] & EXTENSION_BIT != 0
 }
 
-// Where the sources end, of four octets each.
+// The end of the sources, of four octets each.
 pub(crate) fn sources_end_in(octets: &[u8]) -> usize
     requires { 12 ≤ length octets.now }
     ensures { result ≡ sources_end octets.now }
@@ -68,7 +68,7 @@ pub(crate) fn marker_in(octets: &[u8]) -> bool
     octets[1] & MARKER_BIT != 0
 }
 
-// The fields that a header keeps.
+// The fields of a header.
 #[tactic(auto, unfolding(crate::specs::Read::header_of))]
 pub(crate) fn header_in(octets: &[u8]) -> Header
     requires { 12 ≤ length octets.now }

@@ -1,4 +1,4 @@
-//! Words are made a datagram.
+//! Makes datagrams of words.
 
 ghost use Rattle.std.specs.Prelude.{◌≡◌, ◌<◌};
 ghost use Rattle.rtp_pack.specs.Payload.{IsWordSize, IsPayload, octets_of};
@@ -8,11 +8,14 @@ use crate::{Header, write};
 use arrayvec::ArrayVec;
 use rtp_pack::pack;
 
-/// Makes `datagram` that of this header (RFC 3550, 5.1), with these words of `bits` bits as its payload (RFC
-/// 3551, 4.5.4). What `datagram` held before is gone.
+/// Makes a datagram of a header and words of `bits` bits.
 ///
-/// The words are of 2, 3, 4, 5 or 8 bits, each below 2^`bits`, and together a whole number of octets, 240 at
-/// most; the payload type is at most 127. There is no padding, extension or source, and the marker is clear.
+/// The header is that of RFC 3550, 5.1, the payload that of RFC 3551, 4.5.4; the former contents of
+/// `datagram` are lost.
+///
+/// The words have 2, 3, 4, 5 or 8 bits, each is below 2^`bits`, and together they are a whole number of
+/// octets, 240 at most; the payload type is at most 127. There is no padding, extension or source, and the
+/// marker is clear.
 pub fn packetise(header: &Header, bits: u8, words: &[u8], datagram: &mut ArrayVec<u8, 252>)
     requires payload_type { header.now.payload_type < 128 }
     requires size { IsWordSize bits }
@@ -21,6 +24,6 @@ pub fn packetise(header: &Header, bits: u8, words: &[u8], datagram: &mut ArrayVe
 {
     let mut payload: ArrayVec<u8, 240> = ArrayVec::new();
     pack(bits, words, &mut payload);
-    // a payload has no more octets than a datagram has room for
+    // a payload never exceeds a datagram's room
     let _ = write(header, payload.as_slice(), datagram);
 }

@@ -1,4 +1,4 @@
-//! Octets are read as a datagram.
+//! Reads octets as a datagram.
 
 ghost use Rattle.std.specs.Prelude.{◌≡◌, ◌+◌, ◌≤◌, ℕ, List, true, false, length, IfOk, IsOkAnd, MatchResult};
 ghost use Rattle.rtp_packet.specs.Rtp.{Parts, IsDatagram, as_extension};
@@ -13,14 +13,16 @@ use byteorder::{BigEndian, ByteOrder};
 // The version of RTP that is read (RFC 3550, 5.1).
 const VERSION_2: u8 = 2;
 
-// The octets of an extension's 16-bit field and of the count of its words (RFC 3550, 5.3.1).
+// The octets of an extension's 16-bit field and its count of words (RFC 3550, 5.3.1).
 const EXTENSION_HEADER_LEN: usize = 4;
 
-/// Reads a datagram in place (RFC 3550, 5.1): the view shows its parts, the payload without the padding.
+/// Reads a datagram in place (RFC 3550, 5.1).
+///
+/// The view shows its parts, and the payload without padding.
 ///
 /// # Errors
 ///
-/// The first fault of the octets, where they are no datagram.
+/// The first fault, if the octets are not a datagram.
 pub fn parse(octets: &[u8]) -> Result<RtpView<'_>, RtpFault>
     ensures ok { IfOk result (λ parts.
         (count : ℕ) × (padding : List ℕ) × IsDatagram octets.now parts count padding) }
@@ -28,7 +30,7 @@ pub fn parse(octets: &[u8]) -> Result<RtpView<'_>, RtpFault>
         → IsDatagram octets.now parts count padding → IsOkAnd result (λ view. view ≡ parts) }
     ensures fault { MatchResult result (λ _. fault octets.now ≡ None) (λ f. fault octets.now ≡ Some f) }
 
-    // the three above in one equation, for a caller that cites no more
+    // the three above as one equation
     ensures read { result ≡ read_of octets.now }
 {
     view_in(octets)
@@ -60,7 +62,7 @@ fn view_in(octets: &[u8]) -> Result<RtpView<'_>, RtpFault>
     })
 }
 
-// The extension, which begins at `start`, and where it ends.
+// The extension, which begins at `start`, and its end.
 #[tactic(auto, unfolding(crate::specs::Read::extension_of))]
 fn extension_in(octets: &[u8], start: usize) -> Result<(Option<(u16, &[u8])>, usize), RtpFault>
     requires header { 12 ≤ length octets.now }
@@ -88,7 +90,7 @@ fn extension_in(octets: &[u8], start: usize) -> Result<(Option<(u16, &[u8])>, us
     Ok((Some((profile, &octets[words_start..end])), end))
 }
 
-// How many octets the padding has, which stands behind the first `start` octets.
+// The number of octets of padding behind the first `start` octets.
 #[tactic(auto, unfolding(crate::specs::Read::padding_len))]
 fn padding_in(octets: &[u8], start: usize) -> Result<usize, RtpFault>
     requires header { 12 ≤ length octets.now }

@@ -3,7 +3,9 @@
 use crate::Header;
 use std::marker::Model;
 
-/// A datagram of RTP, read in place (RFC 3550, 5.1). A contract sees it as the record of its parts.
+/// An RTP datagram, read in place (RFC 3550, 5.1).
+///
+/// A contract sees it as the record of its parts.
 #[derive(Debug, Drop)]
 pub struct RtpView<'a> {
     pub(crate) header: Header,
@@ -31,14 +33,14 @@ impl<'a> RtpView<'a> {
     ghost use Rattle.std.specs.Prelude.{◌≡◌};
     ghost use Rattle.rtp_packet.specs.Rtp.{as_extension};
 
-    /// The fields of the fixed header that change from datagram to datagram (RFC 3550, 5.1).
+    /// The fields of the fixed header that change in a stream (RFC 3550, 5.1).
     pub fn header(&self) -> Header
         ensures { result ≡ self.now.header }
     {
         self.header
     }
 
-    /// What the payload is (RFC 3550, 5.1, PT): from 0 to 127 in what `parse` reads.
+    /// The payload type (RFC 3550, 5.1, PT), 0 to 127 if `parse` read it.
     pub fn payload_type(&self) -> u8
         ensures { result ≡ self.now.header.payload_type }
     {
@@ -80,7 +82,7 @@ impl<'a> RtpView<'a> {
         self.sources
     }
 
-    /// The extension's 16-bit field and the octets of its 32-bit words, where there is one (RFC 3550, 5.3.1).
+    /// The extension's 16-bit field and the octets of its words, if there is one (RFC 3550, 5.3.1).
     pub fn extension(&self) -> Option<(u16, &'a [u8])>
         ensures { as_extension result ≡ self.now.extension }
     {

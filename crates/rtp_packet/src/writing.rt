@@ -1,4 +1,4 @@
-//! A datagram is written.
+//! Writes a datagram.
 
 ghost use Rattle.std.specs.Prelude.{◌≡◌, ◌<◌, ◌↔◌, [], false, length, IsErr, OnOk, OnErr};
 ghost use Rattle.rtp_packet.specs.Rtp.{FitsHeader, IsDatagram, fixed_header, plain_datagram};
@@ -7,13 +7,14 @@ use crate::{HEADER_LEN, Header, MAX_PAYLOAD, TooLong};
 use arrayvec::ArrayVec;
 use byteorder::{BigEndian, ByteOrder};
 
-// The first octet of a datagram of version 2 with no padding, extension or sources.
+// The first octet of a version 2 datagram without padding, extension or sources.
 const PLAIN_VERSION_2: u8 = 0x80;
 
-/// Makes `out` the datagram of this header and payload, with no padding, extension or sources and the marker
-/// clear (RFC 3550, 5.1). What `out` held before is gone.
+/// Writes the datagram of a header and a payload (RFC 3550, 5.1).
 ///
-/// `TooLong` where the payload has more than 240 octets; `out` is then as it was.
+/// It has no padding, extension or sources, and the marker is clear. The former contents of `out` are lost.
+///
+/// `TooLong` if the payload has more than 240 octets; `out` is then unchanged.
 #[tactic(auto, unfolding(crate::specs::Rtp::plain_datagram))]
 pub fn write(header: &Header, payload: &[u8], out: &mut ArrayVec<u8, 252>) -> Result<(), TooLong>
     requires { header.now.payload_type < 128 }
@@ -31,7 +32,7 @@ pub fn write(header: &Header, payload: &[u8], out: &mut ArrayVec<u8, 252>) -> Re
     if payload.len() > MAX_PAYLOAD {
         return Err(TooLong);
     }
-    // both parts fit, since 12 and 240 are 252
+    // both parts fit, because 12 and 240 are 252
     out.clear();
     let _ = out.try_extend_from_slice(&fixed_octets(header));
     let _ = out.try_extend_from_slice(payload);

@@ -8,7 +8,7 @@ use Rattle.circular_buffer.specs.Buffer.{Buffer, buffer, keep_last}
 use Rattle.rtp_playout.specs.Saved.{saved_place}
 use Rattle.saved_octets.proofs.Items.{Tells}
 
--- the octets of a place, and of what is behind it, tell both
+-- the octets of a place and of what is behind it determine both
 pub place-tells : (P : Option ℕ → Type 0) → Tells P saved_place
 place-tells P None None r s p q e = (refl, cc)
 place-tells P None (Some w) r s p q e = absurd cc
@@ -33,7 +33,7 @@ pub read-both : (result : Option (Unit {0})) (a b all mid left : List ℕ) → a
 read-both None a b all mid left e f = f
 read-both (Some done) a b all mid left e f = e ∙ ap (λ (os : List ℕ). a ++ os) f ∙ sym (append_assoc a b left)
 
--- a place within the list is the same whatever stands for one beyond it
+-- a place within the list is the same whatever the default beyond it
 within-same : (items : List (Option ℕ)) (k : ℕ) (d : Option ℕ) → k < length items
     → slice_index_or items k d ≡ slice_index_or items k None
 within-same [] k d less = absurd (omega arith)

@@ -1,11 +1,11 @@
--- The octets of a saved playout: its stream, then its places from the next take on. Its prefill and its room
--- are not among them: a playout that is loaded has its own.
+-- The octets of a saved playout: its stream, then its places from the next take. The prefill and the room are
+-- not among them: the playout that loads has its own.
 use Rattle.std.specs.Prelude.{◌<◌, ◌^◌, ℕ, List, [], ◌∷◌, ◌++◌, Option, Some, None, flat_map}
 use Rattle.saved_octets.specs.Numbers.{four_octets}
 use Rattle.rtp_playout.specs.declared.playout.Playout.{Playout}
 use Rattle.rtp_playout.specs.declared.playout.Stream.{Stream}
 
--- a place: 0 if it holds nothing, else 1 and the word
+-- a place: 0 if it is empty, otherwise 1 and the word
 abbrev pub saved_place : Option ℕ → List ℕ
 saved_place None = 0 ∷ []
 saved_place (Some word) = 1 ∷ word ∷ []
@@ -13,7 +13,7 @@ saved_place (Some word) = 1 ∷ word ∷ []
 abbrev pub saved_places : List (Option ℕ) → List ℕ
 saved_places places = flat_map saved_place places
 
--- a stream: 0 if there is none, else 1, its SSRC, and the timestamp that is due at the next take
+-- a stream: 0 if there is none, otherwise 1, its SSRC, and the timestamp due at the next take
 abbrev pub saved_stream : Option Stream → List ℕ
 saved_stream None = 0 ∷ []
 saved_stream (Some stream) = 1 ∷ four_octets stream.ssrc ++ four_octets stream.next

@@ -11,31 +11,33 @@ ghost use Rattle.rtp_playout.specs.Fault.{fault_number};
 pub use playout::Playout;
 use thiserror::Error;
 
-/// The places of the window, from the next take on.
+/// The places of the window, from the next take.
 pub const PLACES: usize = 3200;
 
-/// The most words of a datagram that is admitted.
+/// The most words in an admitted datagram.
 pub const MAX_WORDS: u128 = 1600;
 
 /// The greatest prefill of a playout.
 pub const MAX_PREFILL: u16 = 1600;
 
-/// Why a datagram is refused. Where more than one holds, the first of this list is told.
+/// Why a datagram is refused.
+///
+/// If several apply, the first one listed is returned.
 #[derive(Clone, Copy, Debug, PartialEq, Eq, Error)]
 pub enum PlayoutFault {
-    /// 11: the payload type is not the one that is wanted.
+    /// 11: another payload type than the expected one.
     #[error("another payload type")]
     PayloadType,
-    /// 12: a datagram was admitted, and its SSRC is another.
+    /// 12: another SSRC than that of the datagrams admitted before.
     #[error("another source")]
     WrongSource,
-    /// 13: a word is still to be taken at one of the places of the datagram.
+    /// 13: one of the datagram's places still holds a word.
     #[error("a repeat")]
     Repeat,
-    /// 14: the place of the datagram's first word has passed.
+    /// 14: the place of the first word has passed.
     #[error("too late")]
     Late,
-    /// 15: there are more than 1600 words.
+    /// 15: more than 1600 words.
     #[error("too many words")]
     TooMany,
     /// 16: the last word is due after the window.
@@ -44,7 +46,7 @@ pub enum PlayoutFault {
 }
 
 impl PlayoutFault {
-    /// The number of the fault, from 11 to 16, in the order in which they are told.
+    /// The number of the fault, 11 to 16, in order of precedence.
     pub fn number(self) -> u8
         ensures { result ≡ fault_number self }
     {

@@ -27,7 +27,7 @@ pub parts_are_unique : PartsAreUnique
 parts_are_unique rtp octets parts others (reserved, fragment, len, d) (bits, more, number, e) =
     (is_told rtp octets parts reserved fragment len d).parts ∙ sym (is_told rtp octets others bits more number e).parts
 
--- the fault that is told holds, and has the least number of those that hold
+-- the fault returned holds, and has the least number of those that hold
 pub least_fault_is_told : LeastFaultIsTold
 least_fault_is_told rtp o =
     least (has_fault rtp o) (is_short rtp o) (is_no_rtp rtp o) (is_no_control rtp o) (is_other_length rtp o)
@@ -41,13 +41,13 @@ reading_of-packet rtp octets parts (reserved, fragment, len, d) =
     let t = is_told rtp octets parts reserved fragment len d in
     rw (t.faultless, t.parts) refl
 
--- parts are read where there is no fault, and are those that stand at their places
+-- parts are read if there is no fault, and are those at their places
 unless_fault-ok : (f : Option SatopFault) (at parts : Content) → unless_fault f at ≡ Ok parts
     → (f ≡ None) × (parts ≡ at)
 unless_fault-ok None at parts e = (refl, cc)
 unless_fault-ok (Some f) at parts e = absurd (cc)
 
--- a fault is told where there is one
+-- a fault is returned if there is one
 unless_fault-err : (f : Option SatopFault) (at : Content) (g : SatopFault) → unless_fault f at ≡ Err g → f ≡ Some g
 unless_fault-err None at g e = absurd (cc)
 unless_fault-err (Some f) at g e = cc
@@ -105,7 +105,7 @@ pub read-exact : (rtp : Bool) (octets : List ℕ) (r : Result Content SatopFault
     → (parts : Content) → IsPacketOf rtp parts octets → IsOkAnd r (λ view. view ≡ parts)
 read-exact rtp octets r e parts d = rw (e ∙ reading_of-packet rtp octets parts d) refl
 
--- what was read has no fault, and what was refused has the fault that was told
+-- what was read has no fault, and what was refused has the fault returned
 pub read-fault : (rtp : Bool) (octets : List ℕ) (r : Result Content SatopFault) → r ≡ reading_of rtp octets
     → MatchResult r (λ _. fault rtp octets ≡ None) (λ f. fault rtp octets ≡ Some f)
 unfolding reading_of

@@ -13,7 +13,7 @@ use Rattle.satop_packet.specs.Fault.{fault, is_short, is_no_rtp, is_no_control, 
 use Rattle.satop_packet.specs.Read.{control_of, content_of}
 use Rattle.satop_packet.specs.Laws.{AreOctets, IsPacketOf}
 
--- what stands at a place is the head of what stands from there on
+-- the item at a place is the head of the rest from there
 at_head : (s : ℕ) (o : List ℕ) → slice_index o s ≡ slice_index (drop s o) 0
 at_head s o = ap (slice_index o) (omega arith) ∙ sym (get_or-drop s o 0 0)
 
@@ -155,7 +155,7 @@ first-spelled n false true h el em =
 first-spelled n false false h el em =
     let l : n / 8 % 2 ≢ 1 = eqb-false _ _ el in let m : n / 4 % 2 ≢ 1 = eqb-false _ _ em in omega arith
 
--- a control word and what follows it, by the numbers that stand there
+-- a control word and what follows it, by the numbers at their places
 spelled : (q : List ℕ) → 4 ≤ length q → AreOctets q → slice_index q 0 / 16 ≡ 0
     → q ≡ control_word (control_of 0 q) (slice_index q 0 % 4) (slice_index q 1 / 64) (slice_index q 1 % 64)
     ++ drop 4 q
@@ -176,7 +176,7 @@ sequence-fits (a ∷ b ∷ c ∷ d ∷ rest) long fits =
     let fc : c < 256 = fits 2 in let fd : d < 256 = fits 3 in omega arith
 sequence-fits _ long fits = absurd (omega arith)
 
--- a control word at a place is one at the head of what stands from there on
+-- a control word at a place is one at the head of the rest from there
 control-at : (s : ℕ) (o : List ℕ) → control_of s o ≡ control_of 0 (drop s o)
 unfolding control_of
 control-at s o =
@@ -192,7 +192,7 @@ rtp-there true [] long h = absurd (omega arith)
 rtp-there true (x ∷ o) long h =
     let at : x ≡ 128 = eqb-true _ _ (not-false _ h) in (at, length-take-le 12 (x ∷ o) long)
 
--- LEN, where its test is not met
+-- LEN, if its test is not met
 said-true : (len size : ℕ) → (not (eqb len 0) && not (eqb len size)) ≡ false → (len ≡ 0 → ⊥) → len ≡ size
 said-true len size h ne =
     eqb-true len size (not-false _ (rw (ne_eqb len 0 ne) at h))

@@ -1,4 +1,4 @@
--- What the definitions say together: the join of parts, the first fault, and what octets are read as.
+-- Properties of the definitions together: the join of parts, the first fault, and the reading of octets.
 use Rattle.std.specs.Prelude.{◌≡◌, ◌+◌, ◌<◌, ◌≤◌, ◌^◌, ℕ, Bool, true, false, List, length, slice_index}
 use Rattle.std.specs.Prelude.{None, Ok, MatchOption}
 use Rattle.satop_packet.specs.declared.Control.{Control}
@@ -12,7 +12,7 @@ abbrev pub IsPacketOf : Bool → Content → List ℕ → Type 0
 IsPacketOf rtp parts octets = (reserved : ℕ) × (fragment : ℕ) × (len : ℕ)
     × IsPacket octets rtp parts reserved fragment len
 
--- each is an octet
+-- each number is an octet
 abbrev pub AreOctets : List ℕ → Type 0
 AreOctets octets = (index : ℕ) → slice_index octets index < 256
 
@@ -33,7 +33,7 @@ PartsAreUnique =
     (rtp : Bool) (octets : List ℕ) (parts others : Content) → IsPacketOf rtp parts octets
     → IsPacketOf rtp others octets → parts ≡ others
 
--- the fault that is told holds, and has the least number of those that hold; none is told where none holds
+-- the fault returned holds and has the least number of those that hold; none is returned if none holds
 abbrev pub LeastFaultIsTold : Type 0
 LeastFaultIsTold =
     (rtp : Bool) (octets : List ℕ) → MatchOption (fault rtp octets)
@@ -50,7 +50,7 @@ PlainIsPacket =
     (record { rtp = header; control = control; payload = payload }) 0 0
     (length_said (length header + 4 + length payload))
 
--- and is read as what was written
+-- what is written is read again
 abbrev pub PlainIsRead : Type 0
 PlainIsRead =
     (rtp : Bool) (header : List ℕ) (control : Control) (payload : List ℕ) → IsRtp header

@@ -4,13 +4,13 @@ use Rattle.std.specs.Prelude.{List, [], ◌∷◌, ◌++◌, length}
 use Rattle.byteorder.specs.Endian.{big_bytes}
 use Rattle.satop_packet.specs.declared.Control.{Control}
 
--- what a packet carries: the octets of a fixed RTP header or none, the control word, the octets of the trunk
+-- the parts of a packet: a fixed RTP header or none, the control word, the octets of the trunk
 pub record Content : Type 0 where
   pub rtp : List ℕ
   pub control : Control
   pub payload : List ℕ
 
--- the value of a flag that stands in this place of an octet
+-- the value of a flag at a place of an octet
 abbrev pub flag : Bool → ℕ → ℕ
 flag b place = if b then place else 0
 
@@ -20,12 +20,12 @@ abbrev pub control_word : Control → ℕ → ℕ → ℕ → List ℕ
 control_word c reserved fragment len =
     (flag c.lost 8 + flag c.remote 4 + reserved) ∷ (fragment * 64 + len) ∷ big_bytes 2 c.sequence
 
--- twelve octets of a fixed RTP header, with no padding, extension or sources, or none (RFC 3550, 5.1)
+-- no octets, or the twelve of a fixed RTP header without padding, extension or sources (RFC 3550, 5.1)
 abbrev pub IsRtp : List ℕ → Type 0
 IsRtp [] = Unit {0}
 IsRtp (first ∷ octets) = (first ≡ 128) × (length (first ∷ octets) ≡ 12)
 
--- where there is to be one, it is there
+-- the octets of the RTP header, if one is expected
 abbrev pub rtp_len : Bool → ℕ
 rtp_len rtp = if rtp then 12 else 0
 
@@ -42,7 +42,7 @@ pub record IsPacket (octets : List ℕ) (rtp : Bool) (p : Content) (reserved fra
   pub len_fits : len < 64
   pub counted : (len ≡ 0 → ⊥) → len ≡ length octets
 
--- LEN of a packet of so many octets, as it is written: their number where it is below 64
+-- LEN of a written packet of so many octets: their number if it is below 64
 abbrev pub length_said : ℕ → ℕ
 length_said size = if nat_lt size 64 then size else 0
 

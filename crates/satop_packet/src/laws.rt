@@ -3,7 +3,7 @@
 ghost use Rattle.satop_packet.specs.Laws.{FaultlessIsPacket, PacketIsFaultless, PartsAreUnique};
 ghost use Rattle.satop_packet.specs.Laws.{LeastFaultIsTold, PlainIsPacket, PlainIsRead};
 
-/// Octets are the join of some parts exactly where they have no fault.
+/// Octets are the join of some parts exactly if they have no fault.
 pub fn faultless_octets_are_packets()
     ensures packet { FaultlessIsPacket }
     ensures faultless { PacketIsFaultless }
@@ -14,13 +14,12 @@ pub fn parts_are_unique()
     ensures { PartsAreUnique }
 {}
 
-/// The fault that is told is the one with the least number among those that hold.
+/// The fault returned is the one with the least number among those that hold.
 pub fn the_least_fault_is_told()
     ensures { LeastFaultIsTold }
 {}
 
-/// What `write` makes is a packet, and is read as the header, the control word and the payload that were
-/// given.
+/// A packet of `write` is read as the header, the control word and the payload that it was given.
 pub fn plain_packets_are_read()
     ensures packet { PlainIsPacket }
     ensures read { PlainIsRead }

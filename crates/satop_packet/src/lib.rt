@@ -15,19 +15,19 @@ use thiserror::Error;
 pub use view::SatopView;
 pub use writing::write;
 
-/// The octets of a fixed RTP header, which may stand before the control word.
+/// The octets of a fixed RTP header, which may precede the control word.
 pub const RTP_LEN: usize = 12;
 
 /// The octets of the control word.
 pub const CONTROL_LEN: usize = 4;
 
-/// The most octets of payload that `write` takes: 40 frames of an E1, 5 ms.
+/// The greatest payload that `write` accepts: 40 frames of an E1, 5 ms.
 pub const MAX_PAYLOAD: usize = 1280;
 
-/// What the control word says.
+/// The fields of the control word.
 #[derive(Clone, Copy, Debug, PartialEq, Eq)]
 pub struct Control {
-    /// L: the payload is not valid, the far end's line is down.
+    /// L: the payload is invalid, because the far end's line is down.
     pub lost: bool,
     /// R: the far end misses packets.
     pub remote: bool,
@@ -35,14 +35,16 @@ pub struct Control {
     pub sequence: u16,
 }
 
-/// Why octets are no packet. Where more than one holds, the first of this list is told.
+/// Why octets are not a packet.
+///
+/// If several apply, the first one listed is returned.
 #[derive(Clone, Copy, Debug, PartialEq, Eq, Error)]
 pub enum SatopFault {
-    /// 1: there are fewer octets than the control word has, and the RTP header where there is to be one.
+    /// 1: fewer octets than the control word, and the RTP header if expected, have.
     #[error("fewer octets than the headers")]
     Short,
-    /// 2: there is to be a fixed RTP header, and the first octet is not that of one: version 2, without
-    /// padding, extension and sources.
+    /// 2: a fixed RTP header is expected, and the first octet is not that of one: version 2, without padding,
+    /// extension and sources.
     #[error("no fixed RTP header")]
     NoRtp,
     /// 3: the control word does not begin with four zero bits.

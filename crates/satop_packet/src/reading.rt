@@ -1,4 +1,4 @@
-//! Octets are read as a packet.
+//! Reads octets as a packet.
 
 ghost use Rattle.std.specs.Prelude.{◌≡◌, ◌+◌, ◌≤◌, None, Some, IfOk, IsOkAnd, MatchResult};
 ghost use Rattle.satop_packet.specs.Satop.{Content};
@@ -9,7 +9,7 @@ ghost use Rattle.satop_packet.specs.Read.{reading_of};
 use crate::fields::{control_in, start_of};
 use crate::{CONTROL_LEN, SatopFault, SatopView};
 
-// The first octet of a fixed RTP header: version 2, with no padding, extension or sources.
+// The first octet of a fixed RTP header: version 2, without padding, extension or sources.
 const FIXED_RTP: u8 = 0x80;
 
 /// Reads a packet in place, behind a fixed RTP header if `rtp` says so: the view shows its parts. RSV and FRG
@@ -17,7 +17,7 @@ const FIXED_RTP: u8 = 0x80;
 ///
 /// # Errors
 ///
-/// The first fault of the octets, where they are no packet.
+/// The first fault, if the octets are not a packet.
 pub fn parse(octets: &[u8], rtp: bool) -> Result<SatopView<'_>, SatopFault>
     ensures ok { IfOk result (λ parts. IsPacketOf rtp parts octets.now) }
     ensures exact { (parts : Content) → IsPacketOf rtp parts octets.now
@@ -25,7 +25,7 @@ pub fn parse(octets: &[u8], rtp: bool) -> Result<SatopView<'_>, SatopFault>
     ensures fault { MatchResult result
         (λ _. fault rtp octets.now ≡ None) (λ f. fault rtp octets.now ≡ Some f) }
 
-    // the three above in one equation, for a caller that cites no more
+    // the three above as one equation
     ensures read { result ≡ reading_of rtp octets.now }
 {
     view_in(octets, rtp)

@@ -1,4 +1,4 @@
-//! A packet is written.
+//! Writes a packet.
 
 ghost use Rattle.std.specs.Prelude.{◌≡◌, ◌<◌, ◌↔◌, length, IsErr, OnOk, OnErr};
 ghost use Rattle.satop_packet.specs.Satop.{IsRtp, control_word, length_said, plain_packet};
@@ -7,7 +7,7 @@ use crate::{CONTROL_LEN, Control, MAX_PAYLOAD, TooLong};
 use arrayvec::ArrayVec;
 use byteorder::{BigEndian, ByteOrder};
 
-// Packets of fewer octets than this say how many they have.
+// LEN is 0 for packets of at least this many octets.
 const LEAST_UNSAID: usize = 64;
 
 /// Makes `out` the packet of this control word and payload, behind the RTP header, whose octets are none or
@@ -23,7 +23,7 @@ const LEAST_UNSAID: usize = 64;
 ///
 /// # Errors
 ///
-/// [`TooLong`] where the payload has more than 1280 octets; `out` is then as it was.
+/// [`TooLong`] if the payload has more than 1280 octets; `out` is then unchanged.
 #[tactic(auto, unfolding(crate::specs::Satop::plain_packet))]
 pub fn write(
     rtp: &[u8],
@@ -40,7 +40,7 @@ pub fn write(
         return Err(TooLong);
     }
     let size = rtp.len() + CONTROL_LEN + payload.len();
-    // the parts fit, since 12, 4 and 1280 are 1296
+    // the parts fit, because 12, 4 and 1280 are 1296
     out.clear();
     let _ = out.try_extend_from_slice(rtp);
     let _ = out.try_extend_from_slice(&control_octets(control, length_said(size)));
@@ -48,7 +48,7 @@ pub fn write(
     Ok(())
 }
 
-// LEN of a packet of so many octets.
+// LEN of a packet with so many octets.
 fn length_said(size: usize) -> u8
     ensures { result ≡ length_said size }
 {

@@ -5,7 +5,7 @@ use Rattle.std.proofs.lemmas.Grind.{flat_map-append}
 use Rattle.std.proofs.lemmas.List.Elements.{All-head, All-tail}
 use Rattle.saved_octets.specs.Numbers.{two_octets}
 
--- of an item and what is behind it, the octets tell both
+-- the octets of an item and of what is behind it determine both
 abbrev pub Tells : {A : Type 0} → (A → Type 0) → (A → List ℕ) → Type 0
 Tells {A = A} P octets =
     (x y : A) (r s : List ℕ) → P x → P y → octets x ++ r ≡ octets y ++ s → (x ≡ y) × (r ≡ s)
@@ -16,8 +16,8 @@ pub saved-push : {A : Type 0} (octets : A → List ℕ) (xs : List A) (x : A)
 saved-push {A = A} octets xs x =
     flat_map-append octets xs (x ∷ []) ∙ ap (λ (os : List ℕ). flat_map octets xs ++ os) (append-nil (octets x))
 
--- Octets that begin with no more items than others do tell these: what is left of them begins with the rest
--- of those items.
+-- Octets that begin with no more items than others determine these: the rest of them begins with the rest of those
+-- items.
 pub prefix : {A : Type 0} (P : A → Type 0) (octets : A → List ℕ) (xs ys : List A) (r s : List ℕ)
     → Tells P octets → All P xs → All P ys → flat_map octets xs ++ r ≡ flat_map octets ys ++ s
     → length xs ≤ length ys → (zs : List A) × (ys ≡ xs ++ zs) × (r ≡ flat_map octets zs ++ s)
@@ -76,7 +76,7 @@ all-read {A = A} P octets xs ys r s tells these those e same =
         let more = length-append xs (z ∷ zs) in
         absurd (omega arith)
 
--- the two octets of a number of 16 bits tell it
+-- the two octets of a 16-bit number determine it
 pub two-tell : Tells (λ n. n < 2 ^ 16) two_octets
 two-tell x y r s few_x few_y e =
     let high : x / 256 % 256 ≡ y / 256 % 256 = cc in

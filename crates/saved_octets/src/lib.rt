@@ -1,4 +1,4 @@
-//! Octets of a saved state: a reader over them, and numbers appended to them.
+//! Octets of a saved state, read and written.
 #![tactic(auto)]
 
 mod reading;

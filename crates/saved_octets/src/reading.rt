@@ -1,4 +1,4 @@
-//! A reader over octets, from the first on.
+//! A reader of octets.
 
 ghost use Rattle.std.specs.Prelude.{◌≡◌, ◌++◌, ◌∷◌, ◌^◌, ◌<◌, ℕ, Bool, ◌==◌, List, length, IfSome, IfNone, Some, All, flat_map};
 ghost use Rattle.std.specs.Prelude.{option_map};
@@ -7,7 +7,9 @@ ghost use Rattle.saved_octets.specs.Numbers.{flag_octet, two_octets, four_octets
 use byteorder::{BigEndian, ByteOrder};
 use std::marker::Model;
 
-/// The octets that are not yet read. Contracts see the list of them.
+/// The octets not yet read.
+///
+/// Contracts see the list of them.
 #[derive(Debug, Drop)]
 pub struct Octets<'a> {
     left: &'a [u8],
@@ -22,14 +24,14 @@ impl<'a> Model for Octets<'a> {
 }
 
 impl<'a> Octets<'a> {
-    /// A reader before the first of these octets.
+    /// A reader at the first of these octets.
     pub fn new(octets: &'a [u8]) -> Self
         ensures { result ≡ octets.now }
     {
         Octets { left: octets }
     }
 
-    /// Whether all octets are read.
+    /// Whether all octets have been read.
     pub fn is_empty(&self) -> bool
         ensures { result ≡ (length self.now == 0) }
     {
@@ -48,7 +50,7 @@ impl<'a> Octets<'a> {
         Some(*first)
     }
 
-    /// Reads a number of 16 bits; None if fewer octets are left.
+    /// Reads a 16-bit number; None if fewer octets are left.
     pub fn read_u16(&mut self) -> Option<u16>
         ensures next { (n : ℕ) (rest : List ℕ) → n < 2 ^ 16 → self.old ≡ two_octets n ++ rest
             → (result ≡ Some n) × (self.new ≡ rest) }
@@ -62,7 +64,7 @@ impl<'a> Octets<'a> {
         Some(BigEndian::read_u16(&[*a, *b]))
     }
 
-    /// Reads a number of 32 bits; None if fewer octets are left.
+    /// Reads a 32-bit number; None if fewer octets are left.
     pub fn read_u32(&mut self) -> Option<u32>
         ensures next { (n : ℕ) (rest : List ℕ) → n < 2 ^ 32 → self.old ≡ four_octets n ++ rest
             → (result ≡ Some n) × (self.new ≡ rest) }
@@ -89,7 +91,7 @@ impl<'a> Octets<'a> {
         Some(taken)
     }
 
-    /// Reads as many numbers of 16 bits as there is room for; None if fewer are left.
+    /// Fills a slice with 16-bit numbers; None if too few octets are left.
     pub fn read_u16_into(&mut self, numbers: &mut [u16]) -> Option<()>
         ensures next { (saved rest : List ℕ) → length saved ≡ length numbers.old → All (λ n. n < 2 ^ 16) saved
             → self.old ≡ flat_map two_octets saved ++ rest
@@ -103,7 +105,7 @@ impl<'a> Octets<'a> {
         Some(())
     }
 
-    /// Reads a flag; None if the next octet is neither 0 nor 1, or if no octet is left.
+    /// Reads a flag; None if the next octet is neither 0 nor 1, or missing.
     pub fn read_bool(&mut self) -> Option<bool>
         ensures next { (flag : Bool) (rest : List ℕ) → self.old ≡ flag_octet flag ∷ rest
             → (result ≡ Some flag) × (self.new ≡ rest) }

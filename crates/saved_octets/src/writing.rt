@@ -14,7 +14,7 @@ pub fn append_u8(out: &mut Vec<u8>, octet: u8) -> Result<(), AllocError>
     out.extend_from_slice(&[octet])
 }
 
-/// Appends a number of 16 bits.
+/// Appends a 16-bit number.
 pub fn append_u16(out: &mut Vec<u8>, number: u16) -> Result<(), AllocError>
     ensures octets { OnOk result (out.new.items ≡ out.old.items ++ two_octets number) }
     ensures err { OnErr result (out.new.items ≡ out.old.items) }
@@ -24,7 +24,7 @@ pub fn append_u16(out: &mut Vec<u8>, number: u16) -> Result<(), AllocError>
     out.extend_from_slice(&octets)
 }
 
-/// Appends numbers of 16 bits.
+/// Appends 16-bit numbers.
 pub fn append_u16s(out: &mut Vec<u8>, numbers: &[u16]) -> Result<(), AllocError>
     ensures { OnOk result (out.new.items ≡ out.old.items ++ flat_map two_octets numbers.now) }
 {
@@ -34,7 +34,7 @@ pub fn append_u16s(out: &mut Vec<u8>, numbers: &[u16]) -> Result<(), AllocError>
     Ok(())
 }
 
-/// Appends a number of 32 bits.
+/// Appends a 32-bit number.
 pub fn append_u32(out: &mut Vec<u8>, number: u32) -> Result<(), AllocError>
     ensures octets { OnOk result (out.new.items ≡ out.old.items ++ four_octets number) }
     ensures err { OnErr result (out.new.items ≡ out.old.items) }
@@ -44,7 +44,7 @@ pub fn append_u32(out: &mut Vec<u8>, number: u32) -> Result<(), AllocError>
     out.extend_from_slice(&octets)
 }
 
-/// Appends a flag: 1 if it is set, else 0.
+/// Appends a flag: 1 if it is set, otherwise 0.
 pub fn append_bool(out: &mut Vec<u8>, flag: bool) -> Result<(), AllocError>
     ensures octets { OnOk result (out.new.items ≡ out.old.items ++ flag_octet flag ∷ []) }
     ensures err { OnErr result (out.new.items ≡ out.old.items) }

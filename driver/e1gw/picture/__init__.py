@@ -1,4 +1,4 @@
-"""A session as one page: what the gateway was given, what it answered, and what stands out in it."""
+"""A session as one page: the gateway's input, its answers, and anomalies."""
 from __future__ import annotations
 
 import io
@@ -15,6 +15,6 @@ __all__ = ['Live', 'page']
 
 def page(given: bytes, answered: bytes, config: Mapping[str, Any], last: float | None = None,
          title: str = 'e1gw') -> str:
-    """The page of a session and of what the gateway answered, of the last seconds alone where they are named."""
+    """The page of a session and the gateway's answers, or only of its last seconds."""
     span = int(last * OCTETS_A_SECOND) if last else None
     return draw(read(io.BytesIO(given), io.BytesIO(answered), config, span), title)

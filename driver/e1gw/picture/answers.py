@@ -1,4 +1,4 @@
-"""The answers to a session where there are none at hand: those of `e1gw replay`."""
+"""The answers to a session without any at hand: those of `e1gw replay`."""
 from __future__ import annotations
 
 import os
@@ -15,7 +15,7 @@ WAITING = 256               # pieces: more than a gateway holds back before it a
 
 
 def program_of(named: str | None) -> str:
-    """The program that was named, or that of this repository, or the one on the path."""
+    """The program named, or that of this repository, or the one on the path."""
     if named:
         return named
     here = os.path.realpath(os.path.join(os.path.dirname(__file__), '..', '..', '..', 'e1gw'))
@@ -28,10 +28,8 @@ def program_of(named: str | None) -> str:
 
 
 class Replayed:
-    """What `e1gw replay` answers to octets that are read here in the same pieces, from the state in a file on if one is
-    named.
-
-    A thread gives each piece to the program once it waits to be read here, so neither of the two waits for ever."""
+    """The answers of `e1gw replay` to octets that are read here in the same pieces, from the state in a file if one is
+    named. A thread gives each piece to the program once it is needed here, so neither waits for ever."""
 
     def __init__(self, program: str, config: str, octets: Iterator[bytes], state: str = '',
                  wait: int = SEIZURE_WAIT) -> None:
@@ -45,7 +43,7 @@ class Replayed:
         except OSError as fault:
             raise Trouble(f'{program}: {fault.strerror}') from fault
         assert self.process.stdout
-        # (what has come, and no more: to wait for a whole piece of answers would be to wait for ever)
+        # (what has arrived: to wait for a whole piece of answers would be to wait for ever)
         self.given, self.answered = Source(iter(self.queue.get, b'')), Source(pieces(self.process.stdout))
         self.thread = threading.Thread(target=self._give, args=(octets,), daemon=True)
         self.thread.start()
@@ -69,7 +67,7 @@ class Replayed:
                 pass
 
     def end(self) -> str:
-        """What the program said of the session's end: an empty text where it ended well."""
+        """The program's message at the session's end, empty if it ended well."""
         assert self.process.stdout and self.process.stderr
         while self.process.stdout.read(PIECE):
             pass

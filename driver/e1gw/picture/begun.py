@@ -1,4 +1,4 @@
-"""What a gateway was when a piece of a ring began: the circuits of the state that stands beside it."""
+"""The gateway at the start of a piece of a ring: the circuits of the state next to it."""
 from __future__ import annotations
 
 import os
@@ -14,13 +14,13 @@ COLUMNS = 10                # of the listing: number, role, state, two pairs, th
 
 @dataclass(frozen=True)
 class Begun:
-    """Where in a multiframe that the gateway sends the piece begins, and its circuits."""
+    """The place in a sent multiframe at which the piece begins, and its circuits."""
     place: int
     circuits: list[Standing]
 
 
 def standing_of(line: str) -> Standing:
-    """A circuit as a line of the listing has it. Trouble if it is none."""
+    """A circuit by a line of the listing, or Trouble."""
     words = line.split()
     try:
         if len(words) != COLUMNS:
@@ -28,7 +28,7 @@ def standing_of(line: str) -> Standing:
         recognised = None if words[4] == '--' else int(words[4], 2)
         return Standing(int(words[0]), State(words[2]), int(words[3], 2), recognised, words[8], int(words[9]))
     except ValueError:
-        raise Trouble(f'e1gw check lists what is no circuit: {line}') from None
+        raise Trouble(f'e1gw check prints a line that is no circuit: {line}') from None
 
 
 def listed(state: str, program: str, config: str) -> list[Standing]:
@@ -46,7 +46,7 @@ def listed(state: str, program: str, config: str) -> list[Standing]:
 
 
 def begun(session: Kept, program: str, config: str) -> tuple[Begun | None, str]:
-    """What the gateway was when a session began that begins in the middle, or why that is not known."""
+    """The gateway at the start of a session that begins in the middle, or why it is not known."""
     if not session.state:
         return None, f'{os.path.basename(session.files[0])} has no state beside it'
     try:

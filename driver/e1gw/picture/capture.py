@@ -1,4 +1,4 @@
-"""Datagrams of a capture beside a session, or without one."""
+"""Datagrams of a capture, with or without a session."""
 from __future__ import annotations
 
 import functools
@@ -19,9 +19,9 @@ from .packets import Datagram, datagrams
 from .reading import Stream as Records
 from .reading import rows_of
 
-NEAR = 101                  # datagrams that were sent by which the times of the capture are laid on the trunk
-PACKET = 1600               # samples that a datagram has at most: the first one may begin before the session
-SILENCE = 2 * OCTETS_A_SECOND       # after which what comes is another call, where no line tells
+NEAR = 101                  # datagrams sent by which the capture's times are mapped to the trunk
+PACKET = 1600               # samples of a datagram at most: the first one may begin before the session
+SILENCE = 2 * OCTETS_A_SECOND       # after which datagrams are another call, if no line shows it
 
 
 def ports(config: Mapping[str, Any]) -> dict[int, int]:
@@ -30,8 +30,8 @@ def ports(config: Mapping[str, Any]) -> dict[int, int]:
 
 
 class Clock:
-    """When the session's first octet was, by the times at which the gateway's datagrams left: the last word of one that
-    begins with timestamp s and has n words was heard in frame s + n. So many octets of the trunk were before it."""
+    """The time of the session's first octet, by the times at which the gateway's datagrams left: the last word of one
+    with timestamp s and n words was received in frame s + n, so as many octets of the trunk were before it."""
 
     def __init__(self, config: Mapping[str, Any], begin: float | None = None, before: int = 0) -> None:
         self.tables = {table['number']: table for table in config.get('circuit', [])}
@@ -53,7 +53,7 @@ class Clock:
 
 
 class Ways:
-    """Notes where datagrams go to and come from."""
+    """Notes the addresses of datagrams in both directions."""
 
     def __init__(self, facts: Facts, config: Mapping[str, Any]) -> None:
         self.facts, self.circuits = facts, ports(config)
@@ -86,18 +86,18 @@ class Ways:
 
 @functools.lru_cache(256)
 def host_of(address: bytes) -> str:
-    """An address as it is written."""
+    """An address as text."""
     return str(ipaddress.ip_address(address)) if len(address) in (4, 16) else 'an unknown host'
 
 
 def is_rtp(body: bytes) -> bool:
-    """It may be RTP, and is no RTCP (RFC 5761, 4)."""
+    """It may be RTP, and is not RTCP (RFC 5761, 4)."""
     return len(body) >= 12 and body[0] >> 6 == 2 and not 72 <= body[1] & 127 <= 76
 
 
 def arrivals(path: str, config: Mapping[str, Any], begin: float | None, facts: Facts,
              before: int = 0) -> Iterator[tuple[int, int, bytes]]:
-    """Place on the trunk, circuit and body of each datagram of a capture that came."""
+    """Place on the trunk, circuit and body of each datagram received in a capture."""
     circuits, clock, ways = ports(config), Clock(config, begin, before), Ways(facts, config)
     with open(path, 'rb') as file:
         for datagram in datagrams(file):
@@ -111,7 +111,7 @@ def arrivals(path: str, config: Mapping[str, Any], begin: float | None, facts: F
 
 
 def first_begin(path: str, config: Mapping[str, Any], before: int = 0) -> float | None:
-    """When the session's first octet was, by the first datagrams that were sent; None where the capture has none."""
+    """The time of the session's first octet, by the first datagrams sent; None if the capture has none."""
     circuits, clock = ports(config), Clock(config, before=before)
     with open(path, 'rb') as file:
         for datagram in datagrams(file):
@@ -124,13 +124,13 @@ def first_begin(path: str, config: Mapping[str, Any], before: int = 0) -> float 
 
 def merged(octets: Iterator[bytes], path: str, config: Mapping[str, Any], facts: Facts,
            begin: float | None = None, before: int = 0) -> tuple[Iterator[bytes], float]:
-    """A session with the datagrams of a capture, each at its place on the trunk, and when the session began, which so
-    many octets of the trunk were before. Where they go to and come from is noted in the facts."""
+    """A session with the datagrams of a capture, each at its place on the trunk, and the time of its first octet,
+    before which so many octets of the trunk were sent. The addresses are noted in the facts."""
     if not ports(config):
-        raise Trouble('the configuration has no local_port, so nothing tells the circuits of a capture')
+        raise Trouble('the configuration has no local_port, so the circuits of a capture are unknown')
     begin = first_begin(path, config, before) if begin is None else begin
     if begin is None:
-        raise Trouble('the capture has no datagram that the gateway sent, so nothing tells when the session began: '
+        raise Trouble('the capture has no datagram that the gateway sent, so the time of the session is unknown: '
                       'say it by --begin')
     return _merged(Source(octets), arrivals(path, config, begin, facts, before)), begin
 
@@ -175,7 +175,7 @@ def _records(source: Source) -> Iterator[tuple[int, int, bytes]]:
 # ---- a capture alone ----
 
 def reckoned(path: str, config: Mapping[str, Any], last: float | None = None, program: str | None = None) -> Facts:
-    """What a capture alone tells: no line is known, and what became of a datagram is reckoned from its header."""
+    """The facts of a capture alone: no line is known, and the fate of a datagram is estimated from its header."""
     rows = rows_of(config)
     for row in rows.values():
         row.states.items = [(0, 'unknown')]
@@ -211,7 +211,7 @@ def reckoned(path: str, config: Mapping[str, Any], last: float | None = None, pr
 
 
 def _listen(listener: Listener, row: Row, place: int, body: bytes) -> None:
-    """A datagram that was sent: in G.711 it has the octets of the time slot."""
+    """A datagram sent: in G.711 it has the octets of the time slot."""
     if row.codec in BITS or not row.stream.slot.come(place, listener.most):
         return
     try:
@@ -221,7 +221,7 @@ def _listen(listener: Listener, row: Row, place: int, body: bytes) -> None:
 
 
 def _code(row: Row, body: bytes, place: int, seen: dict[int, int]) -> int:
-    """How the gateway would answer a datagram of a call, as far as its header tells."""
+    """The gateway's answer to a datagram of a call, as far as its header shows."""
     if len(body) < 12:
         return 1
     if body[0] >> 6 != 2:

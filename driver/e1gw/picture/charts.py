@@ -1,4 +1,4 @@
-"""The drawings: the trunk, the circuits over time, and a circuit's datagrams against its playout."""
+"""The drawings: the trunk, the circuits over time, and a circuit's datagrams in its jitter buffer."""
 from __future__ import annotations
 
 from collections.abc import Callable
@@ -10,14 +10,14 @@ from .facts import NOT_OPEN, OPEN, SECOND, WINDOW, Answer, Cell, Command, Facts,
 from .svg import LEFT, WIDE, Scale, Sheet, apart, duration, runs
 
 ROW = 30                    # of the circuits
-NOTHING = 2 * SECOND        # for which nothing comes in the middle of a call until it is drawn
+NOTHING = 2 * SECOND        # of silence in mid-call before it is drawn
 MOST_GAPS = 80              # of a circuit
 MOST_RUNS = 160             # stretches of a lane
 MOST_SPANS = 220            # of a line
 MEANS = {'idle': 'idle', 'seized': 'seized', 'acked': 'acknowledged', 'answered': 'answered',
          'clearedback': 'hung up by the called', 'releasing': 'releasing', 'blocked': 'blocked', 'fault': 'fault',
          'unknown': 'not known'}
-# The alarms of ITU-T G.704, G.706 and G.732, as the journal has them.
+# The alarms of ITU-T G.704, G.706 and G.732, as in the journal.
 ALARMS = (('here', 'frame', 'LFA'), ('here', 'multiframe', 'no multiframe'),
           ('there', 'frame', 'RAI (bit A)'), ('there', 'multiframe', 'far multiframe (y)'))
 # Height and top of the bar of each state, besides its colour and hatching.
@@ -26,16 +26,16 @@ SHAPES = {'idle': (3, 4), 'seized': (7, 2), 'acked': (11, 0), 'answered': (11, 0
 HATCHED = {'seized': 'dots', 'clearedback': 'bars', 'releasing': 'dots', 'blocked': 'slant', 'fault': 'cross'}
 Pixels = dict[int, Cell]
 WORDS = {'sent': 'sent', 'admitted': 'received', 'refused': 'discarded'}
-# What reads like another law or order, and what is silent, by the way, in a word.
+# Another law or order, and silence, by direction, in a word.
 LIKE = {'came': 'other law', 'slot': 'slot: other law', 'order': 'AAL2 packing'}
 SILENT = {'came': 'silence', 'slot': 'slot: silence'}
-UNEVEN = 'other length'     # packets whose samples are not what their timestamps go on by
+UNEVEN = 'other length'     # packets whose samples do not match the step of their timestamps
 
 
 @dataclass(frozen=True)
 class Odd:
-    """What stands out of what a circuit carries: a word for it, whether it is on the line of what is sent, how a mark
-    looks, and in which columns it is."""
+    """An anomaly of a circuit's speech: a word for it, whether it is on the line of what is sent, its mark, and its
+    columns."""
     words: str
     upper: bool
     kind: str
@@ -46,7 +46,7 @@ class Odd:
 
 
 def name_of(code: int) -> str:
-    """The manual's name of a refusal."""
+    """The name of a refusal in the manual."""
     try:
         return DatagramRefusal(code).label
     except ValueError:
@@ -60,7 +60,7 @@ def refusals(cell: Cell) -> str:
 
 
 def odds(whole: Cell) -> list[Odd]:
-    """What reads like another law or order, carries silence alone, or has packets of another length."""
+    """Other laws and orders, silence, and packets of another length."""
     def is_other(way: str, cell: Cell) -> bool:
         return way in cell.heard and cell.heard[way].other > 0
 
@@ -97,7 +97,7 @@ def trunk(facts: Facts, scale: Scale) -> str:
 
 
 def _slips(sheet: Sheet, facts: Facts, scale: Scale, y: float) -> None:
-    """Where octets of the trunk were lost, if the driver noted that: those of a pixel in one mark."""
+    """Losses of octets of the trunk noted by the driver, those of a pixel in one mark."""
     if facts.slips is None:
         return
     sheet.words(LEFT - 8, y + 9, 'slips', 'label', 'end')
@@ -139,7 +139,7 @@ def circuits(facts: Facts, rows: list[Row], scale: Scale, seen: dict[int, Pixels
 
 
 def _spans(row: Row, scale: Scale) -> list[tuple[int, int, str, int]]:
-    """The states of a line, short ones of them joined where there are too many: first, last, state, how many."""
+    """The states of a line, short ones joined if there are too many: first, last, state, count."""
     least = scale.octets / 2
     while True:
         out: list[tuple[int, int, str, int]] = []
@@ -189,8 +189,7 @@ def _lanes(sheet: Sheet, row: Row, facts: Facts, scale: Scale, seen: Pixels, y: 
 
 
 def _gaps(row: Row, facts: Facts, scale: Scale, seen: Pixels) -> list[tuple[float, float]]:
-    """Stretches of the sheet in which the path is open and nothing comes: of two seconds or more, or from the begin of
-    a call to its end."""
+    """Stretches without datagrams on an open path: of two seconds or more, or from the start of a call to its end."""
     came = sorted(x for x, cell in seen.items() if cell.admitted or cell.refused)
     wide = max(1.0, facts.width / scale.octets)
     found = []
@@ -205,8 +204,8 @@ def _gaps(row: Row, facts: Facts, scale: Scale, seen: Pixels) -> list[tuple[floa
 
 
 def _unheard(sheet: Sheet, row: Row, facts: Facts, scale: Scale, seen: Pixels, y: float) -> None:
-    """Dashes in the middle line where nothing comes, and marks on a line that reads like another law or order, or is
-    silent: the upper one is what the time slot has, the middle one what came."""
+    """Dashes in the middle line without datagrams, and marks on a line of another law or order, or of silence: the
+    upper one for the time slot, the middle one for datagrams."""
     gaps = _gaps(row, facts, scale, seen)
     sheet.path(''.join(f'M{LEFT + first:.0f} {y + 4.5:g}H{LEFT + last:.0f}' for first, last in gaps), 'nothing',
                f'circuit {row.number}: nothing comes, and the path is open')
@@ -221,8 +220,8 @@ def _unheard(sheet: Sheet, row: Row, facts: Facts, scale: Scale, seen: Pixels, y
 
 
 def _astray(sheet: Sheet, row: Row, scale: Scale, y: float) -> None:
-    """What a capture tells of what is sent: dashes on the upper line where it goes to another host than the peer's
-    come from, crosses where the network answers that it does not arrive."""
+    """Anomalies of what is sent, by a capture: dashes on the upper line if it goes to another host than the peer's,
+    crosses if the network answers that it does not arrive."""
     if row.wire is None:
         return
     if row.wire.is_astray():
@@ -236,13 +235,12 @@ def _astray(sheet: Sheet, row: Row, scale: Scale, y: float) -> None:
 
 
 def told_of(answer: Answer, command: Command) -> str:
-    """What became of a command, in words."""
+    """The outcome of a command in words."""
     return command.refusal or ('jitter buffer resynchronised' if answer is Answer.AGAIN else 'done')
 
 
 def _commands(sheet: Sheet, row: Row, scale: Scale, y: float) -> None:
-    """A triangle for a command that was done, a cross for one that was refused, a ring for a jitter buffer that was
-    resynchronised."""
+    """A triangle for a command done, a cross for one refused, a ring for a resynchronised jitter buffer."""
     drawn: dict[tuple[int, Answer], int] = {}
     for (_, answer), command in row.commands.items():
         if not scale.start <= command.place <= scale.end:
@@ -268,7 +266,7 @@ TOPS = (60, 120, 240, 430)
 
 
 class Playout:
-    """How long before its turn each datagram of a circuit came."""
+    """How long before its turn each datagram of a circuit arrived."""
 
     def __init__(self, row: Row, scale: Scale, seen: Pixels, wide: float) -> None:
         self.row, self.scale, self.seen, self.wide = row, scale, seen, wide
@@ -322,7 +320,7 @@ class Playout:
         sheet.path(f'M{LEFT} {self.y(self.row.prefill / 8):.1f}h{WIDE}', 'prefill', 'the prefill')
 
     def _admitted(self, sheet: Sheet) -> None:
-        """From the least to the most, column by column, where one is wider than a pixel as a box."""
+        """From the least to the most, column by column, as a box if wider than a pixel."""
         parts = []
         for x, cell in sorted(self.seen.items()):
             if cell.admitted:
@@ -333,7 +331,7 @@ class Playout:
         sheet.path(''.join(parts), 'p-box' if self.wide > 1.5 else 'p-admitted')
 
     def _untimely(self, sheet: Sheet) -> None:
-        """Late and Full, as triangles that point to where they are past the window."""
+        """Late and Full, as triangles that point beyond the window."""
         marks: dict[int, list[str]] = {14: [], 16: []}
         drawn: dict[int, int] = {14: -9, 16: -9}
         for x, cell in sorted(self.seen.items()):
@@ -348,13 +346,13 @@ class Playout:
             sheet.path(''.join(parts), 'p-refused')
 
     def _strip(self, sheet: Sheet, code: int, y: float) -> None:
-        """Refused datagrams that have no place in the window."""
+        """Refused datagrams without a place in the window."""
         self._row(sheet, [x for x, cell in self.seen.items() if code in cell.refused], 1.4,
                   f'{self.whole.refused[code][0]} {name_of(code)}', 'tick' if code == NOT_OPEN else 'bad', y)
 
     def _row(self, sheet: Sheet, columns: list[int], least: float, words: str, kind: str, y: float,
              mark: str = 'p-strip') -> None:
-        """A row of marks at columns, at least so wide, and its words."""
+        """A row of marks at columns, with a least width, and its words."""
         sheet.words(LEFT - 6, y + 8, words, kind, 'end')
         sheet.path(f'M{LEFT} {y + 4.5}h{WIDE}', 'grid')
         parts = [f'M{LEFT + first} {y}h{max(last - first + 1, least):g}v9h-{max(last - first + 1, least):g}z'
@@ -362,7 +360,7 @@ class Playout:
         sheet.path(''.join(parts), mark)
 
     def _hover(self, sheet: Sheet) -> None:
-        """What each stretch of the drawing has, told where the pointer is."""
+        """The contents of each stretch of the drawing, shown at the pointer."""
         wide = 20 * self.scale.coarse
         for begin in range(0, WIDE, wide):
             whole = Cell()

@@ -20,19 +20,19 @@ from .sound import Heard, Turns
 SECOND = 256_000            # octets of the trunk
 FRAME, MULTIFRAME = 32, 512
 MOST = 2400                 # columns
-WINDOW = 3200               # samples that the playout holds
+WINDOW = 3200               # samples in the playout
 OPEN = ('acked', 'answered', 'clearedback')
 NOT_OPEN = 20
-# Refusals of a datagram that is of the call's stream, so that its timestamp tells how early it came.
+# Refusals of a datagram of the call's stream, whose timestamp shows how early it was.
 TIMED = (0, 13, 14, 15, 16)
 BITS = {'g726-16': 2, 'g726-24': 3, 'g726-32': 4, 'g726-40': 5}
-# Where several states fall into one column, the first of these that is among them is shown.
+# If several states are in one column, the first of these is shown.
 RANK = ('fault', 'blocked', 'releasing', 'seized', 'clearedback', 'answered', 'acked', 'idle', 'unknown')
 HEADER = struct.Struct('>BBHII').unpack
 
 
 class Cell:
-    """What happened to a circuit's datagrams in a column."""
+    """The datagrams of a circuit in a column."""
     __slots__ = ('sent', 'admitted', 'low', 'high', 'total', 'lost', 'uneven', 'refused', 'counts', 'heard')
 
     def __init__(self) -> None:
@@ -46,7 +46,7 @@ class Cell:
         return not (self.sent or self.admitted or self.refused or self.counts or self.lost or self.heard)
 
     def is_uneven(self) -> bool:
-        """Most packets have another number of samples than their timestamps go on by."""
+        """Most packets have another number of samples than the step of their timestamps."""
         return self.uneven > max(20, self.admitted // 2)
 
     def admit(self, margin: int) -> None:
@@ -72,7 +72,7 @@ class Cell:
             seen[1], seen[2] = min(seen[1], at), max(seen[2], at)
 
     def join(self, other: Cell) -> None:
-        """Takes in the column behind this one."""
+        """Adds the next column."""
         if other.admitted:
             self.low = min(self.low, other.low) if self.admitted else other.low
             self.high = max(self.high, other.high) if self.admitted else other.high
@@ -90,12 +90,12 @@ class Cell:
             self.hear(way, more)
 
     def hear(self, way: str, more: Heard) -> None:
-        """Takes in what was heard one way."""
+        """Adds a sample of one direction."""
         self.heard.setdefault(way, Heard()).join(more)
 
 
 class Spans:
-    """Values that hold from a place on, each until the next."""
+    """Values that hold from a place to the next."""
 
     def __init__(self, value: Any, rank: tuple[Any, ...]) -> None:
         self.items: list[tuple[int, Any]] = [(0, value)]
@@ -123,12 +123,12 @@ class Spans:
         del self.items[:gone]
 
     def coalesce(self, width: int) -> None:
-        """Leaves one value in each column in which several begin: the first in rank."""
+        """Leaves one value in each column in which several begin: the first by rank."""
         kept: list[tuple[int, Any]] = []
         for place, value in self.items:
             start = place // width * width
             if kept and kept[-1][0] >= start and place:
-                # The one that holds at the column's end begins in the next column, if it is another.
+                # The last one of a column begins in the next column, if it is another.
                 best = min(kept[-1][1], value, key=self.rank.index)
                 kept[-1] = (kept[-1][0], best)
                 if best != value:
@@ -138,7 +138,7 @@ class Spans:
         self.items = [item for n, item in enumerate(kept) if not n or item[1] != kept[n - 1][1]]
 
     def between(self, start: int, end: int) -> Iterator[tuple[int, int, Any]]:
-        """Each value with the stretch in which it holds, cut to these places."""
+        """Each value with its stretch, cut to these places."""
         for n, (place, value) in enumerate(self.items):
             after = self.items[n + 1][0] if n + 1 < len(self.items) else end
             first, last = max(place, start), min(after, end)
@@ -147,8 +147,8 @@ class Spans:
 
 
 class Answer(enum.Enum):
-    """What became of a command. AGAIN is a codec that the circuit has: its jitter buffer was resynchronised, by the
-    driver or by an operator."""
+    """The outcome of a command. AGAIN is a codec that the circuit already has: its jitter buffer was resynchronised, by
+    the driver or by an operator."""
     REFUSED = enum.auto()
     DONE = enum.auto()
     AGAIN = enum.auto()
@@ -165,15 +165,15 @@ class Command:
 
 @dataclass
 class Stream:
-    """What the datagrams of a call that came have told so far."""
+    """The stream of a call's datagrams so far."""
     base: int | None = None             # the sample at which timestamp 0 would be due
     ssrc: int = 0
     sequence: int = -1
     stamp: int = 0
-    missing: set[int] = field(default_factory=set)      # sequence numbers that did not come
-    came: Turns = field(default_factory=Turns)          # when it is listened to: to datagrams, to the time slot
+    missing: set[int] = field(default_factory=set)      # missing sequence numbers
+    came: Turns = field(default_factory=Turns)          # when to listen: to datagrams, to the time slot
     slot: Turns = field(default_factory=Turns)
-    stretch: list[bytes] | None = None                  # datagrams in a row that are to be decoded
+    stretch: list[bytes] | None = None                  # consecutive datagrams to decode
 
 
 Address = tuple[str, int]
@@ -181,14 +181,14 @@ Address = tuple[str, int]
 
 @dataclass
 class Wire:
-    """Where a circuit's datagrams went to and came from, and why some were not delivered, by a capture."""
+    """The addresses of a circuit's datagrams, and why some were not delivered, by a capture."""
     went: Counter[Address] = field(default_factory=Counter)
     came: Counter[Address] = field(default_factory=Counter)
     answers: Counter[str] = field(default_factory=Counter)
-    places: list[int] = field(default_factory=list)     # of the answers, the first ones
+    places: list[int] = field(default_factory=list)     # the first answers
 
     def is_astray(self) -> bool:
-        """They go to another host than the peer's come from."""
+        """They go to another host than the peer's datagrams come from."""
         return bool(self.went and self.came) and not {host for host, _ in self.went} & {host for host, _ in self.came}
 
     def note(self, seen: Counter[Address], address: Address) -> None:
@@ -213,20 +213,20 @@ class Row:
     cell: Cell = field(default_factory=Cell)
     commands: dict[tuple[int, Answer], Command] = field(default_factory=dict)
     stream: Stream = field(default_factory=Stream)
-    # What was seen in datagrams that came, with the place where it was last seen.
+    # Kinds of datagrams received, with the place where each was last seen.
     types: dict[int, int] = field(default_factory=dict)
     sources: dict[int, int] = field(default_factory=dict)
     mismatch: tuple[int, int] = (0, 0)          # words of a datagram, step of its timestamp
-    begun: list[int] = field(default_factory=list)      # places where the playout began anew
+    begun: list[int] = field(default_factory=list)      # places where the playout restarted
     ssrc: int | None = None                             # of the last call's first datagram
     wire: Wire | None = None
-    step: int = 0                                       # of the timestamp, where it fits the words of a datagram
+    step: int = 0                                       # of the timestamp, if it matches the words of a datagram
     length: int = 0                                     # of such a datagram
     before: Repetitions = field(default_factory=Repetitions)
 
     def came(self, place: int, code: int, head: bytes, length: int, mark: int) -> None:
-        """A datagram that came: its first twelve octets, its length, its mark and how it was answered. A repetition
-        that is refused is counted apart."""
+        """A datagram received: its first twelve octets, its length, its mark and its answer. A refused repetition
+        counts separately."""
         if self.before.is_marked(head, mark) and code:
             self.cell.count('repetitions')
             return
@@ -258,14 +258,14 @@ class Row:
         self.types[kind] = self.sources[ssrc] = place
 
     def _follow(self, stream: Stream, sequence: int, stamp: int, length: int) -> None:
-        """Looks at the place of a datagram among those of its stream."""
+        """Follows the place of a datagram in its stream."""
         ahead = sequence - stream.sequence & 0xFFFF
         if stream.sequence >= 0 and ahead != 1:
             if 1 < ahead < 3000:
                 self.cell.lost += ahead - 1
                 stream.missing.update((stream.sequence + k) & 0xFFFF for k in range(1, ahead))
             elif ahead > 0x8000:
-                if sequence in stream.missing:          # else one that came comes again
+                if sequence in stream.missing:          # otherwise a repeated one
                     stream.missing.remove(sequence)
                     self.cell.lost -= 1
                 return
@@ -295,7 +295,7 @@ class Row:
             seen[value] = place
 
     def state(self, place: int, state: str) -> None:
-        """The line's state from a place on."""
+        """The line's state from a place."""
         was = self.states.value
         if state == was:
             return
@@ -311,11 +311,11 @@ class Row:
                 self.cell.count(name)
 
     def state_at(self, place: int) -> str:
-        """The line's state at a place that is not forgotten."""
+        """The line's state at a place still kept."""
         return next((state for first, state in reversed(self.states.items) if first <= place), 'unknown')
 
     def count(self) -> Cell:
-        """All that the columns have, in one."""
+        """The sum of all columns."""
         whole = Cell()
         for cell in self.cells.values():
             whole.join(cell)
@@ -324,7 +324,7 @@ class Row:
 
 
 class Facts:
-    """All that a picture shows. What happens is told in the order in which it happened."""
+    """The facts of a picture. Events are given in the order in which they happened."""
 
     def __init__(self, rows: dict[int, Row] | None = None, last: int | None = None, width: int = MULTIFRAME) -> None:
         self.rows = rows or {n: Row(n) for n in range(1, 31)}
@@ -336,17 +336,17 @@ class Facts:
         self.alarms = {(where, what): Spans(where == 'here', (True, False))
                        for where in ('here', 'there') for what in ('frame', 'multiframe')}
         self.ones = Spans(False, (True, False))
-        self.slips: list[tuple[int, float]] | None = None       # place and seconds, if the driver noted them
+        self.slips: list[tuple[int, float]] | None = None       # place and seconds, if noted by the driver
         self.losses: dict[str, list[int]] = {'frame': [], 'multiframe': []}
-        self.begin: float | None = None     # the time of place 0, in seconds since 1970, where it is known
-        self.told = 'e1gw'                  # who told how datagrams were answered
+        self.begin: float | None = None     # the time of place 0, in seconds since 1970, if known
+        self.told = 'e1gw'                  # the source of the datagrams' answers
         self.law = 'A'                      # of the trunk
-        self.strays: Counter[tuple[str, int]] = Counter()       # that came to ports of no circuit: from, to
+        self.strays: Counter[tuple[str, int]] = Counter()       # at ports without a circuit: from, to
         self.port_faults = 0
-        self.under_way: list[int] = []      # circuits with a call that was up when the session began
+        self.under_way: list[int] = []      # circuits with a call at the start of the session
 
     def began(self, place: int, circuits: Iterable[Standing]) -> None:
-        """The session begins at this place, in the first column, with circuits that are this."""
+        """The session begins at this place, in the first column, with these circuits."""
         self.place = self.start = place
         for which in self.alarms:
             self.alarms[which] = Spans(False, (True, False))
@@ -357,7 +357,7 @@ class Facts:
                 self.under_way.append(row.number)
 
     def turn(self, place: int) -> None:
-        """The trunk has come to a place."""
+        """The trunk has reached a place."""
         self.place = place
         column = place // self.width
         if column == self.column:
@@ -396,7 +396,7 @@ class Facts:
             self.losses[what] = [place for place in places if place >= self.start]
 
     def _double(self) -> None:
-        """Makes one column of each two."""
+        """Joins columns in pairs."""
         self.width *= 2
         for row in self.rows.values():
             cells: dict[int, Cell] = {}
@@ -421,7 +421,7 @@ class Facts:
                 spans.coalesce(self.width)
 
     def command(self, circuit: int, place: int, words: str, refusal: str = '') -> None:
-        """A command to a circuit, with the words of its refusal where it was refused."""
+        """A command to a circuit, with the words of its refusal if it was refused."""
         row = self.rows[circuit]
         is_codec = words.startswith('codec')
         again = is_codec and words == f'codec {row.codec} {row.payload}'
@@ -438,10 +438,10 @@ class Facts:
             places.append(place)
 
     def hear(self, circuit: int, place: int, way: str, more: Heard) -> None:
-        """What was heard at a place that is past."""
+        """A sample at a past place."""
         row = self.rows[circuit]
         row.cells.get(place // self.width, row.cell).hear(way, more)
 
     def second(self, place: int) -> float:
-        """The time of a place, in seconds from place 0, or since 1970 where that is known."""
+        """The time of a place, in seconds from place 0, or since 1970 if that is known."""
         return place / SECOND + (self.begin or 0.0)

@@ -1,4 +1,4 @@
-"""What stands out in a session, in words: what was seen, and what it usually comes from."""
+"""Anomalies of a session in words, with their usual causes."""
 from __future__ import annotations
 
 from collections.abc import Iterator
@@ -11,13 +11,13 @@ from .facts import NOT_OPEN, OPEN, SECOND, Answer, Cell, Facts, Row
 from .slopes import Points, Step, points, slope, steps
 from .svg import Scale, duration
 
-RATE = 20_000               # parts in a million from which on it is no difference of clocks
-SHORT = SECOND // 50        # an alarm of the far end that is shorter is but a wrong bit
+RATE = 20_000               # parts in a million above which it is no difference of clocks
+SHORT = SECOND // 50        # a shorter alarm of the far end is a bit error
 
 
 @dataclass(frozen=True)
 class Finding:
-    """`kind` joins circuits of which the same is to be said; `hint` is the usual cause, and what to do."""
+    """`kind` joins circuits with the same anomaly; `hint` is the usual cause, and what to do."""
     kind: str
     circuit: int            # 0: the trunk
     seen: str
@@ -30,7 +30,7 @@ def times(count: int) -> str:
 
 
 def _clock(row: Row, parts: list[Points], found: list[Step]) -> Iterator[Finding]:
-    """A difference of clocks: the longest stretch without a step that is a slope."""
+    """A difference of clocks: the longest slope without a step."""
     best: tuple[float, float, float] | None = None
     for part in parts:
         cuts = [step.place for step in found]
@@ -80,22 +80,23 @@ def _steps(facts: Facts, rows: list[Row], found: dict[int, list[Step]]) -> Itera
             words = f'{abs(step.samples) / 8:.0f} ms {"earlier" if step.samples > 0 else "later"}'
             yield Finding('jump', number, f'at {_moment(facts, at)} all datagrams come {words} from one to the next',
                           'the sender\'s timestamps jumped, or it went silent while they stood still (hold, transfer); '
-                          'where many circuits have it, the trunk lost octets')
+                          'if many circuits have it, the trunk lost octets')
     yield from _gaps(facts, gaps)
 
 
 def _gaps(facts: Facts, gaps: list[tuple[int, float, int]]) -> Iterator[Finding]:
-    """Moments at which octets of the trunk were lost: the place, the samples, and how many circuits show it."""
+    """Moments at which octets of the trunk were lost: the place, the samples, and the number of circuits that show
+    it."""
     hint = 'the device lost octets (a slip); `codec` for each call resynchronises its jitter buffer'
     if len(gaps) == 1:
         place, ahead, circuits = gaps[0]
         yield Finding('gap', 0, f'at {_moment(facts, place)} the datagrams of {circuits} circuits come '
-                      f'{ahead / 8:.0f} ms earlier all at once: so much of the trunk was lost', hint)
+                      f'{ahead / 8:.0f} ms earlier all at once: as much of the trunk was lost', hint)
     elif gaps:
         whole = sum(ahead for _, ahead, _ in gaps) / 8
         yield Finding('gap', 0, f'{len(gaps)} times, first at {_moment(facts, gaps[0][0])}, the datagrams of up to '
                       f'{max(circuits for _, _, circuits in gaps)} circuits come earlier all at once, by some '
-                      f'{whole:.0f} ms in all: so much of the trunk was lost', hint)
+                      f'{whole:.0f} ms in all: as much of the trunk was lost', hint)
 
 
 def _moment(facts: Facts, place: int) -> str:
@@ -103,9 +104,9 @@ def _moment(facts: Facts, place: int) -> str:
 
 
 HINTS = {
-    1: 'no RTP: keep-alives or scans', 2: 'no RTP: STUN or scans', 3: 'cut, or no RTP', 4: 'cut, or no RTP',
+    1: 'not RTP: keep-alives or scans', 2: 'not RTP: STUN or scans', 3: 'cut, or not RTP', 4: 'cut, or not RTP',
     5: 'cut, or encrypted (SRTP)',
-    13: 'another packet with a sequence number that came already: a second sender, or one that began anew',
+    13: 'another packet with a sequence number already received: a second sender, or one that restarted',
     15: 'the sender\'s packets are too long: at most 200 ms',
 }
 
@@ -130,8 +131,8 @@ def _refused(row: Row, whole: Cell) -> Iterator[Finding]:
             first = 'none' if row.ssrc is None else f'{row.ssrc:08x}'
             yield Finding('source', row.number, f'{part}WrongSource: SSRC {others or "another"} came, that of the '
                           f'call\'s first datagram is {first}',
-                          'a second sender, a stranger that came first, or a sender that began anew (hold, transfer); '
-                          '`codec` with the codec that the circuit has takes the next one')
+                          'a second sender, a stranger that came first, or a sender that restarted (hold, transfer); '
+                          '`codec` with the codec that the circuit has accepts the next one')
         elif code == 14:
             yield Finding('late', row.number, f'{part}Late, by up to {-low / 8:.0f} ms; the prefill is '
                           f'{row.prefill / 8:g} ms', 'jitter above the prefill, a slower clock, bursts, or timestamps '
@@ -146,7 +147,7 @@ def _refused(row: Row, whole: Cell) -> Iterator[Finding]:
 
 
 def _repeated(row: Row, whole: Cell) -> Iterator[Finding]:
-    """Packets that came once more, and were let go."""
+    """Packets received again and discarded."""
     again = whole.counts.get('repetitions', 0)
     if again:
         all_of = again + whole.admitted + sum(seen[0] for seen in whole.refused.values())
@@ -162,17 +163,17 @@ def _open(row: Row, facts: Facts) -> int:
 
 
 def _silent(row: Row, whole: Cell, opened: int) -> Iterator[Finding]:
-    """Where nothing comes, or nothing but silence."""
+    """No datagrams, or only silence."""
     came = whole.admitted + sum(seen[0] for code, seen in whole.refused.items() if code != NOT_OPEN)
     if opened > SECOND // 2 and not came:
         sent = f': {whole.sent} datagrams were sent to {row.peer}, and none came back' if whole.sent and row.peer else (
             ', and no datagram came')
         yield Finding('none', row.number, f'the path was open for {duration(opened)}{sent}',
-                      f'is that the peer, and does it send to {row.local or "a port of this end"}? Look at firewalls '
+                      f'is that the peer, and does it send to {row.local or "a port of this end"}? Check firewalls '
                       'and `host`')
     for way, words, hint in (
-            ('came', 'the datagrams that came carry one octet alone, as silence does', 'the far end is silent'),
-            ('slot', 'the time slot carries one octet alone, as silence does, and so do the datagrams that are sent',
+            ('came', 'the datagrams received contain one octet only, as silence does', 'the far end is silent'),
+            ('slot', 'the time slot contains one octet only, as silence does, and so do the datagrams sent',
              'the exchange speaks in another time slot, or not at all; is the circuit the same there?')):
         seen = whole.heard.get(way)
         if seen and seen.is_silence():
@@ -185,16 +186,16 @@ def _silent(row: Row, whole: Cell, opened: int) -> Iterator[Finding]:
 
 
 def _sound(row: Row, whole: Cell, law: str) -> Iterator[Finding]:
-    """What reads like speech in another law, or in another order of words."""
+    """Speech in another law, or in another order of words."""
     here, there = NAMES[law], NAMES[OTHER[law]]
     for way, what, hint in (
-            ('came', f'the datagrams that came read like {there}, not like {here}',
+            ('came', f'the datagrams received read like {there}, not like {here}',
              'the sender has the other law under this payload type: one law at both ends, or G.726'),
             ('slot', f'the time slot reads like {there}, not like {here}',
              '`law` is not the trunk\'s: set it as the exchange has it, and the sender\'s payload type with it'),
-            ('order', 'the G.726 that came is packed as in AAL2 (ITU-T I.366.2), not as in RFC 3551',
+            ('order', 'the G.726 received is packed as in AAL2 (ITU-T I.366.2), not as in RFC 3551',
              'the sender has the first word in the high bits: a name such as g726 for g726le, or AAL2-G726 for G726; '
-             'it may want what it is sent in that order, too')):
+             'it may expect that order, too')):
         seen = whole.heard.get(way)
         if seen and seen.is_other():
             yield Finding(f'{way} other', row.number, f'{what}, in {seen.other} of {seen.own + seen.other} looks that '
@@ -202,7 +203,7 @@ def _sound(row: Row, whole: Cell, law: str) -> Iterator[Finding]:
 
 
 def _way(row: Row, whole: Cell) -> Iterator[Finding]:
-    """Whether what is sent arrives, as far as a capture tells."""
+    """Whether what is sent arrives, by a capture."""
     wire = row.wire
     if wire is None:
         return
@@ -216,32 +217,32 @@ def _way(row: Row, whole: Cell) -> Iterator[Finding]:
                       '`peer_host` and `peer_port`, whether the peer runs and receives there, routes, firewalls')
     if wire.is_astray():
         yield Finding('astray', row.number, f'datagrams are sent to {to}, and the peer\'s come from {comes}: another '
-                      'address', 'most peers hear at the address that they send from: set `peer_host` to it')
+                      'address', 'most peers receive at the address they send from: set `peer_host` to it')
     elif wire.went and wire.came and not set(wire.went) & set(wire.came):
         yield Finding('port', row.number, f'datagrams are sent to {to}, and the peer\'s come from {comes}',
-                      'where the peer hears nothing: most hear at the port that they send from', False)
+                      'if the peer receives nothing: most receive at the port they send from', False)
 
 
 def _strays(facts: Facts) -> Iterator[Finding]:
-    """Datagrams that came to no circuit, and those that could not be sent."""
+    """Datagrams for no circuit, and those that could not be sent."""
     for (host, port), count in sorted(facts.strays.items(), key=lambda each: -each[1]):
         if count > 5:
             yield Finding('stray', 0, f'{count} datagrams came from {host} to port {port}, which no circuit has',
-                          'the sender\'s port is to be the `local_port` of the circuit')
+                          'the sender must send to the `local_port` of the circuit')
     if facts.port_faults:
         yield Finding('port faults', 0, f'{times(facts.port_faults)} a socket could not send or receive',
                       'no way to `peer_host`, a broadcast address, or a firewall of this machine')
 
 
 def _lines(row: Row, whole: Cell) -> Iterator[Finding]:
-    """Calls that did not come up, and commands that were refused."""
+    """Calls that did not come up, and refused commands."""
     unacknowledged, faults = whole.counts.get('unacknowledged', 0), whole.counts.get('faults', 0)
     if unacknowledged:
         yield Finding('unacknowledged', row.number,
                       f'a seizure was not acknowledged within {row.wait} ms ({times(unacknowledged)})',
                       'is the circuit incoming there, and its slot the same? No seizure works while there is an alarm')
     if faults:
-        yield Finding('fault', row.number, f'the line came to fault {times(faults)}',
+        yield Finding('fault', row.number, f'the line went to fault {times(faults)}',
                       'signals of the exchange that are not of Q.421, or both ends outgoing')
     if row.states.value == 'blocked':
         yield Finding('blocked', row.number, 'is blocked at the end', 'unblock it here, or at the exchange', False)
@@ -254,14 +255,14 @@ def _lines(row: Row, whole: Cell) -> Iterator[Finding]:
 
 
 def _jitter(row: Row, whole: Cell, parts: list[Points], explained: bool) -> Iterator[Finding]:
-    """A band that is wide."""
+    """A wide band."""
     spread = [cell.high - cell.low for cell in row.cells.values() if cell.admitted > 2]
     wide = max(spread, default=0)
     if wide > 80 and not explained and parts:
         yield Finding('jitter', row.number,
                       f'datagrams come by up to {wide / 8:.0f} ms more or less early, a band in the drawing; the '
                       f'prefill is {row.prefill / 8:g} ms',
-                      'jitter of the network or bursts of the sender; the prefill has to be above it',
+                      'jitter of the network or bursts of the sender; the prefill has to exceed it',
                       14 in whole.refused)
 
 
@@ -279,14 +280,14 @@ def _trunk(facts: Facts) -> Iterator[Finding]:
         up = sum(last - first for first, last, on in spans.between(facts.start, facts.place)
                  if on and (where == 'here' or last - first > SHORT))
         if where == 'here' and what == 'frame' and up >= long:
-            yield Finding('never', 0, 'no frame was ever found in what the trunk gave', 'cable, loopback, the card\'s '
-                          'mode, octets that are not aligned to slots')
+            yield Finding('never', 0, 'no frame was ever found in the octets of the trunk', 'cable, loopback, the '
+                          'card\'s mode, octets that are not aligned to slots')
         elif where == 'here' and what == 'multiframe' and up >= long:
             yield Finding('never', 0, 'no multiframe was ever found in slot 16', 'does the exchange signal by CAS?')
         elif where == 'there' and up:
             yield Finding(f'far {what}', 0, f'{REMOTE[what]} came for {duration(up)}: the far end has no {what} '
                           'alignment',
-                          'what is sent does not get there whole')
+                          'what is sent does not arrive intact')
     for what, places in facts.losses.items():
         if places:
             yield Finding(f'lost {what}', 0, f'{what} alignment was lost {times(len(places))}, first at '
@@ -295,15 +296,15 @@ def _trunk(facts: Facts) -> Iterator[Finding]:
     if slips:
         yield Finding('slips', 0, f'the driver noted {len(slips)} slip{"s" * (len(slips) > 1)}, first at '
                       f'{_moment(facts, slips[0][0])}: {sum(seconds for _, seconds in slips):.3f} s of the trunk were '
-                      'lost', 'the device or this machine stood still: its load, `Nice=`, the device\'s buffers')
+                      'lost', 'the device or this machine stalled: its load, `Nice=`, the device\'s buffers')
     ones = sum(last - first for first, last, on in facts.ones.between(facts.start, facts.place) if on)
     if ones:
         yield Finding('ones', 0, f'AIS (all ones) came for {duration(ones)}',
-                      'calls stand and send idle packets as long as it lasts; seizures are released')
+                      'calls stay up and send idle packets meanwhile; seizures are released')
 
 
 def findings(facts: Facts) -> list[Finding]:
-    """All that stands out, the trunk first."""
+    """All anomalies, the trunk's first."""
     rows = list(facts.rows.values())
     out = [*_trunk(facts), *_strays(facts)]
     parts = {row.number: points(row, facts.width) for row in rows}

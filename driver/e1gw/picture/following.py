@@ -1,21 +1,21 @@
-"""The lines of a trunk, followed quickly: multiframes that signal what the ones before them did are passed over."""
+"""The lines of a trunk, followed quickly: multiframes with the signals of those before are skipped."""
 from __future__ import annotations
 
 from ..lines import Lines, State
 from ..session import FRAME, MULTIFRAME
 
-# Equal multiframes after which nothing changes any more: ten are recognised, and alarms and errors have their course.
+# Equal multiframes after which nothing changes: ten are recognised, and alarms and errors have settled.
 STEADY = 12
 
 
 class Follower(Lines):
-    """Lines that are given many multiframes at once."""
+    """Lines that get many multiframes at once."""
 
-    same = 0                            # multiframes in a row with the signals of the last one
+    same = 0                            # consecutive multiframes with the last one's signals
     signals: tuple[bytes, bytes] = (b'', b'')
 
     def trunk(self, given: bytes, answered: bytes) -> None:
-        """Octets of the trunk, and as many that the gateway answered."""
+        """Octets of the trunk, and as many answered by the gateway."""
         at = 0
         while at < len(given):
             still = self._still(given, answered, at)
@@ -27,7 +27,7 @@ class Follower(Lines):
             at += still
 
     def _one(self, given: bytes, answered: bytes) -> None:
-        """At most a multiframe of what is sent, octet by octet where it matters."""
+        """At most a multiframe of what is sent, octet by octet if it matters."""
         signals = self._signals(given, answered)
         whole = len(given) == MULTIFRAME and self._frames.start is not None
         self.same = self.same + 1 if whole and signals == self.signals else 0
@@ -35,12 +35,12 @@ class Follower(Lines):
         super().trunk(given, answered)
 
     def _signals(self, given: bytes, answered: bytes) -> tuple[bytes, bytes]:
-        """The octets of slots 0 and 16 both ways."""
+        """The octets of slots 0 and 16 in both directions."""
         start = ((self._frames.start or 0) - self.place) % 16
         return given[start::16], answered[-self.place % 16::16]
 
     def _still(self, given: bytes, answered: bytes, at: int) -> int:
-        """How many octets from here on change nothing, in whole multiframes."""
+        """The number of octets from here that change nothing, in whole multiframes."""
         if self.same < STEADY or self.place % MULTIFRAME or self._frames.start is None or not self._settled():
             return 0
         start = at + (self._frames.start - self.place) % 16
@@ -55,7 +55,7 @@ class Follower(Lines):
         return alike * 16
 
     def _settled(self) -> bool:
-        """No frame of the last multiframe was wrong, and no line waits for its acknowledgement."""
+        """No frame of the last multiframe was wrong, and no line is waiting for an acknowledgement."""
         heard = self.signals[0]
         odd = (((self._frames.start or 0) - self.place) % (2 * FRAME)) // 16 % 2
         slots = heard[odd::2]

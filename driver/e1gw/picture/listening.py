@@ -1,4 +1,4 @@
-"""Listens to some of what comes for each circuit: datagrams, and the octets of its time slot."""
+"""Listens to samples of each circuit: datagrams, and the octets of its time slot."""
 from __future__ import annotations
 
 import math
@@ -8,11 +8,11 @@ from .facts import BITS, OPEN, Facts, Row
 from .orders import STRETCH, Orders
 from .sound import LOOKED_AT, Heard, heard, is_silent
 
-AGAIN = 16                  # looks in what a page shows of a trunk in service, at least
+AGAIN = 16                  # samples at least in the page of a trunk in service
 
 
 class Listener:
-    """Puts what it hears into the columns of facts."""
+    """Puts the results into the columns of facts."""
 
     def __init__(self, facts: Facts, program: str | None = None) -> None:
         self.facts = facts
@@ -20,7 +20,7 @@ class Listener:
         self.orders = Orders(program, facts.law, lambda circuit, place, seen: facts.hear(circuit, place, 'order', seen))
 
     def came(self, row: Row, place: int, datagram: bytes) -> None:
-        """A datagram that was admitted."""
+        """An admitted datagram."""
         try:
             payload = packet_of(datagram).payload
         except BadPacket:
@@ -36,7 +36,7 @@ class Listener:
                 row.cell.hear('came', heard(payload, self.facts.law))
 
     def _further(self, row: Row, place: int, payload: bytes, stretch: list[bytes]) -> None:
-        """The next datagram of G.726 in a row."""
+        """The next consecutive datagram of G.726."""
         stretch.append(payload)
         if len(stretch) == STRETCH:
             row.stream.stretch = None
@@ -44,7 +44,7 @@ class Listener:
                 self.orders.put(row.number, place, row.codec, stretch)
 
     def trunk(self, given: bytes, begin: int, place: int) -> None:
-        """Octets of the trunk from a place on, where frames begin at the octet `begin` of them, modulo 32."""
+        """Octets of the trunk from a place; frames begin at the octet `begin` of them, modulo 32."""
         for row in self.facts.rows.values():
             if row.states.value in OPEN and row.stream.slot.come(place, self.most):
                 slot = row.number if row.number < 16 else row.number + 1
@@ -56,5 +56,5 @@ class Listener:
         row.cell.hear('slot', heard(octets, self.facts.law))
 
     def look(self) -> None:
-        """Looks at what still waits."""
+        """Evaluates what is queued."""
         self.orders.look()

@@ -1,4 +1,4 @@
-"""The picture of the last minutes of a trunk in service, gathered as it goes."""
+"""The picture of the last minutes of a trunk in service, gathered continuously."""
 from __future__ import annotations
 
 import time
@@ -10,12 +10,12 @@ from .facts import Facts
 from .page import draw
 from .reading import Reading, rows_of
 
-MOST_HELD = 8 << 20         # octets of the recording that wait for their answers
-AT_ONCE = 1 << 16           # octets that are looked at together, since pieces are small
+MOST_HELD = 8 << 20         # octets of the recording without answers yet
+AT_ONCE = 1 << 16           # octets handled together, because pieces are small
 
 
 class Live:
-    """Told of the recording and of what its replay answers, in pieces of any size."""
+    """Takes the recording and the answers of its replay, in pieces of any size."""
 
     def __init__(self, config: Mapping[str, Any], seconds: float = 120.0, title: str = 'e1gw',
                  program: str | None = None) -> None:
@@ -23,7 +23,7 @@ class Live:
         self.facts = Facts(rows_of(config), int(seconds * OCTETS_A_SECOND))
         self.facts.slips = []
         self.reading = Reading(self.facts, config, program=program)
-        self.ended = ''                 # why it goes on no more
+        self.ended = ''                 # why it is not updated any more
         self._waiting: tuple[list[bytes], list[bytes]] = ([], [])
         self._held = 0
 
@@ -32,7 +32,7 @@ class Live:
         self._take(0, octets)
 
     def answered(self, octets: bytes) -> None:
-        """Octets that the replay of the recording has written."""
+        """Octets written by the replay of the recording."""
         self._take(1, octets)
 
     def slipped(self, place: int, seconds: float) -> None:
@@ -48,7 +48,7 @@ class Live:
                 self.look()
 
     def look(self) -> None:
-        """Looks at all that was told up to now."""
+        """Reads everything received so far."""
         if self.ended:
             return
         tape, answers = self._waiting
@@ -66,7 +66,7 @@ class Live:
             self.end('the answers fell behind')
 
     def end(self, why: str) -> None:
-        """Nothing is told any more; the page says since when."""
+        """Ends the updates; the page says since when."""
         if not self.ended:
             self.ended = why
             self.reading.given.held = self.reading.answered.held = b''
@@ -80,5 +80,5 @@ class Live:
             self.reading.flush()
             self.reading.listener.look()
             self.facts.begin = time.time() - self.facts.place / OCTETS_A_SECOND
-        notes = [f'It goes on no more: {self.ended}.'] if self.ended else []
+        notes = [f'It is not updated any more: {self.ended}.'] if self.ended else []
         return draw(self.facts, self.title, refresh=refresh, notes=notes)

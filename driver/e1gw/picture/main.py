@@ -25,14 +25,14 @@ UNITS = {'ms': 0.001, 's': 1.0, 'm': 60.0, 'h': 3600.0, 'd': 86400.0}
 
 MIDDLE = 'the session begins in the middle; calls that were under way show as fault or blocked until they end'
 
-ABOUT = '''Draws a session as one page of HTML, which needs no network and no script: the trunk's alarms both ways, the
-thirty circuits over time with their datagrams and commands, each troubled circuit's datagrams against its playout, the
-counts with their causes, and in words what stands out.
+ABOUT = '''Draws a session as one page of HTML without scripts or network: the trunk's alarms in both directions, the
+thirty circuits over time with their datagrams and commands, each troubled circuit's datagrams in its jitter buffer, the
+counts with their causes, and anomalies in words.
 
-SESSION is what the gateway was given (e1gw-session(5)): a file, - for standard input, or a folder in which e1gw-trunk
-keeps sessions. The answers are those of `e1gw replay`, which is run for them, or those that --answers names. --capture
-takes the datagrams from a capture (pcap or pcapng), by the ports of the configuration; without SESSION what became of
-them is reckoned.'''
+SESSION is the session given to the gateway (e1gw-session(5)): a file, - for standard input, or a folder of sessions
+kept by e1gw-trunk. The answers are those of --answers, or of `e1gw replay`, which is then run. --capture takes the
+datagrams from a capture (pcap or pcapng), by the ports of the configuration; without SESSION their fate is
+estimated.'''
 
 
 def seconds(text: str) -> float:
@@ -42,9 +42,9 @@ def seconds(text: str) -> float:
     try:
         value = float(number) * UNITS[unit]
     except (ValueError, KeyError):
-        raise argparse.ArgumentTypeError(f'{text} is no time such as 60s, 5m or 250ms') from None
+        raise argparse.ArgumentTypeError(f'{text} is not a time such as 60s, 5m or 250ms') from None
     if not 0.001 <= value <= 1e9:
-        raise argparse.ArgumentTypeError(f'{text} is no time between 1 ms and some years')
+        raise argparse.ArgumentTypeError(f'{text} is not a time between 1 ms and some years')
     return value
 
 
@@ -57,7 +57,7 @@ def moment(text: str) -> float:
     try:
         when = datetime.datetime.fromisoformat(text)
     except ValueError:
-        raise argparse.ArgumentTypeError(f'{text} is no time such as 2026-11-23T07:30:00Z') from None
+        raise argparse.ArgumentTypeError(f'{text} is not a time such as 2026-11-23T07:30:00Z') from None
     return (when if when.tzinfo else when.replace(tzinfo=datetime.timezone.utc)).timestamp()
 
 
@@ -67,7 +67,7 @@ def circuits(text: str) -> list[int]:
     for part in text.split(','):
         first, _, last = part.partition('-')
         if not (first.isascii() and first.isdecimal() and (not last or last.isascii() and last.isdecimal())):
-            raise argparse.ArgumentTypeError(f'{text} is no list of circuits such as 1,2,7 or 3-9')
+            raise argparse.ArgumentTypeError(f'{text} is not a list of circuits such as 1,2,7 or 3-9')
         out += range(int(first), int(last or first) + 1)
     if not out or not all(1 <= n <= 30 for n in out):
         raise argparse.ArgumentTypeError('circuits are 1 to 30')
@@ -78,14 +78,14 @@ def parser() -> argparse.ArgumentParser:
     words = argparse.ArgumentParser(prog='e1gw-picture', description=ABOUT,
                                     formatter_class=argparse.RawDescriptionHelpFormatter,
                                     epilog='Example: e1gw-picture --config trunk1.toml -o page.html trunk1.rec')
-    words.add_argument('session', nargs='?', metavar='SESSION', help='what the gateway was given')
+    words.add_argument('session', nargs='?', metavar='SESSION', help='the session given to the gateway')
     words.add_argument('--config', metavar='FILE', help='the configuration [default: that of the kept session]')
-    words.add_argument('--answers', metavar='FILE', help='what the gateway answered [default: e1gw replay is run]')
+    words.add_argument('--answers', metavar='FILE', help='the answers of the gateway [default: runs e1gw replay]')
     words.add_argument('--capture', metavar='FILE', help='a capture of the datagrams')
     words.add_argument('--totals', metavar='FILE', help='what the gateway or the journal said of its totals')
-    words.add_argument('-o', '--output', metavar='PAGE', help='where the page goes [default: standard output]')
-    words.add_argument('--last', type=seconds, metavar='TIME', help='the last part of the session alone, as 60s or 5m')
-    words.add_argument('--circuits', type=circuits, metavar='LIST', help='these circuits alone, as 1,2,7 or 3-9')
+    words.add_argument('-o', '--output', metavar='PAGE', help='the page to write [default: standard output]')
+    words.add_argument('--last', type=seconds, metavar='TIME', help='only the last part, such as 60s or 5m')
+    words.add_argument('--circuits', type=circuits, metavar='LIST', help='only these circuits, such as 1,2,7 or 3-9')
     words.add_argument('--begin', type=moment, metavar='TIME', help='when the session began, in UTC')
     words.add_argument('--seizure-wait', type=number(200, 8000), metavar='MS',
                        help='as of the gateway [default: that of the kept session, or 200]')
@@ -101,7 +101,7 @@ def given(session: Kept) -> Iterator[bytes]:
 
 
 def port_faults(path: str) -> int:
-    """How often a socket could not send or receive, by the totals that a gateway has printed last."""
+    """How often a socket could not send or receive, by a gateway's last totals."""
     with open(path, encoding='utf-8', errors='replace') as file:
         told = re.findall(r'\bport_faults (\d+)', file.read())
     if not told:
@@ -111,7 +111,7 @@ def port_faults(path: str) -> int:
 
 def facts_of(options: argparse.Namespace, session: Kept, tables: dict[str, Any],
              place: int) -> tuple[Facts, Iterator[bytes]]:
-    """What is known of a session before it is read, and its octets, the first of which is at this place."""
+    """The facts known of a session before it is read, and its octets from this place."""
     facts = Facts(rows_of(tables), span_of(options))
     facts.slips = session.slips and [(place + at, seconds) for at, seconds in session.slips]
     octets = given(session)
@@ -124,7 +124,7 @@ def facts_of(options: argparse.Namespace, session: Kept, tables: dict[str, Any],
 
 
 def gathered(options: argparse.Namespace, session: Kept, config: str, known: Begun | None) -> tuple[Facts, str]:
-    """What is drawn of a session, and a word on how it ended. It begins with a gateway that is known, or new."""
+    """The facts of a session, and a word about its end. It begins with a known gateway, or a new one."""
     wait = options.seizure_wait or session.wait
     tables = with_wait(read_config(config), wait)
     facts, octets = facts_of(options, session, tables, known.place if known else 0)
@@ -144,16 +144,17 @@ def gathered(options: argparse.Namespace, session: Kept, config: str, known: Beg
 
 
 def span_of(options: argparse.Namespace) -> int | None:
-    """The octets of the trunk that are to be shown, where it is not all of them."""
+    """The octets of the trunk to show, if not all."""
     return int(options.last * OCTETS_A_SECOND) if options.last else None
 
 
 def session_of(options: argparse.Namespace) -> tuple[Kept, Begun | None, str]:
-    """The session that was named, what the gateway was when it began, and what is to be said of that. If nothing tells
-    what the gateway was, the session is read as if the gateway had begun there."""
+    """The session named, the gateway at its start, and a note about that. If the gateway is not known, the session is
+    read as if it began there."""
     if not options.session or options.session == '-':
         return Kept(['-']), None, ''
-    whole, told = kept(options.session), []
+    whole = kept(options.session)
+    told: list[str] = []
     if options.answers or not (options.config or whole.config):
         return whole, None, MIDDLE if whole.middle else ''
     for session in (kept(options.session, span_of(options)), whole):
@@ -167,8 +168,8 @@ def session_of(options: argparse.Namespace) -> tuple[Kept, Begun | None, str]:
 
 
 def failure_of(word: str, session: Kept) -> str:
-    """Why a session failed before its end, and where it is no session but octets of a trunk the command that makes one;
-    nothing for one that ends inside a record, as one does that is still written."""
+    """Why a session failed before its end, and for a trunk's octets the command that makes a session of them; nothing
+    for one that ends inside a record, as one still being written."""
     if not word.startswith('fault') or 'Truncated' in word:
         return ''
     raw = raw_words_of(session.files[0]) if session.files[0] != '-' else None
@@ -176,9 +177,9 @@ def failure_of(word: str, session: Kept) -> str:
 
 
 def drawn(options: argparse.Namespace) -> tuple[str, bool]:
-    """The page that was asked for, and whether its session is whole."""
+    """The page asked for, and whether its session is complete."""
     if not options.session and not options.capture:
-        raise Trouble('no session was named, and no capture')
+        raise Trouble('no session and no capture was named')
     session, known, middle = session_of(options)
     config = options.config or session.config
     if not config:

@@ -10,17 +10,17 @@ from ..session import datagram_record
 from .facts import BITS
 from .sound import Heard, clearer, sound
 
-STRETCH = 10                # datagrams in a row
-SETTLES = 4                 # of them those in which the decoder follows, which are not listened to
-WAITING = 240               # stretches that wait to be decoded
-SECONDS = 30                # that a run of the program may take
+STRETCH = 10                # consecutive datagrams
+SETTLES = 4                 # of them those before the decoder has settled, which are ignored
+WAITING = 240               # stretches queued for decoding
+SECONDS = 30                # seconds for a run of the program
 HEADER = bytes([0x80, 96]) + bytes(10)      # RTP, of the payload type that `e1gw decode` has for G.726
 Told = Callable[[int, int, Heard], None]    # of a circuit, at a place
 
 
 def reordered(payload: bytes, bits: int) -> bytes:
-    """Words of so many bits in the order of AAL2, put into that of RFC 3551: eight words are as many octets as a word
-    has bits. What is left behind the last eight is left out."""
+    """Words of so many bits, from the order of AAL2 to that of RFC 3551: eight words are as many octets as a word has
+    bits. The rest behind the last eight is left out."""
     mask, out = (1 << bits) - 1, bytearray()
     for at in range(0, len(payload) - bits + 1, bits):
         eight = int.from_bytes(payload[at:at + bits], 'big')
@@ -30,21 +30,21 @@ def reordered(payload: bytes, bits: int) -> bytes:
 
 
 class Orders:
-    """Stretches of datagrams, decoded both ways when many wait or when the page is drawn. Without a program nothing is
-    told; nothing is told either where it fails."""
+    """Stretches of datagrams, decoded both ways when many are queued or when the page is drawn. Without a program, or
+    if it fails, there is no result."""
 
     def __init__(self, program: str | None, law: str, tell: Told) -> None:
         self.program, self.law, self.tell = program, law, tell
         self.waiting: list[tuple[int, int, str, list[bytes]]] = []
 
     def put(self, circuit: int, place: int, codec: str, payloads: list[bytes]) -> None:
-        """A stretch of the datagrams of a circuit that came from a place on."""
+        """A stretch of a circuit's datagrams from a place."""
         self.waiting.append((circuit, place, codec, payloads))
         if len(self.waiting) >= WAITING:
             self.look()
 
     def look(self) -> None:
-        """Decodes all that waits."""
+        """Decodes everything queued."""
         waiting, self.waiting = self.waiting, []
         for codec in sorted({codec for _, _, codec, _ in waiting}):
             self._look(codec, [(circuit, place, payloads) for circuit, place, each, payloads in waiting
@@ -75,7 +75,7 @@ class Orders:
         return seen
 
     def _decoded(self, codec: str, payloads: Sequence[bytes]) -> bytes | None:
-        """What the program makes of payloads, one behind the other; None where it fails."""
+        """The program's output for payloads, one behind the other; None if it fails."""
         if not self.program:
             return None
         bits = BITS[codec]

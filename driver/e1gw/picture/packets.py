@@ -1,5 +1,5 @@
-"""UDP datagrams of a capture, and what ICMP answers to some: pcap and pcapng files of Ethernet, Linux cooked, loopback
-or plain IP packets."""
+"""UDP datagrams of a capture, and ICMP's answers to some: pcap and pcapng files of Ethernet, Linux cooked, loopback or
+plain IP packets."""
 from __future__ import annotations
 
 import struct
@@ -25,12 +25,12 @@ MOST = 1 << 20              # octets of a block
 
 
 class BadCapture(ValueError):
-    """A file is no capture that is understood."""
+    """A file is not a readable capture."""
 
 
 class Datagram(NamedTuple):
-    """A datagram on the network: when, between which ports and addresses, and what it carries. With `answer` it is one
-    that was not delivered, and the answer says why."""
+    """A datagram on the network: time, ports, addresses and payload. With `answer` it was not delivered, and the answer
+    says why."""
     time: float
     source: int
     target: int
@@ -41,15 +41,15 @@ class Datagram(NamedTuple):
 
 
 def datagrams(file: BinaryIO) -> Iterator[Datagram]:
-    """The UDP datagrams of a capture; packets that are cut, in fragments or no UDP are passed over. An end inside a
-    packet, as in a file that is still written, ends it."""
+    """The UDP datagrams of a capture; packets that are cut, fragmented or not UDP are skipped. An end inside a packet,
+    as in a file still being written, ends it."""
     magic = file.read(4)
     if magic in PCAP:
         yield from _pcap(file, *PCAP[magic])
     elif magic == b'\x0A\x0D\x0D\x0A':
         yield from _pcapng(file)
     else:
-        raise BadCapture('no capture: neither pcap nor pcapng')
+        raise BadCapture('not a capture: neither pcap nor pcapng')
 
 
 def _pcap(file: BinaryIO, order: str, parts: int) -> Iterator[Datagram]:
@@ -71,7 +71,7 @@ def _pcap(file: BinaryIO, order: str, parts: int) -> Iterator[Datagram]:
 
 
 def _pcapng(file: BinaryIO) -> Iterator[Datagram]:
-    """Blocks: sections, interfaces and packets; others are passed over."""
+    """Blocks: sections, interfaces and packets; others are skipped."""
     order, links = '<', list[tuple[int, float]]()
     kind = SECTION
     while True:
@@ -102,7 +102,7 @@ def _pcapng(file: BinaryIO) -> Iterator[Datagram]:
 
 
 def _resolution(order: str, options: bytes) -> float:
-    """How long a unit of an interface's times is: option 9, by default a millionth of a second."""
+    """The unit of an interface's times: option 9, by default a millionth of a second."""
     at = 0
     while at + 4 <= len(options):
         code, length = struct.unpack_from(order + 'HH', options, at)
@@ -119,8 +119,8 @@ Found = tuple[int, int, bytes, bytes, bytes, str]      # all of a datagram but i
 
 
 def udp_of(link: int, octets: bytes) -> Found | None:
-    """The ports, the body and the addresses of a UDP datagram over IPv4 or IPv6, and why it was not delivered where
-    the packet is an answer that says so; or None."""
+    """The ports, the body and the addresses of a UDP datagram over IPv4 or IPv6, and why it was not delivered if the
+    packet is such an answer; or None."""
     if link not in LINKS:
         return None
     skip, word = LINKS[link]
@@ -143,7 +143,7 @@ def udp_of(link: int, octets: bytes) -> Found | None:
 
 
 def _carried(ip: bytes) -> tuple[int, int] | None:
-    """The protocol that an IP packet carries and where that begins; None of a fragment and of what is no IP."""
+    """The protocol of an IP packet and where it begins; None for a fragment and other packets."""
     if len(ip) >= 20 and ip[0] >> 4 == 4 and not struct.unpack_from('>H', ip, 6)[0] & 0x3FFF:
         return ip[9], 4 * (ip[0] & 15)
     if len(ip) >= 40 and ip[0] >> 4 == 6:
@@ -152,12 +152,12 @@ def _carried(ip: bytes) -> tuple[int, int] | None:
 
 
 def _hosts(ip: bytes) -> tuple[bytes, bytes]:
-    """Where an IP packet comes from and goes to."""
+    """The source and destination of an IP packet."""
     return (ip[12:16], ip[16:20]) if ip[0] >> 4 == 4 else (ip[8:24], ip[24:40])
 
 
 def _undelivered(icmp: bytes, reasons: dict[tuple[int, int], str]) -> Found | None:
-    """The datagram that an answer of ICMP is about, as far as it is quoted."""
+    """The datagram quoted in an ICMP answer."""
     quoted = icmp[8:]
     found = _carried(quoted)
     reason = reasons.get((icmp[0], icmp[1])) if len(icmp) >= 8 else None

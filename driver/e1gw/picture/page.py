@@ -1,4 +1,4 @@
-"""The page: one file that needs no network and no script."""
+"""The page: one file without network or scripts."""
 from __future__ import annotations
 
 import html
@@ -16,8 +16,8 @@ from .svg import Scale, duration
 
 MOST = 1_900_000            # octets of a page
 LISTED = 400                # rows of a table
-FEW = 6                     # entries of what stands out that are printed with their causes
-PRINTED = 733, 1040         # pixels of a sheet of A4 within its margins
+FEW = 6                     # anomalies that are printed with their causes
+PRINTED = 733, 1040         # pixels of a sheet of A4 inside its margins
 STATES = ('idle', 'seized', 'acked', 'answered', 'clearedback', 'releasing', 'blocked', 'fault')
 
 
@@ -26,7 +26,7 @@ def escape(words: object) -> str:
 
 
 def table(caption: str, heads: Iterable[str], rows: list[tuple[object, ...]]) -> str:
-    """A table; numbers stand at the right."""
+    """A table with numbers at the right."""
     def cell(value: object) -> str:
         kind = ' class="n"' if isinstance(value, (int, float)) else ''
         return f'<td{kind}>{escape(value)}</td>'
@@ -37,13 +37,13 @@ def table(caption: str, heads: Iterable[str], rows: list[tuple[object, ...]]) ->
 
 
 def is_quiet(row: Row, whole: Cell) -> bool:
-    """Nothing but idle, or a line that never left its first state."""
+    """Only idle, or a line that never left its first state."""
     states = [state for _, state in row.states.items]
     return whole.is_empty() and not row.commands and states in (['fault'], ['fault', 'idle'], ['idle'], ['unknown'])
 
 
 def loud(heard: Mapping[str, Heard], way: str) -> str:
-    """The levels of what was heard one way, as it is played and as it would be otherwise."""
+    """The levels of one direction, as played and in the other law or order."""
     seen = heard.get(way)
     if not seen or not (seen.power and seen.under_other):
         return ''
@@ -62,7 +62,7 @@ def numbers(circuits: Iterable[int]) -> str:
 
 
 def found_items(found: list[Finding], shown: set[int]) -> list[str]:
-    """What stands out, one entry for circuits of which the same is to be said."""
+    """Anomalies, one entry for circuits with the same."""
     groups: dict[str, list[Finding]] = {}
     for each in found:
         key = f'{each.kind} {each.bad}' + (f' {each.seen}' if not each.circuit else '')
@@ -95,7 +95,7 @@ def found_list(items: list[str]) -> str:
 
 
 class Page:
-    """What is drawn of facts."""
+    """The drawings of facts."""
 
     def __init__(self, facts: Facts, title: str, circuits: list[int] | None = None,
                  notes: Iterable[str] = ()) -> None:
@@ -116,7 +116,7 @@ class Page:
         self.items = found_items(self.found, {row.number for row in busy})
 
     def told(self) -> str:
-        """The first lines: when, how long, how many."""
+        """The first lines: time, duration, counts."""
         facts, wholes = self.facts, list(self.whole.values())
         refused = sum(seen[0] for whole in wholes for seen in whole.refused.values())
         when = ''
@@ -139,7 +139,7 @@ class Page:
         return f'<div class="two">{"".join(drawn)}</div>'
 
     def datagrams(self) -> str:
-        """The drawings against the playout, the troubled circuits first."""
+        """The drawings of jitter buffers, the troubled circuits first."""
         out = ('<p class="note">How long before its turn each datagram came: the line at 0 is its turn, the dashed one '
                'the prefill, the tinted field the window of 400 ms or what of it is drawn. &#9660; Late, &#9650; Full; '
                'others stand in rows of their own. A slope is a difference of clocks, a band is jitter, a '
@@ -211,7 +211,7 @@ class Page:
     # ---- all of it ----
 
     def zoom(self) -> float:
-        """By how much all of it is made smaller so that it is printed on one sheet: its height is reckoned."""
+        """The scale at which the page fits on one printed sheet, from its height."""
         words = [re.sub('<.*?>', '', item).partition('&rarr;')[0] if len(self.items) > FEW else item
                  for item in self.items]
         lines = sum(1.3 + len(each) // 170 for each in words) + 2 * len(self.notes)
@@ -239,7 +239,7 @@ class Page:
 
 
 def key(captured: bool) -> str:
-    """What the marks mean, those of a capture among them."""
+    """The meaning of the marks, also those of a capture."""
     out = []
     for state in STATES:
         high, down = charts.SHAPES[state]
@@ -279,7 +279,7 @@ def html_of(title: str, body: str, refresh: int | None = None) -> str:
 
 def draw(facts: Facts, title: str, circuits: list[int] | None = None, refresh: int | None = None,
          notes: Iterable[str] = ()) -> str:
-    """The page of facts, of less than 2 MB: where it would be longer, detail goes."""
+    """The page of facts, below 2 MB: detail is dropped if it would be longer."""
     page = Page(facts, title, circuits, notes)
     text = html_of(title, page.drawn(), refresh)
     for coarse in (2, 4, 8, 16, 32):

@@ -1,4 +1,4 @@
-"""Reads a session and its answers, side by side, into what a picture shows."""
+"""Reads a session and its answers side by side into the facts of a picture."""
 from __future__ import annotations
 
 import re
@@ -15,13 +15,13 @@ from .listening import Listener
 
 PIECE = 1 << 16
 TRUNK, DATAGRAM, ANSWER = int(Kind.TRUNK), int(Kind.DATAGRAM), int(Kind.ANSWER)
-AT_LEAST = 10 * MULTIFRAME  # octets that are followed at once: as many samples of a time slot as are listened to
+AT_LEAST = 10 * MULTIFRAME  # octets followed at once: as many samples of a time slot as are listened to
 MOST = 1 << 20              # octets
 ONES = re.compile(b'\xff{512,}')
 
 
 class Readable(Protocol):
-    """What octets are read from; b'' at its end."""
+    """A source of octets; b'' at its end."""
 
     def read(self, size: int = -1, /) -> bytes:
         ...
@@ -44,7 +44,7 @@ def rows_of(config: Mapping[str, Any]) -> dict[int, Row]:
 
 
 class Told:
-    """Passes on to facts what a follower tells."""
+    """Passes a follower's events on to facts."""
 
     def __init__(self, facts: Facts) -> None:
         self.facts = facts
@@ -66,7 +66,7 @@ class Told:
 
 
 class Stream:
-    """Records of a stream, found in what is held of it. Without a source it has what is pushed."""
+    """The records of a stream, in the octets held. Without a source it has what is pushed."""
 
     def __init__(self, source: Readable | None) -> None:
         self.source = source
@@ -75,13 +75,13 @@ class Stream:
         self.gone = 0                   # octets before what is held
 
     def push(self, piece: bytes) -> None:
-        """Takes octets behind what is not used yet."""
+        """Adds octets."""
         self.gone += self.at
         self.held = self.held[self.at:] + piece
         self.at = 0
 
     def more(self) -> bool:
-        """Reads on; returns whether anything came."""
+        """Reads more; returns whether anything arrived."""
         piece = self.source.read(PIECE) if self.source else b''
         if piece:
             self.push(piece)
@@ -95,7 +95,7 @@ class Stream:
 
 
 class Reading:
-    """A session as it is read. Datagrams wait until the octets before them were followed."""
+    """A session while it is read. Datagrams wait until the octets before them are followed."""
 
     def __init__(self, facts: Facts, config: Mapping[str, Any], given: Readable | None = None,
                  answered: Readable | None = None, program: str | None = None, begun: Begun | None = None) -> None:
@@ -107,10 +107,10 @@ class Reading:
         self.tell = Told(facts)
         self.given, self.answered = Stream(given), Stream(answered)
         self.place = 0
-        self.trunk: list[bytes] = []    # octets that were not followed yet, from `followed` on, and those sent
+        self.trunk: list[bytes] = []    # octets not yet followed, from `followed`, and those sent
         self.sends: list[bytes] = []
         self.followed = 0
-        self.due = 0                    # where they are followed next
+        self.due = 0                    # the next place to follow
         # place, circuit, code, head, length, mark
         self.came: deque[tuple[int, int, int, bytes, int, int]] = deque()
         self.sent = dict.fromkeys(facts.rows, 0)
@@ -119,14 +119,14 @@ class Reading:
             self._begin(begun)
 
     def _begin(self, begun: Begun) -> None:
-        """Begins with what the gateway was."""
+        """Begins with the gateway's state."""
         self.lines.begin(begun.place, begun.circuits)
         self.facts.began(begun.place, begun.circuits)
         self.place = self.followed = begun.place
         self.due = begun.place + MULTIFRAME
 
     def read(self) -> None:
-        """Reads all of it, or up to where one of the two ends. BadSession at what is no record."""
+        """Reads everything, or until one of the two ends. BadSession for an invalid record."""
         try:
             while self.go_on() and self.given.more():
                 pass
@@ -136,7 +136,7 @@ class Reading:
         self.whole = not (self.given.is_cut() or self.answered.is_cut())
 
     def go_on(self) -> bool:
-        """Reads the whole records that are held; returns whether the answers go on."""
+        """Reads the whole records held; returns whether the answers go on."""
         stream, at = self.given, self.given.at
         data, end = stream.held, len(stream.held)
         going = True
@@ -159,7 +159,7 @@ class Reading:
         return going
 
     def _trunk(self, record: bytes) -> bool:
-        """Octets of the trunk: the datagrams that were sent with them, and the octets."""
+        """Octets of the trunk: the datagrams sent with them, and the octets."""
         stream = self.answered
         data, at = stream.held, stream.at
         while data[at:at + 4] != record[:4]:
@@ -187,12 +187,12 @@ class Reading:
         return True
 
     def _more(self, at: int) -> bool:
-        """More of the answers, from a place in what is held on."""
+        """More of the answers, from a place in those held."""
         self.answered.at = at
         return self.answered.more()
 
     def _datagram(self, circuit: int, data: bytes, at: int, after: int) -> bool:
-        """A datagram that came."""
+        """A datagram received."""
         code = self._answer(DATAGRAM)
         if code < 0:
             return False
@@ -207,7 +207,7 @@ class Reading:
         return True
 
     def _answer(self, asked: int) -> int:
-        """The code of the next answer, or -1 where there is none."""
+        """The code of the next answer, or -1 without one."""
         stream = self.answered
         at = stream.at
         while at + 6 > len(stream.held):
@@ -240,14 +240,14 @@ class Reading:
         return True
 
     def flush(self) -> None:
-        """Follows all octets that wait, and looks at all datagrams."""
+        """Follows all queued octets and handles all datagrams."""
         self._follow(self.place)
         while self.told:
             self._pass_on(self.told.popleft())
         self.facts.turn(self.place)
 
     def _follow(self, upto: int) -> None:
-        """Follows octets up to a place, then looks at the datagrams before it."""
+        """Follows octets up to a place, then handles the datagrams before it."""
         if self.trunk:
             given, sends = b''.join(self.trunk), b''.join(self.sends)
             size = upto - self.followed
@@ -286,8 +286,7 @@ class Reading:
 
 def read(given: Readable, answered: Readable, config: Mapping[str, Any], last: int | None = None,
          program: str | None = None) -> Facts:
-    """What a picture shows of a session that the gateway was given and of what it answered. The program is asked for
-    the order of words of G.726."""
+    """The facts of a gateway's input and its answers. The program finds the order of words of G.726."""
     facts = Facts(rows_of(config), last)
     Reading(facts, config, given, answered, program).read()
     return facts

@@ -1,4 +1,4 @@
-"""How early datagrams come, as points over time: steps, and straight lines through them."""
+"""How early datagrams arrive, as points over time: steps, and straight lines through them."""
 from __future__ import annotations
 
 from dataclasses import dataclass
@@ -7,20 +7,20 @@ from statistics import median
 from .facts import FRAME, SECOND, Row
 
 AROUND = 6                  # points on each side of a step
-STEP = 120                  # samples, 15 ms, from which on it is one
+STEP = 120                  # samples, 15 ms, above which it is one
 POINTS = 300
 Points = list[tuple[float, float]]      # place, samples before its turn
 
 
 @dataclass(frozen=True)
 class Step:
-    """All at once the datagrams come earlier before their turn by so many samples, or later where it is below 0."""
+    """Datagrams suddenly arrive earlier by so many samples, or later if it is negative."""
     place: int
     samples: float
 
 
 def points(row: Row, width: int) -> list[Points]:
-    """How many samples before its turn what came in a column was, on average, for each time that the playout began."""
+    """The mean number of samples before their turn in each column, for each restart of the playout."""
     out: list[Points] = [[]]
     begun = sorted(row.begun)
     for column in sorted(row.cells):
@@ -45,7 +45,7 @@ def _thinned(part: Points) -> Points:
 
 
 def steps(part: Points) -> list[Step]:
-    """Where the points go to another height and stay there."""
+    """Lasting changes of the points' height."""
     out: list[Step] = []
     for n in range(AROUND, len(part) - AROUND + 1):
         before = [y for _, y in part[n - AROUND:n]]
@@ -58,8 +58,8 @@ def steps(part: Points) -> list[Step]:
 
 
 def slope(part: Points) -> tuple[float, float, float]:
-    """Of the straight line through points: parts in a million, by how much it goes on in all, and how far the points
-    are from it, in samples."""
+    """Of the straight line through points: parts in a million, its total change, and the points' distance from it, in
+    samples."""
     count = len(part)
     x0, y0 = sum(x for x, _ in part) / count, sum(y for _, y in part) / count
     square = sum((x - x0) ** 2 for x, _ in part)

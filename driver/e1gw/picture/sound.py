@@ -1,7 +1,6 @@
-"""Whether octets of G.711 read like speech: how well each sample is foretold by those before it.
+"""Whether octets of G.711 are speech: how well each sample is predicted from those before it.
 
-Speech and tones are foretold well. Read under the other law, or from code words in another order, they are as noise.
-"""
+Speech and tones are predicted well. Under the other law, or from code words in another order, they are noise."""
 from __future__ import annotations
 
 from dataclasses import dataclass
@@ -10,15 +9,15 @@ from operator import mul
 from ..g711 import OTHER, VALUES, ZERO
 from ..session import OCTETS_A_SECOND
 
-BEFORE = 8                  # samples from which the next is foretold
+BEFORE = 8                  # samples from which the next is predicted
 LOOKED_AT = 160             # samples
-CLEARLY = 2.0               # times the part that is not foretold: 3 dB
-SPEECH = 0.25               # the most of speech that is not foretold: noise is more
-LOUDER = 4.0                # times the power that the clearer reading may have: what is wrong is rarely the softer one
-FLOOR = 1e-6                # the least power beside that of 0 dBm0, -60 dBm0: under it is silence
-OFTEN = 5                   # looks that tell, at least
-SILENT = 7                  # looks that find silence, at least
-MOSTLY = 0.9                # the part of them that has to tell the same
+CLEARLY = 2.0               # times the part that is not predicted: 3 dB
+SPEECH = 0.25               # the greatest unpredicted part of speech: noise has more
+LOUDER = 4.0                # the greatest relative power of the clearer reading: a wrong one is rarely softer
+FLOOR = 1e-6                # the least power relative to 0 dBm0, -60 dBm0: below it is silence
+OFTEN = 5                   # clear samples, at least
+SILENT = 7                  # silent samples, at least
+MOSTLY = 0.9                # the part of them that must agree
 EACH = OCTETS_A_SECOND * 8 // 25        # octets of the trunk, 320 ms
 EIGHT = 8
 FLOATS = {law: [float(value) for value in values] for law, values in VALUES.items()}
@@ -26,14 +25,14 @@ FLOATS = {law: [float(value) for value in values] for law, values in VALUES.item
 
 @dataclass(frozen=True, slots=True)
 class Sound:
-    """What samples are like: their mean power beside that of 0 dBm0, and the part of it that those before each do not
-    foretell, from 0 to 1."""
+    """Samples: their mean power relative to 0 dBm0, and the part of it that those before each do not predict, 0 to
+    1."""
     power: float
     strange: float
 
 
 def sound(octets: bytes, law: str) -> Sound:
-    """How octets sound under a law: by the autocorrelation and the recursion of Levinson and Durbin."""
+    """The sound of octets under a law: by autocorrelation and the recursion of Levinson and Durbin."""
     values = list(map(FLOATS[law].__getitem__, octets[:LOOKED_AT]))
     along = [sum(map(mul, values, values[lag:])) for lag in range(BEFORE + 1)]
     if len(values) <= BEFORE or along[0] <= 0:
@@ -54,7 +53,7 @@ def _is_clearer(one: Sound, other: Sound) -> bool:
 
 
 def clearer(one: Sound, other: Sound) -> int:
-    """1 where the first of two readings is clearly the one of speech, -1 where the other is, 0 where nothing tells."""
+    """1 if the first of two readings is clearly speech, -1 if the other is, 0 if neither is clear."""
     if min(one.power, other.power) < FLOOR:
         return 0
     return _is_clearer(one, other) - _is_clearer(other, one)
@@ -62,11 +61,11 @@ def clearer(one: Sound, other: Sound) -> int:
 
 @dataclass(slots=True)
 class Heard:
-    """What was heard of a circuit one way, at the moments at which it was looked at."""
+    """The samples of one direction of a circuit."""
     looks: int = 0
-    silent: int = 0                     # of one octet alone
-    own: int = 0                        # read like what the circuit is to have
-    other: int = 0                      # read like the other law, or the other order
+    silent: int = 0                     # of one octet only
+    own: int = 0                        # like the circuit's own law or order
+    other: int = 0                      # like the other law, or the other order
     power: float = 0.0                  # the sum, under the circuit's law
     under_other: float = 0.0            # under the other law
 
@@ -79,26 +78,26 @@ class Heard:
         self.under_other += more.under_other
 
     def vote(self, which: int) -> None:
-        """A look that tells, or does not."""
+        """A sample, clear or not."""
         self.own += which > 0
         self.other += which < 0
 
     def is_silence(self) -> bool:
-        """Whether each look found one octet alone, and they are many."""
+        """Whether each sample had one octet only, and there are many."""
         return self.looks >= SILENT and self.silent == self.looks
 
     def is_other(self) -> bool:
-        """Whether it reads like the other one: looks that tell are many, and nearly all the same."""
+        """Whether it is the other one: clear samples are many, and nearly all agree."""
         return self.other >= OFTEN and self.other >= MOSTLY * (self.own + self.other)
 
 
 def is_silent(octets: bytes) -> bool:
-    """Of one octet alone, as silence is."""
+    """One octet only, as in silence."""
     return octets.count(octets[:1]) == len(octets)
 
 
 def heard(octets: bytes, law: str) -> Heard:
-    """A look at octets of G.711 of a circuit whose law is to be this one."""
+    """A sample of a circuit's octets of G.711, which should be in this law."""
     own, other = sound(octets, law), sound(octets, OTHER[law])
     seen = Heard(1, is_silent(octets), power=own.power, under_other=other.power)
     seen.vote(clearer(own, other))
@@ -106,14 +105,14 @@ def heard(octets: bytes, law: str) -> Heard:
 
 
 class Turns:
-    """When it is looked: each 320 ms at the begin of a call, half as often after each eight looks."""
+    """When to listen: each 320 ms at the start of a call, half as often after each eight samples."""
     __slots__ = ('due', 'each', 'looks')
 
     def __init__(self, each: int = EACH) -> None:
         self.due, self.each, self.looks = 0, each, 0
 
     def come(self, place: int, most: float) -> bool:
-        """Whether it is looked at a place, where looks are to be no more octets apart than most."""
+        """Whether to listen at a place, if samples are to be at most so many octets apart."""
         if place < self.due:
             return False
         self.looks += 1

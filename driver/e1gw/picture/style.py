@@ -1,4 +1,4 @@
-"""How the page looks: light, dark and printed. The colours are apart for the colour-blind, too (Okabe and Ito)."""
+"""The style of the page: light, dark and printed. The colours can be told apart by the colour-blind (Okabe and Ito)."""
 
 CSS = '''
 :root{color-scheme:light dark;--bg:#fff;--ink:#1b2026;--soft:#59636e;--grid:#d5dae0;--idle:#c9ced5;--seized:#e69f00;
@@ -57,7 +57,7 @@ body{padding:0;margin:0;max-width:none;width:1140px;print-color-adjust:exact;-we
 svg{min-width:0}.wide{overflow:visible;background:none}.found li{padding:1px 8px;margin:2px 0;font-size:12px}}
 '''
 
-# The hatchings, which every drawing of the page uses.
+# The hatchings of every drawing on the page.
 PATTERNS = '''<svg width="0" height="0" style="position:absolute;min-width:0;width:0" aria-hidden="true"><defs>
 <pattern id="slant" width="6" height="6" patternUnits="userSpaceOnUse"><path d="M-1 7L7 -1M-1 1L1 -1M5 7L7 5"
 class="hatch"/></pattern>

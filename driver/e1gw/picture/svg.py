@@ -22,9 +22,9 @@ def clock(second: float, digits: int = 3) -> str:
 
 
 class Scale:
-    """Where places of the trunk are on the sheet, and what they are called."""
+    """The places of the trunk on the sheet, and their names."""
 
-    coarse = 1                          # how much less detail is drawn
+    coarse = 1                          # by how much detail is reduced
 
     def __init__(self, start: int, end: int, begin: float | None) -> None:
         self.start, self.end, self.begin = start, max(end, start + 256), begin
@@ -34,7 +34,7 @@ class Scale:
         return LEFT + (min(max(place, self.start), self.end) - self.start) / self.octets
 
     def words(self, place: int) -> str:
-        """A moment, for reading."""
+        """A moment as text."""
         if self.begin is None:
             seconds = place / SECOND
             return f'{seconds:.3f} s' if seconds < 300 else f'{int(seconds) // 60}:{seconds % 60:06.3f} min'
@@ -44,7 +44,7 @@ class Scale:
         return f'{self.words(first)} to {self.words(last)}, {duration(last - first)}'
 
     def ticks(self) -> list[tuple[float, str]]:
-        """The places of round times, and their words."""
+        """The places of round times, and their texts."""
         origin = self.begin or 0.0
         first, last = origin + self.start / SECOND, origin + self.end / SECOND
         step = next((step for step in STEPS if (last - first) / step <= 10), STEPS[-1])
@@ -66,7 +66,7 @@ class Scale:
 
 
 def duration(octets: float) -> str:
-    """How long so many octets of the trunk last."""
+    """The duration of so many octets of the trunk."""
     seconds = octets / SECOND
     if seconds < 0.9995:
         return f'{seconds * 1000:.4g} ms'
@@ -85,7 +85,7 @@ class Sheet:
         self.out: list[str] = []
 
     def box(self, x: float, y: float, wide: float, high: float, kind: str, title: str = '') -> None:
-        """A rectangle of a class, at least so wide that it is seen."""
+        """A rectangle of a class, wide enough to be seen."""
         told = f'><title>{html.escape(title)}</title></rect>' if title else '/>'
         self.out.append(f'<rect x="{x:.1f}" y="{y:g}" width="{max(wide, 0.8):.1f}" height="{high:g}" '
                         f'class="{kind}"{told}')
@@ -100,7 +100,7 @@ class Sheet:
         self.out.append(f'<text x="{x:.1f}" y="{y:g}" class="{kind}"{side}>{html.escape(words)}</text>')
 
     def grid(self, scale: Scale, top: float, bottom: float, named: bool = True) -> None:
-        """Lines at round times, with their words above."""
+        """Lines at round times, with their texts above."""
         lines = []
         for x, words in scale.ticks():
             lines.append(f'M{x:.1f} {top:g}V{bottom:g}')
@@ -114,8 +114,7 @@ class Sheet:
 
 
 def runs(columns: Iterable[int], gap: float) -> list[tuple[int, int]]:
-    """Columns in ascending order as stretches from the first to the last, where those less apart than the gap are
-    one."""
+    """Columns in ascending order as stretches from first to last; those closer than the gap are one."""
     out: list[tuple[int, int]] = []
     for column in columns:
         if out and column - out[-1][1] <= gap:
@@ -126,7 +125,7 @@ def runs(columns: Iterable[int], gap: float) -> list[tuple[int, int]]:
 
 
 def apart(columns: Iterable[int], least: int) -> list[int]:
-    """Columns in ascending order, but for those that are nearer to the one before than this."""
+    """Columns in ascending order, without those closer than this to the one before."""
     out: list[int] = []
     for column in columns:
         if not out or column - out[-1] >= least:

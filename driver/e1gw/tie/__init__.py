@@ -1,1 +1,1 @@
-"""A tie line: the circuits of two gateways at two sites are one, and calls are passed on by themselves."""
+"""A tie line joins the circuits of two gateways at two sites and passes calls on."""

@@ -1,12 +1,11 @@
-"""One circuit of a tie line: the command that follows from how its two ends stand.
+"""One circuit of a tie line: the command that follows from the states of its two ends.
 
 At one end the circuit is incoming, and its exchange seizes it; at the other end it is outgoing, and the gateway seizes
-it there for each call. What is done follows from states and never from a message, so whatever was lost on the way is
-made good by the next one that comes. There is no clock here and nothing is sent: `wants` is a function of a value.
+it for each call. Commands follow from states and never from a message, so a lost message is made up for by the next
+one. There is no clock here and nothing is sent: `wants` is a function of a value.
 
-A call has a name, which the incoming end gives it. The outgoing end keeps the name of the call that was last passed on
-to it; so both know whether what stands there belongs to this call, to an earlier one or to none.
-"""
+The incoming end names each call. The outgoing end keeps the name of the last call passed on to it; so both know whether
+the state there belongs to this call, to an earlier one or to none."""
 from __future__ import annotations
 
 from dataclasses import dataclass, replace
@@ -19,64 +18,64 @@ NO_CALL = ''        # the name of no call
 
 
 class Link(Enum):
-    """What is known of the other end at this moment."""
+    """The state of the connection to the other end."""
 
-    GOOD = 'good'               # it is heard, and both trunks are alight
-    LOST = 'lost'               # it is not; calls wait
-    GIVEN_UP = 'given up'       # it has not been for so long that calls are ended
+    GOOD = 'good'               # connected, and both trunks are in service
+    LOST = 'lost'               # not connected; calls wait
+    GIVEN_UP = 'given up'       # not connected for so long that calls are ended
 
 
 @dataclass(frozen=True, slots=True)
 class End:
-    """How one end stands, as it is told to the other one."""
+    """The state of one end, as sent to the other."""
 
     role: Role
     state: State
-    call: str | None            # of its latest call; None: not known yet
+    call: str | None            # of its latest call; None: not yet known
     over: bool = False          # the incoming end has given this call up
     passed: str = NO_CALL       # the incoming end: the last call that the outgoing one has named
 
 
 @dataclass(frozen=True, slots=True)
 class Circuit:
-    """One end of a circuit, and what is known of the other one."""
+    """One end of a circuit, and what is known of the other."""
 
     role: Role
     state: State
     call: str | None
     over: bool = False
     passed: str = NO_CALL
-    kept: bool = False          # blocked by the operator, who alone unblocks it
+    kept: bool = False          # blocked by the operator, who alone lifts it
     stuck: bool = False         # a release that the exchange does not follow
-    far: End | None = None      # None: not heard of, or not to be joined with this end
+    far: End | None = None      # None: not yet received, or not joined with this end
 
     def end(self) -> End:
-        """What the other end is told. A release that is stuck is a fault to it."""
+        """The state to send to the other end. A release that is stuck is a fault to it."""
         return End(self.role, State.FAULT if self.stuck else self.state, self.call, self.over, self.passed)
 
     def moved(self, state: State, call: str | None = None) -> Circuit:
-        """The line here is in another state; with the name of the call that begins there, if one does."""
+        """Takes a new state of the line here, with the name of the call that begins in it, if any."""
         begun = call is not None
         return replace(self, state=state, call=call if begun else self.call, over=self.over and not begun, stuck=False,
                        kept=self.kept and state is State.BLOCKED)
 
     def heard(self, far: End) -> Circuit:
-        """The other end has told how it stands."""
+        """Takes the state of the other end."""
         if self.role is Role.INCOMING:
             return replace(self, far=far, passed=self.passed if far.call is None else far.call)
-        # One who has forgotten which call it was given learns it from the other end.
+        # An end that has forgotten its call learns it from the other one.
         return replace(self, far=far, call=far.passed if self.call is None else self.call)
 
     def tried(self, call: str) -> Circuit:
-        """The call was passed on to this outgoing end, whether that was done or refused."""
+        """The call was passed on to this outgoing end, done or refused."""
         return replace(self, call=call)
 
     def settled(self, link: Link) -> Circuit:
-        """With a call given up that cannot be had: it stays so until it ends."""
+        """Marks a call that cannot be set up as given up until it ends."""
         return replace(self, over=True) if not self.over and self.ends(link) else self
 
     def ends(self, link: Link) -> bool:
-        """The call that stands at this incoming end has no other end, or has none any more."""
+        """The call at this incoming end has no other end, or none any more."""
         if self.role is not Role.INCOMING or self.state not in OPEN:
             return False
         if self.over or link is Link.GIVEN_UP:
@@ -85,11 +84,11 @@ class Circuit:
             return False
         if self.far.call == self.call:
             return self.far.state not in IN_CALL
-        # Not passed on yet: it can be, unless that end is out of use or this call has been answered by somebody else.
+        # Not yet passed on: possible unless that end is blocked or in fault, or another call was answered here.
         return self.state is not State.ACKED or self.far.state in (State.BLOCKED, State.FAULT)
 
     def wants(self, link: Link, waits: bool = False) -> Command | None:
-        """The command that this end wants now. A call that cannot be had is told to its caller, or `waits` for him."""
+        """The command that this end needs now. A call that cannot be set up is reported to its caller, or `waits`."""
         if self.role is Role.OUTGOING:
             return self._outgoing(link)
         return None if waits and self.state is State.ACKED and self.ends(link) else self._incoming(link)
@@ -121,7 +120,7 @@ class Circuit:
         return self._followed(far.state) if far is not None and far.call == self.call else None
 
     def _followed(self, far: State) -> Command | None:
-        """What passes the state of a call at the outgoing end on to its caller."""
+        """The command that passes the state of the outgoing end's call on to its caller."""
         answered = far is State.ANSWERED or far is State.CLEAREDBACK and self.state is State.ACKED
         if answered and self.state in (State.ACKED, State.CLEAREDBACK):
             return Command.ANSWER

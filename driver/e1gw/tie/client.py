@@ -1,4 +1,4 @@
-"""A client of the control socket of a trunk's driver: commands are answered, changes are told as they come."""
+"""A client of the control socket of a driver: it sends commands and receives events."""
 from __future__ import annotations
 
 import asyncio
@@ -14,7 +14,7 @@ Seen = Callable[[str], None]
 
 
 class Client:
-    """A connection. Answers and changes come on one stream, so in the order in which they happened."""
+    """A connection. Answers and events come on one stream, so in their order."""
 
     def __init__(self, reader: asyncio.StreamReader, writer: asyncio.StreamWriter,
                  told: Callable[[Event], None]) -> None:
@@ -23,8 +23,8 @@ class Client:
         self._lines: list[str] = []
 
     async def ask(self, line: str, seen: Seen | None = None) -> str:
-        """The answer to a line, which `seen` is given before any change behind it. OSError or EOFError where there is
-        none, or none in time."""
+        """The answer to a line, which `seen` gets before any event behind it. OSError or EOFError without one in
+        time."""
         answer: asyncio.Future[str] = asyncio.get_running_loop().create_future()
         self._asked.append((answer, seen))
         self._writer.write(f'{line}\n'.encode())
@@ -67,7 +67,7 @@ class Client:
 
 
 def event_of(line: str) -> Event | None:
-    """The change that a line tells, or None where it is of an answer."""
+    """The event of a line, or None if it belongs to an answer."""
     if not line.startswith('{'):
         return None
     try:
@@ -83,5 +83,5 @@ async def connect(path: str, told: Callable[[Event], None]) -> Client:
 
 
 def life_of(path: str) -> str:
-    """A name for the life of the driver that listens there: when it made its socket. Its counts begin anew with it."""
+    """A name for the life of the driver that listens there: when it made its socket. Its counts restart with it."""
     return f'{os.stat(path).st_mtime_ns // 1_000_000:x}'

@@ -1,4 +1,4 @@
-"""The circuits that the operator has blocked, in a file, so that a tie that is started anew leaves them so."""
+"""The circuits blocked by the operator, in a file, so that a restarted tie leaves them so."""
 from __future__ import annotations
 
 import functools
@@ -21,7 +21,7 @@ class Kept:
         return circuit in self._circuits
 
     def put(self, circuits: Iterable[int]) -> None:
-        """These and no others."""
+        """Keeps these circuits and no others."""
         self._circuits = frozenset(circuits)
         if self._outlet:
             self._outlet.put(json.dumps(sorted(self._circuits)).encode() + b'\n')
@@ -32,7 +32,7 @@ class Kept:
 
 
 def read(path: str) -> frozenset[int]:
-    """What a file keeps; none where there is no such file, or where it is none of ours."""
+    """The circuits in a file; none if it is missing or not one of ours."""
     try:
         with open(path, encoding='ascii') as file:
             found = json.loads(file.read(4096))

@@ -24,13 +24,13 @@ from .pairs import BadPairs, Pairs, pairs_of
 from .site import Site, context_of
 from .tie import Options, Tell, Tie
 
-ABOUT = '''Joins the circuits of two gateways at two sites: what an exchange seizes at one end is seized at the other,
-and answers, clear-backs, clearing, blocking, faults and alarms are passed on.'''
-MORE = '''One of these runs at each site beside its e1gw-trunk. Each thing that it does is a line of JSON on standard
+ABOUT = '''Joins the circuits of two gateways at two sites: a seizure at one end seizes the circuit at the other, and
+answers, clear-backs, clearings, blocks, faults and alarms are passed on.'''
+MORE = '''One runs at each site, alongside e1gw-trunk. Each of its actions is a line of JSON on standard
 output. Without --tls the connection is neither secret nor authenticated. See e1gw-tie(1).'''
-ANYBODY = 'any certificate of the authority is let in, since no --peer names that of the other site'
-LEAVES = 1.0                # seconds at most in which codecs are given back
-MOST_MAP = 100_000          # characters of the map's file that are looked at
+ANYBODY = 'any certificate of the authority is accepted, because no --peer names that of the other site'
+LEAVES = 1.0                # seconds at most to restore codecs
+MOST_MAP = 100_000          # characters at most of the map's file
 
 
 def seconds(text: str) -> float:
@@ -49,31 +49,31 @@ def place(text: str) -> tuple[str, int]:
 
 def parser() -> argparse.ArgumentParser:
     made = Parser('e1gw-tie', description=ABOUT, epilog=MORE)
-    made.add_argument('--control', required=True, metavar='SOCKET', help='the control socket of the driver here')
+    made.add_argument('--control', required=True, metavar='SOCKET', help='the control socket of the local driver')
     ways = made.add_mutually_exclusive_group(required=True)
-    ways.add_argument('--listen', type=place, metavar='HOST:PORT', help='where the other site connects')
-    ways.add_argument('--connect', type=place, metavar='HOST:PORT', help='where the other site listens')
-    made.add_argument('--map', metavar='FILE', help='which circuit here is which one there, `HERE THERE` a line '
-                      '[default: the one of its number]')
+    ways.add_argument('--listen', type=place, metavar='HOST:PORT', help='the address to listen at for the other site')
+    ways.add_argument('--connect', type=place, metavar='HOST:PORT', help='the address at which the other site listens')
+    made.add_argument('--map', metavar='FILE', help='a file of joined circuits, `HERE THERE` a line '
+                      '[default: equal numbers]')
     doors = made.add_mutually_exclusive_group()
     doors.add_argument('--tls', nargs=3, metavar=('CERT', 'KEY', 'CA'), help='TLS: the certificate of this site, its '
                        'key, and the authority of both sites')
-    doors.add_argument('--insecure', action='store_true', help='listens without --tls at an address that others than '
-                       'this machine reach, as in a tunnel')
+    doors.add_argument('--insecure', action='store_true', help='listens without --tls at an address that other '
+                       'machines reach, as in a tunnel')
     made.add_argument('--peer', metavar='NAME', help='with --tls, the host or address in the certificate of the other '
                       'site [default: the host of --connect; with --listen any that CA has signed]')
     made.add_argument('--hold', type=seconds, default=2.0, metavar='SECONDS', help='how long calls are kept without '
                       'the other end [default: 2]')
     made.add_argument('--congestion', choices=('clear-back', 'wait'), default='clear-back', help='a call that cannot '
-                      'be had is answered and cleared back, or the caller waits [default: clear-back]')
-    made.add_argument('--until-answer', choices=tuple(SIGNALLING), help='calls pass in G.711 until they are answered, '
-                      'and then in the configured codec; both sites want the same')
-    made.add_argument('--state', metavar='FILE', help='keeps which circuits the operator has blocked')
+                      'be set up is answered and cleared back, or the caller waits [default: clear-back]')
+    made.add_argument('--until-answer', choices=tuple(SIGNALLING), help='calls use G.711 until they are answered, '
+                      'then the configured codec; both sites need the same')
+    made.add_argument('--state', metavar='FILE', help='a file that keeps the circuits blocked by the operator')
     return made
 
 
 def is_loopback(host: str) -> bool:
-    """Whether a host is this machine by its text alone: a loopback address, or localhost."""
+    """Whether a host is this machine, by its text: a loopback address, or localhost."""
     try:
         return host == 'localhost' or ipaddress.ip_address(host).is_loopback
     except ValueError:
@@ -81,7 +81,7 @@ def is_loopback(host: str) -> bool:
 
 
 def is_open(options: argparse.Namespace) -> bool:
-    """Whether others than this machine could connect and would not be authenticated, unasked."""
+    """Whether other machines could connect without authentication and this was not asked for."""
     return options.listen and not options.tls and not options.insecure and not is_loopback(options.listen[0])
 
 
@@ -96,7 +96,7 @@ def site_of(options: argparse.Namespace, tie: Tie) -> Site:
     if options.tls:
         certificate, key, authority = options.tls
         for path in options.tls:
-            with open(path, 'rb'):      # TLS would not tell which of the three cannot be read
+            with open(path, 'rb'):      # TLS would not say which of the three cannot be read
                 pass
         try:
             context = context_of(certificate, key, authority, listens)
@@ -106,7 +106,7 @@ def site_of(options: argparse.Namespace, tie: Tie) -> Site:
 
 
 async def work(tie: Tie, site: Site) -> int:
-    """Goes on until a signal asks for the end; returns the status."""
+    """Runs until a signal asks for the end; returns the status."""
     asked = asyncio.Event()
     for number in (signal.SIGINT, signal.SIGTERM, signal.SIGHUP):
         asyncio.get_running_loop().add_signal_handler(number, asked.set)
@@ -137,7 +137,7 @@ def refuse(why: object) -> None:
 
 
 def told_on(outlet: Any) -> Tell:
-    """Each event is a line of JSON; one who does not read them ends nothing."""
+    """Prints each event as a line of JSON; a reader that stops ends nothing."""
     def tell(event: str, **fields: Any) -> None:
         outlet.put(json.dumps({'time': round(time.time(), 6), 'event': event, **fields}).encode() + b'\n')
     return tell
@@ -147,10 +147,10 @@ def main() -> None:
     hold_descriptors()
     options = parser().parse_args()
     if options.peer and not options.tls:
-        parser().error('--peer wants --tls')
+        parser().error('--peer needs --tls')
     if is_open(options):
-        return refuse(f'{options.listen[0]} is no loopback address, and without --tls whoever connects can seize and '
-                      'clear circuits: give --tls, or --insecure within a tunnel')
+        return refuse(f'{options.listen[0]} is not a loopback address, and without --tls whoever connects can seize '
+                      'and clear circuits: give --tls, or --insecure within a tunnel')
     outlet = to_descriptor('standard output', 1)
     tell = told_on(outlet)
     kept = Kept(options.state)
@@ -169,5 +169,5 @@ def main() -> None:
     status = asyncio.run(work(tie, site))
     kept.close()
     outlet.close()
-    # The thread of a reader that stands still is not waited for.
+    # The thread of a stuck reader is not waited for.
     os._exit(status)

@@ -1,8 +1,7 @@
-"""What the ties of two sites tell one another: lines of JSON.
+"""The messages between the ties of two sites: lines of JSON.
 
-Each begins with a `Greeting` and, once the connection is taken up, tells how all its circuits stand; then each change,
-and a sign of life where nothing else is to be told. Circuits are numbered as at the site that speaks.
-"""
+Each tie begins with a `Greeting` and, once the connection is accepted, sends the state of all its circuits; then each
+change, and keepalives in between. Circuits have the sender's numbers."""
 from __future__ import annotations
 
 import json
@@ -20,12 +19,12 @@ MOST_NAME = 100
 
 
 class BadMessage(Exception):
-    """A line is no message; the words say why."""
+    """An invalid message; the words say why."""
 
 
 @dataclass(frozen=True)
 class Greeting:
-    """Who speaks: a name for this run of the program, and the pairs of circuits that it was given."""
+    """The sender: a name for this run of the program, and its pairs of circuits."""
 
     run: str
     pairs: Pairs | None
@@ -33,7 +32,7 @@ class Greeting:
 
 @dataclass(frozen=True)
 class All:
-    """How a site stands."""
+    """The state of a site."""
 
     dark: bool
     ends: dict[int, End]
@@ -42,7 +41,7 @@ class All:
 
 @dataclass(frozen=True)
 class Change:
-    """How a circuit stands now."""
+    """The new state of a circuit."""
 
     circuit: int
     end: End
@@ -50,14 +49,14 @@ class Change:
 
 @dataclass(frozen=True)
 class Dark:
-    """Whether the trunk of that site is dark."""
+    """Whether the trunk of that site is out of service."""
 
     dark: bool
 
 
 @dataclass(frozen=True)
 class Alive:
-    """Nothing is new."""
+    """A keepalive."""
 
 
 Message = Greeting | All | Change | Dark | Alive
@@ -104,7 +103,7 @@ def _pairs(value: Any) -> Pairs | None:
         return None
     pairs = {_circuit(here): _circuit(there) for here, there in _is(value, dict, 'pairs').items()}
     if len(set(pairs.values())) != len(value):
-        raise BadMessage('pairs that are none')
+        raise BadMessage('invalid pairs')
     return pairs
 
 
@@ -115,11 +114,11 @@ def _end(value: Any) -> End:
         return End(Role(fields.get('role')), State(fields.get('state')), None if call is None else _name(call, 'call'),
                    _is(fields.get('over'), bool, 'over'), _name(fields.get('passed'), 'call'))
     except ValueError:
-        raise BadMessage('no end of a circuit') from None
+        raise BadMessage('not an end of a circuit') from None
 
 
 def message_of(line: bytes) -> Message:
-    """The message of a line. BadMessage where it is none."""
+    """The message of a line, or BadMessage."""
     try:
         fields = _is(json.loads(line), dict, 'message')
     except (ValueError, RecursionError):
@@ -138,4 +137,4 @@ def message_of(line: bytes) -> Message:
         return Dark(_is(fields['dark'], bool, 'dark'))
     if 'alive' in fields:
         return Alive()
-    raise BadMessage('nothing that is known')
+    raise BadMessage('an unknown message')

@@ -1,4 +1,4 @@
-"""The connection with the tie of the other site: one at a time, with signs of life, and by TLS where that is asked."""
+"""The connection with the other site's tie: one at a time, with keepalives, and with TLS if asked for."""
 from __future__ import annotations
 
 import asyncio
@@ -13,42 +13,42 @@ from typing import Any, Protocol
 from .messages import MOST, Alive, BadMessage, Greeting, Message, message_of, spell
 from .strangers import Stage, Stranger, Strangers, address_of
 
-ALIVE = 0.5                 # seconds between two signs of life
+ALIVE = 0.5                 # seconds between two keepalives
 GONE = 2.0                  # seconds without one after which the connection is given up
-AGAIN = 0.25                # seconds until a connection is tried again
+AGAIN = 0.25                # seconds until a connection is retried
 HANDSHAKE = 5.0             # seconds for the first octet, and for TLS
-PACE = 0.01                 # seconds between two connections that others who speak are closed for
-BURST = 4                   # connections that are accepted in that time if no such one is closed
-BACKLOG = 128               # connections that the system keeps until they are let in
-MOST_WAITING = 1 << 20      # octets that the other site does not take
+PACE = 0.01                 # seconds between two accepts that close a connection in its handshake
+BURST = 4                   # connections accepted in that time if they close none
+BACKLOG = 128               # connections that the system queues
+MOST_WAITING = 1 << 20      # octets not yet taken by the other site
 Streams = tuple[asyncio.StreamReader, asyncio.StreamWriter]
 
 
 class Hooks(Protocol):
-    """What is told of the connection."""
+    """The events of the connection."""
 
     def greeting(self) -> Greeting:
-        """What this site greets with."""
+        """The greeting of this site."""
 
     def came(self, greeting: Greeting) -> None:
-        """The other site is there."""
+        """The other site is connected."""
 
     def heard(self, message: Message) -> None:
-        """It has told something."""
+        """The other site has sent a message."""
 
     def gone(self, why: str) -> None:
-        """It is gone."""
+        """The connection is lost."""
 
     def turned_away(self, why: str) -> None:
-        """Somebody was not let in, or did not let us in."""
+        """A connection was refused here or there."""
 
 
 class Refused(Exception):
-    """A connection is not taken up; the words say why."""
+    """A refused connection; the words say why."""
 
 
 def context_of(certificate: str, key: str, authority: str, listens: bool) -> ssl.SSLContext:
-    """TLS 1.3 in which both ends show a certificate of that authority. OSError where a file is not as it must be."""
+    """TLS 1.3 in which both ends show a certificate of that authority. OSError for a bad file."""
     context = ssl.SSLContext(ssl.PROTOCOL_TLS_SERVER if listens else ssl.PROTOCOL_TLS_CLIENT)
     context.minimum_version = ssl.TLSVersion.TLSv1_3
     context.verify_mode = ssl.CERT_REQUIRED
@@ -58,14 +58,14 @@ def context_of(certificate: str, key: str, authority: str, listens: bool) -> ssl
 
 
 def words_of_no_connection(fault: BaseException, place: str) -> str:
-    """Why there is none: what the system refuses by its name, with the place; all else as it says itself."""
+    """Why there is no connection: a system error by its name and the place, otherwise its own words."""
     if isinstance(fault, OSError) and fault.errno and fault.errno > 0 and not isinstance(fault, ssl.SSLError):
         return f'{place}: {os.strerror(fault.errno)}'
     return str(fault) or f'{place}: no answer'
 
 
 def has_name(certificate: dict[str, Any] | None, name: str) -> bool:
-    """Whether a certificate is of that host or address."""
+    """Whether a certificate names that host or address."""
     names = certificate.get('subjectAltName', ()) if certificate else ()
     try:
         wanted: tuple[str, object] = ('IP Address', ipaddress.ip_address(name))
@@ -76,7 +76,7 @@ def has_name(certificate: dict[str, Any] | None, name: str) -> bool:
 
 
 async def listeners_of(host: str, port: int) -> list[socket.socket]:
-    """A socket that listens at each address of a host. OSError if one of them cannot be had."""
+    """Sockets that listen at each address of a host. OSError if one cannot be opened."""
     found = await asyncio.get_running_loop().getaddrinfo(host, port, type=socket.SOCK_STREAM, flags=socket.AI_PASSIVE)
     made: list[socket.socket] = []
     try:
@@ -96,7 +96,7 @@ async def listeners_of(host: str, port: int) -> list[socket.socket]:
 
 
 def stage_of(line: socket.socket) -> Stage:
-    """Whether a connection has sent something already."""
+    """Whether a connection has sent anything."""
     try:
         line.recv(1, socket.MSG_PEEK)
     except OSError:
@@ -105,7 +105,7 @@ def stage_of(line: socket.socket) -> Stage:
 
 
 async def first_octet(line: socket.socket) -> None:
-    """Waits until a connection has sent something. TimeoutError if it has not in time."""
+    """Waits until a connection has sent something. TimeoutError if it is late."""
     loop, came = asyncio.get_running_loop(), asyncio.Event()
     loop.add_reader(line, came.set)
     try:
@@ -116,7 +116,7 @@ async def first_octet(line: socket.socket) -> None:
 
 
 async def streams_of(line: socket.socket, context: ssl.SSLContext | None) -> Streams:
-    """The streams of a connection that was accepted, behind the handshake of TLS if there is a context."""
+    """The streams of an accepted connection, behind the handshake of TLS if there is a context."""
     loop = asyncio.get_running_loop()
     reader = asyncio.StreamReader(limit=MOST, loop=loop)
     protocol = asyncio.StreamReaderProtocol(reader, loop=loop)
@@ -131,13 +131,13 @@ class Site:
     def __init__(self, place: tuple[str, int], listens: bool, context: ssl.SSLContext | None, name: str | None,
                  hooks: Hooks) -> None:
         self.place, self.listens, self.context, self.name, self.hooks = place, listens, context, name, hooks
-        self._writer: asyncio.StreamWriter | None = None    # of the connection that is taken up
-        self._run = ''                                      # of the program at its other end
+        self._writer: asyncio.StreamWriter | None = None    # the present connection
+        self._run = ''                                      # the program at its other end
         self._strangers = Strangers(address_of(name) if name else None)
-        self._tasks: set[asyncio.Task[None]] = set()        # one for each connection that was accepted
+        self._tasks: set[asyncio.Task[None]] = set()        # one for each accepted connection
 
     def send(self, message: Message) -> None:
-        """Tells the other site, where it is there. One who does not take what it is told is given up."""
+        """Sends to the other site if it is connected. A site that does not read is given up."""
         writer = self._writer
         if writer is not None and not writer.is_closing():
             if writer.transport.get_write_buffer_size() > MOST_WAITING:
@@ -146,12 +146,12 @@ class Site:
                 writer.write(spell(message))
 
     def close(self) -> None:
-        """Ends the connection that stands."""
+        """Closes the present connection."""
         if self._writer is not None:
             self._writer.transport.abort()
 
     async def run(self) -> None:
-        """Keeps the connection up for ever. OSError where it cannot be listened at this place."""
+        """Keeps the connection up for ever. OSError if it cannot listen at this place."""
         host, port = self.place
         if self.listens:
             await self._listen(host, port)
@@ -177,7 +177,7 @@ class Site:
                     task.cancel()
 
     async def _accept(self, listener: socket.socket) -> None:
-        """Accepts connections for ever, at a pace that leaves those who speak the time for a handshake."""
+        """Accepts connections for ever, at a pace that leaves time for handshakes."""
         spent = 0
         while True:
             try:
@@ -191,7 +191,7 @@ class Site:
                 await asyncio.sleep(PACE)
 
     def _let_in(self, line: socket.socket, stranger: Stranger) -> int:
-        """Begins with a connection; returns how much of a burst that is."""
+        """Starts a connection; returns its share of a burst."""
         task = stranger.task = asyncio.create_task(self._accepted(line, stranger))
         self._tasks.add(task)
         task.add_done_callback(functools.partial(self._ended, line, stranger))
@@ -201,7 +201,7 @@ class Site:
         return BURST if last and self._strangers.is_hard(last, stranger) else 1
 
     async def _accepted(self, line: socket.socket, stranger: Stranger) -> None:
-        """A connection from its first octet on: one that says nothing costs no more than its socket."""
+        """A connection from its first octet: a silent one costs only its socket."""
         try:
             if stranger.stage is Stage.SILENT:
                 await first_octet(line)
@@ -212,7 +212,7 @@ class Site:
                 stranger.stage = Stage.CERTIFIED
             await self._hold(reader, writer, stranger)
         except (OSError, TimeoutError) as fault:
-            self.hooks.turned_away(str(fault) or 'it says nothing')
+            self.hooks.turned_away(str(fault) or 'it sends nothing')
 
     def _ended(self, line: socket.socket, stranger: Stranger, task: asyncio.Task[None]) -> None:
         self._tasks.discard(task)
@@ -226,7 +226,7 @@ class Site:
 
     async def _hold(self, reader: asyncio.StreamReader, writer: asyncio.StreamWriter,
                     stranger: Stranger | None = None) -> None:
-        """A connection from its beginning to its end."""
+        """Runs a connection from start to end."""
         why = 'closed'
         try:
             greeting = await self._greeted(reader, writer)
@@ -237,7 +237,7 @@ class Site:
                 self._strangers.peer = stranger.address
             why = await self._follow(reader, writer)
         except (Refused, BadMessage, OSError, TimeoutError) as fault:
-            why = str(fault) or 'no sign of life'
+            why = str(fault) or 'no keepalive'
             if self._writer is not writer:
                 self.hooks.turned_away(why)
         finally:
@@ -247,17 +247,17 @@ class Site:
             writer.transport.abort()
 
     async def _greeted(self, reader: asyncio.StreamReader, writer: asyncio.StreamWriter) -> Greeting:
-        """Greets, and is greeted."""
+        """Exchanges greetings."""
         if self.listens and self.context and self.name and not has_name(writer.get_extra_info('peercert'), self.name):
             raise Refused(f'its certificate is not that of {self.name}')
         writer.write(spell(self.hooks.greeting()))
         greeting = await read_one(reader)
         if not isinstance(greeting, Greeting):
-            raise Refused('it does not greet' if greeting else 'it has closed the connection')
+            raise Refused('it sends no greeting' if greeting else 'it closed the connection')
         return greeting
 
     async def _take_up(self, greeting: Greeting, writer: asyncio.StreamWriter) -> None:
-        """Makes this connection the one; another one of the same run of the program is dead and not closed yet."""
+        """Makes this the present connection; another one of the same run is dead and not yet closed."""
         if self._writer is not None:
             if self._run != greeting.run:
                 raise Refused('another one is connected')
@@ -283,7 +283,7 @@ class Site:
 
 
 async def read_one(reader: asyncio.StreamReader) -> Message | None:
-    """The next message; None at the end. TimeoutError where none comes in time, BadMessage where it is none."""
+    """The next message; None at the end. TimeoutError if it is late, BadMessage if it is invalid."""
     async with asyncio.timeout(GONE):
         try:
             line = await reader.readline()

@@ -1,9 +1,8 @@
-"""Connections that have not greeted yet: how many there may be, and which of them is closed for a new one.
+"""Connections that have not greeted: how many there may be, and which of them is closed for a new one.
 
 Nobody is authenticated at this point, so the number is bounded in all and by address. A connection gets ahead of others
-by what it has shown: octets, then a certificate of the authority. So those who connect and say nothing cannot keep the
-other site out.
-"""
+by what it has shown: octets, then a certificate of the authority. So silent connections cannot keep the other site
+out."""
 from __future__ import annotations
 
 import asyncio
@@ -13,7 +12,7 @@ from enum import IntEnum
 
 MOST = 8                    # connections in all
 MOST_OF_ADDRESS = 2         # of one address other than the peer's
-PREFIX = 64                 # bits of an IPv6 address that count as one address
+PREFIX = 64                 # bits of an IPv6 address that count as one
 
 
 class Stage(IntEnum):
@@ -26,7 +25,7 @@ class Stage(IntEnum):
 
 @dataclass(eq=False)
 class Stranger:
-    """A connection that has not greeted yet."""
+    """A connection that has not greeted."""
 
     address: str
     stage: Stage = Stage.SILENT
@@ -35,7 +34,7 @@ class Stranger:
 
 
 def address_of(host: str) -> str:
-    """What counts as one address: of IPv6 a network of 64 bits."""
+    """What counts as one address: for IPv6 a network of 64 bits."""
     try:
         found = ipaddress.ip_address(host.partition('%')[0])
     except ValueError:
@@ -47,7 +46,7 @@ def address_of(host: str) -> str:
 
 
 class Strangers:
-    """All connections that have not greeted yet."""
+    """All connections that have not greeted."""
 
     def __init__(self, peer: str | None = None) -> None:
         self.peer = peer                    # the address of the other site, if it is known
@@ -57,7 +56,7 @@ class Strangers:
         return len(self._all)
 
     def add(self, stranger: Stranger) -> Stranger | None:
-        """Adds a connection; returns the one that was closed for it, if any."""
+        """Adds a connection; returns the one closed for it, if any."""
         last = self._last(stranger.address)
         if last:
             self._all.remove(last)
@@ -67,18 +66,17 @@ class Strangers:
         return last
 
     def is_hard(self, last: Stranger, by: Stranger) -> bool:
-        """Whether it is a loss that one was closed for another: it had sent something, and was not one too many of an
-        address that is not the peer's."""
+        """Whether closing that one is a loss: it had sent something, and was within the limit of an address."""
         return last.stage > Stage.SILENT and (last.address != by.address or by.address == self.peer)
 
     def remove(self, stranger: Stranger) -> None:
-        """It has greeted or ended."""
+        """Removes one that has greeted or ended."""
         if stranger in self._all:
             self._all.remove(stranger)
 
     def _last(self, address: str) -> Stranger | None:
-        """Which one is closed for a new one of this address, if there are too many: of those that have come least far
-        the oldest, and one of the peer's address only if there is no other."""
+        """The one to close for a new connection of this address, if there are too many: the oldest of those at the
+        earliest stage, and one of the peer's address only if there is no other."""
         same = [each for each in self._all if each.address == address]
         if address != self.peer and len(same) >= MOST_OF_ADDRESS:
             return min(same, key=lambda each: each.stage)

@@ -1,4 +1,4 @@
-"""One end of a tie line: beside the driver of a trunk, with the tie of the other site."""
+"""One end of a tie line, between the driver of a trunk and the other site's tie."""
 from __future__ import annotations
 
 import asyncio
@@ -18,22 +18,22 @@ from .messages import All, Change, Dark, Greeting, Message
 from .pairs import Pairs, agreed
 from .site import Site
 
-LOOK = 0.5                  # seconds between two looks at how the trunk stands
-AGAIN = 0.5                 # seconds until the driver is tried again, and a command that was refused
-STUCK = 2.0                 # seconds of a release that the exchange does not follow
+LOOK = 0.5                  # seconds between two looks at the trunk
+AGAIN = 0.5                 # seconds until the driver, or a refused command, is retried
+STUCK = 2.0                 # seconds of a release that the exchange ignores
 ANSWER_LASTS = 0.1          # seconds of an answer at least, so that the exchange recognises it
-MOST_REASONS = 10           # that are told in a minute why nobody is connected
+MOST_REASONS = 10           # reports a minute of why nobody is connected
 Tell = Callable[..., None]
 
 
 @dataclass(frozen=True)
 class Options:
-    """What the tie was asked for."""
+    """The options of the tie."""
 
     control: str
     pairs: Pairs | None
     hold: float
-    waits: bool             # no answer is feigned to tell of congestion
+    waits: bool             # no false answer reports congestion
     until_answer: str | None = None     # the codec of each call until it is answered
 
 
@@ -45,23 +45,23 @@ class Tie:
         self.own_greeting = Greeting(run, options.pairs)
         self.site: Site | None = None
         self.circuits: dict[int, Circuit] = {}
-        self.there = agreed(options.pairs, None)        # of each circuit here the one there
+        self.there = agreed(options.pairs, None)        # by a circuit here, the one there
         self.link = Link.LOST
         self.codings = Codings(options.until_answer)
         self._client: Client | None = None
-        self._life = self._why = ''                     # of the driver; why it is gone
+        self._life = self._why = ''                     # the driver's connection; why it is lost
         self._seizures: dict[int, int] = {}
         self._octets = -1
         self._dark = self._far_dark = True
-        self._far: dict[int, End] | None = None         # as the other site tells, by its numbers; None: not told yet
+        self._far: dict[int, End] | None = None         # the other site's states, by its numbers; None: unknown
         self._busy: dict[int, Command] = {}
         self._tasks: set[asyncio.Task[None]] = set()
         self._moves: dict[int, int] = {}                # of each circuit, how often its state has changed
         self._lost_at = time.monotonic()
-        self._turned: dict[str, float] = {}             # why nobody is connected, and when that was told
+        self._turned: dict[str, float] = {}             # why nobody is connected, and when that was reported
 
     def start(self) -> None:
-        """From now on time counts."""
+        """Starts the time."""
         self._lost_at = time.monotonic()
         self._when(self.options.hold, self._look_at_link)
 
@@ -103,15 +103,15 @@ class Tie:
             client.close()
 
     async def _ask_on_loss(self, client: Client) -> None:
-        """Asks the driver to end calls, and to let nobody begin one, when this program is gone."""
+        """Asks the driver to end calls and block circuits if this program dies."""
         for what in ('block', 'clear'):
             answer = await client.ask(f'on-loss {what} {self.options.hold:g}')
             if answer.endswith('done'):
                 return
-        self.tell('warning', about='the driver clears no calls when this program is gone', answer=answer)
+        self.tell('warning', about='the driver clears no calls if this program dies', answer=answer)
 
     def _begin(self, client: Client, status: dict[str, Any], life: str) -> None:
-        """All circuits as the driver has them, with what is remembered of their calls."""
+        """Takes all circuits from the driver, with what is remembered of their calls."""
         self._client, self._life, self._why = client, life, ''
         for row in status['circuits']:
             n, role, state = int(row['circuit']), Role(row['role']), State(row['state'])
@@ -136,7 +136,7 @@ class Tie:
         return f'{self._life}.{self._seizures[n]}' if self._seizures[n] else NO_CALL
 
     def _stands(self, status: dict[str, Any]) -> None:
-        """How the trunk stands. Where a change was missed, it is made good."""
+        """Takes the status of the trunk, and makes up for missed events."""
         octets = int(status['octets'])
         still = octets == self._octets
         self._octets = octets
@@ -155,7 +155,7 @@ class Tie:
             self._look_at_codec(n)
 
     def _told(self, event: Event) -> None:
-        """A change that the driver tells."""
+        """Takes an event of the driver."""
         if not self._client:
             return
         name = event['event']
@@ -166,7 +166,7 @@ class Tie:
         elif name == 'command' and event['command'] == Command.BLOCK.word:
             n = int(event['circuit'])
             if self._busy.get(n) is not Command.BLOCK:
-                self._keep(n)       # also where it was refused, since this program was first
+                self._keep(n)       # also if it was refused, because this program came first
 
     def _state(self, n: int, was: State, state: State) -> None:
         circuit, call = self.circuits[n], None
@@ -182,7 +182,7 @@ class Tie:
         self._moved(n)
 
     def _moved(self, n: int) -> None:
-        """Another state has begun on a circuit."""
+        """Takes a new state of a circuit."""
         self._moves[n] = self._moves.get(n, 0) + 1
         if self.circuits[n].state is State.RELEASING:
             self._when(STUCK, self._stuck, n, self._moves[n])
@@ -193,12 +193,12 @@ class Tie:
             self._put(n, replace(self.circuits[n], stuck=True))
 
     def _keep(self, n: int) -> None:
-        """The operator wants a circuit to be blocked, and it is."""
+        """Keeps that the operator has blocked a circuit."""
         if self.circuits[n].state is State.BLOCKED:
             self._put(n, replace(self.circuits[n], kept=True))
 
     def _put(self, n: int, circuit: Circuit) -> None:
-        """A circuit stands so from now on: tells the other site, and does what follows."""
+        """Takes a circuit's new values: sends them to the other site and acts on them."""
         before, self.circuits[n] = self.circuits[n], circuit
         if before.kept is not circuit.kept:
             self.kept.put(n for n, each in self.circuits.items() if each.kept)
@@ -209,14 +209,14 @@ class Tie:
     # ---- commands ----
 
     def _link_of(self, n: int) -> Link:
-        """What is known of a circuit's other end. One that cannot be joined has none."""
+        """The connection to a circuit's other end. One that cannot be joined has none."""
         far = self.circuits[n].far
         if self.link is Link.GOOD and (far is None or far.role is self.circuits[n].role):
             return Link.GIVEN_UP
         return self.link
 
     def _look(self, n: int) -> None:
-        """Gives a circuit the command that it wants."""
+        """Gives a circuit the command that it needs."""
         self._look_at_codec(n)
         if not self._client or n in self._busy or n not in self.there:
             return
@@ -262,7 +262,7 @@ class Tie:
     # ---- codecs ----
 
     def _look_at_codec(self, n: int) -> None:
-        """Gives a circuit the codec that it is to have."""
+        """Gives a circuit the codec that it needs."""
         coding = self.codings.wants(n, self.circuits[n].state) if n in self.there else None
         if self._client and coding is not None:
             self.codings.changing.add(n)
@@ -281,10 +281,10 @@ class Tie:
 
     def _warn_of_codecs(self, why: str | None) -> None:
         if why:
-            self.tell('warning', about=f'each call has its configured codec from its beginning: {why}')
+            self.tell('warning', about=f'calls use their configured codec from the start: {why}')
 
     async def leave(self) -> None:
-        """Before the end: circuits without a call get their configured codec."""
+        """Restores the configured codec of circuits without a call, before the end."""
         for n, coding in self.codings.end().items():
             if self._client and self.circuits[n].state not in IN_CALL:
                 await self._change(self._client, n, coding)
@@ -292,7 +292,7 @@ class Tie:
     # ---- the link ----
 
     def _set_dark(self, dark: bool) -> None:
-        """Whether the trunk here can carry calls."""
+        """Notes whether the trunk here can carry calls."""
         if dark != self._dark:
             self._dark = dark
             self.tell('dark' if dark else 'light')
@@ -301,7 +301,7 @@ class Tie:
             self._look_at_link()
 
     def _look_at_link(self) -> None:
-        """What is known of the other end as a whole."""
+        """Follows the state of the connection to the other end."""
         now = time.monotonic()
         good = self._client is not None and self._far is not None and not self._dark and not self._far_dark
         if not good and self.link is Link.GOOD:
@@ -347,7 +347,7 @@ class Tie:
         self._look_at_link()
 
     def turned_away(self, why: str) -> None:
-        """Each reason is told once a minute, and ten of them at most."""
+        """Reports each reason once a minute, ten of them at most."""
         now = time.monotonic()
         self._turned = {each: at for each, at in self._turned.items() if now < at + 60}
         if why not in self._turned and len(self._turned) < MOST_REASONS:
@@ -355,7 +355,7 @@ class Tie:
             self.tell('no connection', why=why)
 
     def _join(self) -> None:
-        """Gives each circuit what the other site tells of its other end."""
+        """Gives each circuit the other site's state of its other end."""
         alike = []
         for here, there in self.there.items():
             end = self._far.get(there) if self._far else None
@@ -374,7 +374,7 @@ class Tie:
             self.site.send(Change(n, self.circuits[n].end()))
 
     def _send_all(self) -> None:
-        """Tells how all circuits stand, once that is known."""
+        """Sends the state of all circuits, once it is known."""
         if self.site and self.circuits:
             ends = {n: self.circuits[n].end() for n in self.there if n in self.circuits}
             self.site.send(All(self._dark, ends, self.codings.own))

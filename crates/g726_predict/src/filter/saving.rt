@@ -9,7 +9,7 @@ use crate::filter::Filter;
 use saved_octets::{Octets, append_bool, append_u16s};
 use std::alloc::AllocError;
 
-// A word is a number below this.
+// A word is below this number.
 const WORDS: u16 = 2048;
 
 impl Filter {
@@ -61,7 +61,7 @@ impl Filter {
         ]
     }
 
-    // The variables that have these numbers; None if a number that stands for a word is that of no word.
+    // The variables with these numbers; None if a number is not that of a word.
     fn of_numbers(numbers: [u16; 16], pk1: bool, pk2: bool) -> Option<Filter>
         ensures loaded { (s : Prediction) → PredictionFits s → numbers ≡ saved_numbers s → pk1 ≡ s.pk1
             → pk2 ≡ s.pk2 → result ≡ Some s }

@@ -22,7 +22,9 @@ impl Adapt {
         append_bool(out, self.td)
     }
 
-    /// A saved adaptation; None where the octets are those of none, as where a variable is out of its range.
+    /// Loads a saved adaptation.
+    ///
+    /// None if the octets are not one, as with a variable out of range.
     #[tactic(auto, unfolding(crate::specs::Saved::saved_adaptation))]
     pub fn load(octets: &mut Octets<'_>) -> Option<Adapt>
         ensures loaded { (s : Adaptation) (rest : List ℕ) → InRange s → octets.old ≡ saved_adaptation s ++ rest
@@ -44,7 +46,7 @@ impl Adapt {
     }
 }
 
-// The number as a signed one, if it is in this range.
+// The number as a signed one, if it is in the range.
 fn within(number: u32, low: u32, high: u32) -> Option<i32>
     requires { high < 2 ^ 31 }
     ensures loaded { low ≤ number → number ≤ high → result ≡ Some (pos number) }
@@ -58,7 +60,7 @@ fn within(number: u32, low: u32, high: u32) -> Option<i32>
     Some(number as i32)
 }
 
-// A variable that is saved in 16 bits, where it is from one number to another.
+// Reads a 16-bit variable, if it is in the range.
 fn load_u16(octets: &mut Octets<'_>, low: u32, high: u32) -> Option<i32>
     requires { high < 2 ^ 16 }
     ensures loaded { (z : ℤ) (rest : List ℕ) → pos low ≤ℤ z → z ≤ℤ pos high
@@ -70,7 +72,7 @@ fn load_u16(octets: &mut Octets<'_>, low: u32, high: u32) -> Option<i32>
     within(u32::from(octets.read_u16()?), low, high)
 }
 
-// Reads a variable of 32 bits, if it is in this range.
+// Reads a 32-bit variable, if it is in the range.
 fn load_u32(octets: &mut Octets<'_>, low: u32, high: u32) -> Option<i32>
     requires { high < 2 ^ 31 }
     ensures loaded { (z : ℤ) (rest : List ℕ) → pos low ≤ℤ z → z ≤ℤ pos high

@@ -9,7 +9,7 @@ use crate::recognition::Recognition;
 use saved_octets::Octets;
 use std::alloc::AllocError;
 
-// What stands for no pair.
+// The number for no pair.
 const NO_PAIR: u8 = 4;
 
 impl Recognition {

@@ -32,7 +32,7 @@ impl Line {
         self.recognition.fits();
     }
 
-    /// Reads a saved line, and gives it this role; None if the octets are not those of a line.
+    /// Reads a saved line and gives it this role; None if the octets are not those of a line.
     pub fn load(role: Role, octets: &mut Octets<'_>) -> Option<Line>
         ensures loaded { (line : Line) (rest : List ℕ) → line.role ≡ role → LineFits line
             → octets.old ≡ saved_line line ++ rest → (result ≡ Some line) × (octets.new ≡ rest) }

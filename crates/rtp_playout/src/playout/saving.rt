@@ -16,7 +16,7 @@ use saved_octets::{Octets, append_u8, append_u32};
 use std::alloc::AllocError;
 
 impl Playout {
-    /// Appends the octets of the playout: the stream, and the words that are still to be taken.
+    /// Appends the octets of the playout: the stream and the queued words.
     #[tactic(auto, unfolding(crate::specs::Saved::saved_playout))]
     pub fn save(&self, out: &mut Vec<u8>) -> Result<(), AllocError>
         ensures octets { OnOk result (out.new.items ≡ out.old.items ++ saved_playout self.now) }
@@ -26,8 +26,10 @@ impl Playout {
         save_places(&self.window, out)
     }
 
-    /// Reads a saved playout into this one, with its prefill. None if the octets are not those of a playout
-    /// whose words are below the bound; then nothing is admitted, as after `clear`.
+    /// Loads a saved playout into this one, with its prefill.
+    ///
+    /// None if the octets are not those of a playout whose words are below the bound; then it is empty, as
+    /// after `clear`.
     pub fn load(&mut self, bound: u16, octets: &mut Octets<'_>) -> Option<()>
         ensures loaded { (other : Playout) (prefill : ℕ) (calls before : List Call) (rest : List ℕ)
             → Stands other prefill calls → IsBelow bound other → StreamFits other.stream
@@ -111,7 +113,7 @@ fn load_place(bound: u16, octets: &mut Octets<'_>) -> Option<Option<u8>>
     }
 }
 
-// The places of a window, one after the other.
+// Appends the places of a window, one after the other.
 fn save_places(window: &HeapCircularBuffer<Option<u8>>, out: &mut Vec<u8>) -> Result<(), AllocError>
     ensures { OnOk result (out.new.items ≡ out.old.items ++ saved_places window.now.items) }
 {
@@ -121,7 +123,7 @@ fn save_places(window: &HeapCircularBuffer<Option<u8>>, out: &mut Vec<u8>) -> Re
     Ok(())
 }
 
-// Reads as many places as the window has room for.
+// Reads as many places as the window has.
 fn load_places(
     window: &mut HeapCircularBuffer<Option<u8>>,
     bound: u16,

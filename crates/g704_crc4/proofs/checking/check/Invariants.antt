@@ -3,7 +3,7 @@ use Rattle.g704_crc4.specs.Checking.{counts_after, counts_of}
 use Rattle.g704_crc4.specs.States.{ChecksAfter}
 use Rattle.g704_crc4.proofs.checking.check.Given as goal
 
--- The checker stands after the octets so far, and the others are to be counted.
+-- The checker has the history of the octets so far, and the others are to be counted.
 abbrev pub invariant-loop-octet : goal.invariant-loop-octet
 invariant-loop-octet l = record {
   stands : ChecksAfter l.checker (take l.octet-index l.octets);

@@ -7,7 +7,7 @@ use Rattle.g704_crc4.proofs.Searched.{lost-learned, short-learned}
 use Rattle.g704_crc4.proofs.receiving.Receiver.hunt.Goals.{in-Following, in_default}
 use Rattle.g704_crc4.proofs.receiving.Receiver.hunt.Goals as goal
 
--- Unless multiframes stand, the 8 ms are not over.
+-- Without multiframes the 8 ms are not over.
 not_over : (stage : Stage) (searched part octets : List ℕ) → IsStage stage searched part octets
     → ((following : _) → stage ≡ stages.Following following → ⊥) → length octets ≤ 2112
 not_over stages.Hunting searched part octets s not = rw s.0 (omega arith)

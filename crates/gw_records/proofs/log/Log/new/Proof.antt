@@ -1,4 +1,5 @@
--- `new` makes the empty struct, with the octets and calls that its clause names. Only a proof by hand can set ghost data.
+-- `new` makes the empty struct, with the octets and calls that its clause names. Only a proof by hand can set
+-- ghost data.
 use Rattle.gw_records.proofs.ByHand.{refl, [], ◌∷◌, Ura, vstruct, vnil, SProp, ent, emp, via, fst∗, Memory, Routine}
 use Rattle.gw_records.proofs.ByHand.{Calls, Loops, WpFn, Tables, Logic, Fun, tables, tables_of, WpFn-mono, ‵, raw, ◌$◌}
 use Rattle.gw_records.proofs.ByHand.{◌∵◌, !, qed, move, suffices, done, no_more, returns, enter, agg, alloc_all}

@@ -1,0 +1,62 @@
+"""The crates, and the sources, tests and wrong bodies of each: for scripts/crates and scripts/docs."""
+from __future__ import annotations
+
+import os
+import re
+
+TOP = os.path.dirname(os.path.dirname(os.path.realpath(__file__)))
+PORTED = {'arrayvec', 'byteorder', 'circular_buffer', 'clap', 'mio', 'sha2', 'thiserror', 'toml'}
+TEST = re.compile(r'#\[test\]\n(?:#\[.*\]\n)*fn (\w+)')
+
+
+def read(path: str) -> str:
+    with open(os.path.join(TOP, path), encoding='utf-8') as file:
+        return file.read()
+
+
+def crates() -> dict[str, list[str]]:
+    """The crates of crates.txt with their dependencies, without the ported crates."""
+    found = {}
+    for line in read('crates.txt').split('\n'):
+        name, colon, used = line.partition('#')[0].partition(':')
+        if colon:
+            found[name.strip()] = [each for each in used.split() if each not in PORTED]
+    return found
+
+
+def sources_of(crate: str) -> list[str]:
+    """The paths of a crate's sources."""
+    root = os.path.join(TOP, 'crates', crate, 'src')
+    return sorted(os.path.relpath(os.path.join(folder, file), TOP)
+                  for folder, _, files in os.walk(root) for file in files if file.endswith('.rt'))
+
+
+def summary(path: str) -> str:
+    """The first sentence of a source's head, or nothing if it has none."""
+    head = re.match(r'(?://!.*\n)+', read(path))
+    text = ' '.join(line[3:].strip() for line in head[0].split('\n')) if head else ''
+    return re.split(r'(?<=\.) ', text.partition('  ')[0].strip(), maxsplit=1)[0]
+
+
+def is_test(path: str) -> bool:
+    """Whether a source has tests, by its name or its folder."""
+    inner = path.split('/src/', 1)[1]
+    return (os.path.basename(path).startswith('tests') or os.path.basename(os.path.dirname(path)) == 'tests'
+            or '_tests' in inner)
+
+
+def tests() -> dict[str, list[str]]:
+    """The tests of each crate. One in another crate's file or folder of its name belongs to it."""
+    found: dict[str, list[str]] = {name: [] for name in crates()}
+    for crate in crates():
+        for path in filter(is_test, sources_of(crate)):
+            file, folder = os.path.basename(path), os.path.basename(os.path.dirname(path))
+            named = [it for it in (file.removesuffix('_tests.rt'), folder.removesuffix('_tests')) if it in found]
+            found[named[0] if named else crate] += TEST.findall(read(path))
+    return found
+
+
+def wrong_bodies_of(crate: str) -> list[str]:
+    """The names of the edits that the prover must refuse."""
+    folder = os.path.join(TOP, 'crates', crate, 'must-fail')
+    return sorted(name.removesuffix('.edit') for name in os.listdir(folder)) if os.path.isdir(folder) else []
