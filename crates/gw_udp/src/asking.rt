@@ -1,26 +1,30 @@
 //! What a socket that asks another one less often does.
 
-ghost use Rattle.std.specs.Prelude.{◌≡◌, ◌<◌, ◌≤◌, length, IfOk, IfErr, IfSome};
-ghost use Rattle.gw_udp.specs.Resting.{RestingIsBound, RestingReceives, RestingSends, rests_after};
-ghost use Rattle.gw_udp.specs.Socket.{ReceivesAny};
+ghost use Rattle.std.specs.Prelude.{◌≡◌, ◌<◌, ◌≤◌, length, IfOk, IfErr, IfSome, IsTrue, IsFalse, if◌then◌else◌};
+ghost use Rattle.gw_udp.specs.Resting.{RestingIsBound, RestingReceives, RestingSends, Asks, rests_after};
+ghost use Rattle.gw_udp.specs.Socket.{KeepsBound, ReceivesAny};
 
 use crate::resting::Resting;
 use crate::socket::Socket;
 use gw_records::PortFault;
+use mio::{Registry, Token};
 use std::io;
 use std::net::{Net, SocketAddr};
 
 // How many receives after one that found none are answered without the socket. A circuit receives once in
 // each frame of the trunk, so with these it asks once a millisecond.
-const RESTS: u8 = 7;
+const RESTS: u16 = 7;
 
-// How many receives rest after one with this answer.
+// The same if the system says what comes: with these a circuit asks at least each 100 ms.
+const WATCHED_RESTS: u16 = 799;
+
+// How many receives rest after one with this answer, of which `most` may.
 #[inline]
-fn rests_after<X>(answer: &Result<Option<X>, PortFault>) -> u8
-    ensures { result ≡ rests_after answer.now }
+fn rests_after<X>(most: u16, answer: &Result<Option<X>, PortFault>) -> u16
+    ensures { result ≡ rests_after most answer.now }
 {
     match answer {
-        Ok(None) => RESTS,
+        Ok(None) => most,
         _ => 0,
     }
 }
@@ -38,6 +42,7 @@ impl<S: Socket> Socket for Resting<S> {
         Ok(Resting {
             socket: S::bind(net, address)?,
             rests: 0,
+            most: RESTS,
         })
     }
 
@@ -45,29 +50,46 @@ impl<S: Socket> Socket for Resting<S> {
         self.socket.connect(peer)
     }
 
-    fn receive(&mut self, room: &mut [u8]) -> Result<Option<(usize, SocketAddr)>, PortFault>
+    fn watch(&mut self, registry: &Registry, token: Token) -> bool
+        ensures bound { KeepsBound (RestingIsBound S.is_bound) self.old self.new }
+        ensures most { self.new.most ≡ (if result then 799 else self.old.most) }
+    {
+        let watched = self.socket.watch(registry, token);
+        if watched {
+            self.most = WATCHED_RESTS;
+        }
+        watched
+    }
+
+    fn receive(
+        &mut self,
+        came: bool,
+        room: &mut [u8],
+    ) -> Result<Option<(usize, SocketAddr)>, PortFault>
         ensures bound { IfOk result (λ got. IfSome got (λ g. g.0 ≤ length room.new)) }
         ensures receives { RestingReceives S.receives self.old self.new result room.new }
-        ensures room_stays { 0 < self.old.rests → room.new ≡ room.old }
+        ensures asks { IsTrue came → Asks S.receives self.old self.new result room.new }
+        ensures room_stays { IsFalse came → 0 < self.old.rests → room.new ≡ room.old }
     {
-        if self.rests() {
+        if self.rests(came) {
             return Ok(None);
         }
-        let answer = self.socket.receive(room);
-        self.rests = rests_after(&answer);
+        let answer = self.socket.receive(came, room);
+        self.rests = rests_after(self.most, &answer);
         answer
     }
 
-    fn receive_any(&mut self, room: &mut [u8]) -> Result<Option<usize>, PortFault>
+    fn receive_any(&mut self, came: bool, room: &mut [u8]) -> Result<Option<usize>, PortFault>
         ensures bound { IfOk result (λ got. IfSome got (λ n. n ≤ length room.new)) }
         ensures receives { ReceivesAny (RestingReceives S.receives) self.old self.new result room.new }
-        ensures room_stays { 0 < self.old.rests → room.new ≡ room.old }
+        ensures asks { IsTrue came → ReceivesAny (Asks S.receives) self.old self.new result room.new }
+        ensures room_stays { IsFalse came → 0 < self.old.rests → room.new ≡ room.old }
     {
-        if self.rests() {
+        if self.rests(came) {
             return Ok(None);
         }
-        let answer = self.socket.receive_any(room);
-        self.rests = rests_after(&answer);
+        let answer = self.socket.receive_any(came, room);
+        self.rests = rests_after(self.most, &answer);
         answer
     }
 

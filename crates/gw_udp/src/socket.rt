@@ -1,12 +1,15 @@
 //! A socket of datagrams that never waits, and std's as one.
 
 ghost use Rattle.std.specs.Prelude.{◌≡◌, ◌≤◌, length, IfOk, IfErr, IfSome, ⊤};
-ghost use Rattle.gw_udp.specs.Socket.{Bound, Refused, Received, ReceivesAny, Sent};
+ghost use Rattle.gw_udp.specs.Socket.{Bound, KeepsBound, Refused, Received, ReceivesAny, Sent};
 
 use crate::outcome::{received, sent, was_refused};
 use gw_records::PortFault;
+use mio::unix::SourceFd;
+use mio::{Interest, Registry, Token};
 use std::io;
 use std::net::{Net, SocketAddr, UdpSocket};
+use std::os::fd::AsRawFd;
 
 /// A socket of datagrams. The relations are the type's own: a caller that knows nothing of the type has them
 /// of a call alone.
@@ -34,15 +37,23 @@ pub trait Socket: Drop {
     /// all senders are let through then.
     fn connect(&self, peer: SocketAddr) -> io::Result<()>;
 
-    /// Takes out the first datagram that waits, puts it to the front of `room`, and answers its length, in
-    /// octets, and its sender. None where none waits.
-    fn receive(&mut self, room: &mut [u8]) -> Result<Option<(usize, SocketAddr)>, PortFault>
+    /// Has the system say what comes to the socket, by this token. False if it does not.
+    fn watch(&mut self, registry: &Registry, token: Token) -> bool
+        ensures { KeepsBound is_bound self.old self.new };
+
+    /// Receives the first datagram that waits into the front of `room`, and returns its length, in octets, and
+    /// its sender. None if none waits. `came` is whether the system has said that something came.
+    fn receive(
+        &mut self,
+        came: bool,
+        room: &mut [u8],
+    ) -> Result<Option<(usize, SocketAddr)>, PortFault>
         ensures bound { IfOk result (λ got. IfSome got (λ g. g.0 ≤ length room.new)) }
         ensures receives { receives self.old self.new result room.new };
 
-    /// Takes out the first datagram that waits, as [`receive`](Socket::receive) does, and answers its length
+    /// Receives the first datagram that waits, as [`receive`](Socket::receive) does, and returns its length
     /// alone, in octets.
-    fn receive_any(&mut self, room: &mut [u8]) -> Result<Option<usize>, PortFault>
+    fn receive_any(&mut self, came: bool, room: &mut [u8]) -> Result<Option<usize>, PortFault>
         ensures bound { IfOk result (λ got. IfSome got (λ n. n ≤ length room.new)) }
         ensures receives { ReceivesAny receives self.old self.new result room.new };
 
@@ -64,11 +75,21 @@ impl Socket for UdpSocket {
         UdpSocket::connect(self, peer)
     }
 
-    fn receive(&mut self, room: &mut [u8]) -> Result<Option<(usize, SocketAddr)>, PortFault> {
+    fn watch(&mut self, registry: &Registry, token: Token) -> bool {
+        registry
+            .register(&mut SourceFd(&self.as_raw_fd()), token, Interest::READABLE)
+            .is_ok()
+    }
+
+    fn receive(
+        &mut self,
+        _came: bool,
+        room: &mut [u8],
+    ) -> Result<Option<(usize, SocketAddr)>, PortFault> {
         received(self.recv_from(room))
     }
 
-    fn receive_any(&mut self, room: &mut [u8]) -> Result<Option<usize>, PortFault> {
+    fn receive_any(&mut self, _came: bool, room: &mut [u8]) -> Result<Option<usize>, PortFault> {
         received(self.recv(room))
     }
 

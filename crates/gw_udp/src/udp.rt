@@ -10,6 +10,7 @@ ghost use Rattle.gw_udp.specs.Udp.{ReceivesFrom, EndpointReceives, EndpointSends
 ghost use Rattle.gw_udp.specs.Calls.{HasCalled, AreBound, IsFresh};
 
 use crate::names::NameLookup;
+use crate::readiness::Readiness;
 use crate::senders::Senders;
 use crate::socket::Socket;
 use g704_cas::CircuitNo;
@@ -48,6 +49,7 @@ pub struct Endpoint<S> {
 #[derive(Drop)]
 pub struct UdpPorts<S: Socket> {
     pub(crate) endpoints: Vec<Option<Endpoint<S>>>,
+    readiness: Readiness,
     receive_failed: u64,
     send_failed: u64,
     pub(crate) opened: AtStart<Vec<Option<Endpoint<S>>>>,
@@ -94,6 +96,7 @@ fn address_of<L: NameLookup>(
 fn open_endpoint<S: Socket, L: NameLookup>(
     net: &impl Net,
     names: &L,
+    readiness: &Readiness,
     circuit: u8,
     host: &str,
     port: &Port,
@@ -109,7 +112,7 @@ fn open_endpoint<S: Socket, L: NameLookup>(
     if here.is_ipv4() != peer.is_ipv4() {
         return Err(OpenFault::Socket(circuit));
     }
-    let socket = match S::bind(net, here) {
+    let mut socket = match S::bind(net, here) {
         Ok(socket) => socket,
         Err(error) => return Err(fault_of(circuit, &error)),
     };
@@ -117,6 +120,7 @@ fn open_endpoint<S: Socket, L: NameLookup>(
         // The system throws away what strangers send, at less cost; where it does not, each receive does.
         let _ = socket.connect(peer);
     }
+    readiness.watch(circuit, &mut socket);
     Ok(Endpoint {
         socket,
         here: AtStart::of(&here),
@@ -129,6 +133,7 @@ fn open_endpoint<S: Socket, L: NameLookup>(
 fn endpoint_of<S: Socket, L: NameLookup>(
     net: &impl Net,
     names: &L,
+    readiness: &Readiness,
     circuit: u8,
     host: &str,
     port: &Option<Port>,
@@ -139,7 +144,7 @@ fn endpoint_of<S: Socket, L: NameLookup>(
         (IsSomeAnd port.now (LacksSocket S.refuses (L.looks_up names.now) host.now))) }
 {
     match port {
-        Some(port) => Ok(Some(open_endpoint(net, names, circuit, host, port, senders)?)),
+        Some(port) => Ok(Some(open_endpoint(net, names, readiness, circuit, host, port, senders)?)),
         None => Ok(None),
     }
 }
@@ -152,13 +157,14 @@ fn receive_let_in<S: Socket>(
     socket: &mut S,
     senders: Senders,
     peer: &SocketAddr,
+    came: bool,
     room: &mut [u8],
 ) -> Result<Option<usize>, PortFault>
     ensures bound { IfOk result (λ got. IfSome got (λ n. n ≤ length room.new)) }
     ensures received { ReceivesFrom S.receives senders peer.now socket.old socket.new result room.new }
 {
     for _turn in 0..MOST_STRANGERS {
-        match socket.receive(room)? {
+        match socket.receive(came, room)? {
             Some((len, from)) => {
                 if senders.let_in(from, *peer) {
                     return Ok(Some(len));
@@ -176,14 +182,15 @@ fn receive_from<S: Socket>(
     socket: &mut S,
     senders: Senders,
     peer: &SocketAddr,
+    came: bool,
     room: &mut [u8],
 ) -> Result<Option<usize>, PortFault>
     ensures bound { IfOk result (λ got. IfSome got (λ n. n ≤ length room.new)) }
     ensures received { ReceivesFrom S.receives senders peer.now socket.old socket.new result room.new }
 {
     match senders {
-        Senders::Any => socket.receive_any(room),
-        Senders::Host | Senders::Peer => receive_let_in(socket, senders, peer, room),
+        Senders::Any => socket.receive_any(came, room),
+        Senders::Host | Senders::Peer => receive_let_in(socket, senders, peer, came, room),
     }
 }
 
@@ -191,6 +198,7 @@ fn receive_from<S: Socket>(
 fn receive_at<S: Socket>(
     endpoints: &mut Vec<Option<Endpoint<S>>>,
     circuit: CircuitNo,
+    came: bool,
     room: &mut [u8],
 ) -> Result<Option<usize>, PortFault>
     requires { vec_len endpoints.old ≡ 30 }
@@ -206,6 +214,7 @@ fn receive_at<S: Socket>(
             &mut endpoint.socket,
             endpoint.senders,
             &endpoint.peer,
+            came,
             room,
         ),
         None => Ok(None),
@@ -250,10 +259,12 @@ impl<S: Socket> UdpPorts<S> {
         let Ok(mut endpoints) = Vec::with_capacity(alloc, CIRCUITS) else {
             return Err(OpenFault::OutOfMemory);
         };
+        let readiness = Readiness::open(net, alloc);
         for number in 1..=30u8 {
             let endpoint = endpoint_of(
                 net,
                 net,
+                &readiness,
                 number,
                 host,
                 &ports[usize::from(number) - 1],
@@ -267,6 +278,7 @@ impl<S: Socket> UdpPorts<S> {
         let opened = AtStart::of(&endpoints);
         Ok(UdpPorts {
             endpoints,
+            readiness,
             receive_failed: 0,
             send_failed: 0,
             opened,
@@ -296,7 +308,8 @@ impl<S: Socket> Ports for UdpPorts<S> {
             result room.new }
         ensures others { KeepsOthers circuit self.old.endpoints.items self.new.endpoints.items }
     {
-        let received = receive_at(&mut self.endpoints, circuit, room);
+        let came = self.readiness.came(circuit);
+        let received = receive_at(&mut self.endpoints, circuit, came, room);
         self.log.received(circuit, &received, room);
         if received.is_err() {
             self.receive_failed = self.receive_failed.saturating_add(1);
