@@ -1,6 +1,7 @@
 //! What a socket that asks another one less often does.
 
-ghost use Rattle.std.specs.Prelude.{◌≡◌, ◌<◌, ◌≤◌, length, IfOk, IfErr, IfSome, IsTrue, IsFalse, if◌then◌else◌};
+ghost use Rattle.std.specs.Prelude.{◌≡◌, ◌≤◌, ℕ, List, length, Ok, None, IfOk, IfErr, IfSome, IsTrue, IsFalse};
+ghost use Rattle.std.specs.Prelude.{if◌then◌else◌};
 ghost use Rattle.gw_udp.specs.Resting.{RestingIsBound, RestingReceives, RestingSends, Asks, rests_after};
 ghost use Rattle.gw_udp.specs.Socket.{KeepsBound, ReceivesAny};
 
@@ -61,34 +62,36 @@ impl<S: Socket> Socket for Resting<S> {
         watched
     }
 
-    fn receive(
-        &mut self,
-        came: bool,
-        room: &mut [u8],
-    ) -> Result<Option<(usize, SocketAddr)>, PortFault>
+    #[inline]
+    fn rests(&mut self, came: bool) -> bool
+        ensures rests { IsTrue result
+            → (room : List ℕ) → RestingReceives S.receives self.old self.new (Ok None) room }
+        ensures stays { IsFalse result → self.new ≡ self.old }
+        ensures asks { IsTrue came → IsFalse result }
+    {
+        if came || self.rests == 0 {
+            return false;
+        }
+        self.rests -= 1;
+        true
+    }
+
+    fn receive(&mut self, room: &mut [u8]) -> Result<Option<(usize, SocketAddr)>, PortFault>
         ensures bound { IfOk result (λ got. IfSome got (λ g. g.0 ≤ length room.new)) }
         ensures receives { RestingReceives S.receives self.old self.new result room.new }
-        ensures asks { IsTrue came → Asks S.receives self.old self.new result room.new }
-        ensures room_stays { IsFalse came → 0 < self.old.rests → room.new ≡ room.old }
+        ensures asks { Asks S.receives self.old self.new result room.new }
     {
-        if self.rests(came) {
-            return Ok(None);
-        }
-        let answer = self.socket.receive(came, room);
+        let answer = self.socket.receive(room);
         self.rests = rests_after(self.most, &answer);
         answer
     }
 
-    fn receive_any(&mut self, came: bool, room: &mut [u8]) -> Result<Option<usize>, PortFault>
+    fn receive_any(&mut self, room: &mut [u8]) -> Result<Option<usize>, PortFault>
         ensures bound { IfOk result (λ got. IfSome got (λ n. n ≤ length room.new)) }
         ensures receives { ReceivesAny (RestingReceives S.receives) self.old self.new result room.new }
-        ensures asks { IsTrue came → ReceivesAny (Asks S.receives) self.old self.new result room.new }
-        ensures room_stays { IsFalse came → 0 < self.old.rests → room.new ≡ room.old }
+        ensures asks { ReceivesAny (Asks S.receives) self.old self.new result room.new }
     {
-        if self.rests(came) {
-            return Ok(None);
-        }
-        let answer = self.socket.receive_any(came, room);
+        let answer = self.socket.receive_any(room);
         self.rests = rests_after(self.most, &answer);
         answer
     }

@@ -1,6 +1,6 @@
 //! A socket of datagrams that never waits, and std's as one.
 
-ghost use Rattle.std.specs.Prelude.{◌≡◌, ◌≤◌, length, IfOk, IfErr, IfSome, ⊤};
+ghost use Rattle.std.specs.Prelude.{◌≡◌, ◌≤◌, ℕ, List, length, Ok, None, IfOk, IfErr, IfSome, IsTrue, IsFalse, ⊤};
 ghost use Rattle.gw_udp.specs.Socket.{Bound, KeepsBound, Refused, Received, ReceivesAny, Sent};
 
 use crate::outcome::{received, sent, was_refused};
@@ -41,19 +41,21 @@ pub trait Socket: Drop {
     fn watch(&mut self, registry: &Registry, token: Token) -> bool
         ensures { KeepsBound is_bound self.old self.new };
 
+    /// Whether a receive now finds none without asking the system. If so, this was that receive. `came` is
+    /// whether the system has said that something came.
+    fn rests(&mut self, came: bool) -> bool
+        ensures rests { IsTrue result → (room : List ℕ) → receives self.old self.new (Ok None) room }
+        ensures stays { IsFalse result → self.new ≡ self.old };
+
     /// Receives the first datagram that waits into the front of `room`, and returns its length, in octets, and
-    /// its sender. None if none waits. `came` is whether the system has said that something came.
-    fn receive(
-        &mut self,
-        came: bool,
-        room: &mut [u8],
-    ) -> Result<Option<(usize, SocketAddr)>, PortFault>
+    /// its sender. None if none waits.
+    fn receive(&mut self, room: &mut [u8]) -> Result<Option<(usize, SocketAddr)>, PortFault>
         ensures bound { IfOk result (λ got. IfSome got (λ g. g.0 ≤ length room.new)) }
         ensures receives { receives self.old self.new result room.new };
 
     /// Receives the first datagram that waits, as [`receive`](Socket::receive) does, and returns its length
     /// alone, in octets.
-    fn receive_any(&mut self, came: bool, room: &mut [u8]) -> Result<Option<usize>, PortFault>
+    fn receive_any(&mut self, room: &mut [u8]) -> Result<Option<usize>, PortFault>
         ensures bound { IfOk result (λ got. IfSome got (λ n. n ≤ length room.new)) }
         ensures receives { ReceivesAny receives self.old self.new result room.new };
 
@@ -81,15 +83,16 @@ impl Socket for UdpSocket {
             .is_ok()
     }
 
-    fn receive(
-        &mut self,
-        _came: bool,
-        room: &mut [u8],
-    ) -> Result<Option<(usize, SocketAddr)>, PortFault> {
+    #[inline]
+    fn rests(&mut self, _came: bool) -> bool {
+        false
+    }
+
+    fn receive(&mut self, room: &mut [u8]) -> Result<Option<(usize, SocketAddr)>, PortFault> {
         received(self.recv_from(room))
     }
 
-    fn receive_any(&mut self, _came: bool, room: &mut [u8]) -> Result<Option<usize>, PortFault> {
+    fn receive_any(&mut self, room: &mut [u8]) -> Result<Option<usize>, PortFault> {
         received(self.recv(room))
     }
 

@@ -1,6 +1,7 @@
 //! The ports of circuits as sockets, each opened for its own circuit.
 
-ghost use Rattle.std.specs.Prelude.{◌≡◌, ◌≤◌, vec_len, length, IfOk, IfErr, IfSome, IsSomeAnd, string_bytes};
+ghost use Rattle.std.specs.Prelude.{◌≡◌, ◌≤◌, ℕ, List, vec_len, length, Ok, None, IfOk, IfErr, IfSome, IsSomeAnd};
+ghost use Rattle.std.specs.Prelude.{IsTrue, IsFalse, string_bytes};
 ghost use Rattle.std.specs.IoError.{error_kind};
 ghost use Rattle.gw_records.specs.Ports.{Receives, Sends, CountsFault, KeepsSends, KeepsReceives};
 ghost use Rattle.gw_udp.specs.Names.{IsAddressOf, LacksAddress, SystemLooksUp};
@@ -157,14 +158,13 @@ fn receive_let_in<S: Socket>(
     socket: &mut S,
     senders: Senders,
     peer: &SocketAddr,
-    came: bool,
     room: &mut [u8],
 ) -> Result<Option<usize>, PortFault>
     ensures bound { IfOk result (λ got. IfSome got (λ n. n ≤ length room.new)) }
     ensures received { ReceivesFrom S.receives senders peer.now socket.old socket.new result room.new }
 {
     for _turn in 0..MOST_STRANGERS {
-        match socket.receive(came, room)? {
+        match socket.receive(room)? {
             Some((len, from)) => {
                 if senders.let_in(from, *peer) {
                     return Ok(Some(len));
@@ -182,19 +182,67 @@ fn receive_from<S: Socket>(
     socket: &mut S,
     senders: Senders,
     peer: &SocketAddr,
-    came: bool,
     room: &mut [u8],
 ) -> Result<Option<usize>, PortFault>
     ensures bound { IfOk result (λ got. IfSome got (λ n. n ≤ length room.new)) }
     ensures received { ReceivesFrom S.receives senders peer.now socket.old socket.new result room.new }
 {
     match senders {
-        Senders::Any => socket.receive_any(came, room),
-        Senders::Host | Senders::Peer => receive_let_in(socket, senders, peer, came, room),
+        Senders::Any => socket.receive_any(room),
+        Senders::Host | Senders::Peer => receive_let_in(socket, senders, peer, room),
     }
 }
 
-// Receives at the socket of a circuit.
+// Whether a receive at the socket of a circuit finds none without asking the system; if there is no socket, it
+// does.
+#[inline]
+fn rests_at<S: Socket>(
+    endpoints: &mut Vec<Option<Endpoint<S>>>,
+    circuit: CircuitNo,
+    came: bool,
+) -> bool
+    requires { vec_len endpoints.old ≡ 30 }
+    ensures rests { IsTrue result → (room : List ℕ)
+        → EndpointReceives S.receives circuit endpoints.old.items endpoints.new.items (Ok None) room }
+    ensures stays { IsFalse result → endpoints.new.items ≡ endpoints.old.items }
+    ensures others { KeepsOthers circuit endpoints.old.items endpoints.new.items }
+    ensures thirty { vec_len endpoints.new ≡ 30 }
+    ensures some { 1 ≤ circuit }
+{
+    match &mut endpoints[usize::from(circuit.get()) - 1] {
+        Some(endpoint) => endpoint.socket.rests(came),
+        None => true,
+    }
+}
+
+// Asks the socket of a circuit.
+#[inline(never)]
+fn ask_at<S: Socket>(
+    endpoints: &mut Vec<Option<Endpoint<S>>>,
+    circuit: CircuitNo,
+    room: &mut [u8],
+) -> Result<Option<usize>, PortFault>
+    requires { vec_len endpoints.old ≡ 30 }
+    ensures bound { IfOk result (λ got. IfSome got (λ n. n ≤ length room.new)) }
+    ensures own { EndpointReceives S.receives circuit endpoints.old.items endpoints.new.items
+        result room.new }
+    ensures others { KeepsOthers circuit endpoints.old.items endpoints.new.items }
+    ensures thirty { vec_len endpoints.new ≡ 30 }
+{
+    let at = usize::from(circuit.get()) - 1;
+    match &mut endpoints[at] {
+        Some(endpoint) => receive_from(
+            &mut endpoint.socket,
+            endpoint.senders,
+            &endpoint.peer,
+            room,
+        ),
+        None => Ok(None),
+    }
+}
+
+// Receives at the socket of a circuit. (What asks the system is apart, since most receives do not.)
+#[inline]
 fn receive_at<S: Socket>(
     endpoints: &mut Vec<Option<Endpoint<S>>>,
     circuit: CircuitNo,
@@ -209,16 +257,10 @@ fn receive_at<S: Socket>(
     ensures thirty { vec_len endpoints.new ≡ 30 }
     ensures some { 1 ≤ circuit }
 {
-    match &mut endpoints[usize::from(circuit.get()) - 1] {
-        Some(endpoint) => receive_from(
-            &mut endpoint.socket,
-            endpoint.senders,
-            &endpoint.peer,
-            came,
-            room,
-        ),
-        None => Ok(None),
+    if rests_at(endpoints, circuit, came) {
+        return Ok(None);
     }
+    ask_at(endpoints, circuit, room)
 }
 
 // Sends by the socket of a circuit, to its peer.
@@ -291,6 +333,7 @@ impl<S: Socket> Ports for UdpPorts<S> {
     ghost tells = { λ p.
         told p.receive_failed p.send_failed (addresses_of p.opened.value.items) p.log.calls };
 
+    #[inline]
     fn receive(&mut self, circuit: CircuitNo, room: &mut [u8]) -> Result<Option<usize>, PortFault>
         ensures bound { IfOk result (λ got. IfSome got (λ n. n ≤ length room.new)) }
         ensures receives { Receives
