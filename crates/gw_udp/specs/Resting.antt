@@ -1,23 +1,22 @@
--- A socket that asks the one inside in one receive out of eight while none is waiting.
+-- What a socket does that asks another one less often while none waits.
 use Rattle.std.specs.Prelude.{◌≡◌, ◌⊎◌, ◌+◌, ℕ, List, Option, Some, None, Result, Ok, Err}
 use Rattle.std.specs.declared.net.socket_addr.SocketAddr.{SocketAddr}
 use Rattle.gw_records.specs.declared.ports.PortFault.{PortFault}
 use Rattle.gw_udp.specs.Socket.{Bound, Received, Sent}
 use Rattle.gw_udp.specs.declared.resting.Resting.{Resting}
 
--- How many receives rest after one with this answer: seven after an empty one, together the eight octets of a
--- circuit in 1 ms; none after a datagram or a fault.
-abbrev pub rests_after : {X : Type 0} → Result (Option X) PortFault → ℕ
-rests_after (Ok None) = 7
-rests_after (Ok (Some x)) = 0
-rests_after (Err e) = 0
+-- How many receives rest after one with this answer: `most` after one that found none, and no receive after a
+-- datagram or a fault.
+abbrev pub rests_after : {X : Type 0} → ℕ → Result (Option X) PortFault → ℕ
+rests_after most (Ok None) = most
+rests_after most (Ok (Some x)) = 0
+rests_after most (Err e) = 0
 
--- no rest was left, so the socket inside was asked, and its answer is the answer
+-- the socket inside was asked: its answer is the answer
 pub record Asks {S : Type 0} (receives : Received S) (old new : Resting S)
     (r : Result (Option (ℕ × SocketAddr)) PortFault) (room : List ℕ) : Type 0 where
-  pub awake : old.rests ≡ 0
   pub received : receives old.socket new.socket r room
-  pub then : new.rests ≡ rests_after r
+  pub then : new.rests ≡ rests_after old.most r
 
 -- a receive rested: the socket inside is unchanged, and the answer is none
 pub record Rests {S : Type 0} (old new : Resting S) (r : Result (Option (ℕ × SocketAddr)) PortFault)
@@ -26,9 +25,10 @@ pub record Rests {S : Type 0} (old new : Resting S) (r : Result (Option (ℕ × 
   pub stays : new.socket ≡ old.socket
   pub none : r ≡ Ok None
 
--- a receive asked the socket inside, or rested
+-- A receive asked the socket inside, or rested; either way as many receives may rest as before. (So at least one
+-- of `most` and 1 receives asks.)
 abbrev pub RestingReceives : {S : Type 0} → Received S → Received (Resting S)
-RestingReceives receives old new r room = Asks receives old new r room ⊎ Rests old new r
+RestingReceives receives old new r room = (Asks receives old new r room ⊎ Rests old new r) × (new.most ≡ old.most)
 
 -- the socket inside is bound to the address, and no rest is left
 abbrev pub RestingIsBound : {S : Type 0} → Bound S → Bound (Resting S)
@@ -37,4 +37,4 @@ RestingIsBound is_bound s a = is_bound s.socket a × (s.rests ≡ 0)
 -- a send goes through the socket inside, and the rest is unchanged
 abbrev pub RestingSends : {S : Type 0} → Sent S → Sent (Resting S)
 RestingSends sends old new to datagram r =
-    sends old.socket new.socket to datagram r × (new.rests ≡ old.rests)
+    sends old.socket new.socket to datagram r × (new.rests ≡ old.rests) × (new.most ≡ old.most)

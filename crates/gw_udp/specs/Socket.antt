@@ -8,7 +8,11 @@ use Rattle.gw_records.specs.declared.ports.PortFault.{PortFault}
 abbrev pub Bound : Type 0 → Type 1
 Bound S = S → SocketAddr → Type 0
 
--- relates an address at which the system refused a socket, and its error
+-- what a socket was bound to it is bound to
+abbrev pub KeepsBound : {S : Type 0} → Bound S → S → S → Type 0
+KeepsBound is_bound old new = (a : SocketAddr) → is_bound old a → is_bound new a
+
+-- of an address at which the system gave no socket, and its error
 abbrev pub Refused : Type 1
 Refused = SocketAddr → Error → Type 0
 

@@ -1,27 +1,31 @@
 //! When a resting socket asks the one inside.
 
-ghost use Rattle.std.specs.Prelude.{◌≡◌, ◌<◌, ◌≤◌, length, IfOk, IfErr, IfSome};
-ghost use Rattle.gw_udp.specs.Resting.{RestingIsBound, RestingReceives, RestingSends, rests_after};
-ghost use Rattle.gw_udp.specs.Socket.{ReceivesAny};
+ghost use Rattle.std.specs.Prelude.{◌≡◌, ◌≤◌, ℕ, List, length, Ok, None, IfOk, IfErr, IfSome, IsTrue, IsFalse};
+ghost use Rattle.std.specs.Prelude.{if◌then◌else◌};
+ghost use Rattle.gw_udp.specs.Resting.{RestingIsBound, RestingReceives, RestingSends, Asks, rests_after};
+ghost use Rattle.gw_udp.specs.Socket.{KeepsBound, ReceivesAny};
 
 use crate::resting::Resting;
 use crate::socket::Socket;
 use gw_records::PortFault;
+use mio::{Registry, Token};
 use std::io;
 use std::net::{Net, SocketAddr};
 
-// How many receives after an empty one are answered without the socket.
-//
-// A circuit receives once a frame, so it asks the socket once a millisecond.
-const RESTS: u8 = 7;
+// How many receives after one that found none are answered without the socket. A circuit receives once in
+// each frame of the trunk, so with these it asks once a millisecond.
+const RESTS: u16 = 7;
 
-// How many receives rest after one with this answer.
+// The same if the system says what comes: with these a circuit asks at least each 100 ms.
+const WATCHED_RESTS: u16 = 799;
+
+// How many receives rest after one with this answer, of which `most` may.
 #[inline]
-fn rests_after<X>(answer: &Result<Option<X>, PortFault>) -> u8
-    ensures { result ≡ rests_after answer.now }
+fn rests_after<X>(most: u16, answer: &Result<Option<X>, PortFault>) -> u16
+    ensures { result ≡ rests_after most answer.now }
 {
     match answer {
-        Ok(None) => RESTS,
+        Ok(None) => most,
         _ => 0,
     }
 }
@@ -39,6 +43,7 @@ impl<S: Socket> Socket for Resting<S> {
         Ok(Resting {
             socket: S::bind(net, address)?,
             rests: 0,
+            most: RESTS,
         })
     }
 
@@ -46,29 +51,48 @@ impl<S: Socket> Socket for Resting<S> {
         self.socket.connect(peer)
     }
 
+    fn watch(&mut self, registry: &Registry, token: Token) -> bool
+        ensures bound { KeepsBound (RestingIsBound S.is_bound) self.old self.new }
+        ensures most { self.new.most ≡ (if result then 799 else self.old.most) }
+    {
+        let watched = self.socket.watch(registry, token);
+        if watched {
+            self.most = WATCHED_RESTS;
+        }
+        watched
+    }
+
+    #[inline]
+    fn rests(&mut self, came: bool) -> bool
+        ensures rests { IsTrue result
+            → (room : List ℕ) → RestingReceives S.receives self.old self.new (Ok None) room }
+        ensures stays { IsFalse result → self.new ≡ self.old }
+        ensures asks { IsTrue came → IsFalse result }
+    {
+        if came || self.rests == 0 {
+            return false;
+        }
+        self.rests -= 1;
+        true
+    }
+
     fn receive(&mut self, room: &mut [u8]) -> Result<Option<(usize, SocketAddr)>, PortFault>
         ensures bound { IfOk result (λ got. IfSome got (λ g. g.0 ≤ length room.new)) }
         ensures receives { RestingReceives S.receives self.old self.new result room.new }
-        ensures room_stays { 0 < self.old.rests → room.new ≡ room.old }
+        ensures asks { Asks S.receives self.old self.new result room.new }
     {
-        if self.rests() {
-            return Ok(None);
-        }
         let answer = self.socket.receive(room);
-        self.rests = rests_after(&answer);
+        self.rests = rests_after(self.most, &answer);
         answer
     }
 
     fn receive_any(&mut self, room: &mut [u8]) -> Result<Option<usize>, PortFault>
         ensures bound { IfOk result (λ got. IfSome got (λ n. n ≤ length room.new)) }
         ensures receives { ReceivesAny (RestingReceives S.receives) self.old self.new result room.new }
-        ensures room_stays { 0 < self.old.rests → room.new ≡ room.old }
+        ensures asks { ReceivesAny (Asks S.receives) self.old self.new result room.new }
     {
-        if self.rests() {
-            return Ok(None);
-        }
         let answer = self.socket.receive_any(room);
-        self.rests = rests_after(&answer);
+        self.rests = rests_after(self.most, &answer);
         answer
     }
 

@@ -5,6 +5,7 @@ mod asking;
 pub mod laws;
 mod names;
 mod outcome;
+mod readiness;
 mod resting;
 mod senders;
 mod socket;

@@ -1,31 +1,18 @@
 //! A socket that asks the one inside less often.
 
-ghost use Rattle.std.specs.Prelude.{◌≡◌, ◌-◌, ◌<◌, ◌≤◌, ◌↔◌, IsTrue};
+ghost use Rattle.std.specs.Prelude.{◌≤◌};
 
-/// Asks the socket inside in one receive out of eight while none is waiting.
-///
-/// After an empty receive it answers the next seven itself with none. A datagram that arrives meanwhile stays
-/// in the socket, and is received up to seven octets of its circuit later, 0.9 ms. After a datagram no
-/// receive rests, so queued datagrams are received one after another.
+/// A socket over another one, which it asks less often while none waits: after a receive that found none, it
+/// returns by itself that none waits, in the next seven receives. If the system says what comes to the socket
+/// it does so in the next 799, 100 ms, and asks at once if something has come. A datagram that comes meanwhile
+/// stays in the socket, and is received up to seven octets of its circuit later, 0.9 ms. No receive rests
+/// after one that gave a datagram, so those that wait are received one after the other.
 #[derive(Drop)]
 pub struct Resting<S> {
     pub(crate) socket: S,
-    pub(crate) rests: u8,
-    ghost few: { rests ≤ 7 },
-}
-
-impl<S> Resting<S> {
-    // Whether this receive rests; it takes one from the rest.
-    #[inline]
-    pub(crate) fn rests(&mut self) -> bool
-        ensures rests { IsTrue result ↔ 0 < self.old.rests }
-        ensures one_less { self.new.rests ≡ self.old.rests - 1 }
-        ensures stays { self.new.socket ≡ self.old.socket }
-    {
-        if self.rests > 0 {
-            self.rests -= 1;
-            return true;
-        }
-        false
-    }
+    pub(crate) rests: u16,
+    // how many receives rest after one that found none
+    pub(crate) most: u16,
+    ghost few: { rests ≤ most },
+    ghost bound: { most ≤ 799 },
 }

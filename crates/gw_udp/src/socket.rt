@@ -1,12 +1,15 @@
 //! A non-blocking datagram socket, and std's as one.
 
-ghost use Rattle.std.specs.Prelude.{◌≡◌, ◌≤◌, length, IfOk, IfErr, IfSome, ⊤};
-ghost use Rattle.gw_udp.specs.Socket.{Bound, Refused, Received, ReceivesAny, Sent};
+ghost use Rattle.std.specs.Prelude.{◌≡◌, ◌≤◌, ℕ, List, length, Ok, None, IfOk, IfErr, IfSome, IsTrue, IsFalse, ⊤};
+ghost use Rattle.gw_udp.specs.Socket.{Bound, KeepsBound, Refused, Received, ReceivesAny, Sent};
 
 use crate::outcome::{received, sent, was_refused};
 use gw_records::PortFault;
+use mio::unix::SourceFd;
+use mio::{Interest, Registry, Token};
 use std::io;
 use std::net::{Net, SocketAddr, UdpSocket};
+use std::os::fd::AsRawFd;
 
 /// A datagram socket.
 ///
@@ -38,14 +41,24 @@ pub trait Socket: Drop {
     /// The error is the system's; then all senders are accepted.
     fn connect(&self, peer: SocketAddr) -> io::Result<()>;
 
-    /// Receives one datagram into `room` and returns its length and sender.
-    ///
-    /// None if none is waiting.
+    /// Has the system say what comes to the socket, by this token. False if it does not.
+    fn watch(&mut self, registry: &Registry, token: Token) -> bool
+        ensures { KeepsBound is_bound self.old self.new };
+
+    /// Whether a receive now finds none without asking the system. If so, this was that receive. `came` is
+    /// whether the system has said that something came.
+    fn rests(&mut self, came: bool) -> bool
+        ensures rests { IsTrue result → (room : List ℕ) → receives self.old self.new (Ok None) room }
+        ensures stays { IsFalse result → self.new ≡ self.old };
+
+    /// Receives the first datagram that waits into the front of `room`, and returns its length, in octets, and
+    /// its sender. None if none waits.
     fn receive(&mut self, room: &mut [u8]) -> Result<Option<(usize, SocketAddr)>, PortFault>
         ensures bound { IfOk result (λ got. IfSome got (λ g. g.0 ≤ length room.new)) }
         ensures receives { receives self.old self.new result room.new };
 
-    /// Receives one datagram as [`receive`](Socket::receive) does and returns only its length.
+    /// Receives the first datagram that waits, as [`receive`](Socket::receive) does, and returns its length
+    /// alone, in octets.
     fn receive_any(&mut self, room: &mut [u8]) -> Result<Option<usize>, PortFault>
         ensures bound { IfOk result (λ got. IfSome got (λ n. n ≤ length room.new)) }
         ensures receives { ReceivesAny receives self.old self.new result room.new };
@@ -69,6 +82,17 @@ impl Socket for UdpSocket {
 
     fn connect(&self, peer: SocketAddr) -> io::Result<()> {
         UdpSocket::connect(self, peer)
+    }
+
+    fn watch(&mut self, registry: &Registry, token: Token) -> bool {
+        registry
+            .register(&mut SourceFd(&self.as_raw_fd()), token, Interest::READABLE)
+            .is_ok()
+    }
+
+    #[inline]
+    fn rests(&mut self, _came: bool) -> bool {
+        false
     }
 
     fn receive(&mut self, room: &mut [u8]) -> Result<Option<(usize, SocketAddr)>, PortFault> {

@@ -1,6 +1,7 @@
 //! The ports of circuits: one socket for each circuit.
 
-ghost use Rattle.std.specs.Prelude.{◌≡◌, ◌≤◌, vec_len, length, IfOk, IfErr, IfSome, IsSomeAnd, string_bytes};
+ghost use Rattle.std.specs.Prelude.{◌≡◌, ◌≤◌, ℕ, List, vec_len, length, Ok, None, IfOk, IfErr, IfSome, IsSomeAnd};
+ghost use Rattle.std.specs.Prelude.{IsTrue, IsFalse, string_bytes};
 ghost use Rattle.std.specs.IoError.{error_kind};
 ghost use Rattle.gw_records.specs.Ports.{Receives, Sends, CountsFault, KeepsSends, KeepsReceives};
 ghost use Rattle.gw_udp.specs.Names.{IsAddressOf, LacksAddress, SystemLooksUp};
@@ -10,6 +11,7 @@ ghost use Rattle.gw_udp.specs.Udp.{ReceivesFrom, EndpointReceives, EndpointSends
 ghost use Rattle.gw_udp.specs.Calls.{HasCalled, AreBound, IsFresh};
 
 use crate::names::NameLookup;
+use crate::readiness::Readiness;
 use crate::senders::Senders;
 use crate::socket::Socket;
 use g704_cas::CircuitNo;
@@ -50,6 +52,7 @@ pub struct Endpoint<S> {
 #[derive(Drop)]
 pub struct UdpPorts<S: Socket> {
     pub(crate) endpoints: Vec<Option<Endpoint<S>>>,
+    readiness: Readiness,
     receive_failed: u64,
     send_failed: u64,
     pub(crate) opened: AtStart<Vec<Option<Endpoint<S>>>>,
@@ -96,6 +99,7 @@ fn address_of<L: NameLookup>(
 fn open_endpoint<S: Socket, L: NameLookup>(
     net: &impl Net,
     names: &L,
+    readiness: &Readiness,
     circuit: u8,
     host: &str,
     port: &Port,
@@ -111,7 +115,7 @@ fn open_endpoint<S: Socket, L: NameLookup>(
     if here.is_ipv4() != peer.is_ipv4() {
         return Err(OpenFault::Socket(circuit));
     }
-    let socket = match S::bind(net, here) {
+    let mut socket = match S::bind(net, here) {
         Ok(socket) => socket,
         Err(error) => return Err(fault_of(circuit, &error)),
     };
@@ -119,6 +123,7 @@ fn open_endpoint<S: Socket, L: NameLookup>(
         // The system discards strangers' datagrams at less cost; if it does not, each receive does.
         let _ = socket.connect(peer);
     }
+    readiness.watch(circuit, &mut socket);
     Ok(Endpoint {
         socket,
         here: AtStart::of(&here),
@@ -131,6 +136,7 @@ fn open_endpoint<S: Socket, L: NameLookup>(
 fn endpoint_of<S: Socket, L: NameLookup>(
     net: &impl Net,
     names: &L,
+    readiness: &Readiness,
     circuit: u8,
     host: &str,
     port: &Option<Port>,
@@ -141,7 +147,7 @@ fn endpoint_of<S: Socket, L: NameLookup>(
         (IsSomeAnd port.now (LacksSocket S.refuses (L.looks_up names.now) host.now))) }
 {
     match port {
-        Some(port) => Ok(Some(open_endpoint(net, names, circuit, host, port, senders)?)),
+        Some(port) => Ok(Some(open_endpoint(net, names, readiness, circuit, host, port, senders)?)),
         None => Ok(None),
     }
 }
@@ -190,8 +196,31 @@ fn receive_from<S: Socket>(
     }
 }
 
-// Receives at a circuit's socket.
-fn receive_at<S: Socket>(
+// Whether a receive at the socket of a circuit finds none without asking the system; if there is no socket, it
+// does.
+#[inline]
+fn rests_at<S: Socket>(
+    endpoints: &mut Vec<Option<Endpoint<S>>>,
+    circuit: CircuitNo,
+    came: bool,
+) -> bool
+    requires { vec_len endpoints.old ≡ 30 }
+    ensures rests { IsTrue result → (room : List ℕ)
+        → EndpointReceives S.receives circuit endpoints.old.items endpoints.new.items (Ok None) room }
+    ensures stays { IsFalse result → endpoints.new.items ≡ endpoints.old.items }
+    ensures others { KeepsOthers circuit endpoints.old.items endpoints.new.items }
+    ensures thirty { vec_len endpoints.new ≡ 30 }
+    ensures some { 1 ≤ circuit }
+{
+    match &mut endpoints[usize::from(circuit.get()) - 1] {
+        Some(endpoint) => endpoint.socket.rests(came),
+        None => true,
+    }
+}
+
+// Asks the socket of a circuit.
+#[inline(never)]
+fn ask_at<S: Socket>(
     endpoints: &mut Vec<Option<Endpoint<S>>>,
     circuit: CircuitNo,
     room: &mut [u8],
@@ -202,9 +231,9 @@ fn receive_at<S: Socket>(
         result room.new }
     ensures others { KeepsOthers circuit endpoints.old.items endpoints.new.items }
     ensures thirty { vec_len endpoints.new ≡ 30 }
-    ensures some { 1 ≤ circuit }
 {
-    match &mut endpoints[usize::from(circuit.get()) - 1] {
+    let at = usize::from(circuit.get()) - 1;
+    match &mut endpoints[at] {
         Some(endpoint) => receive_from(
             &mut endpoint.socket,
             endpoint.senders,
@@ -215,7 +244,29 @@ fn receive_at<S: Socket>(
     }
 }
 
-// Sends by a circuit's socket to its peer.
+// Receives at the socket of a circuit. (What asks the system is apart, since most receives do not.)
+#[inline]
+fn receive_at<S: Socket>(
+    endpoints: &mut Vec<Option<Endpoint<S>>>,
+    circuit: CircuitNo,
+    came: bool,
+    room: &mut [u8],
+) -> Result<Option<usize>, PortFault>
+    requires { vec_len endpoints.old ≡ 30 }
+    ensures bound { IfOk result (λ got. IfSome got (λ n. n ≤ length room.new)) }
+    ensures own { EndpointReceives S.receives circuit endpoints.old.items endpoints.new.items
+        result room.new }
+    ensures others { KeepsOthers circuit endpoints.old.items endpoints.new.items }
+    ensures thirty { vec_len endpoints.new ≡ 30 }
+    ensures some { 1 ≤ circuit }
+{
+    if rests_at(endpoints, circuit, came) {
+        return Ok(None);
+    }
+    ask_at(endpoints, circuit, room)
+}
+
+// Sends by the socket of a circuit, to its peer.
 #[inline(never)]
 fn send_from<S: Socket>(
     endpoints: &mut Vec<Option<Endpoint<S>>>,
@@ -255,10 +306,12 @@ impl<S: Socket> UdpPorts<S> {
         let Ok(mut endpoints) = Vec::with_capacity(alloc, CIRCUITS) else {
             return Err(OpenFault::OutOfMemory);
         };
+        let readiness = Readiness::open(net, alloc);
         for number in 1..=30u8 {
             let endpoint = endpoint_of(
                 net,
                 net,
+                &readiness,
                 number,
                 host,
                 &ports[usize::from(number) - 1],
@@ -272,6 +325,7 @@ impl<S: Socket> UdpPorts<S> {
         let opened = AtStart::of(&endpoints);
         Ok(UdpPorts {
             endpoints,
+            readiness,
             receive_failed: 0,
             send_failed: 0,
             opened,
@@ -284,6 +338,7 @@ impl<S: Socket> Ports for UdpPorts<S> {
     ghost tells = { λ p.
         told p.receive_failed p.send_failed (addresses_of p.opened.value.items) p.log.calls };
 
+    #[inline]
     fn receive(&mut self, circuit: CircuitNo, room: &mut [u8]) -> Result<Option<usize>, PortFault>
         ensures bound { IfOk result (λ got. IfSome got (λ n. n ≤ length room.new)) }
         ensures receives { Receives
@@ -301,7 +356,8 @@ impl<S: Socket> Ports for UdpPorts<S> {
             result room.new }
         ensures others { KeepsOthers circuit self.old.endpoints.items self.new.endpoints.items }
     {
-        let received = receive_at(&mut self.endpoints, circuit, room);
+        let came = self.readiness.came(circuit);
+        let received = receive_at(&mut self.endpoints, circuit, came, room);
         self.log.received(circuit, &received, room);
         if received.is_err() {
             self.receive_failed = self.receive_failed.saturating_add(1);

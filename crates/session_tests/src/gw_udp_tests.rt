@@ -10,7 +10,7 @@ use gw_program::serve_through;
 use gw_repeat::Repeating;
 use gw_session::{FromRead, NoTape, Ports, ToWrite};
 use gw_switch::{Gateway, GatewayConfig};
-use gw_udp::{Senders, UdpPorts};
+use gw_udp::{Resting, Senders, Socket, UdpPorts};
 use q421_line::Role;
 use std::alloc::{AllocError, Global};
 use std::net::UdpSocket;
@@ -47,7 +47,7 @@ fn first_call(alloc: Global) -> Result<Vec<u8>, AllocError> {
 }
 
 // A socket for circuit 1, whose datagrams go to this peer.
-fn ports_to(rt: &HostRuntime, peer: &UdpSocket) -> Result<UdpPorts<UdpSocket>, Fail> {
+fn ports_to<S: Socket>(rt: &HostRuntime, peer: &UdpSocket) -> Result<UdpPorts<S>, Fail> {
     peer.set_nonblocking(true)?;
     let mut circuits = [const { None }; 30];
     circuits[0] = Some(Port {
@@ -55,14 +55,14 @@ fn ports_to(rt: &HostRuntime, peer: &UdpSocket) -> Result<UdpPorts<UdpSocket>, F
         peer_host: String::from_str(rt.alloc(), "127.0.0.1")?,
         peer_port: peer.local_addr()?.port(),
     });
-    let opened = UdpPorts::<UdpSocket>::open(rt, rt.alloc(), "127.0.0.1", &circuits, Senders::Any);
+    let opened = UdpPorts::<S>::open(rt, rt.alloc(), "127.0.0.1", &circuits, Senders::Any);
     Ok(opened.ok().ok_or("sockets")?)
 }
 
 #[test]
 fn first_call_over_udp(rt: HostRuntime) -> Result<(), Fail> {
     let peer = UdpSocket::bind(&rt, "127.0.0.1:0")?;
-    let mut ports = ports_to(&rt, &peer)?;
+    let mut ports = ports_to::<UdpSocket>(&rt, &peer)?;
     let circuit = CircuitConfig::new(Role::Outgoing, CodecKind::G711, 8, 20, 0, 1, 0, 0).ok_or(
         "a configuration",
     )?;
@@ -106,7 +106,7 @@ const ARRIVED: [u32; 8] = [0, 160, 0, 320, 160, 1_000, 1_160, 1_000];
 #[test]
 fn each_datagram_twice_over_udp(rt: HostRuntime) -> Result<(), Fail> {
     let peer = UdpSocket::bind(&rt, "127.0.0.1:0")?;
-    let mut ports = Repeating::open(rt.alloc(), ports_to(&rt, &peer)?, 1, [160; 30])?;
+    let mut ports = Repeating::open(rt.alloc(), ports_to::<UdpSocket>(&rt, &peer)?, 1, [160; 30])?;
     let circuit = CircuitNo::new(1).ok_or("no circuit")?;
     let mut datagram = [0x80, 8, 0, 0, 0, 0, 0, 0, 0, 0, 0, 9, 0xD5];
     for timestamp in SENT {
@@ -120,5 +120,28 @@ fn each_datagram_twice_over_udp(rt: HostRuntime) -> Result<(), Fail> {
         assert_eq!(rt; BigEndian::read_u32(&room[4..8]), timestamp);
     }
     assert!(rt; peer.recv_from(&mut room).is_err());
+    Ok(())
+}
+
+#[test]
+fn asked_at_once_when_a_datagram_comes(rt: HostRuntime) -> Result<(), Fail> {
+    let peer = UdpSocket::bind(&rt, "127.0.0.1:0")?;
+    let mut ports = ports_to::<Resting<UdpSocket>>(&rt, &peer)?;
+    let circuit = CircuitNo::new(1).ok_or("no circuit")?;
+    let mut room = [0u8; 252];
+    assert!(rt; ports.send(circuit, &[1, 2, 3]).is_ok());
+    let (_, here) = peer.recv_from(&mut room)?;
+    // the first receive finds none, and the next 799 rest
+    for _ in 0..240 {
+        assert!(rt; ports.receive(circuit, &mut room) == Ok(None));
+    }
+    assert!(rt; peer.send_to(&[4, 5, 6, 7], here)? == 4);
+    // the system is asked once in 240 receives
+    let mut receives = 1;
+    while receives < 799 && ports.receive(circuit, &mut room) == Ok(None) {
+        receives += 1;
+    }
+    assert!(rt; receives <= 240);
+    assert!(rt; room[..4] == [4, 5, 6, 7]);
     Ok(())
 }

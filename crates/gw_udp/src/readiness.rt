@@ -1,0 +1,100 @@
+//! Which sockets the system says that a datagram has come to.
+
+ghost use Rattle.std.specs.Prelude.{◌≡◌, ◌<◌, length, IfOk};
+ghost use Rattle.gw_udp.specs.Socket.{KeepsBound};
+
+use crate::socket::Socket;
+use g704_cas::CircuitNo;
+use mio::{Events, Poll, Token};
+use std::alloc::Global;
+use std::io;
+use std::net::Net;
+use std::time::Duration;
+
+// The receives of a trunk in 1 ms: thirty circuits, eight octets each.
+const RECEIVES: u8 = 240;
+
+// The system's readiness of sockets (epoll), which never waits here.
+#[derive(Drop)]
+struct Poller {
+    poll: Poll,
+    events: Events,
+}
+
+/// The sockets of circuits that something has come to since they were last asked, as far as the system says so. It is
+/// asked once in 240 receives, of all circuits together.
+#[derive(Drop)]
+pub(crate) struct Readiness {
+    poller: Option<Poller>,
+    came: [bool; 30],
+    receives: u8,
+}
+
+// What asks the system. The error is the system's.
+fn open_poller(net: &impl Net, alloc: Global) -> io::Result<Poller> {
+    let poll = Poll::new(net)?;
+    let events = Events::with_capacity(alloc, 30)?;
+    Ok(Poller { poll, events })
+}
+
+// Notes the circuits of these events, whose tokens are their numbers less 1.
+fn note_all(events: &Events, came: &mut [bool; 30]) {
+    for event in events.iter() {
+        let token = event.token().0;
+        if token < 30 {
+            came[token] = true;
+        }
+    }
+}
+
+// Asks the system what has come since it was last asked.
+#[inline(never)]
+fn look(poller: &mut Option<Poller>, came: &mut [bool; 30]) {
+    let Some(poller) = poller else {
+        return;
+    };
+    if poller
+        .poll
+        .poll(&mut poller.events, Some(Duration::ZERO))
+        .is_ok()
+    {
+        note_all(&poller.events, came);
+    }
+}
+
+impl Readiness {
+    /// What asks the system, for no socket yet. If the system has none, nothing ever comes by it.
+    pub(crate) fn open(net: &impl Net, alloc: Global) -> Readiness {
+        Readiness {
+            poller: open_poller(net, alloc).ok(),
+            came: [false; 30],
+            receives: 0,
+        }
+    }
+
+    /// Has the system say what comes to the socket of the circuit of this number.
+    pub(crate) fn watch<S: Socket>(&self, circuit: u8, socket: &mut S)
+        ensures { KeepsBound S.is_bound socket.old socket.new }
+    {
+        if let Some(poller) = &self.poller {
+            let _ = socket.watch(
+                poller.poll.registry(),
+                Token(usize::from(circuit.saturating_sub(1))),
+            );
+        }
+    }
+
+    /// Whether the system has said that something came to the socket of this circuit since this was last asked.
+    #[inline]
+    pub(crate) fn came(&mut self, circuit: CircuitNo) -> bool {
+        self.receives = self.receives.wrapping_add(1);
+        if self.receives >= RECEIVES {
+            self.receives = 0;
+            look(&mut self.poller, &mut self.came);
+        }
+        let at = usize::from(circuit.get()) - 1;
+        let came = self.came[at];
+        self.came[at] = false;
+        came
+    }
+}
