@@ -32,6 +32,11 @@ const FIRST_CLIENT: usize = 2;
 pub struct Clients {
     poll: Poll,
     events: Events,
+    descriptor: i32,
+    // Whether the descriptor can be waited for: a regular file can't be, and never has to be.
+    is_waited_for: bool,
+    // Whether octets may have come from it since it was read.
+    octets: bool,
     door: UnixListener,
     knocks: bool,
     pub places: [Option<Client>; 8],
@@ -92,9 +97,12 @@ fn wake_one(place: &mut Option<Client>)
 }
 
 // Notes that something has come for a token.
-fn note(token: usize, knocks: &mut bool, places: &mut [Option<Client>; 8])
+fn note(token: usize, octets: &mut bool, knocks: &mut bool, places: &mut [Option<Client>; 8])
     ensures { AllKeep places.old places.new }
 {
+    if token == TRUNK {
+        *octets = true;
+    }
     if token == DOOR {
         *knocks = true;
     }
@@ -104,11 +112,11 @@ fn note(token: usize, knocks: &mut bool, places: &mut [Option<Client>; 8])
 }
 
 // Notes that something has come for each token of these events.
-fn note_all(events: &Events, knocks: &mut bool, places: &mut [Option<Client>; 8])
+fn note_all(events: &Events, octets: &mut bool, knocks: &mut bool, places: &mut [Option<Client>; 8])
     ensures { AllKeep places.old places.new }
 {
     for event in events.iter() {
-        note(event.token().0, knocks, places);
+        note(event.token().0, octets, knocks, places);
     }
 }
 
@@ -150,12 +158,15 @@ impl Clients {
         let poll = Poll::new(rt)?;
         let events = Events::with_capacity(rt.alloc(), 16)?;
         let registry = poll.registry();
-        // (A regular file can't be waited for, and never has to be.)
-        let _ = registry.register(&mut SourceFd(&descriptor), Token(TRUNK), Interest::READABLE);
+        let trunk = &mut SourceFd(&descriptor);
+        let registered = registry.register(trunk, Token(TRUNK), Interest::READABLE);
         registry.register(&mut door, Token(DOOR), Interest::READABLE)?;
         Ok(Clients {
             poll,
             events,
+            descriptor,
+            is_waited_for: registered.is_ok(),
+            octets: false,
             door,
             knocks: true,
             places: [None, None, None, None, None, None, None, None],
@@ -175,14 +186,45 @@ impl Clients {
         if self.poll.poll(&mut self.events, timeout).is_err() {
             return;
         }
-        note_all(&self.events, &mut self.knocks, &mut self.places);
+        note_all(
+            &self.events,
+            &mut self.octets,
+            &mut self.knocks,
+            &mut self.places,
+        );
+    }
+
+    // Has the system report octets of the trunk that came before.
+    fn report_octets(&self) {
+        let trunk = &mut SourceFd(&self.descriptor);
+        let registry = self.poll.registry();
+        let _ = registry.reregister(trunk, Token(TRUNK), Interest::READABLE);
     }
 
     /// Waits until something may have come, for the trunk or from a client.
     pub fn wait(&mut self) {
         if !self.knocks {
+            self.report_octets();
             self.look(None);
         }
+    }
+
+    /// Whether the trunk can be read without waiting: octets have come, or its end, as far as the system
+    /// reports it. It never waits.
+    pub fn can_read(&mut self) -> bool
+        ensures asker { self.new.asker ≡ self.old.asker }
+        ensures keep { AllKeep self.old.places self.new.places }
+    {
+        if !self.is_waited_for {
+            return true;
+        }
+        if !self.octets {
+            self.report_octets();
+            self.look(Some(Duration::ZERO));
+        }
+        let octets = self.octets;
+        self.octets = false;
+        octets
     }
 
     /// Gives the answer to the last record of a client to this client, and to no other.
