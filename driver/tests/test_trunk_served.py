@@ -7,6 +7,7 @@ import array
 import fcntl
 import os
 import random
+import signal
 import socket
 import subprocess
 import tempfile
@@ -22,6 +23,8 @@ from e1gw.session import trunk_record
 from exchange import ACKNOWLEDGED, ANSWERED, IDLE, SEIZED
 
 CONFIG = 'law = "A"\n' + ''.join(f'[[circuit]]\nnumber = {c}\nrole = "incoming"\n' for c in range(1, 31))
+SLOW = 'output slow: discarding whole multiframes'
+MULTIFRAME = 512
 PIPE = 65_536               # the octets that a pipe of Linux holds
 END = spell(0x45, 0, b'')   # asks for the end of the session
 ANSWER_LENGTH = 6
@@ -123,7 +126,7 @@ class Served(Configured):
                 again = support.run('replay', '--config', self.config, given=recorded)
                 self.assertEqual(octets_in(again), came)
 
-    def test_output_that_takes_none_is_waited_for(self) -> None:
+    def test_output_that_never_takes_more(self) -> None:
         given = random.Random(9).randbytes(200_000)
         wanted = octets_in(support.run('serve', '--config', self.config, given=b''.join(
             trunk_record(given[at:at + 50_000]) for at in range(0, len(given), 50_000))))
@@ -132,33 +135,66 @@ class Served(Configured):
         with tempfile.TemporaryFile() as file, open(out, 'rb') as read:
             file.write(given)
             file.seek(0)
-            with subprocess.Popen(self.serves('--totals'), stdin=file, stdout=into, stderr=subprocess.PIPE) as serving:
+            words = self.serves('--totals')
+            with subprocess.Popen(words, stdin=file, stdout=into, stderr=subprocess.PIPE) as serving:
                 os.close(into)
-                self.full(out)
-                self.assertEqual(read.read(), wanted)
+                self.addCleanup(serving.kill)
                 assert serving.stderr
                 said = serving.stderr.read().decode()
                 self.assertEqual(serving.wait(SECONDS), 0)
+            self.assertEqual(read.read(), wanted[:PIPE])
+        lost = -(-(200_000 - PIPE) // MULTIFRAME)   # the last one in part
+        self.assertEqual(said.splitlines()[:2], [SLOW, f'discarded_multiframes {lost}'])
         self.assertIn('octets 200000\n', said)
 
-    def full(self, pipe: int) -> None:
-        """Returns once a pipe can hold no more."""
-        held = array.array('i', [0])
+    def test_output_that_takes_none_for_a_time(self) -> None:
+        out, into = os.pipe()
+        os.set_blocking(into, False)
+        idle = b'\xff' * 1000                        # nothing is heard, so what is sent has a period of a multiframe
+        words = self.serves('--totals')
+        with open(out, 'rb', buffering=0) as read, subprocess.Popen(
+                words, stdin=subprocess.PIPE, stdout=into, stderr=subprocess.PIPE) as serving:
+            os.close(into)
+            self.addCleanup(serving.kill)
+            assert serving.stdin and serving.stderr
+            for _ in range(100):
+                serving.stdin.write(idle)
+            serving.stdin.flush()
+            self.assertEqual(serving.stderr.readline().decode(), SLOW + '\n')
+            self.emptied(serving.stdin.fileno())
+            came = read.read(PIPE)
+            for _ in range(100):
+                serving.stdin.write(idle)
+                serving.stdin.flush()
+                came += read.read(PIPE)
+            serving.stdin.close()
+            came += b''.join(iter(lambda: read.read(PIPE), b''))
+            said = serving.stderr.read().decode()
+            self.assertEqual(serving.wait(SECONDS), 0)
+        discarded = int(said.splitlines()[0].removeprefix('discarded_multiframes '))
+        self.assertGreater(discarded, 0)
+        self.assertEqual(len(came), 200_000 - discarded * MULTIFRAME)
+        sent = octets_in(support.run('serve', '--config', self.config, given=trunk_record(idle * 60)))
+        self.assertEqual(came, (sent[:MULTIFRAME] + sent[MULTIFRAME:2 * MULTIFRAME] * 400)[:len(came)])
+
+    def emptied(self, pipe: int) -> None:
+        """Returns once all was read that was written to a pipe."""
+        held = array.array('i', [1])
         until = time.monotonic() + SECONDS
-        while held[0] < PIPE and time.monotonic() < until:
+        while held[0] > 0 and time.monotonic() < until:
             fcntl.ioctl(pipe, termios.FIONREAD, held)
             time.sleep(0.001)
-        self.assertEqual(held[0], PIPE)
+        self.assertEqual(held[0], 0)
 
 
 class Trunk:
     """A trunk in service over a socket pair, and the socket that its clients connect to."""
 
-    def __init__(self, words: Sequence[str], control: str, passed: tuple[int, ...] = ()) -> None:
+    def __init__(self, words: Sequence[str], control: str, passed: tuple[int, ...] = (), waits: bool = False) -> None:
         self.control = control
         self.here, there = socket.socketpair()
         self.here.settimeout(SECONDS)
-        there.setblocking(False)
+        there.setblocking(waits)
         self.serving = subprocess.Popen(words, stdin=there, stdout=there, stderr=subprocess.PIPE, pass_fds=passed)
         there.close()
 
@@ -214,9 +250,9 @@ class Clients(Configured):
         super().setUp()
         self.control = os.path.join(os.path.dirname(self.config), 'control')
 
-    def trunk(self, *words: str, passed: tuple[int, ...] = ()) -> Trunk:
-        """A trunk that has begun."""
-        trunk = Trunk(self.serves('--control', self.control, *words), self.control, passed)
+    def trunk(self, *words: str, passed: tuple[int, ...] = (), waits: bool = False) -> Trunk:
+        """A trunk that has begun, over a socket that may wait."""
+        trunk = Trunk(self.serves('--control', self.control, *words), self.control, passed, waits)
         self.addCleanup(trunk.__exit__, None, None, None)
         self.assertEqual(len(trunk.passes(bytes(64))), 64)
         return trunk
@@ -299,6 +335,34 @@ class Clients(Configured):
             self.assertEqual(self.closed(ninth), b'')
         clients[0].sendall(blocks([11]))
         self.assertEqual(answers_of(clients[0], 1), self.refused([11]))
+
+    def test_places_of_clients_that_have_left(self) -> None:
+        trunk = self.trunk()
+        clients = [trunk.client() for _ in range(8)]
+        for circuit, client in enumerate(clients, 1):
+            self.addCleanup(client.close)
+            client.sendall(blocks([circuit]))
+            self.assertEqual(answers_of(client, 1), self.refused([circuit]))
+        trunk.serving.send_signal(signal.SIGSTOP)
+        os.waitid(os.P_PID, trunk.serving.pid, os.WSTOPPED)
+        for client in clients[2:4]:
+            client.close()
+        with trunk.client() as ninth, trunk.client() as tenth, trunk.client() as eleventh:
+            trunk.serving.send_signal(signal.SIGCONT)
+            self.assertEqual(self.closed(eleventh), b'')
+            for circuit, client in ((9, ninth), (10, tenth), (1, clients[0]), (8, clients[7])):
+                client.sendall(blocks([circuit]))
+                self.assertEqual(answers_of(client, 1), self.refused([circuit]))
+
+    def test_a_trunk_that_waits(self) -> None:
+        trunk = self.trunk(waits=True)
+        with trunk.client() as client:
+            for circuit in (3, 4):
+                client.sendall(blocks([circuit]))
+                self.assertEqual(answers_of(client, 1), self.refused([circuit]))
+            self.assertEqual(len(trunk.passes(bytes(5000))), 5000)
+            client.sendall(END)
+            self.assertEqual(trunk.ended(), (0, ''))
 
     def test_end_here(self) -> None:
         trunk = self.trunk('--totals')

@@ -1,5 +1,6 @@
 -- Commands on new streams.
-use Rattle.std.proofs.Common.{◌≡◌, ◌⊎◌, inl, inr, ℕ, List, [], Option, None, Some, Result, Err, refl, sym, subst}
+use Rattle.std.proofs.Common.{◌≡◌, ◌⊎◌, inl, inr, ℕ, Bool, List, [], Option, None, Some, Result, Err, refl, sym}
+use Rattle.std.proofs.Common.{subst}
 use Rattle.std.specs.Prelude.{⊤, option_map}
 use Rattle.gw_config.specs.declared.config.Config.{Config}
 use Rattle.gw_records.specs.declared.outcome.Totals.{Totals}
@@ -19,6 +20,7 @@ use Rattle.gw_program.specs.Sessions.{HasGateway, Runs, Serves, Checks}
 use Rattle.gw_program.specs.State.{HasBegun, BeginsWaiting, IsSaved}
 use Rattle.gw_program.specs.Trunks.{CarriesTrunk}
 use Rattle.gw_program.specs.Requests.{OnNewStreams, ByGateway, DoesSession, ServesTrunk}
+use Rattle.gw_trunk.specs.Multiframes.{GoesInTime}
 
 -- what was done on streams to which nothing had happened was done on new streams
 pub on_new : (s s' : SourceState) (k k' : SinkState) {does : Around → Around → Type 0}
@@ -163,17 +165,19 @@ module _ (s s' : SourceState) (k k' : SinkState) {P T : Type 0} (reads : Config 
         with_config session config (inr h) a b c d =
             with_gateway session config h.gateway h.gateway' h.begun h.done a b c d
 
-    -- a trunk that was served on new streams
-    pub trunk_served : {S K : Type 0} {x x' : S} {y y' : K} (came asked went answered : List ℕ)
+    -- a trunk that was served on new streams, and what was sent went in time
+    pub trunk_served : {S K : Type 0} {x x' : S} {y y' : K} (came asked sent answered went : List ℕ) (discarded : ℕ)
+        (was_slow : Bool) → ∥ GoesInTime sent went discarded was_slow ∥₁
         → NotBegun x x' y y' lacks told ⊎ HasConfig reads (λ config. NotBegun x x' y y' (lacks_gateway config) told
         ⊎ HasGateway (starts config) (λ gateway gateway'. NotBegun x x' y y' (lacks_more config) told
         ⊎ HasServed (opens config) begins (λ ports ports' tape tape'. EndedSaved (λ end. CarriesTrunk
         (around s k (ports_tell ports) (tape_tells tape)) (around s' k' (ports_tell ports') (tape_tells tape'))
-        came asked went answered end gateway gateway') (saves config gateway') told)))
+        came asked sent answered end gateway gateway') (saves config gateway') told)))
         → (x' ≡ x → s' ≡ s) → (y' ≡ y → k' ≡ k)
         → s.reads ≡ 0 → s.given ≡ Some [] → s.failures ≡ 0 → k.failures ≡ 0 → ServesTrunk load save asks told
-    trunk_served came asked went answered (inl n) f g a b c d = on_new s s' k k' (inl (told_untouched f g n)) a b c d
-    trunk_served came asked went answered (inr h) f g a b c d = elim h.done [
+    trunk_served came asked sent answered went discarded was_slow goes (inl n) f g a b c d =
+        on_new s s' k k' (inl (told_untouched f g n)) a b c d
+    trunk_served came asked sent answered went discarded was_slow goes (inr h) f g a b c d = elim h.done [
       | inl n ↦ on_new s s' k k' (inl (told_untouched f g n)) a b c d
       | inr w ↦ elim w.done [
         | inl n ↦ on_new s s' k k' (inl (told_untouched f g n)) a b c d
@@ -191,9 +195,13 @@ module _ (s s' : SourceState) (k k' : SinkState) {P T : Type 0} (reads : Config 
               done = record {
                 came = came;
                 asked = asked;
-                went = went;
+                sent = sent;
                 answered = answered;
                 done = saved_told h.config w.gateway' v.done;
+                went = went;
+                discarded = discarded;
+                was_slow = was_slow;
+                goes = goes;
               };
             };
           });

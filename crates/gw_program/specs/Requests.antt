@@ -1,6 +1,6 @@
 -- What was done of what the command line asks for (module `requests`).
-use Rattle.std.specs.Prelude.{◌≡◌, ◌⊎◌, ⊤, ℕ, List, [], Option, Some, Result, Err, IfOk, IfErr, MatchResult}
-use Rattle.std.specs.Prelude.{MatchOption, codes}
+use Rattle.std.specs.Prelude.{◌≡◌, ◌⊎◌, ⊤, ℕ, List, [], Option, Some, Bool, Result, Err, IfOk, IfErr}
+use Rattle.std.specs.Prelude.{MatchResult, MatchOption, codes}
 use Rattle.clap.specs.Words.{Row}
 use Rattle.gw_switch.specs.declared.gateway.Gateway.{Gateway}
 use Rattle.gw_records.specs.declared.outcome.Totals.{Totals}
@@ -20,6 +20,7 @@ use Rattle.gw_program.specs.Performing.{Ended, EndedSaved, NotBegun, HasConfig, 
 use Rattle.gw_program.specs.Sessions.{HasGateway, Runs, Serves, Checks}
 use Rattle.gw_program.specs.State.{BeginsWaiting, IsSaved}
 use Rattle.gw_program.specs.Trunks.{CarriesTrunk}
+use Rattle.gw_trunk.specs.Multiframes.{GoesInTime}
 
 -- a subcommand with its options
 abbrev pub Command : Type 0
@@ -97,21 +98,26 @@ DoesSession load save asks session told = OnNewStreams (λ a a'. ByGateway a a' 
     (EndedSaved (λ end. Checks a.source a'.source a.sink a'.sink end gateway gateway') (IsSaved save) told)
     (EndedSaved (λ end. Serves a a' end gateway gateway') (IsSaved save) told)))
 
--- octets came from a trunk and went to it, clients asked and were answered, and this was done of it
+-- Octets came from a trunk and were sent to it, clients asked and were answered, and this was done of it. What
+-- was sent went to the device in time: all of it, except for whole multiframes if the device was slow.
 pub record HasTrunk (does : List ℕ → List ℕ → List ℕ → List ℕ → Type 0) : Type 0 where
   pub came : List ℕ
   pub asked : List ℕ
-  pub went : List ℕ
+  pub sent : List ℕ
   pub answered : List ℕ
-  pub done : does came asked went answered
+  pub done : does came asked sent answered
+  pub went : List ℕ
+  pub discarded : ℕ
+  pub was_slow : Bool
+  pub goes : ∥ GoesInTime sent went discarded was_slow ∥₁
 
 -- what was told when the trunk had been served, by the states to load and to save if they are named, and the
 -- wait that is asked for
 abbrev pub ServesTrunk : Option (List ℕ) → Option (List ℕ) → (Option ℕ → Type 0) → Result Totals Trouble
     → Type 0
 ServesTrunk load save asks told = OnNewStreams (λ a a'. ByGateway a a' told load asks (λ gateway gateway'.
-    HasTrunk (λ came asked went answered. EndedSaved
-    (λ end. CarriesTrunk a a' came asked went answered end gateway gateway') (IsSaved save) told)))
+    HasTrunk (λ came asked sent answered. EndedSaved
+    (λ end. CarriesTrunk a a' came asked sent answered end gateway gateway') (IsSaved save) told)))
 
 -- the state to load and the state to save that the command names
 abbrev pub load_in : Command → Option (List ℕ)

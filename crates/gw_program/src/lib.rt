@@ -21,7 +21,7 @@ pub use filters::{do_filter, perform_crc4_check};
 pub use jobs::do_job;
 pub use performing::{System, perform_job, perform_session};
 pub use recording::{Recording, Tape, begin, tell_end};
-pub use report::{PassedOver, passed_over, print_tally, print_totals};
+pub use report::{PassedOver, passed_over, print_discarded, print_tally, print_totals};
 pub use requests::{Commands, perform};
 pub use sessions::{check, replay, serve_through};
 pub use setup::read_config;

@@ -40,6 +40,11 @@ pub fn print_totals(rt: &impl Eprint, totals: &Totals) {
     let _ = eprintln!(rt; "port_faults {}", totals.port_faults);
 }
 
+/// Prints the number of discarded multiframes of a trunk on standard error, in the form of the totals.
+pub fn print_discarded(rt: &impl Eprint, discarded: u64) {
+    let _ = eprintln!(rt; "discarded_multiframes {}", discarded);
+}
+
 /// Prints what was counted of CRC-4 multiframes on standard error, one name and value a line.
 pub fn print_tally(rt: &impl Eprint, tally: &Tally) {
     let _ = eprintln!(rt; "submultiframes {}", tally.submultiframes);

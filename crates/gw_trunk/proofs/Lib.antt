@@ -3,4 +3,5 @@ pub mod Cutting
 pub mod Written
 pub mod Carrying
 pub mod Placing
+pub mod Thinning
 mod Rows

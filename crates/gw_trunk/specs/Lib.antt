@@ -3,3 +3,4 @@ pub mod Pieces
 pub mod Bodies
 pub mod Clients
 pub mod Serving
+pub mod Multiframes

@@ -1,7 +1,7 @@
 //! What the octets of a trunk come from, and what they go to.
 
 ghost use Rattle.std.specs.Prelude.{◌≡◌, ◌<◌, ◌≤◌, ◌++◌, ℕ, List, [], length, take, IfOk, IfSome, IfNone, ⊤};
-ghost use Rattle.std.specs.Prelude.{Bool, true};
+ghost use Rattle.std.specs.Prelude.{Bool, true, false, if◌then◌else◌};
 ghost use Rattle.gw_trunk.specs.Device.{IsTaken, WasRead, octets_taken, written_of};
 ghost use Rattle.gw_trunk.specs.Pieces.{AsksRecord};
 
@@ -10,7 +10,11 @@ use gw_records::Log;
 use mio::Interest;
 use std::io;
 use std::io::{ErrorKind, Read, Write};
+use std::time::Duration;
 use thiserror::Error;
+
+// How long a device that takes no octets is waited for a while.
+const A_WHILE_MS: u64 = 20;
 
 /// A device failed.
 #[derive(Clone, Copy, Debug, PartialEq, Eq, Error)]
@@ -83,15 +87,25 @@ pub trait Outgoing {
     /// The octets that went.
     ghost went: { Self → List ℕ };
 
+    /// Whether it ever took none for as long as it is waited for a while.
+    ghost was_slow: { Self → Bool } = { λ _. false };
+
     /// Takes octets from the front of `octets`, and returns how many; None if it can take none now. It never
     /// waits.
     fn write(&mut self, octets: &[u8]) -> Result<Option<usize>, DeviceFault>
         ensures bound { IfOk result (λ n. IfSome n (λ m. m ≤ length octets.now)) }
-        ensures went { went self.new ≡ went self.old ++ written_of result octets.now };
+        ensures went { went self.new ≡ went self.old ++ written_of result octets.now }
+        ensures slow { was_slow self.new ≡ was_slow self.old };
 
     /// Waits until it may take octets.
     fn wait(&mut self)
-        ensures { went self.new ≡ went self.old };
+        ensures went { went self.new ≡ went self.old }
+        ensures slow { was_slow self.new ≡ was_slow self.old };
+
+    /// Waits until it may take octets, until it has taken none for 20 ms at most. Returns whether it may.
+    fn wait_a_while(&mut self) -> bool
+        ensures went { went self.new ≡ went self.old }
+        ensures slow { was_slow self.new ≡ (if result then was_slow self.old else true) };
 }
 
 /// A reader of std over a descriptor. What came is what the calls of the reader gave.
@@ -107,6 +121,9 @@ pub struct FromDevice<R> {
 pub struct ToDevice<W> {
     writer: W,
     waiting: Waiting,
+    // Whether a wait ended before it took octets, since the last ones or ever.
+    is_slow: bool,
+    was_slow: bool,
     log: Log,
 }
 
@@ -146,6 +163,8 @@ impl<W: Drop> ToDevice<W> {
         Ok(ToDevice {
             writer,
             waiting: Waiting::open(rt, descriptor, Interest::WRITABLE)?,
+            is_slow: false,
+            was_slow: false,
             log: Log::new(),
         })
     }
@@ -185,10 +204,13 @@ impl<R: Read> Incoming for FromDevice<R> {
 impl<W: Write> Outgoing for ToDevice<W> {
     ghost went = { λ d. d.log.octets };
 
+    ghost was_slow = { λ d. d.was_slow };
+
     fn write(&mut self, octets: &[u8]) -> Result<Option<usize>, DeviceFault> {
         match self.writer.write(octets) {
             Ok(n) => {
                 self.log.append(octets, n);
+                self.is_slow = false;
                 Ok(Some(n))
             }
             Err(error) if is_for_later(&error) => Ok(None),
@@ -198,6 +220,16 @@ impl<W: Write> Outgoing for ToDevice<W> {
 
     fn wait(&mut self) {
         self.waiting.wait();
+    }
+
+    fn wait_a_while(&mut self) -> bool {
+        let limit = if self.is_slow { 0 } else { A_WHILE_MS };
+        if self.waiting.wait_for(Duration::from_millis(limit)) {
+            return true;
+        }
+        self.is_slow = true;
+        self.was_slow = true;
+        false
     }
 }
 
@@ -210,4 +242,8 @@ impl Outgoing for NoClients {
     }
 
     fn wait(&mut self) {}
+
+    fn wait_a_while(&mut self) -> bool {
+        true
+    }
 }

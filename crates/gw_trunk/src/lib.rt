@@ -6,6 +6,7 @@ mod client;
 mod clients;
 mod device;
 mod door;
+mod in_time;
 mod serving;
 mod sink;
 mod source;
@@ -13,6 +14,7 @@ mod waiting;
 mod with_clients;
 
 pub use device::{DeviceFault, FromDevice, Incoming, NoClients, Outgoing, Taken, ToDevice};
+pub use in_time::InTime;
 pub use serving::serve_trunk;
 pub use sink::TrunkSink;
 pub use source::TrunkSource;

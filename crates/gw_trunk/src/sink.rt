@@ -184,6 +184,16 @@ impl<O: Outgoing, A: Outgoing> TrunkSink<O, A> {
     }
 }
 
+impl<O: Outgoing, A: Outgoing + Drop> TrunkSink<O, A> {
+    /// What the octets of the trunk go to.
+    pub fn into_outgoing(self) -> O
+        ensures { result ≡ self.outgoing }
+    {
+        let TrunkSink { outgoing, .. } = self;
+        outgoing
+    }
+}
+
 impl<O: Outgoing, A: Outgoing> Sink for TrunkSink<O, A> {
     ghost tells = { λ s. record { failures = s.failed; taken = Some s.log.octets } };
 

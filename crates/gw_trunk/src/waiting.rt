@@ -3,6 +3,7 @@
 use mio::unix::SourceFd;
 use mio::{Events, Interest, Poll, Token};
 use std::io;
+use std::time::Duration;
 
 /// Waits for one descriptor of the system, which the caller keeps open.
 #[derive(Drop)]
@@ -37,6 +38,23 @@ impl Waiting {
         let source = &mut SourceFd(&self.descriptor);
         if registry.reregister(source, Token(0), self.interest).is_ok() {
             let _ = self.poll.poll(&mut self.events, None);
+        }
+    }
+
+    /// Waits until the descriptor is ready, for so long at most, or a signal comes. Returns whether it may be
+    /// ready.
+    pub fn wait_for(&mut self, limit: Duration) -> bool {
+        let registry = self.poll.registry();
+        let source = &mut SourceFd(&self.descriptor);
+        if registry
+            .reregister(source, Token(0), self.interest)
+            .is_err()
+        {
+            return true;
+        }
+        match self.poll.poll(&mut self.events, Some(limit)) {
+            Ok(()) => !self.events.is_empty(),
+            Err(_) => true,
         }
     }
 }

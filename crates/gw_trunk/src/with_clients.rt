@@ -14,10 +14,13 @@ use std::io;
 use std::io::Read;
 use std::os::fd::AsRawFd;
 
-/// A reader of std over a descriptor, and the clients of a Unix socket. A client gives C and K records, and the
-/// answer to a record goes to the client who gave it: it comes from the other end of `answers`. The record of
-/// kind `E`, of circuit 0 and without a body, asks for the end: nothing comes any more then. A client that goes,
-/// sends something else, or does not take an answer at once loses its connection, and nothing else happens.
+/// A reader of std over a descriptor, and the clients of a Unix socket. The reader is read only if octets have
+/// come, so one that waits for them keeps no client from being asked.
+///
+/// A client gives C and K records, and the answer to a record goes to the client who gave it: it comes from the
+/// other end of `answers`. The record of kind `E`, of circuit 0 and without a body, asks for the end: nothing
+/// comes any more then. A client that goes, sends something else, or does not take an answer at once loses its
+/// connection, and nothing else happens.
 #[derive(Drop)]
 pub struct WithClients<R> {
     reader: R,
@@ -105,6 +108,10 @@ impl<R: Read> Incoming for WithClients<R> {
         self.clients.give_answer();
         if self.ended {
             return Ok(Taken::Ended);
+        }
+        if !self.clients.can_read() {
+            self.note(true, true, false);
+            return Ok(Taken::NoneNow);
         }
         match self.reader.read(room) {
             Ok(0) => {

@@ -1,0 +1,83 @@
+-- Octets for a device that may be slow, in multiframes (module `in_time`).
+use Rattle.std.specs.Prelude.{◌≡◌, ◌≢◌, ◌⊎◌, ◌==◌, ◌+◌, ◌<◌, ◌≤◌, if◌then◌else◌, ◌++◌, ◌∷◌, ℕ, List, []}
+use Rattle.std.specs.Prelude.{Bool, true, false, length, flat_map}
+use Rattle.std.specs.List.{AllByRecursion}
+use Rattle.gw_records.specs.Streams.{at_most}
+use Rattle.gw_trunk.specs.declared.in_time.Course.{Course}
+
+-- a multiframe, or its first octets, and whether it is discarded
+pub record Multiframe : Type 0 where
+  pub octets : List ℕ
+  pub is_discarded : Bool
+
+-- all of a multiframe: sixteen frames of 32 octets (ITU-T G.704, 5.1.3.2)
+abbrev pub IsWhole : Multiframe → Type 0
+IsWhole m = length m.octets ≡ 512
+
+-- its octets, and what is left of them
+abbrev pub multiframe_octets : Multiframe → List ℕ
+multiframe_octets m = m.octets
+
+abbrev pub left_of : Multiframe → List ℕ
+left_of m = if m.is_discarded then [] else m.octets
+
+-- how many multiframes are discarded
+abbrev pub number_discarded : List Multiframe → ℕ
+number_discarded [] = 0
+number_discarded (m ∷ ms) = (if m.is_discarded then 1 else 0) + number_discarded ms
+
+-- Octets are sent in multiframes, of which the last one has not come whole. What is left of them is these
+-- multiframes without the discarded ones, of this number.
+pub record Thinned (sent left : List ℕ) (discarded : ℕ) : Type 0 where
+  pub multiframes : List Multiframe
+  pub last : Multiframe
+  pub whole : AllByRecursion IsWhole multiframes
+  pub short : length last.octets < 512
+  pub sent_are : sent ≡ flat_map multiframe_octets multiframes ++ last.octets
+  pub left_are : left ≡ flat_map left_of multiframes ++ left_of last
+  pub discarded_is : discarded ≡ at_most (number_discarded multiframes + (if last.is_discarded then 1 else 0))
+
+-- the same with what is known of the last multiframe, and the number of those that are discarded
+pub record IsThinned (course : Course) (sent left : List ℕ) : Type 0 where
+  pub thinned : Thinned sent left course.discarded
+  pub place_is : course.place ≡ length thinned.last.octets
+  pub discards_is : course.discards ≡ thinned.last.is_discarded
+
+-- the course after so many octets of the multiframe
+abbrev pub course_after : Course → ℕ → Course
+course_after course n = if course.place + n == 512 then record course { place = 0; discards = false }
+    else record course { place = course.place + n }
+
+-- the course if a multiframe is discarded
+abbrev pub course_discarding : Course → Course
+course_discarding course = record course { discards = true; discarded = at_most (course.discarded + 1) }
+
+-- octets of a multiframe passed: they are left, or discarded
+pub record PassesOn (course course' : Course) (left left' octets : List ℕ) : Type 0 where
+  pub fits : course.place + length octets ≤ 512
+  pub course_is : course' ≡ course_after course (length octets)
+  pub left_is : left' ≡ left ++ (if course.discards then [] else octets)
+
+-- octets of a multiframe passed, or it is discarded from its first octet on, of which these are the first
+abbrev pub Steps : Course → Course → List ℕ → List ℕ → List ℕ → Type 0
+Steps course course' left left' octets = PassesOn course course' left left' octets
+    ⊎ ((course.place ≡ 0) × (course.discards ≡ false)
+    × PassesOn (course_discarding course) course' left left' octets)
+
+-- nothing waits for the device, and no multiframe was discarded
+pub record IsPrompt (held : List ℕ) (course : Course) : Type 0 where
+  pub none_held : held ≡ []
+  pub goes : course.discards ≡ false
+  pub none_discarded : course.discarded ≡ 0
+
+-- there is room for the rest of a multiframe that goes on
+abbrev pub HasRoom : List ℕ → Course → Type 0
+HasRoom held course = course.discards ≡ false → course.place ≢ 0 → length held ≤ course.place
+
+-- Octets were sent to a device that may be slow. They went to it in order, except for discarded whole
+-- multiframes, of this number, and for octets that it has not taken in the end. All of them went if it was
+-- never slow.
+pub record GoesInTime (sent went : List ℕ) (discarded : ℕ) (was_slow : Bool) : Type 0 where
+  pub untaken : List ℕ
+  pub thinned : Thinned sent (went ++ untaken) discarded
+  pub prompt : was_slow ≡ false → (went ≡ sent) × (discarded ≡ 0)
