@@ -1,7 +1,8 @@
 """Packets of SAToP over UDP (RFC 4553): an RTP header, if expected, the control word and octets of the trunk.
 
-The control word has four zero bits, L (the payload is invalid), R (the other end misses packets), two reserved bits,
-FRG (0), LEN (the number of all octets if it is below 64, else 0) and the sequence number."""
+The control word has four zero bits, L (the payload is invalid), R (the other end misses packets), two reserved bits and
+two of FRG, which are ignored on receipt, LEN (the number of all octets if it is below 64, else 0) and the sequence
+number."""
 from __future__ import annotations
 
 import struct
@@ -12,7 +13,7 @@ CONTROL = 4             # octets of the control word
 RTP = 12                # octets of a fixed RTP header
 RTP_FIRST = 0x80        # its first octet: version 2, no padding, no extension, no sources
 LOST, REMOTE = 0x08, 0x04
-FRAGMENT, LENGTH = 0xC0, 0x3F
+LENGTH = 0x3F
 SEQUENCES = 1 << 16
 
 
@@ -21,9 +22,8 @@ class Fault(IntEnum):
     SHORT = 1               # fewer octets than the headers have
     NO_RTP_HEADER = 2       # no fixed RTP header although one is expected
     NO_CONTROL_WORD = 3     # the first four bits of the control word are not zero
-    FRAGMENT = 4            # FRG is not zero
-    OTHER_LENGTH = 5        # LEN is neither zero nor the number of octets
-    OTHER_SIZE = 6          # another number of the trunk's octets than the circuit's packets have
+    OTHER_LENGTH = 4        # LEN is neither zero nor the number of octets
+    OTHER_SIZE = 5          # another number of the trunk's octets than the circuit's packets have
 
 
 class Packet(NamedTuple):
@@ -44,8 +44,6 @@ def parse(datagram: bytes, rtp: bool) -> Packet | Fault:
     flags, length, sequence = struct.unpack_from('>BBH', datagram, at)
     if flags >> 4:
         return Fault.NO_CONTROL_WORD
-    if length & FRAGMENT:
-        return Fault.FRAGMENT
     if length & LENGTH and length & LENGTH != len(datagram):
         return Fault.OTHER_LENGTH
     return Packet(bool(flags & LOST), bool(flags & REMOTE), sequence, datagram[at + CONTROL:])

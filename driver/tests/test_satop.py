@@ -104,14 +104,14 @@ class Packets(Case):
         whole = spell(Packet(False, False, 20, piece(20)))
         for datagram, cause in (
                 (b'', 'short'), (whole[:3], 'short'), (b'\x10' + whole[1:], 'no_control_word'),
-                (whole[:1] + b'\x40' + whole[2:], 'fragment'), (whole[:1] + b'\x05' + whole[2:], 'other_length'),
+                (whole[:1] + b'\x05' + whole[2:], 'other_length'),
                 (whole[:-1], 'other_size'), (whole + b'\0', 'other_size'), (whole[:4], 'other_size'),
                 (b'\x80\x61' + bytes(10) + whole, 'no_control_word')):
             before = self.trunk.status()[f'malformed_{cause}']
             self.send(datagram)
             self.assertEqual(self.trunk.read(1000), b'')
             self.assertEqual(self.trunk.status()[f'malformed_{cause}'], before + 1)
-        self.told(malformed=9, received=20)
+        self.told(malformed=8, received=20)
         self.assertEqual(self.numbers(20), piece(16))
 
     def test_no_mutation_ends_it(self) -> None:

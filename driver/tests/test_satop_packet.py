@@ -13,8 +13,9 @@ class Reading(unittest.TestCase):
         self.assertEqual(parse(bytes.fromhex('80610007 00000008 00000001 00000007 9B'), True),
                          Packet(False, False, 7, b'\x9b'))
 
-    def test_reserved_bits_are_passed_over(self) -> None:
+    def test_reserved_bits_and_fragments_are_ignored(self) -> None:
         self.assertEqual(parse(bytes.fromhex('0B000001 D5'), False), Packet(True, False, 1, b'\xd5'))
+        self.assertEqual(parse(bytes.fromhex('00C50001 D5'), False), Packet(False, False, 1, b'\xd5'))
 
     def test_each_fault(self) -> None:
         for octets, rtp, fault in (
@@ -23,15 +24,13 @@ class Reading(unittest.TestCase):
                 ('00' * 16, True, Fault.NO_RTP_HEADER), ('90' + '00' * 15, True, Fault.NO_RTP_HEADER),
                 ('10000000', False, Fault.NO_CONTROL_WORD),
                 ('80' + '00' * 11 + '10000000', True, Fault.NO_CONTROL_WORD),
-                ('00400000', False, Fault.FRAGMENT), ('00800000', False, Fault.FRAGMENT),
                 ('00030000', False, Fault.OTHER_LENGTH), ('00050000', False, Fault.OTHER_LENGTH)):
             with self.subTest(octets=octets):
                 self.assertEqual(parse(bytes.fromhex(octets), rtp), fault)
 
     def test_faults_are_looked_for_in_order(self) -> None:
-        self.assertEqual([int(each) for each in Fault], [1, 2, 3, 4, 5, 6])
+        self.assertEqual([int(each) for each in Fault], [1, 2, 3, 4, 5])
         self.assertEqual(parse(bytes.fromhex('10430000'), False), Fault.NO_CONTROL_WORD)
-        self.assertEqual(parse(bytes.fromhex('00430000'), False), Fault.FRAGMENT)
         self.assertEqual(parse(bytes.fromhex('00' * 12 + '10430000'), True), Fault.NO_RTP_HEADER)
 
     def test_length_counts_the_rtp_header(self) -> None:

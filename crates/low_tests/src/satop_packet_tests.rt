@@ -30,9 +30,23 @@ fn worked_faults(rt: HostRuntime) {
     refused(&rt, &RTP, true, SatopFault::Short);
     refused(&rt, &[0; 16], true, SatopFault::NoRtp);
     refused(&rt, &[0x10, 0, 0, 0], false, SatopFault::NoControl);
-    refused(&rt, &[0, 0x40, 0, 0], false, SatopFault::Fragment);
     refused(&rt, &[0, 3, 0, 0], false, SatopFault::OtherLength);
-    assert_eq!(rt; SatopFault::OtherLength.number(), 5);
+    assert_eq!(rt; SatopFault::OtherLength.number(), 4);
+}
+
+#[test]
+fn reserved_bits_and_fragments_are_ignored(rt: HostRuntime) {
+    // RSV 3 and FRG 3, LEN 5, sequence number 2, one octet
+    let view = parse(&[0x03, 0xC5, 0, 2, 0x55], false).expect(&rt, "no fault");
+    assert!(rt;
+        view.control()
+            == Control {
+                lost: false,
+                remote: false,
+                sequence: 2
+            }
+    );
+    assert!(rt; view.payload() == [0x55].as_slice());
 }
 
 #[test]

@@ -6,7 +6,7 @@ use Rattle.std.proofs.lemmas.List.{length-append}
 use Rattle.std.proofs.lemmas.Bool.{cases_lt, lt-ltb, le-ltb}
 use Rattle.satop_packet.specs.declared.SatopFault.{SatopFault}
 use Rattle.satop_packet.specs.Satop.{Content, control_word, length_said, plain_packet}
-use Rattle.satop_packet.specs.Fault.{fault, has_fault, is_short, is_no_rtp, is_no_control, is_fragment, is_other_length}
+use Rattle.satop_packet.specs.Fault.{fault, has_fault, is_short, is_no_rtp, is_no_control, is_other_length}
 use Rattle.satop_packet.specs.Read.{content_of, unless_fault, reading_of}
 use Rattle.satop_packet.specs.Laws.{AreOctets, IsPacketOf, FaultlessIsPacket, PacketIsFaultless, PartsAreUnique}
 use Rattle.satop_packet.specs.Laws.{LeastFaultIsTold, PlainIsPacket, PlainIsRead}
@@ -19,25 +19,26 @@ faultless_is_packet rtp octets each none = (content_of rtp octets, joins rtp oct
 
 -- the join of some parts has no fault
 pub packet_is_faultless : PacketIsFaultless
-packet_is_faultless rtp octets parts (reserved, len, d) = (is_told rtp octets parts reserved len d).faultless
+packet_is_faultless rtp octets parts (reserved, fragment, len, d) =
+    (is_told rtp octets parts reserved fragment len d).faultless
 
 -- octets are the join of at most one record of parts
 pub parts_are_unique : PartsAreUnique
-parts_are_unique rtp octets parts others (reserved, len, d) (bits, number, e) =
-    (is_told rtp octets parts reserved len d).parts ∙ sym (is_told rtp octets others bits number e).parts
+parts_are_unique rtp octets parts others (reserved, fragment, len, d) (bits, more, number, e) =
+    (is_told rtp octets parts reserved fragment len d).parts ∙ sym (is_told rtp octets others bits more number e).parts
 
 -- the fault returned holds, and has the least number of those that hold
 pub least_fault_is_told : LeastFaultIsTold
 least_fault_is_told rtp o =
-    least (has_fault rtp o) (is_short rtp o) (is_no_rtp rtp o) (is_no_control rtp o) (is_fragment rtp o)
-    (is_other_length rtp o) refl refl refl refl refl
+    least (has_fault rtp o) (is_short rtp o) (is_no_rtp rtp o) (is_no_control rtp o) (is_other_length rtp o)
+    refl refl refl refl
 
 -- the join of some parts is read as these parts
 pub reading_of-packet : (rtp : Bool) (octets : List ℕ) (parts : Content) → IsPacketOf rtp parts octets
     → reading_of rtp octets ≡ Ok parts
 unfolding reading_of
-reading_of-packet rtp octets parts (reserved, len, d) =
-    let t = is_told rtp octets parts reserved len d in
+reading_of-packet rtp octets parts (reserved, fragment, len, d) =
+    let t = is_told rtp octets parts reserved fragment len d in
     rw (t.faultless, t.parts) refl
 
 -- parts are read if there is no fault, and are those at their places
@@ -72,7 +73,7 @@ unfolding plain_packet
 plain_is_packet rtp header control payload is there small =
     let size = length header + 4 + length payload in
     let s = said-fits size in
-    let word = control_word control 0 (length_said size) in
+    let word = control_word control 0 0 (length_said size) in
     let l : length (header ++ (word ++ payload)) ≡ size
     = length-append header (word ++ payload) ∙ (omega arith) in
     record {
@@ -81,6 +82,7 @@ plain_is_packet rtp header control payload is there small =
       there = there;
       sequence = small;
       reserved_fits = omega arith;
+      fragment_fits = omega arith;
       len_fits = s.0;
       counted = λ ne. s.1 ne ∙ sym l;
     }
@@ -90,7 +92,7 @@ pub plain_is_read : PlainIsRead
 plain_is_read rtp header control payload is there small =
     reading_of-packet rtp (plain_packet header control payload)
     (record { rtp = header; control = control; payload = payload })
-    (0, length_said (length header + 4 + length payload), plain_is_packet rtp header control payload is there small)
+    (0, 0, length_said (length header + 4 + length payload), plain_is_packet rtp header control payload is there small)
 
 -- what was read is the join of its parts
 pub read-ok : (rtp : Bool) (octets : List ℕ) (r : Result Content SatopFault) → AreOctets octets

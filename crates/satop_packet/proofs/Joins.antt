@@ -1,5 +1,5 @@
 -- A join of parts has no fault, and its parts are at their places.
-use Rattle.std.proofs.Common.{◌≡◌, ◌≢◌, ◌+◌, ◌/◌, ◌%◌, ◌<◌, ◌≤◌, ◌&&◌, not, ℕ, Bool}
+use Rattle.std.proofs.Common.{◌≡◌, ◌≢◌, ◌+◌, ◌*◌, ◌/◌, ◌%◌, ◌<◌, ◌≤◌, ◌&&◌, not, ℕ, Bool}
 use Rattle.std.proofs.Common.{true, false, cond, eqb, List, [], ◌∷◌, ◌++◌, length, take, drop, slice_index}
 use Rattle.std.proofs.Common.{Option, Some, None, refl, sym, ap, ◌∙◌, arith, length-drop, length-append, inl, inr}
 use Rattle.std.proofs.lemmas.List.{drop-drop, get_or-drop, drop_at, take_at, take-append-drop, length-take-le}
@@ -9,7 +9,7 @@ use Rattle.byteorder.specs.Endian.{big_number}
 use Rattle.satop_packet.specs.declared.Control.{Control}
 use Rattle.satop_packet.specs.declared.SatopFault.{SatopFault}
 use Rattle.satop_packet.specs.Satop.{Content, IsRtp, IsPacket, control_word, rtp_len}
-use Rattle.satop_packet.specs.Fault.{fault, is_short, is_no_rtp, is_no_control, is_fragment, is_other_length}
+use Rattle.satop_packet.specs.Fault.{fault, is_short, is_no_rtp, is_no_control, is_other_length}
 use Rattle.satop_packet.specs.Read.{control_of, content_of}
 use Rattle.satop_packet.specs.Laws.{AreOctets, IsPacketOf}
 
@@ -29,19 +29,19 @@ digits n r false false h e =
     (omega arith, ne_eqb (n / 8 % 2) 1 (λ z. omega (arith, z)), ne_eqb (n / 4 % 2) 1 (λ z. omega (arith, z)))
 
 -- what is read of octets that begin with a control word
-record Word (q : List ℕ) (c : Control) (len : ℕ) (payload : List ℕ) : Type 0 where
+record Word (q : List ℕ) (c : Control) (second : ℕ) (payload : List ℕ) : Type 0 where
   lost : eqb (slice_index q 0 / 8 % 2) 1 ≡ c.lost
   remote : eqb (slice_index q 0 / 4 % 2) 1 ≡ c.remote
   sequence : big_number 2 (take 2 (drop 2 q)) ≡ c.sequence
   zeros : slice_index q 0 / 16 ≡ 0
-  said : slice_index q 1 ≡ len
+  said : slice_index q 1 ≡ second
   behind : drop 4 q ≡ payload
   long : 4 ≤ length q
 
 -- a control word is read as what it was made of
-word-of : (c : Control) (reserved len : ℕ) (payload : List ℕ) → reserved < 4 → c.sequence < 65536
-    → Word (control_word c reserved len ++ payload) c len payload
-word-of c reserved len payload few small =
+word-of : (c : Control) (reserved fragment len : ℕ) (payload : List ℕ) → reserved < 4 → c.sequence < 65536
+    → Word (control_word c reserved fragment len ++ payload) c (fragment * 64 + len) payload
+word-of c reserved fragment len payload few small =
     let first = cond c.lost 8 0 + cond c.remote 4 0 + reserved in
     let d = digits first reserved c.lost c.remote few refl in
     record {
@@ -55,9 +55,9 @@ word-of c reserved len payload few small =
     }
 
 -- the same of octets that are one
-word : (q : List ℕ) (c : Control) (reserved len : ℕ) (payload : List ℕ) → reserved < 4 → c.sequence < 65536
-    → q ≡ control_word c reserved len ++ payload → Word q c len payload
-word q c reserved len payload few small e = rw e (word-of c reserved len payload few small)
+word : (q : List ℕ) (c : Control) (reserved fragment len : ℕ) (payload : List ℕ) → reserved < 4 → c.sequence < 65536
+    → q ≡ control_word c reserved fragment len ++ payload → Word q c (fragment * 64 + len) payload
+word q c reserved fragment len payload few small e = rw e (word-of c reserved fragment len payload few small)
 
 -- an RTP header that is there begins as it must
 rtp-first : (rtp : Bool) (header rest : List ℕ) → IsRtp header → length header ≡ rtp_len rtp
@@ -74,21 +74,20 @@ said-right len size h = elim (cases_eq len 0) [
 ]
 
 -- no fault is returned if no test is met
-no-fault : (a b c d e : Bool) (f1 f2 f3 f4 f5 : Option SatopFault)
-    → a ≡ false → b ≡ false → c ≡ false → d ≡ false → e ≡ false
-    → cond a f1 (cond b f2 (cond c f3 (cond d f4 (cond e f5 None)))) ≡ None
-no-fault a b c d e f1 f2 f3 f4 f5 p q r s t = rw (p, q, r, s, t) refl
+no-fault : (a b c d : Bool) (f1 f2 f3 f4 : Option SatopFault)
+    → a ≡ false → b ≡ false → c ≡ false → d ≡ false
+    → cond a f1 (cond b f2 (cond c f3 (cond d f4 None))) ≡ None
+no-fault a b c d f1 f2 f3 f4 p q r s = rw (p, q, r, s) refl
 
 -- if none is returned, no test is met
-pub untold : (a b c d e : Bool) (f1 f2 f3 f4 f5 : SatopFault)
-    → cond a (Some f1) (cond b (Some f2) (cond c (Some f3) (cond d (Some f4) (cond e (Some f5) None)))) ≡ None
-    → (a ≡ false) × (b ≡ false) × (c ≡ false) × (d ≡ false) × (e ≡ false)
-untold false false false false false f1 f2 f3 f4 f5 h = (refl, refl, refl, refl, refl)
-untold true b c d e f1 f2 f3 f4 f5 h = cc
-untold false true c d e f1 f2 f3 f4 f5 h = cc
-untold false false true d e f1 f2 f3 f4 f5 h = cc
-untold false false false true e f1 f2 f3 f4 f5 h = cc
-untold false false false false true f1 f2 f3 f4 f5 h = cc
+pub untold : (a b c d : Bool) (f1 f2 f3 f4 : SatopFault)
+    → cond a (Some f1) (cond b (Some f2) (cond c (Some f3) (cond d (Some f4) None))) ≡ None
+    → (a ≡ false) × (b ≡ false) × (c ≡ false) × (d ≡ false)
+untold false false false false f1 f2 f3 f4 h = (refl, refl, refl, refl)
+untold true b c d f1 f2 f3 f4 h = cc
+untold false true c d f1 f2 f3 f4 h = cc
+untold false false true d f1 f2 f3 f4 h = cc
+untold false false false true f1 f2 f3 f4 h = cc
 
 -- what is read of a join
 pub record Told (rtp : Bool) (o : List ℕ) (p : Content) : Type 0 where
@@ -96,13 +95,14 @@ pub record Told (rtp : Bool) (o : List ℕ) (p : Content) : Type 0 where
   pub faultless : fault rtp o ≡ None
 
 -- a join of parts has no fault, and its parts are at their places
-pub is_told : (rtp : Bool) (o : List ℕ) (p : Content) (reserved len : ℕ) → IsPacket o rtp p reserved len → Told rtp o p
+pub is_told : (rtp : Bool) (o : List ℕ) (p : Content) (reserved fragment len : ℕ)
+    → IsPacket o rtp p reserved fragment len → Told rtp o p
 unfolding content_of control_of
-is_told rtp o p reserved len d =
+is_told rtp o p reserved fragment len d =
     let s = rtp_len rtp in
-    let rest = control_word p.control reserved len ++ p.payload in
+    let rest = control_word p.control reserved fragment len ++ p.payload in
     let there : drop s o ≡ rest = ap (drop s) d.joined ∙ drop_at p.rtp rest s d.there in
-    let w = word (drop s o) p.control reserved len p.payload d.reserved_fits d.sequence there in
+    let w = word (drop s o) p.control reserved fragment len p.payload d.reserved_fits d.sequence there in
     let g0 = at_head s o in
     let g1 : slice_index o (s + 1) ≡ slice_index (drop s o) 1 = sym (get_or-drop s o 1 0) in
     let l : length o ≡ s + length (drop s o)
@@ -110,8 +110,8 @@ is_told rtp o p reserved len d =
     ∙ ap (λ q. s + length q) (sym there) in
     let long = w.long in
     let small = d.len_fits in
-    let len-is : slice_index o (s + 1) ≡ len = g1 ∙ w.said in
-    let rest64 : len % 64 ≡ len = omega arith in
+    let second : slice_index o (s + 1) ≡ fragment * 64 + len = g1 ∙ w.said in
+    let len-is : slice_index o (s + 1) % 64 ≡ len = omega (arith, second, small) in
     let d2 : drop (s + 2) o ≡ drop 2 (drop s o) = sym (drop-drop 2 s o) in
     let d4 : drop (s + 4) o ≡ drop 4 (drop s o) = sym (drop-drop 4 s o) in
     let front : take s o ≡ p.rtp = ap (take s) d.joined ∙ take_at p.rtp rest s d.there in
@@ -121,7 +121,6 @@ is_told rtp o p reserved len d =
     = ap (λ q. big_number 2 (take 2 q)) d2 ∙ w.sequence in
     let payload : drop (s + 4) o ≡ p.payload = d4 ∙ w.behind in
     let zeros : slice_index o s / 16 ≡ 0 = ap (λ n. n / 16) g0 ∙ w.zeros in
-    let whole : slice_index o (s + 1) / 64 ≡ 0 = omega arith in
     record {
       parts = λ i. record {
         rtp = sym front i;
@@ -129,14 +128,12 @@ is_told rtp o p reserved len d =
         payload = sym payload i;
       };
       faultless = no-fault
-          (is_short rtp o) (is_no_rtp rtp o) (is_no_control rtp o) (is_fragment rtp o) (is_other_length rtp o)
-          _ _ _ _ _
+          (is_short rtp o) (is_no_rtp rtp o) (is_no_control rtp o) (is_other_length rtp o)
+          _ _ _ _
           (le-ltb (length o) (s + 4) (omega arith))
           (ap (λ q. rtp && not (eqb (slice_index q 0) 128)) d.joined ∙ rtp-first rtp p.rtp rest d.header d.there)
           (rw zeros refl)
-          (rw whole refl)
-          (ap (λ n. not (eqb (n % 64) 0) && not (eqb (n % 64) (length o))) len-is
-          ∙ ap (λ n. not (eqb n 0) && not (eqb n (length o))) rest64 ∙ said-right len (length o) d.counted);
+          (ap (λ n. not (eqb n 0) && not (eqb n (length o))) len-is ∙ said-right len (length o) d.counted);
     }
 
 -- the octets of the number that two octets make are these
@@ -160,12 +157,14 @@ first-spelled n false false h el em =
 
 -- a control word and what follows it, by the numbers at their places
 spelled : (q : List ℕ) → 4 ≤ length q → AreOctets q → slice_index q 0 / 16 ≡ 0
-    → q ≡ control_word (control_of 0 q) (slice_index q 0 % 4) (slice_index q 1) ++ drop 4 q
+    → q ≡ control_word (control_of 0 q) (slice_index q 0 % 4) (slice_index q 1 / 64) (slice_index q 1 % 64)
+    ++ drop 4 q
 unfolding control_of
 spelled (a ∷ b ∷ c ∷ d ∷ rest) long fits zeros =
     let fc : c < 256 = fits 2 in
     let fd : d < 256 = fits 3 in
     let e0 = first-spelled a (eqb (a / 8 % 2) 1) (eqb (a / 4 % 2) 1) zeros refl refl in
+    let e1 : b / 64 * 64 + b % 64 ≡ b = omega arith in
     let e2 = spelled-again c d fc fd in
     cc
 spelled _ long fits zeros = absurd (omega arith)
@@ -203,8 +202,8 @@ pub joins : (rtp : Bool) (o : List ℕ) → AreOctets o → fault rtp o ≡ None
 unfolding content_of
 joins rtp o fits none =
     let t = untold
-    (is_short rtp o) (is_no_rtp rtp o) (is_no_control rtp o) (is_fragment rtp o) (is_other_length rtp o)
-    _ _ _ _ _ none in
+    (is_short rtp o) (is_no_rtp rtp o) (is_no_control rtp o) (is_other_length rtp o)
+    _ _ _ _ none in
     let s = rtp_len rtp in
     let q = drop s o in
     let room : s + 4 ≤ length o = ltb-false _ _ t.0 in
@@ -214,21 +213,21 @@ joins rtp o fits none =
     let g0 : slice_index o s ≡ slice_index q 0 = at_head s o in
     let g1 : slice_index o (s + 1) ≡ slice_index q 1 = sym (get_or-drop s o 1 0) in
     let zeros : slice_index q 0 / 16 ≡ 0 = ap (λ n. n / 16) (sym g0) ∙ eqb-true _ _ (not-false _ t.2) in
-    let whole : slice_index q 1 / 64 ≡ 0 = ap (λ n. n / 64) (sym g1) ∙ eqb-true _ _ (not-false _ t.3) in
-    let small : slice_index q 1 < 64 = omega arith in
-    let rest64 : slice_index o (s + 1) % 64 ≡ slice_index q 1 = omega arith in
+    let octet : slice_index q 1 < 256 = fq 1 in
+    let rest64 : slice_index o (s + 1) % 64 ≡ slice_index q 1 % 64 = ap (λ n. n % 64) g1 in
     let word = spelled q long fq zeros in
     let d4 : drop (s + 4) o ≡ drop 4 q = sym (drop-drop 4 s o) in (
       slice_index q 0 % 4,
-      slice_index q 1,
+      slice_index q 1 / 64,
+      slice_index q 1 % 64,
       record {
         joined = sym (take-append-drop s o) ∙ ap (λ r. take s o ++ r) (rw (control-at s o, d4) word);
         header = rtp-there rtp o (omega arith) t.1;
         there = length-take-le s o (omega arith);
         sequence = rw (control-at s o) (sequence-fits q long fq);
         reserved_fits = omega arith;
-        len_fits = small;
-        counted = said-true (slice_index q 1) (length o)
-            (rw rest64 at t.4);
+        fragment_fits = omega (arith, octet);
+        len_fits = omega arith;
+        counted = said-true (slice_index q 1 % 64) (length o) (rw rest64 at t.3);
       },
     )

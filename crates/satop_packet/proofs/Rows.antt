@@ -1,6 +1,6 @@
 -- The definitions on worked examples, by computing.
 use Rattle.std.proofs.Common.{◌≡◌, [], ◌∷◌, Some, None, true, false, refl}
-use Rattle.satop_packet.specs.declared.SatopFault.TheVariants.{Short, NoRtp, NoControl, Fragment, OtherLength}
+use Rattle.satop_packet.specs.declared.SatopFault.TheVariants.{Short, NoRtp, NoControl, OtherLength}
 use Rattle.satop_packet.specs.Satop.{plain_packet}
 use Rattle.satop_packet.specs.Fault.{fault}
 use Rattle.satop_packet.specs.Read.{content_of, control_of}
@@ -25,7 +25,6 @@ written = refl
 faults : (fault false (0 ∷ 0 ∷ 0 ∷ []) ≡ Some Short)
     × (fault true (0 ∷ 0 ∷ 0 ∷ 0 ∷ 0 ∷ 0 ∷ 0 ∷ 0 ∷ 0 ∷ 0 ∷ 0 ∷ 0 ∷ 0 ∷ 0 ∷ 0 ∷ 0 ∷ []) ≡ Some NoRtp)
     × (fault false (0x1C ∷ 0x40 ∷ 0 ∷ 0 ∷ []) ≡ Some NoControl)
-    × (fault false (0x0F ∷ 0x43 ∷ 0 ∷ 0 ∷ []) ≡ Some Fragment)
-    × (fault false (0x0F ∷ 3 ∷ 0 ∷ 0 ∷ []) ≡ Some OtherLength)
-    × (fault false (0x0F ∷ 4 ∷ 0 ∷ 0 ∷ []) ≡ None)
-faults = (refl, refl, refl, refl, refl, refl)
+    × (fault false (0x0F ∷ 0x43 ∷ 0 ∷ 0 ∷ []) ≡ Some OtherLength)
+    × (fault false (0x0F ∷ 0x44 ∷ 0 ∷ 0 ∷ []) ≡ None)
+faults = (refl, refl, refl, refl, refl)

@@ -7,9 +7,10 @@ use Rattle.satop_packet.specs.Satop.{Content, IsRtp, IsPacket, rtp_len, length_s
 use Rattle.satop_packet.specs.Fault.{fault, has_fault, fault_number}
 use Rattle.satop_packet.specs.Read.{reading_of}
 
--- octets are the join of these parts, with some reserved bits and some LEN
+-- octets are the join of these parts, with some RSV, FRG and LEN
 abbrev pub IsPacketOf : Bool → Content → List ℕ → Type 0
-IsPacketOf rtp parts octets = (reserved : ℕ) × (len : ℕ) × IsPacket octets rtp parts reserved len
+IsPacketOf rtp parts octets = (reserved : ℕ) × (fragment : ℕ) × (len : ℕ)
+    × IsPacket octets rtp parts reserved fragment len
 
 -- each number is an octet
 abbrev pub AreOctets : List ℕ → Type 0
@@ -46,7 +47,7 @@ PlainIsPacket =
     (rtp : Bool) (header : List ℕ) (control : Control) (payload : List ℕ) → IsRtp header
     → length header ≡ rtp_len rtp → control.sequence < 2 ^ 16
     → IsPacket (plain_packet header control payload) rtp
-    (record { rtp = header; control = control; payload = payload }) 0
+    (record { rtp = header; control = control; payload = payload }) 0 0
     (length_said (length header + 4 + length payload))
 
 -- what is written is read again

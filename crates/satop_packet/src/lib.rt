@@ -50,16 +50,13 @@ pub enum SatopFault {
     /// 3: the control word does not begin with four zero bits.
     #[error("no control word")]
     NoControl,
-    /// 4: FRG is not 0: the packet is a fragment.
-    #[error("a fragment")]
-    Fragment,
-    /// 5: LEN is neither 0 nor the number of all octets.
+    /// 4: LEN is neither 0 nor the number of all octets.
     #[error("another length")]
     OtherLength,
 }
 
 impl SatopFault {
-    /// The number of the fault, 1 to 5, in order of precedence.
+    /// The number of the fault, 1 to 4, in order of precedence.
     pub fn number(self) -> u8
         ensures { result ≡ fault_number self }
     {
@@ -67,8 +64,7 @@ impl SatopFault {
             SatopFault::Short => 1,
             SatopFault::NoRtp => 2,
             SatopFault::NoControl => 3,
-            SatopFault::Fragment => 4,
-            SatopFault::OtherLength => 5,
+            SatopFault::OtherLength => 4,
         }
     }
 }

@@ -14,7 +14,7 @@ const FIXED_RTP: u8 = 0x80;
 
 /// Reads a packet in place, behind a fixed RTP header if `rtp` is set.
 ///
-/// The view shows its parts. The two reserved bits are ignored.
+/// The view shows its parts. RSV and FRG are ignored (RFC 4553, 4.3).
 ///
 /// # Errors
 ///
@@ -47,9 +47,6 @@ fn view_in(octets: &[u8], rtp: bool) -> Result<SatopView<'_>, SatopFault>
     }
     if octets[start] / 16 != 0 {
         return Err(SatopFault::NoControl);
-    }
-    if octets[start + 1] / 64 != 0 {
-        return Err(SatopFault::Fragment);
     }
     let len = usize::from(octets[start + 1] % 64);
     if len != 0 && len != octets.len() {

@@ -12,8 +12,8 @@ const LEAST_UNSAID: usize = 64;
 
 /// Writes the packet of an RTP header, a control word and a payload.
 ///
-/// The RTP header is empty or the twelve octets of a fixed one. The reserved bits are zero, and LEN is the
-/// number of all octets if they are fewer than 64, otherwise 0. The former contents of `out` are lost.
+/// The RTP header is empty or the twelve octets of a fixed one. RSV and FRG are zero, and LEN is the number
+/// of all octets if they are fewer than 64, otherwise 0. The former contents of `out` are lost.
 ///
 /// ```rust
 /// let remote = Control { lost: false, remote: true, sequence: 7 };
@@ -58,7 +58,7 @@ fn length_said(size: usize) -> u8
 
 // The control word.
 fn control_octets(control: &Control, len: u8) -> [u8; 4]
-    ensures { result ≡ control_word control.now 0 len }
+    ensures { result ≡ control_word control.now 0 0 len }
 {
     let mut octets = [0u8; CONTROL_LEN];
     octets[0] = (if control.lost { 8 } else { 0 }) + (if control.remote { 4 } else { 0 });
