@@ -1,9 +1,8 @@
 """Packets of SAToP over UDP (RFC 4553): an RTP header, if expected, the control word and octets of the trunk.
 
-The control word has four zero bits, L (what is carried is not valid), R (the other end misses packets), two reserved
-bits and two of FRG, which are ignored on receipt, LEN (all octets of the datagram if they are fewer than 64, else 0)
-and the sequence number.
-"""
+The control word has four zero bits, L (the payload is invalid), R (the other end misses packets), two reserved bits and
+two of FRG, which are ignored on receipt, LEN (the number of all octets if it is below 64, else 0) and the sequence
+number."""
 from __future__ import annotations
 
 import struct
@@ -24,7 +23,7 @@ class Fault(IntEnum):
     NO_RTP_HEADER = 2       # no fixed RTP header although one is expected
     NO_CONTROL_WORD = 3     # the first four bits of the control word are not zero
     OTHER_LENGTH = 4        # LEN is neither zero nor the number of octets
-    OTHER_SIZE = 5          # not as many octets of the trunk as the circuit's packets have
+    OTHER_SIZE = 5          # another number of the trunk's octets than the circuit's packets have
 
 
 class Packet(NamedTuple):

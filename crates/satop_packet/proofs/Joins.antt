@@ -1,4 +1,4 @@
--- A join of parts has no fault, and its parts stand at their places.
+-- A join of parts has no fault, and its parts are at their places.
 use Rattle.std.proofs.Common.{◌≡◌, ◌≢◌, ◌+◌, ◌*◌, ◌/◌, ◌%◌, ◌<◌, ◌≤◌, ◌&&◌, not, ℕ, Bool}
 use Rattle.std.proofs.Common.{true, false, cond, eqb, List, [], ◌∷◌, ◌++◌, length, take, drop, slice_index}
 use Rattle.std.proofs.Common.{Option, Some, None, refl, sym, ap, ◌∙◌, arith, length-drop, length-append, inl, inr}
@@ -73,13 +73,13 @@ said-right len size h = elim (cases_eq len 0) [
   | inr ne ↦ rw (ne_eqb len 0 ne, eq-eqb len size (h ne)) refl
 ]
 
--- no fault is told where no test is met
+-- no fault is returned if no test is met
 no-fault : (a b c d : Bool) (f1 f2 f3 f4 : Option SatopFault)
     → a ≡ false → b ≡ false → c ≡ false → d ≡ false
     → cond a f1 (cond b f2 (cond c f3 (cond d f4 None))) ≡ None
 no-fault a b c d f1 f2 f3 f4 p q r s = rw (p, q, r, s) refl
 
--- where none is told, no test is met
+-- if none is returned, no test is met
 pub untold : (a b c d : Bool) (f1 f2 f3 f4 : SatopFault)
     → cond a (Some f1) (cond b (Some f2) (cond c (Some f3) (cond d (Some f4) None))) ≡ None
     → (a ≡ false) × (b ≡ false) × (c ≡ false) × (d ≡ false)
@@ -94,7 +94,7 @@ pub record Told (rtp : Bool) (o : List ℕ) (p : Content) : Type 0 where
   pub parts : p ≡ content_of rtp o
   pub faultless : fault rtp o ≡ None
 
--- a join of parts has no fault, and its parts stand at their places
+-- a join of parts has no fault, and its parts are at their places
 pub is_told : (rtp : Bool) (o : List ℕ) (p : Content) (reserved fragment len : ℕ)
     → IsPacket o rtp p reserved fragment len → Told rtp o p
 unfolding content_of control_of

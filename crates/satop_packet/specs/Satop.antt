@@ -1,4 +1,4 @@
--- A packet of SAToP by its parts (RFC 4553; over UDP the RTP header, if any, stands before the control word).
+-- A SAToP packet by its parts (RFC 4553; over UDP an RTP header may precede the control word).
 use Rattle.std.specs.Prelude.{◌≡◌, ◌+◌, ◌*◌, ◌<◌, ◌^◌, ℕ, Bool, if◌then◌else◌, nat_lt}
 use Rattle.std.specs.Prelude.{List, [], ◌∷◌, ◌++◌, length}
 use Rattle.byteorder.specs.Endian.{big_bytes}
@@ -29,9 +29,8 @@ IsRtp (first ∷ octets) = (first ≡ 128) × (length (first ∷ octets) ≡ 12)
 abbrev pub rtp_len : Bool → ℕ
 rtp_len rtp = if rtp then 12 else 0
 
--- The octets are these parts, one after another: the RTP header if there is to be one, the control word and the
--- payload. RSV and FRG are ignored on receipt, so they may be any; LEN is 0 or the number of all octets
--- (RFC 4553, 4.3).
+-- The octets are the join of these parts: the RTP header if expected, the control word and the payload. RSV
+-- and FRG are ignored on receipt, so they may be any; LEN is 0 or the number of all octets (RFC 4553, 4.3).
 pub record IsPacket (octets : List ℕ) (rtp : Bool) (p : Content) (reserved fragment len : ℕ) : Type 0 where
   pub joined : octets ≡ p.rtp ++ (control_word p.control reserved fragment len ++ p.payload)
   pub header : IsRtp p.rtp
@@ -46,7 +45,7 @@ pub record IsPacket (octets : List ℕ) (rtp : Bool) (p : Content) (reserved fra
 abbrev pub length_said : ℕ → ℕ
 length_said size = if nat_lt size 64 then size else 0
 
--- the octets of a packet as it is written: RSV and FRG are zero
+-- the octets of a written packet: RSV and FRG are zero
 unfoldable pub plain_packet : List ℕ → Control → List ℕ → List ℕ
 plain_packet rtp control payload =
     rtp ++ (control_word control 0 0 (length_said (length rtp + 4 + length payload)) ++ payload)

@@ -56,7 +56,7 @@ pub enum SatopFault {
 }
 
 impl SatopFault {
-    /// The number of the fault, from 1 to 4, in the order in which they are told.
+    /// The number of the fault, 1 to 4, in order of precedence.
     pub fn number(self) -> u8
         ensures { result ≡ fault_number self }
     {

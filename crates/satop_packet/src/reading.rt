@@ -12,8 +12,9 @@ use crate::{CONTROL_LEN, SatopFault, SatopView};
 // The first octet of a fixed RTP header: version 2, without padding, extension or sources.
 const FIXED_RTP: u8 = 0x80;
 
-/// Reads a packet in place, behind a fixed RTP header if `rtp` says so: the view shows its parts. RSV and FRG
-/// are ignored (RFC 4553, 4.3).
+/// Reads a packet in place, behind a fixed RTP header if `rtp` is set.
+///
+/// The view shows its parts. RSV and FRG are ignored (RFC 4553, 4.3).
 ///
 /// # Errors
 ///

@@ -10,9 +10,10 @@ use byteorder::{BigEndian, ByteOrder};
 // LEN is 0 for packets of at least this many octets.
 const LEAST_UNSAID: usize = 64;
 
-/// Makes `out` the packet of this control word and payload, behind the RTP header, whose octets are none or
-/// the twelve of a fixed one. RSV and FRG are zero, and LEN is the number of all octets where they are
-/// fewer than 64, else 0. What `out` held before is gone.
+/// Writes the packet of an RTP header, a control word and a payload.
+///
+/// The RTP header is empty or the twelve octets of a fixed one. RSV and FRG are zero, and LEN is the number
+/// of all octets if they are fewer than 64, otherwise 0. The former contents of `out` are lost.
 ///
 /// ```rust
 /// let remote = Control { lost: false, remote: true, sequence: 7 };
