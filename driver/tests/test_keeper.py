@@ -57,24 +57,13 @@ class Device:
         return self.exchange.multiframe()
 
     def read(self, length: int) -> bytes:
-        got, until = b'', time.monotonic() + SECONDS
+        got = b''
         while len(got) < length:
-            if not select.select([self.line], [], [], 1.0)[0]:
-                self._knock(until)
-                continue
             piece = self.line.recv(length - len(got))
             if not piece:
                 raise EOFError
             got += piece
         return got
-
-    def _knock(self, until: float) -> None:
-        """A client wakes the program. (Octets that come while it looks for clients are read when more come, which in
-        lock step they do not.)"""
-        if time.monotonic() > until:
-            raise TimeoutError
-        with socket.socket(socket.AF_UNIX) as line, contextlib.suppress(OSError):
-            line.connect(os.path.join(os.path.dirname(self.path), 'control'))
 
     def all_read(self) -> None:
         """Returns once the other end has read all that was sent."""

@@ -7,6 +7,7 @@ import array
 import fcntl
 import os
 import random
+import signal
 import socket
 import subprocess
 import tempfile
@@ -334,6 +335,25 @@ class Clients(Configured):
             self.assertEqual(self.closed(ninth), b'')
         clients[0].sendall(blocks([11]))
         self.assertEqual(answers_of(clients[0], 1), self.refused([11]))
+
+    def test_places_of_clients_that_have_left(self) -> None:
+        trunk = self.trunk()
+        clients = [trunk.client() for _ in range(8)]
+        for circuit, client in enumerate(clients, 1):
+            self.addCleanup(client.close)
+            client.sendall(blocks([circuit]))
+            self.assertEqual(answers_of(client, 1), self.refused([circuit]))
+        trunk.serving.send_signal(signal.SIGSTOP)
+        os.waitid(os.P_PID, trunk.serving.pid, os.WSTOPPED)
+        for client in clients[2:4]:
+            client.close()
+        with trunk.client() as ninth, trunk.client() as tenth:
+            trunk.serving.send_signal(signal.SIGCONT)
+            for circuit, client in ((9, ninth), (10, tenth), (1, clients[0]), (8, clients[7])):
+                client.sendall(blocks([circuit]))
+                self.assertEqual(answers_of(client, 1), self.refused([circuit]))
+            with trunk.client() as eleventh:
+                self.assertEqual(self.closed(eleventh), b'')
 
     def test_a_trunk_that_waits(self) -> None:
         trunk = self.trunk(waits=True)

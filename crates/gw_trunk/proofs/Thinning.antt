@@ -1,5 +1,5 @@
 -- Octets for a device that may be slow, as they pass one after another.
-use Rattle.std.proofs.Common.{◌≡◌, ◌≢◌, ◌⊎◌, inl, inr, ◌==◌, ◌+◌, ◌<◌, ◌≤◌, ◌++◌, ◌∷◌, ◌∙◌, ℕ, Bool, true, false}
+use Rattle.std.proofs.Common.{◌≡◌, ◌≢◌, inl, inr, ◌+◌, ◌<◌, ◌≤◌, ◌++◌, ◌∷◌, ◌∙◌, ℕ, Bool, true, false}
 use Rattle.std.proofs.Common.{cond, List, [], length, flat_map, refl, sym, ap, arith, append-nil, append_assoc}
 use Rattle.std.proofs.Common.{length-append, take}
 use Rattle.std.specs.List.{AllByRecursion}
@@ -9,7 +9,7 @@ use Rattle.std.proofs.lemmas.List.{nil_from_length, length-take-le, take-take}
 use Rattle.std.proofs.lemmas.List.Concat.{flat_map-append}
 use Rattle.gw_records.specs.Streams.{at_most}
 use Rattle.gw_trunk.specs.declared.in_time.Course.{Course}
-use Rattle.gw_trunk.specs.Multiframes.{Multiframe, IsWhole, multiframe_octets, left_of, number_discarded, Thinned}
+use Rattle.gw_trunk.specs.Multiframes.{Multiframe, IsWhole, multiframe_octets, left_of, number_discarded}
 use Rattle.gw_trunk.specs.Multiframes.{IsThinned, course_after, course_discarding, PassesOn, Steps, IsPrompt, GoesInTime}
 
 -- What is left of octets that are discarded or not, and of more of the same.

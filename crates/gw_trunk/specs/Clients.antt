@@ -48,6 +48,11 @@ abbrev pub is_quiet : Option Client → Bool
 is_quiet None = true
 is_quiet (Some client) = not client.ready
 
+-- a place has no client, or one from whom something may have come
+abbrev pub IsAwake : Option Client → Type 0
+IsAwake None = ⊤
+IsAwake (Some client) = client.ready ≡ true
+
 -- what the client at a place did that was asked: one that is to be let go is
 abbrev pub Answers : Asked → Option Client → Option Client → List ℕ → Type 0
 Answers (Command n) place place' room = (n ≤ length room) × GaveAt place place' (take n room)

@@ -1,6 +1,6 @@
 //! A client of a trunk, who gives commands and takes their answers.
 
-ghost use Rattle.std.specs.Prelude.{◌≡◌, ◌⊎◌, ◌≤◌, ◌++◌, [], false, length, drop, OnOk, OnErr};
+ghost use Rattle.std.specs.Prelude.{◌≡◌, ◌⊎◌, ◌≤◌, ◌++◌, [], true, false, length, drop, OnOk, OnErr};
 ghost use Rattle.gw_trunk.specs.Clients.{Replies, Stays};
 
 use arrayvec::ArrayVec;
@@ -50,6 +50,8 @@ pub struct Client {
     pub number: u64,
     /// Whether it has given a record.
     pub known: bool,
+    /// Whether the system has reported that it has hung up.
+    pub left: bool,
     /// The records that it gave.
     pub gave: Log,
     /// The octets of the answers that it got.
@@ -68,16 +70,19 @@ impl Client {
             ready: true,
             number,
             known: false,
+            left: false,
             gave: Log::new(),
             got: Log::new(),
         }
     }
 
-    /// Something may have come from it.
-    pub fn wake(&mut self)
-        ensures { Stays self.old self.new }
+    /// Something may have come from it, or it has hung up.
+    pub fn wake(&mut self, has_left: bool)
+        ensures stays { Stays self.old self.new }
+        ensures ready { self.new.ready ≡ true }
     {
         self.ready = true;
+        self.left = self.left || has_left;
     }
 
     // Reads once what has come, as far as there is room.

@@ -1,7 +1,10 @@
 //! The clients of a trunk, each at its place, and what all is waited for by.
 
-ghost use Rattle.std.specs.Prelude.{◌≡◌, ◌⊎◌, ◌<◌, ◌≤◌, Some, None, true, length, IfSome};
-ghost use Rattle.gw_trunk.specs.Clients.{Answers, Asks, AllKeep, Gets, HasAnswered, Keeps, OnlyAt, at};
+ghost use Rattle.std.specs.Prelude.{◌≡◌, ◌⊎◌, ◌==◌, ◌||◌, ◌-◌, ◌<◌, ◌≤◌, Some, None, true, false, length};
+ghost use Rattle.std.specs.Prelude.{IfSome};
+ghost use Rattle.std.specs.List.{list_all};
+ghost use Rattle.gw_trunk.specs.Clients.{Answers, Asks, AllKeep, Gets, HasAnswered, IsAwake, Keeps, OnlyAt, at};
+ghost use Rattle.gw_trunk.specs.Clients.{is_quiet};
 
 use crate::client::{Asked, Client};
 use gw_records::Log;
@@ -87,18 +90,28 @@ fn answer_one(place: &mut Option<Client>, answer: &[u8])
     }
 }
 
-// Wakes the client at a place.
-fn wake_one(place: &mut Option<Client>)
-    ensures { Keeps place.old place.new }
+// Wakes the client at a place, who may have left.
+fn wake_one(place: &mut Option<Client>, has_left: bool)
+    ensures keeps { Keeps place.old place.new }
+    ensures awake { IsAwake place.new }
 {
     if let Some(client) = place {
-        client.wake();
+        client.wake(has_left);
     }
 }
 
-// Notes that something has come for a token.
-fn note(token: usize, octets: &mut bool, knocks: &mut bool, places: &mut [Option<Client>; 8])
-    ensures { AllKeep places.old places.new }
+// Notes an event of this token; a client may have left.
+fn note(
+    token: usize,
+    has_left: bool,
+    octets: &mut bool,
+    knocks: &mut bool,
+    places: &mut [Option<Client>; 8],
+)
+    ensures octets { octets.new ≡ (token == 0 || octets.old) }
+    ensures knocks { knocks.new ≡ (token == 1 || knocks.old) }
+    ensures keep { AllKeep places.old places.new }
+    ensures awake { 2 ≤ token → IsAwake (at places.new (token - 2)) }
 {
     if token == TRUNK {
         *octets = true;
@@ -107,7 +120,7 @@ fn note(token: usize, octets: &mut bool, knocks: &mut bool, places: &mut [Option
         *knocks = true;
     }
     if token >= FIRST_CLIENT && token - FIRST_CLIENT < MOST_CLIENTS {
-        wake_one(&mut places[token - FIRST_CLIENT]);
+        wake_one(&mut places[token - FIRST_CLIENT], has_left);
     }
 }
 
@@ -116,21 +129,28 @@ fn note_all(events: &Events, octets: &mut bool, knocks: &mut bool, places: &mut 
     ensures { AllKeep places.old places.new }
 {
     for event in events.iter() {
-        note(event.token().0, octets, knocks, places);
+        note(
+            event.token().0,
+            event.is_read_closed(),
+            octets,
+            knocks,
+            places,
+        );
     }
 }
 
-// The number of a client who is let go for a new one: of one that never gave a record. Below it there is only
-// a free place.
+// A new client takes the place of the lowest rank: a free one, else that of a client that has left, else that of
+// the oldest client that never gave a record.
 fn rank(place: &Option<Client>) -> u64 {
     match place {
         None => 0,
+        Some(client) if client.left => 1,
         Some(client) if client.known => u64::MAX,
-        Some(client) => client.number.saturating_add(1),
+        Some(client) => client.number.saturating_add(2),
     }
 }
 
-// The place of a new client: a free one, else that of the one that is there the longest and never gave a record.
+// The place of a new client; None if each has a client that is there and gave a record.
 fn place_for_one(places: &[Option<Client>; 8]) -> Option<usize>
     ensures { IfSome result (λ place. place < 8) }
 {
@@ -201,11 +221,24 @@ impl Clients {
         let _ = registry.reregister(trunk, Token(TRUNK), Interest::READABLE);
     }
 
-    /// Waits until something may have come, for the trunk or from a client.
-    pub fn wait(&mut self) {
-        if !self.knocks {
-            self.report_octets();
-            self.look(None);
+    // Waits until something comes. Each end answered that it has nothing, and no event has come since. (The
+    // trunk is registered again, so that octets that came before are reported too.)
+    fn sleep(&mut self)
+        requires octets { self.old.octets ≡ false }
+        requires knocks { self.old.knocks ≡ false }
+        requires clients { list_all is_quiet self.old.places ≡ true }
+    {
+        self.report_octets();
+        self.look(None);
+    }
+
+    /// Waits until something may have come, for the trunk or from a client. It does not wait if an event has
+    /// come since the trunk was read and a client was looked for.
+    pub fn wait(&mut self)
+        requires { list_all is_quiet self.old.places ≡ true }
+    {
+        if !self.octets && !self.knocks {
+            self.sleep();
         }
     }
 

@@ -1,4 +1,4 @@
-use Rattle.std.proofs.Common.{ap, refl, append-nil, ◌∙◌, ◌≡◌, [], length, arith}
+use Rattle.std.proofs.Common.{ap, refl, arith}
 use Rattle.gw_records.specs.declared.log.Log.{Log}
 use Rattle.gw_trunk.proofs.Thinning.{none-sent}
 use Rattle.gw_trunk.proofs.in_time.InTime.new.Goals as goal
