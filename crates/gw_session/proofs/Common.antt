@@ -40,7 +40,8 @@ pub use Rattle.gw_session.specs.Serve.{GatewayTrace, TurnTrace}
 unfoldable pub use Rattle.gw_session.specs.Serve.{answer_to, dropped_for, given_by, but_last}
 pub use Rattle.gw_session.specs.ServeLaws.{ServingIsCutAnywhere, UnmovedCounts, without_datagrams, EventsAreTold}
 pub use Rattle.gw_session.specs.ServeLaws.{DatagramsAreInTurn}
-pub use Rattle.gw_session.specs.Tape.{TapeState, Recorded, RecordedBut, HasEnded, HasLong}
+pub use Rattle.gw_session.specs.Tape.{TapeState, Recorded, RecordedBut, HasEnded, HasLong, AreSpelled, WritesRecords}
+pub use Rattle.gw_session.specs.Tape.{Taping, taping, Batched, Batches, RecordsAll}
 unfoldable pub use Rattle.gw_session.specs.Tape.{kind_and_circuit}
 pub use Rattle.gw_session.specs.World.{Output, World, state_of, State, world_of, output_of}
 pub use Rattle.gw_switch.specs.Events.{Event, octets}

@@ -5,7 +5,8 @@ use Rattle.gw_session.proofs.Common.{append-nil, arith, Appends, map-append, dro
 use Rattle.gw_session.proofs.Common.{IsGood, spelled, RunFault, SinkState, AppendsPrefix, Breaks, Appends-none}
 use Rattle.gw_session.proofs.Common.{Appends-join, events, events_of, all_kinds, Turn, of_circuit, arrivals, coming}
 use Rattle.gw_session.proofs.Common.{events_of_turns, RecordsBehind, TapeState, Recorded, RecordedBut, OnOk, is_err}
-use Rattle.gw_session.proofs.Common.{AppendsPrefix-join, HasEnded, HasLong}
+use Rattle.gw_session.proofs.Common.{AppendsPrefix-join, HasEnded, HasLong, AreSpelled, WritesRecords, Taping, taping}
+use Rattle.gw_session.proofs.Common.{Batches, RecordsAll, flat_map}
 use Rattle.std.proofs.lemmas.List.Elements.{Contains-append_left, Contains-append_right, Contains-push}
 use Rattle.gw_session.proofs.Receiving.{of_more}
 use Rattle.gw_records.proofs.Sessions.{All-join}
@@ -84,49 +85,139 @@ pub recorded_join : (a b c : TapeState) (es fs : List Event) → Recorded a b es
     → Recorded a c (es ++ fs)
 recorded_join a b c es fs p q = joined a b c es fs b.ended refl p q
 
--- a record was written, or a prefix of it: its events were recorded, or the tape ended in them
-recorded_one : (a b : TapeState) (r : Record) → IsGood all_kinds r → a.ended ≡ false
-    → AppendsPrefix a.taken b.taken (spelled r)
-    → (b.ended ≡ false → Appends a.taken b.taken (spelled r) × (b.failures ≡ a.failures))
-    → (b.ended ≡ true → a.failures < b.failures) → Recorded a b (events_of r)
-recorded_one a b r good going took whole failed = record {
-  records = r ∷ [];
-  good = (good, tt);
+-- octets of records were written, or a prefix of them: their events were recorded, or the tape ended in them
+recorded_all : (a b : TapeState) (records : List Record) (octets : List ℕ) → AreSpelled records octets
+    → a.ended ≡ false → AppendsPrefix a.taken b.taken octets
+    → (b.ended ≡ false → Appends a.taken b.taken octets × (b.failures ≡ a.failures))
+    → (b.ended ≡ true → a.failures < b.failures) → Recorded a b (events records)
+recorded_all a b records octets s going took whole failed = record {
+  records = records;
+  good = s.good;
   lost = [];
-  events_are = simp append-nil;
-  took = rw (append-nil (spelled r)) took;
-  whole = λ f. (refl, rw (append-nil (spelled r)) (whole f).0, (whole f).1);
+  events_are = sym (append-nil (events records));
+  took = rw (← s.octets_are) took;
+  whole = λ f. (refl, rw (← s.octets_are) (whole f).0, (whole f).1);
   cause = λ e f. inl (failed f);
   stays = λ s. cc;
 }
 
--- the octets of a record were written whole, or not, and the tape ended
-pub recorded_written : (old new : Bool) (s s' : SinkState) (r : Record) (octets : List ℕ)
-    (result : Result (Unit {0}) RunFault) (fault : RunFault) → IsGood all_kinds r → old ≡ false → new ≡ is_err result
-    → octets ≡ spelled r → OnOk result (Appends s.taken s'.taken octets) → OnOk result (s'.failures ≡ s.failures)
+-- the octets of records were written whole, or not, and the tape ended
+pub records_written : (old new : Bool) (s s' : SinkState) (octets : List ℕ)
+    (result : Result (Unit {0}) RunFault) (fault : RunFault) → old ≡ false → new ≡ is_err result
+    → OnOk result (Appends s.taken s'.taken octets) → OnOk result (s'.failures ≡ s.failures)
     → IfErr result (λ e. (e ≡ fault) × Breaks s s' octets)
-    → Recorded (record { ended = old; failures = s.failures; taken = s.taken })
-    (record { ended = new; failures = s'.failures; taken = s'.taken }) (events_of r)
-recorded_written old new s s' r octets (Ok u) fault good going up e took same broke =
-    let all = rw e at took in
-    recorded_one _ _ r good going
-    (record { written = spelled r; rest = []; whole = sym (append-nil (spelled r)); appended = all })
-    (λ f. (all, same)) (λ f. cc)
-recorded_written old new s s' r octets (Err x) fault good going up e took same broke =
-    recorded_one _ _ r good going (rw e at broke.1.took) (λ f. cc) (λ f. broke.1.counted)
+    → WritesRecords (record { ended = old; failures = s.failures; taken = s.taken })
+    (record { ended = new; failures = s'.failures; taken = s'.taken }) octets
+records_written old new s s' octets (Ok u) fault going up took same broke = λ records spelled-are.
+    recorded_all _ _ records octets spelled-are going
+    (record { written = octets; rest = []; whole = sym (append-nil octets); appended = took })
+    (λ f. (took, same)) (λ f. cc)
+records_written old new s s' octets (Err x) fault going up took same broke = λ records spelled-are.
+    recorded_all _ _ records octets spelled-are going broke.1.took (λ f. cc) (λ f. broke.1.counted)
+
+-- a tape that has ended writes no records
+pub records_over : (a : TapeState) (octets : List ℕ) → a.ended ≡ true → WritesRecords a a octets
+records_over a octets over = λ records spelled-are. recorded_over a (events records) over
+
+-- the octets of one record were written
+pub one_written : (a b : TapeState) (r : Record) (octets : List ℕ) → IsGood all_kinds r → octets ≡ spelled r
+    → WritesRecords a b octets → Recorded a b (events_of r)
+one_written a b r octets good e w = rw (append-nil (events_of r)) at (w (r ∷ []) (record {
+  good = (good, tt);
+  octets_are = e ∙ sym (append-nil (spelled r));
+}))
+
+-- no octets spell no record
+spells_none : (records : List Record) → flat_map spelled records ≡ [] → records ≡ []
+spells_none [] e = refl
+spells_none (Record.Trunk octets ∷ records) e = cc
+spells_none (Record.Datagram circuit octets ∷ records) e = cc
+spells_none (Record.Command circuit command ∷ records) e = cc
+spells_none (Record.Codec circuit codec payload_type ∷ records) e = cc
+
+-- nothing happened to the batch
+pub batches_none : (tape : TapeState) (batch batch' : List ℕ) → batch' ≡ batch
+    → Batches (taping tape batch) (taping tape batch') []
+batches_none tape batch batch' same = λ before s. record {
+  first = [];
+  recorded = recorded_none tape;
+  after = before;
+  batch_is = record { good = s.good; octets_are = same ∙ s.octets_are };
+  all = append-nil (events before);
+}
+
+-- one record more is in the batch
+pub batches_more : (tape : TapeState) (batch batch' : List ℕ) (r : Record) → IsGood all_kinds r
+    → batch' ≡ batch ++ spelled r → Batches (taping tape batch) (taping tape batch') (events_of r)
+batches_more tape batch batch' r good e = λ before s. record {
+  first = [];
+  recorded = recorded_none tape;
+  after = before ++ r ∷ [];
+  batch_is = record {
+    good = All-join (IsGood all_kinds) before (r ∷ []) s.good (good, tt);
+    octets_are = e ∙ ap (λ (xs : List ℕ). xs ++ spelled r) s.octets_are ∙ rw (flat_map-append, append-nil) refl;
+  };
+  all = rw (flat_map-append, append-nil) refl;
+}
+
+-- the batch was recorded, and nothing is in it
+pub batches_written : (a b : TapeState) (batch batch' : List ℕ) → WritesRecords a b batch → batch' ≡ []
+    → Batches (taping a batch) (taping b batch') []
+batches_written a b batch batch' w none = λ before s. record {
+  first = events before;
+  recorded = w before s;
+  after = [];
+  batch_is = record { good = tt; octets_are = none };
+  all = refl;
+}
+
+-- events were recorded while nothing was in the batch
+pub batches_recorded : (a b : TapeState) (batch batch' : List ℕ) (es : List Event) → batch ≡ [] → batch' ≡ []
+    → Recorded a b es → Batches (taping a batch) (taping b batch') es
+batches_recorded a b batch batch' es none none' p = λ before s.
+    let empty = spells_none before (sym s.octets_are ∙ none) in
+    record {
+      first = es;
+      recorded = p;
+      after = [];
+      batch_is = record { good = tt; octets_are = none' };
+      all = rw empty (sym (append-nil es));
+    }
+
+-- events, and then others
+pub batches_join : (t u v : Taping) (es fs : List Event) → Batches t u es → Batches u v fs → Batches t v (es ++ fs)
+batches_join t u v es fs p q = λ before s.
+    let x = p before s in
+    let y = q x.after x.batch_is in
+    record {
+      first = x.first ++ y.first;
+      recorded = recorded_join t.tape u.tape v.tape x.first y.first x.recorded y.recorded;
+      after = y.after;
+      batch_is = y.batch_is;
+      all = sym (append_assoc (events before) es fs) ∙ ap (λ (xs : List Event). xs ++ fs) x.all
+          ∙ append_assoc x.first (events x.after) fs ∙ ap (λ (xs : List Event). x.first ++ xs) y.all
+          ∙ sym (append_assoc x.first y.first (events y.after));
+    }
+
+-- events, and then all of the batch was recorded
+pub records_all : (t u : Taping) (c : TapeState) (es : List Event) → Batches t u es → WritesRecords u.tape c u.batch
+    → RecordsAll t c es
+records_all t u c es p w = λ before s.
+    let x = p before s in
+    rw (x.all) (recorded_join t.tape u.tape c x.first (events x.after) x.recorded (w x.after x.batch_is))
 
 -- no datagram came yet
-pub behind_none : (a : TapeState) (heard : List ℕ) (recorded : ℕ) → recorded ≤ length heard
+pub behind_none : (a : Taping) (heard : List ℕ) (recorded : ℕ) → recorded ≤ length heard
     → RecordsBehind a a heard recorded recorded []
 behind_none a heard recorded within = record {
   within = within;
-  but = ([], recorded_none a, append-nil (map Event.Octet (drop recorded heard)));
+  but = ([], batches_none a.tape a.batch a.batch refl, append-nil (map Event.Octet (drop recorded heard)));
 }
 
 -- one datagram more came
-pub behind_more : (a b c : TapeState) (heard fresh : List ℕ) (r r' n : ℕ) (circuit : ℕ) (came : List (List ℕ))
+pub behind_more : (a b c : Taping) (heard fresh : List ℕ) (r r' n : ℕ) (circuit : ℕ) (came : List (List ℕ))
     (d : List ℕ) → RecordsBehind a b heard r r' (coming (of_circuit (Some circuit) came)) → fresh ≡ drop r' heard
-    → n ≡ length heard → Recorded b c (map Event.Octet fresh ++ Event.Datagram circuit d ∷ [])
+    → n ≡ length heard → Batches b c (map Event.Octet fresh ++ Event.Datagram circuit d ∷ [])
     → RecordsBehind a c heard r n (coming (of_circuit (Some circuit) (came ++ d ∷ [])))
 behind_more a b c heard fresh r r' n circuit came d p e all q =
     let D = Event.Datagram circuit d ∷ [] in
@@ -137,14 +228,14 @@ behind_more a b c heard fresh r r' n circuit came d p e all q =
       within = omega (arith, all);
       but = (
         p.but.0 ++ (O ++ D),
-        recorded_join a b c p.but.0 (O ++ D) p.but.1 q,
+        batches_join a b c p.but.0 (O ++ D) p.but.1 q,
         rw (drop_all n heard (omega (arith, all)), append-nil, ← more, e)
             (rw (← append_assoc (map Event.Octet (drop r heard)) _ D, p.but.2, append_assoc)),
       );
     }
 
 -- the octet of a turn is heard
-pub turn_recorded : (a b : TapeState) (heard : List ℕ) (r r' : ℕ) (t : Turn)
+pub turn_recorded : (a b : Taping) (heard : List ℕ) (r r' : ℕ) (t : Turn)
     → RecordsBehind a b heard r r' (coming (arrivals t))
     → RecordedBut a b (map Event.Octet (drop r heard) ++ events_of_turns (t ∷ [])) (drop r' heard ++ t.octet ∷ [])
 turn_recorded a b heard r r' t p =
@@ -161,15 +252,19 @@ turn_recorded a b heard r r' t p =
     )
 
 -- events, and then others, with octets that were recorded later
-pub but_more : (a b c : TapeState) (es fs : List Event) (fresh left : List ℕ) → RecordedBut a b es fresh
+pub but_more : (a b c : Taping) (es fs : List Event) (fresh left : List ℕ) → RecordedBut a b es fresh
     → RecordedBut b c (map Event.Octet fresh ++ fs) left → RecordedBut a c (es ++ fs) left
 but_more a b c es fs fresh left p q = (
   p.0 ++ q.0,
-  recorded_join a b c p.0 q.0 p.1 q.1,
+  batches_join a b c p.0 q.0 p.1 q.1,
   ap (λ (xs : List Event). xs ++ fs) p.2 ∙ rw (append_assoc, q.2, append_assoc),
 )
 
 -- events with octets that were recorded later, and then these octets
-pub but_none : (a b c : TapeState) (es : List Event) (fresh : List ℕ) → RecordedBut a b es fresh
-    → Recorded b c (map Event.Octet fresh) → Recorded a c es
-but_none a b c es fresh p q = rw p.2 (recorded_join a b c p.0 (map Event.Octet fresh) p.1 q)
+pub but_none : (a : TapeState) (b : Taping) (c : TapeState) (es : List Event) (fresh : List ℕ)
+    → RecordedBut (taping a []) b es fresh → RecordsAll b c (map Event.Octet fresh) → Recorded a c es
+but_none a b c es fresh p q =
+    let x = p.1 [] (record { good = tt; octets_are = refl }) in
+    let O = map Event.Octet fresh in
+    rw (p.2, x.all, append_assoc)
+    (recorded_join a b.tape c x.first (events x.after ++ O) x.recorded (q x.after x.batch_is))

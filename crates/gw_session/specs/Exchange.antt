@@ -14,7 +14,7 @@ use Rattle.gw_session.specs.Serve.{Act, Turn, told, octet_of, turns_of, events_i
 use Rattle.gw_session.specs.Serve.{TurnTrace, SessionTrace, PortTrace, Stop, StopsSo, as_call, receives_of}
 use Rattle.gw_session.specs.Serve.{send_of, of_circuit, coming, first_four, behind_four, LeavesOut}
 use Rattle.gw_session.specs.Serve.{packets_for, octets_for, dropped_for, through}
-use Rattle.gw_session.specs.Tape.{TapeState, Recorded, RecordedBut}
+use Rattle.gw_session.specs.Tape.{TapeState, Recorded, Taping, RecordedBut}
 use Rattle.gw_session.specs.World.{State, Output, World}
 
 -- the gateway took an event, and the number of its reply is this
@@ -58,16 +58,16 @@ abbrev pub FourCome : Option Waiting → Option Waiting → Option ℕ → List 
 FourCome old new circuit came = IfKnown old new
     (λ v w. (came ≡ first_four v circuit) × ((c : ℕ) → w c ≡ behind_four v circuit c))
 
--- Of octets that were heard the first ones are recorded, as many as this says; datagrams came, and all was
--- recorded but for the octets that are still behind those.
-pub record RecordsBehind (tape tape' : TapeState) (heard : List ℕ) (recorded recorded' : ℕ)
+-- Of octets that were heard the first ones are recorded or in the batch, as many as this says; datagrams came,
+-- and so is all but for the octets that are still behind those.
+pub record RecordsBehind (t t' : Taping) (heard : List ℕ) (recorded recorded' : ℕ)
     (happened : List Event) : Type 0 where
   pub within : recorded' ≤ length heard
-  pub but : RecordedBut tape tape' (map Event.Octet (drop recorded heard) ++ happened) (drop recorded' heard)
+  pub but : RecordedBut t t' (map Event.Octet (drop recorded heard) ++ happened) (drop recorded' heard)
 
--- datagrams of the circuit whose slot the next octet sends came from the ports, were recorded behind octets
--- that were heard and were given to the gateway
-pub record ComesInTurn (s s' : State) (tape tape' : TapeState) (heard : List ℕ)
+-- datagrams of the circuit whose slot the next octet sends came from the ports, were recorded or put into the
+-- batch behind octets that were heard, and were given to the gateway
+pub record ComesInTurn (s s' : State) (t t' : Taping) (heard : List ℕ)
     (recorded recorded' : ℕ) : Type 0 where
   pub circuit : Option ℕ
   pub came : List (List ℕ)
@@ -84,7 +84,7 @@ pub record ComesInTurn (s s' : State) (tape tape' : TapeState) (heard : List ℕ
   pub datagrams : s'.totals.datagrams ≡ s.totals.datagrams
   pub kept : KeepsRecords s.totals s'.totals
   pub given : IsGiven s.gateway s'.gateway s.totals s'.totals (of_circuit circuit came)
-  pub records : RecordsBehind tape tape' heard recorded recorded' (coming (of_circuit circuit came))
+  pub records : RecordsBehind t t' heard recorded recorded' (coming (of_circuit circuit came))
   pub in_turn : (config : GatewayConfig) (before : List Event) → Stands config s.gateway before
       → circuit ≡ next_circuit (length (octets before))
 

@@ -46,6 +46,40 @@ pub record Recorded (tape tape' : TapeState) (happened : List Event) : Type 0 wh
   pub cause : tape.ended ≡ false → tape'.ended ≡ true → (tape.failures < tape'.failures) ⊎ HasLong happened
   pub stays : tape.ended ≡ true → tape' ≡ tape
 
+-- octets that spell good records
+pub record AreSpelled (records : List Record) (octets : List ℕ) : Type 0 where
+  pub good : AllByRecursion (IsGood all_kinds) records
+  pub octets_are : octets ≡ flat_map spelled records
+
+-- the events of the records that octets spell were recorded
+abbrev pub WritesRecords : TapeState → TapeState → List ℕ → Type 0
+WritesRecords tape tape' octets =
+    (records : List Record) → AreSpelled records octets → Recorded tape tape' (events records)
+
+-- a tape, and the octets of records that are to be put on it together
+pub record Taping : Type 0 where
+  pub tape : TapeState
+  pub batch : List ℕ
+
+abbrev pub taping : TapeState → List ℕ → Taping
+taping tape batch = record { tape = tape; batch = batch }
+
+-- Events happened. Behind the records that were in the batch they were recorded, or are in the batch now.
+pub record Batched (t t' : Taping) (before : List Record) (happened : List Event) : Type 0 where
+  pub first : List Event
+  pub recorded : Recorded t.tape t'.tape first
+  pub after : List Record
+  pub batch_is : AreSpelled after t'.batch
+  pub all : events before ++ happened ≡ first ++ events after
+
+abbrev pub Batches : Taping → Taping → List Event → Type 0
+Batches t t' happened = (before : List Record) → AreSpelled before t.batch → Batched t t' before happened
+
+-- the records that were in the batch were recorded, and behind them events
+abbrev pub RecordsAll : Taping → TapeState → List Event → Type 0
+RecordsAll t tape' happened =
+    (before : List Record) → AreSpelled before t.batch → Recorded t.tape tape' (events before ++ happened)
+
 -- a tape ends, with what it has taken
 abbrev pub HasEnded : TapeState → TapeState → Type 0
 HasEnded tape tape' = (tape'.ended ≡ true) × (tape'.taken ≡ tape.taken) × (tape.ended ≡ true → tape' ≡ tape)
@@ -57,7 +91,7 @@ kind_and_circuit (heads.Datagram circuit) = record { kind = 0x44; circuit = circ
 kind_and_circuit (heads.Command circuit command) = record { kind = 0x43; circuit = circuit }
 kind_and_circuit (heads.Codec circuit codec payload_type) = record { kind = 0x4B; circuit = circuit }
 
--- events happened and were recorded, but for octets of the trunk at their end
-abbrev pub RecordedBut : TapeState → TapeState → List Event → List ℕ → Type 0
-RecordedBut tape tape' happened fresh =
-    (es : List Event) × Recorded tape tape' es × (happened ≡ es ++ map Event.Octet fresh)
+-- events happened, and were recorded or are in the batch, but for octets of the trunk at their end
+abbrev pub RecordedBut : Taping → Taping → List Event → List ℕ → Type 0
+RecordedBut t t' happened fresh =
+    (es : List Event) × Batches t t' es × (happened ≡ es ++ map Event.Octet fresh)

@@ -8,7 +8,7 @@ ghost use Rattle.gw_session.specs.Answers.{code_of};
 ghost use Rattle.gw_session.specs.Exchange.{IsGiven};
 
 use crate::outlet::Outlet;
-use crate::tape::{OnTape, Tape, record_arrival, record_octets};
+use crate::tape::{Batch, OnTape, Tape, batch_arrival, record_octets};
 use g704_cas::CircuitNo;
 use gw_circuit::Datagram;
 use gw_records::{NO_TOTALS, OutputBuffer, RunFault, Sink, Totals, TrunkRecord};
@@ -42,8 +42,10 @@ pub struct Session {
     pub answer: TrunkRecord,
     pub at_once: bool,
     datagram: Datagram,
-    // How many of the octets that are exchanged are recorded.
+    // How many of the octets that are exchanged are recorded or in the batch.
     recorded: usize,
+    // What the tape is still to take of the record that is acted on.
+    batch: Batch,
     room: Vec<u8>,
 }
 
@@ -52,6 +54,7 @@ impl Session {
     ghost use Rattle.gw_records.specs.Outcome.{nothing_counted};
     ghost use Rattle.gw_records.specs.Streams.{CanCount, Puts};
     ghost use Rattle.gw_session.specs.Exchange.{ComesInTurn, SendsPacket, Hearing, ExchangingAll};
+    ghost use Rattle.gw_session.specs.Tape.{taping};
     ghost use Rattle.gw_session.specs.World.{state_of, output_of, world_of};
 
     /// Before the first record; a session that answers `at_once` lets nothing wait behind a record.
@@ -68,6 +71,7 @@ impl Session {
             at_once,
             datagram: Datagram::new(),
             recorded: 0,
+            batch: Batch::new(),
             room,
         }
     }
@@ -126,8 +130,8 @@ impl Session {
         Ok(out.octet)
     }
 
-    // Receives the datagrams that wait at the circuit whose slot the next octet sends, four at most, records
-    // them behind the octets that were heard and gives them to the gateway.
+    // Receives the datagrams that wait at the circuit whose slot the next octet sends, four at most, puts them
+    // into the batch behind the octets that were heard and gives them to the gateway.
     #[inline]
     fn receive_next<O: Outlet, T: Tape>(
         &mut self,
@@ -142,11 +146,13 @@ impl Session {
         ensures comes { ComesInTurn
             (state_of (O.tells outlet.old) gateway.old self.old.totals)
             (state_of (O.tells outlet.new) gateway.new self.new.totals)
-            (T.tells tape.old) (T.tells tape.new) heard.now self.old.recorded self.new.recorded }
+            (taping (T.tells tape.old) self.old.batch.items) (taping (T.tells tape.new) self.new.batch.items)
+            heard.now self.old.recorded self.new.recorded }
         ensures room { vec_len self.new.room ≡ vec_len self.old.room }
         ensures others { self.new ≡ record self.old {
           totals = self.new.totals;
           recorded = self.new.recorded;
+          batch = self.new.batch;
           room = self.new.room;
         } }
     {
@@ -156,7 +162,8 @@ impl Session {
         'receiving: for _turn in 0..MOST_DATAGRAMS {
             match outlet.arrives(circuit, self.room.as_mut_slice()) {
                 Ok(Some(n)) => {
-                    record_arrival(tape, &heard[self.recorded..], circuit, &self.room[..n]);
+                    let fresh = &heard[self.recorded..];
+                    batch_arrival(tape, &mut self.batch, fresh, circuit, &self.room[..n]);
                     self.recorded = heard.len();
                     let _ = give(gateway, circuit, &self.room[..n], &mut self.totals);
                 }
@@ -170,8 +177,8 @@ impl Session {
     }
 
     /// Gives octets to the gateway, each after the datagrams that wait at the circuit whose slot is sent with
-    /// it, and puts the octets to send behind those of the answer. All are recorded: the octets are cut where
-    /// datagrams came.
+    /// it, and puts the octets to send behind those of the answer. All are recorded when it returns, mostly in
+    /// one write: the octets are cut where datagrams came.
     pub fn exchange_all<O: Outlet, K: Sink, T: Tape>(
         &mut self,
         gateway: &mut Gateway,
@@ -194,12 +201,13 @@ impl Session {
         ensures room { vec_len self.new.room ≡ vec_len self.old.room }
     {
         self.recorded = 0;
+        self.batch.clear();
         for i in 0..octets.len() {
             let heard = &octets[..i];
             self.receive_next(gateway, outlet, tape, heard);
             let sent = self.hear(gateway, outlet, octets[i], sink)?;
             self.answer.push(sent);
         }
-        Ok(record_octets(tape, &octets[self.recorded..]))
+        Ok(record_octets(tape, &mut self.batch, &octets[self.recorded..]))
     }
 }

@@ -1,10 +1,12 @@
 //! A recorder, which writes what it records to a sink until a write fails.
 ghost use Rattle.std.specs.Prelude.{◌≡◌, ◌-◌, ◌^◌, ◌<◌, false, length};
 ghost use Rattle.gw_records.specs.Records.{IsGood, named, spelled, record_of};
+ghost use Rattle.gw_records.specs.Streams.{CanCount};
 ghost use Rattle.gw_session.specs.Running.{all_kinds};
+ghost use Rattle.gw_session.specs.Tape.{WritesRecords};
 
+use crate::spelling::append;
 use crate::tape::Tape;
-use byteorder::{BigEndian, ByteOrder};
 use gw_records::{
     CODEC, COMMAND, DATAGRAM, Head, Sink, TRUNK, TrunkRecord, octet_of_codec, octet_of_command,
     write_all,
@@ -15,11 +17,8 @@ fn fill(room: &mut TrunkRecord, kind: u8, circuit: u8, body: &[u8])
     requires { length body.now < 2 ^ 16 }
     ensures { room.new.items ≡ record_of kind circuit body.now }
 {
-    let mut front = [kind, circuit, 0, 0];
-    BigEndian::write_u16(&mut front[2..4], body.len() as u16);
     room.clear();
-    let _ = room.try_extend_from_slice(&front);
-    let _ = room.try_extend_from_slice(body);
+    append(room, kind, circuit, body);
 }
 
 // Spells a record.
@@ -40,7 +39,24 @@ fn spell(room: &mut TrunkRecord, head: Head, body: &[u8])
     }
 }
 
-/// Writes records of what happens to a sink, each at once, until a write fails.
+// Writes the octets of records to a sink, unless a write has failed before.
+fn write_records<K: Sink>(sink: &mut K, ended: &mut bool, octets: &[u8])
+    requires { ended.old ≡ false → CanCount (K.tells sink.old).failures }
+    ensures written { WritesRecords
+        (record { ended = ended.old; failures = (K.tells sink.old).failures; taken = (K.tells sink.old).taken })
+        (record { ended = ended.new; failures = (K.tells sink.new).failures; taken = (K.tells sink.new).taken })
+        octets.now }
+    ensures counts { ended.new ≡ false → CanCount (K.tells sink.new).failures }
+{
+    if *ended {
+        return;
+    }
+    if write_all(sink, octets).is_err() {
+        *ended = true;
+    }
+}
+
+/// Writes records of what happens to a sink, in one write those that are put together, until a write fails.
 #[derive(Drop)]
 pub struct Recorder<K: Sink> {
     sink: K,
@@ -90,9 +106,11 @@ impl<K: Sink> Tape for Recorder<K> {
             return;
         }
         spell(&mut self.room, head, body);
-        if write_all(&mut self.sink, self.room.as_slice()).is_err() {
-            self.ended = true;
-        }
+        write_records(&mut self.sink, &mut self.ended, self.room.as_slice());
+    }
+
+    fn put_together(&mut self, octets: &[u8]) {
+        write_records(&mut self.sink, &mut self.ended, octets);
     }
 
     fn end(&mut self) {

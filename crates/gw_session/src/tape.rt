@@ -1,16 +1,23 @@
 //! Tapes, on which events are recorded as they happen.
-ghost use Rattle.std.specs.Prelude.{◌≡◌, ◌^◌, ◌<◌, ◌∷◌, ◌++◌, [], length, map, true, None};
+ghost use Rattle.std.specs.Prelude.{◌≡◌, ◌+◌, ◌^◌, ◌<◌, ◌≤◌, ◌∷◌, ◌++◌, [], length, map, true, false, None};
 ghost use Rattle.gw_switch.specs.Events.{Event};
 ghost use Rattle.gw_records.specs.Records.{IsGood, named};
 ghost use Rattle.gw_session.specs.Answers.{events_of};
 ghost use Rattle.gw_session.specs.Running.{all_kinds};
 ghost use Rattle.gw_session.specs.Tape.{TapeState, no_tape, tells_of, Recorded, HasEnded, kind_and_circuit};
+ghost use Rattle.gw_session.specs.Tape.{WritesRecords, Batches, RecordsAll, taping};
 
+use crate::spelling::append;
+use arrayvec::ArrayVec;
 use g704_cas::CircuitNo;
-use gw_records::{CODEC, COMMAND, DATAGRAM, Head, TRUNK};
+use gw_records::{CODEC, COMMAND, DATAGRAM, FRONT_LEN, Head, TRUNK};
 
 // The longest datagram that a record can hold.
 const LONGEST: usize = 65_535;
+
+/// The octets of records that are put on a tape together, 4,096 at most: a pipe takes so many whole or not at
+/// all (pipe(7), PIPE_BUF).
+pub type Batch = ArrayVec<u8, 4_096>;
 
 /// What events are recorded on, as records of the same events.
 pub trait Tape {
@@ -23,6 +30,11 @@ pub trait Tape {
     fn put(&mut self, head: Head, body: &[u8])
         requires { IsGood all_kinds (named head body.now) }
         ensures { Recorded (tells self.old) (tells self.new) (events_of (named head body.now)) };
+
+    /// Records what records say, whose octets these are. The tape may end at it; one that has ended does
+    /// nothing.
+    fn put_together(&mut self, octets: &[u8])
+        ensures { WritesRecords (tells self.old) (tells self.new) octets.now };
 
     /// Ends the tape.
     fn end(&mut self)
@@ -38,6 +50,8 @@ impl Tape for NoTape {
 
     fn put(&mut self, _head: Head, _body: &[u8]) {}
 
+    fn put_together(&mut self, _octets: &[u8]) {}
+
     fn end(&mut self) {}
 }
 
@@ -51,6 +65,12 @@ impl<T: Tape> Tape for Option<T> {
         }
     }
 
+    fn put_together(&mut self, octets: &[u8]) {
+        if let Some(tape) = self {
+            tape.put_together(octets);
+        }
+    }
+
     fn end(&mut self) {
         if let Some(tape) = self {
             tape.end();
@@ -59,7 +79,8 @@ impl<T: Tape> Tape for Option<T> {
 }
 
 /// The kind and the circuit of a record that was put on a tape. Only [`record`] and [`record_octets`] make
-/// one, and each answer takes one: so a record is on the tape before its answer is written.
+/// one, when nothing is left in a batch, and each answer takes one: so a record is on the tape before its answer
+/// is written.
 #[derive(Drop)]
 pub struct OnTape {
     kind: u8,
@@ -120,35 +141,87 @@ pub fn record<T: Tape>(tape: &mut T, head: Head, body: &[u8]) -> OnTape
     on_tape
 }
 
-/// Records octets of the trunk, if there are any.
-pub fn record_octets<T: Tape>(tape: &mut T, octets: &[u8]) -> OnTape
-    requires { length octets.now < 2 ^ 16 }
-    ensures { Recorded (T.tells tape.old) (T.tells tape.new) (map Event.Octet octets.now) }
+// Records the batch, which is empty then.
+fn write_batch<T: Tape>(tape: &mut T, batch: &mut Batch)
+    ensures written { WritesRecords (T.tells tape.old) (T.tells tape.new) batch.old.items }
+    ensures empty { batch.new.items ≡ [] }
 {
-    if octets.is_empty() {
-        return OnTape::of(&Head::Trunk);
-    }
-    record(tape, Head::Trunk, octets)
+    tape.put_together(batch.as_slice());
+    batch.clear();
 }
 
-// Records a datagram of a circuit. One that is too long for a record ends the tape.
-fn record_datagram<T: Tape>(tape: &mut T, circuit: CircuitNo, octets: &[u8])
-    ensures { Recorded (T.tells tape.old) (T.tells tape.new) (Event.Datagram circuit octets.now ∷ []) }
+// Makes room for a record in the batch, which is recorded if there is none. Returns whether there is room.
+fn make_room<T: Tape>(tape: &mut T, batch: &mut Batch, body: &[u8]) -> bool
+    requires { length body.now < 2 ^ 16 }
+    ensures batches { Batches (taping (T.tells tape.old) batch.old.items)
+        (taping (T.tells tape.new) batch.new.items) [] }
+    ensures room { result ≡ true → length batch.new.items + (4 + length body.now) ≤ 4096 }
+    ensures empty { result ≡ false → batch.new.items ≡ [] }
+{
+    let len = FRONT_LEN + body.len();
+    if len > batch.remaining_capacity() {
+        write_batch(tape, batch);
+    }
+    len <= batch.remaining_capacity()
+}
+
+// Puts octets of the trunk into the batch, if there are any.
+fn batch_octets<T: Tape>(tape: &mut T, batch: &mut Batch, octets: &[u8])
+    requires { length octets.now < 2 ^ 16 }
+    ensures { Batches (taping (T.tells tape.old) batch.old.items) (taping (T.tells tape.new) batch.new.items)
+        (map Event.Octet octets.now) }
+{
+    if octets.is_empty() {
+        return;
+    }
+    if make_room(tape, batch, octets) {
+        append(batch, TRUNK, 0, octets);
+    } else {
+        tape.put(Head::Trunk, octets);
+    }
+}
+
+// Puts a datagram of a circuit into the batch. One that is too long for a record ends the tape.
+fn batch_datagram<T: Tape>(tape: &mut T, batch: &mut Batch, circuit: CircuitNo, octets: &[u8])
+    ensures { Batches (taping (T.tells tape.old) batch.old.items) (taping (T.tells tape.new) batch.new.items)
+        (Event.Datagram circuit octets.now ∷ []) }
 {
     if octets.len() > LONGEST {
+        write_batch(tape, batch);
         tape.end();
+    } else if make_room(tape, batch, octets) {
+        append(batch, DATAGRAM, circuit.get(), octets);
     } else {
         tape.put(Head::Datagram(circuit), octets);
     }
 }
 
-/// Records octets of the trunk, and a datagram that came behind them.
+/// Puts octets of the trunk into the batch, and a datagram that came behind them. The batch is recorded if it
+/// has no room for them.
 #[inline(never)]
-pub fn record_arrival<T: Tape>(tape: &mut T, fresh: &[u8], circuit: CircuitNo, octets: &[u8])
+pub fn batch_arrival<T: Tape>(
+    tape: &mut T,
+    batch: &mut Batch,
+    fresh: &[u8],
+    circuit: CircuitNo,
+    octets: &[u8],
+)
     requires { length fresh.now < 2 ^ 16 }
-    ensures { Recorded (T.tells tape.old) (T.tells tape.new)
+    ensures { Batches (taping (T.tells tape.old) batch.old.items) (taping (T.tells tape.new) batch.new.items)
         (map Event.Octet fresh.now ++ Event.Datagram circuit octets.now ∷ []) }
 {
-    let _ = record_octets(tape, fresh);
-    record_datagram(tape, circuit, octets);
+    batch_octets(tape, batch, fresh);
+    batch_datagram(tape, batch, circuit, octets);
+}
+
+/// Records the batch, and octets of the trunk behind it, if there are any. Nothing is left in the batch.
+pub fn record_octets<T: Tape>(tape: &mut T, batch: &mut Batch, octets: &[u8]) -> OnTape
+    requires { length octets.now < 2 ^ 16 }
+    ensures recorded { RecordsAll (taping (T.tells tape.old) batch.old.items) (T.tells tape.new)
+        (map Event.Octet octets.now) }
+    ensures empty { batch.new.items ≡ [] }
+{
+    batch_octets(tape, batch, octets);
+    write_batch(tape, batch);
+    OnTape::of(&Head::Trunk)
 }

@@ -1,7 +1,5 @@
-use Rattle.gw_session.proofs.Common.{arith, common_steps, nil_from_length}
-use Rattle.gw_session.proofs.Taping.{recorded_none}
+use Rattle.gw_session.proofs.Taping.{records_all}
 use Rattle.gw_session.proofs.tape.record_octets.Goals as goal
 
-pub returns-then-is_empty : goal.returns-then-is_empty
-returns-then-is_empty g c =
-    rw (nil_from_length c.args.octets.now (grind (arith, common_steps))) (recorded_none _)
+pub returns-clause-recorded : goal.returns-clause-recorded
+returns-clause-recorded g c = records_all _ _ _ _ c.batch_octets.ensures c.write_batch.ensures.written

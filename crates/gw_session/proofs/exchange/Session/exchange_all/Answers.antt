@@ -13,7 +13,7 @@ split_at xs i h =
     sym (take-append-drop (i + 1) xs) ∙ ap (λ (ys : List ℕ). ys ++ drop (i + 1) xs) (take_more xs i 0 h)
 
 pub loop-i-init : goal.loop-i-init
-loop-i-init g c = record { heard = heard_none _ _ _ _; at_once = refl; room = refl }
+loop-i-init g c = record { heard = heard_none _ _ _ _ _ c.clear.ensures; at_once = refl; room = refl }
 
 pub push-requires : goal.push-requires
 push-requires g c =
@@ -46,9 +46,10 @@ loop-i-preserved g c =
     let kept : c.hear.new.self.answer ≡ c.loop-i.self.answer = ap (λ (s : Session). s.answer) c.hear.ensures.others
     ∙ ap (λ (s : Session). s.answer) c.receive_next.ensures.others in
     let same = ap (λ (s : Session). s.recorded) c.hear.ensures.others in
+    let batch = ap (λ (s : Session). s.batch.items) c.hear.ensures.others in
     let q = exchange_is c.receive_next.ensures.comes (rw waits at c.in_ok-sent.ensures.hears) in
     record {
-      heard = rw same (heard_more c.args.octets.now c.loop-i.i c.loop-i.self.recorded _ c.in_ok-sent.sent
+      heard = rw (same, batch) (heard_more c.args.octets.now c.loop-i.i c.loop-i.self.recorded _ c.in_ok-sent.sent
           c.loop-i.invariant.heard c.loop-i-test.true q (rw kept at c.push.ensures.items));
       at_once = ap (λ (s : Session). s.at_once) c.hear.ensures.others
           ∙ ap (λ (s : Session). s.at_once) c.receive_next.ensures.others ∙ c.loop-i.invariant.at_once;
@@ -68,4 +69,4 @@ pub returns-clause-exchanges : goal.returns-clause-exchanges
 returns-clause-exchanges g c =
     let end : c.loop-i.i ≡ length c.args.octets.now = omega (arith, c.loop-i-test.false, c.loop-i.auto.i-end) in
     heard_all c.args.octets.now _ c.loop-i.i c.loop-i.self.recorded c.loop-i.invariant.heard end
-    (take_rest c.args.octets.now c.loop-i.self.recorded) c.record_octets.ensures
+    (take_rest c.args.octets.now c.loop-i.self.recorded) c.record_octets.ensures.recorded

@@ -9,7 +9,7 @@ invariant-loop-i g l = record {
       (g.T.Tape.tells l.initial.tape) (g.K.Sink.tells l.initial.sink) l.initial.self.waiting.items)
       (world_of (g.O.Outlet.tells l.outlet) l.gateway l.self.totals
       (g.T.Tape.tells l.tape) (g.K.Sink.tells l.sink) l.self.waiting.items)
-      l.octets l.i l.self.recorded l.initial.self.answer.items l.self.answer.items;
+      l.self.batch.items l.octets l.i l.self.recorded l.initial.self.answer.items l.self.answer.items;
   at_once : l.self.at_once ≡ l.initial.self.at_once;
   room : vec_len l.self.room ≡ vec_len l.initial.self.room;
 }

@@ -31,7 +31,7 @@ receiving-preserved g c =
       c.arrives.auto.room,
       ap length c.as_mut_slice.ensures.value,
     )) in
-    let said = rw (c.deref.ensures.value ∙ whole) at c.record_arrival.ensures in
+    let said = rw (c.deref.ensures.value ∙ whole) at c.batch_arrival.ensures in
     let given = rw (c.deref-in-Ok-Some.ensures.value ∙ whole) at c.give.ensures.given in
     let fresh : take (length c.args.heard.now - recorded) (drop recorded c.args.heard.now)
     ≡ drop recorded c.args.heard.now = take_rest c.args.heard.now recorded in

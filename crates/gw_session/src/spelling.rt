@@ -1,0 +1,18 @@
+//! Records as octets, one behind the other.
+ghost use Rattle.std.specs.Prelude.{◌≡◌, ◌+◌, ◌^◌, ◌<◌, ◌≤◌, ◌++◌, length};
+ghost use Rattle.gw_records.specs.Records.{record_of};
+
+use arrayvec::ArrayVec;
+use byteorder::{BigEndian, ByteOrder};
+
+/// Appends a record of this kind, for which there is room.
+pub fn append<const N: usize>(room: &mut ArrayVec<u8, N>, kind: u8, circuit: u8, body: &[u8])
+    requires short { length body.now < 2 ^ 16 }
+    requires fits { length room.old.items + (4 + length body.now) ≤ N }
+    ensures { room.new.items ≡ room.old.items ++ record_of kind circuit body.now }
+{
+    let mut front = [kind, circuit, 0, 0];
+    BigEndian::write_u16(&mut front[2..4], body.len() as u16);
+    let _ = room.try_extend_from_slice(&front);
+    let _ = room.try_extend_from_slice(body);
+}
