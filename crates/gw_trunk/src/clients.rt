@@ -302,11 +302,14 @@ impl Clients {
         }
     }
 
-    /// Notes what has come, without waiting, and lets in who knocks.
+    /// Lets in who knocks, without waiting. What has come was noted before the trunk was read; if that is a
+    /// regular file, it is noted here.
     pub fn let_in(&mut self)
         ensures { self.new.asker ≡ self.old.asker }
     {
-        self.look(Some(Duration::ZERO));
+        if !self.is_waited_for {
+            self.look(Some(Duration::ZERO));
+        }
         for _turn in 0..MOST_KNOCKS {
             if !self.knocks {
                 return;
