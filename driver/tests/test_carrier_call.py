@@ -1,0 +1,137 @@
+"""Two carriers at one another over an emulated circuit with CRC-4, each with `e1gw trunk` behind it. The clock of the
+circuit is moved by the test, once all that was given has been answered."""
+from __future__ import annotations
+
+import os
+import select
+import socket
+import subprocess
+import time
+from typing import Any, Callable
+
+from . import support
+from .test_satop_call import free_ports
+from .world import SECONDS
+from e1gw.carrier import Carrier
+from e1gw.crc4 import Crc4, with_crc4
+from e1gw.lines import Lines, read_config
+from e1gw.satop import Circuit, Satop, connected
+from e1gw.session import Command, Kind, command_record, records_in
+from e1gw.trunks import Stream
+
+STEP = 0.001                # seconds of a packet
+
+
+class Tapped(Stream):
+    """A program's connection that keeps what goes there and back."""
+
+    given, answered = b'', b''
+
+    def write(self, octets: bytes) -> None:
+        self.given += octets
+        super().write(octets)
+
+    def read(self, most: int) -> bytes:
+        octets = super().read(most)
+        self.answered += octets
+        return octets
+
+
+class End:
+    """A carrier of a SAToP circuit, and the program behind it. Circuit 1 is the only one with a role of its own."""
+
+    def __init__(self, folder: str, role: str, ports: tuple[int, int], circuit: Circuit,
+                 clock: Callable[[], float]) -> None:
+        config, control = (os.path.join(folder, f'{role}.{kind}') for kind in ('toml', 'control'))
+        with open(config, 'w', encoding='utf-8') as file:
+            file.write(f'law = "A"\n[[circuit]]\nnumber = 1\nrole = "{role}"\n')
+        self.crc4 = Crc4()
+        self.carrier = Carrier(lambda event: None, self.crc4)
+        near, far = (('127.0.0.1', port) for port in ports)
+        self.carrier.open(with_crc4(lambda: Satop(connected(near, far), circuit, clock, support.program()),
+                                    support.program(), self.crc4))
+        ours, theirs = socket.socketpair()
+        with theirs:
+            self.program = subprocess.Popen([support.program(), 'trunk', '--config', config, '--control', control],
+                                            stdin=theirs, stdout=theirs, stderr=subprocess.DEVNULL)
+        file = ours.detach()
+        self.tapped = Tapped(file, file, 'pair')
+        self.carrier.join(self.tapped)
+        self.lines = Lines(read_config(config), lambda event: None)
+        self.client = socket.socket(socket.AF_UNIX)
+        until = time.monotonic() + SECONDS
+        while self.client.connect_ex(control):
+            if time.monotonic() > until:
+                raise AssertionError('the program does not listen')
+            time.sleep(0.01)
+
+    def turn(self) -> None:
+        """All that has come is given and answered, and has gone through CRC-4 both ways."""
+        until, carrier = time.monotonic() + SECONDS, self.carrier
+        while True:
+            carrier.carry()
+            while carrier.owed and select.select([self.tapped.fileno()], [], [], SECONDS)[0]:
+                carrier.hear()
+            status = carrier.status()['transport']
+            if not status['crc4_checking'] and not status['crc4_sending']:
+                break
+            if time.monotonic() > until:
+                raise AssertionError('it is not answered')
+        self.lines.trunk(self.tapped.given, self.tapped.answered)
+        self.tapped.given = self.tapped.answered = b''
+
+    def command(self, command: Command) -> None:
+        self.client.sendall(command_record(1, command))
+
+    def answered(self) -> bool:
+        return bool(select.select([self.client], [], [], 0)[0])
+
+    def state(self) -> str:
+        return str(self.lines.lines[1].state)
+
+    def close(self) -> None:
+        self.carrier.close()
+        self.client.close()
+        self.program.wait(SECONDS)
+
+
+class Calls(support.Folder):
+    def setUp(self) -> None:
+        support.program()
+        super().setUp()
+        self.now = 0.0
+        west, east = free_ports(2)
+        self.west = End(self.folder, 'outgoing', (west, east), Circuit(own_clock=True), lambda: self.now)
+        self.addCleanup(self.west.close)
+        self.east = End(self.folder, 'incoming', (east, west), Circuit(), lambda: self.now)
+        self.addCleanup(self.east.close)
+
+    def until(self, holds: Callable[[], bool]) -> None:
+        for _ in range(2000):
+            if holds():
+                return
+            self.now += STEP
+            self.west.turn()
+            self.east.turn()
+        self.fail(f'{self.west.state()}, {self.east.state()}')
+
+    def states(self) -> tuple[str, str]:
+        return self.west.state(), self.east.state()
+
+    def counts(self, end: End) -> dict[str, Any]:
+        return {name: end.crc4.counts[name] for name in ('errored', 'multiframes_found', 'multiframes_lost')}
+
+    def test_a_seizure_that_is_acknowledged(self) -> None:
+        self.until(lambda: self.states() == ('idle', 'idle'))
+        self.west.command(Command.SEIZE)
+        self.until(self.west.answered)
+        answer = next(iter(records_in(self.west.client.recv(64))))
+        self.assertEqual((answer.kind, answer.refusal), (Kind.ANSWER, None))
+        self.west.lines.command(1, Command.SEIZE)
+        self.until(lambda: self.states() == ('acked', 'acked'))
+        for end in (self.west, self.east):
+            self.assertEqual(end.carrier.status()['transport']['alignment_lost'], 0)
+            self.assertEqual(end.carrier.counts['ones'], 0)
+            end.close()
+            self.assertEqual(self.counts(end), {'errored': 0, 'multiframes_found': 1, 'multiframes_lost': 0})
+            self.assertGreater(end.crc4.counts['submultiframes'], 50)
