@@ -60,8 +60,8 @@ class Carrier:
         """Whether the trunk is read now: all that was given and answered before has gone."""
         return bool(self.trunk and not self.trunk.waiting() and not (self.program and self.program.waiting()))
 
-    def carry(self) -> None:
-        """Reads the trunk, and gives what has come to the program."""
+    def carry(self) -> int:
+        """Reads the trunk, and gives what has come to the program; returns how many octets."""
         assert self.trunk
         self._rest += self.trunk.read(MOST_READ)
         count = len(self._rest) // MULTIFRAME * MULTIFRAME
@@ -69,6 +69,7 @@ class Carrier:
             octets = bytes(self._rest[:count])
             del self._rest[:count]
             self._give(octets)
+        return count
 
     def _give(self, octets: bytes) -> None:
         self._look_at_owed(len(octets))

@@ -23,7 +23,7 @@ from collections import deque
 from typing import Callable, NoReturn
 
 from . import satop
-from .carrier import Carrier
+from .carrier import MOST_READ, Carrier
 from .control import DoorTaken, listen_unix
 from .crc4 import Crc4
 from .events import WARNED, words_of
@@ -33,6 +33,7 @@ from .loop import GONE, READ, WRITE, Loop
 from .outlets import Journal, Outlet, hold_descriptors, to_descriptor, to_file
 from .peers import Door
 from .programs import program_of
+from .session import MULTIFRAME, OCTETS_A_SECOND
 from .systemd import Notify
 from .trunk_options import Usage, add_trunk, opening_of
 from .trunks import Stream, Trunk
@@ -40,6 +41,7 @@ from .trunks import Stream, Trunk
 MODE = 0o660                # of the sockets
 REOPEN_MOST = 30.0          # seconds between two tries to open the trunk
 ALIVE = 0.5                 # seconds between two signs of life
+LASTS = MULTIFRAME / OCTETS_A_SECOND    # seconds of a multiframe
 NOTHING = -1, 0             # no descriptor, no events
 
 
@@ -70,6 +72,7 @@ class Carriage:
         self._began, self._notify = time.monotonic(), Notify()
         self._trunk_watched = NOTHING
         self._program_events, self._says_more = 0, False
+        self._due: float | None = None      # when the trunk is read next, if that is not when octets come
         self._json = self._open_json(asked.json)
         self._door = Door(loop, listen_unix(asked.listen, MODE, None), self._came, asked.listen)
         self._status_door = asked.status and Door(loop, listen_unix(asked.status, MODE, None), self._asked,
@@ -121,6 +124,7 @@ class Carriage:
             trunk = self.carrier.trunk
             where = f': {trunk.name}' if trunk and trunk.name else ''
             self._watch_trunk(*NOTHING)
+            self._due = None
             self.carrier.lose()
             if isinstance(fault, EOFError):
                 self._lost('the trunk has ended', 0)
@@ -132,7 +136,7 @@ class Carriage:
         trunk, program = self.carrier.trunk, self.carrier.program
         if trunk and trunk.waiting():
             self._watch_trunk(trunk.writer(), WRITE)
-        elif trunk and self.carrier.may_read():
+        elif trunk and self.carrier.may_read() and self._due is None:
             self._watch_trunk(trunk.fileno(), READ)
         else:
             self._watch_trunk(*NOTHING)
@@ -149,7 +153,16 @@ class Carriage:
             self.loop.forget(self._trunk_watched[0])
         self._trunk_watched = file, events
         if events:
-            self.loop.watch(file, events, lambda _: self._do(self._flush if events == WRITE else self.carrier.carry))
+            self.loop.watch(file, events, lambda _: self._do(self._flush if events == WRITE else self._carry))
+
+    def _carry(self) -> None:
+        """Reads the trunk. The next multiframe can't be whole before one has lasted; till then each read is in vain."""
+        self._due = None
+        if not self.carrier.may_read():
+            return
+        trunk, count = self.carrier.trunk, self.carrier.carry()
+        if trunk and trunk.paced and 0 < count < MOST_READ:
+            self._due = time.monotonic() + LASTS
 
     def _flush(self) -> None:
         if self.carrier.trunk:
@@ -219,13 +232,14 @@ class Carriage:
         self.loop.every(ALIVE, self._tick)
         self._open_trunk()
         while self.status is None:
-            trunk = self.carrier.trunk
-            deadline = trunk.deadline if trunk and self._trunk_watched[1] == READ else None
+            trunk, deadline = self.carrier.trunk, self._due
+            if trunk and self._trunk_watched[1] == READ:
+                deadline = trunk.deadline
             self.loop.turn(deadline)
             if self._opened:
                 self._take_opened()
-            elif deadline is not None and time.monotonic() >= deadline and self.carrier.may_read():
-                self._do(self.carrier.carry)
+            elif deadline is not None and time.monotonic() >= deadline:
+                self._do(self._carry)
         self._notify.tell('STOPPING=1')
         for door in (self._door, self._status_door):
             if door:

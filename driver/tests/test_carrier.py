@@ -318,7 +318,8 @@ class Service(support.Folder):
         second = self.connects()                # waits for its turn
         self.both_ways(first, 2)
         self.far.sendall(bytes(MULTIFRAME))
-        first.close()                           # with 512 octets to be answered
+        self.until('owed', MULTIFRAME)
+        first.close()
         self.assertEqual(self.read(self.far, MULTIFRAME), AIS)
         self.until('connections', 2)
         self.both_ways(second, 3)
