@@ -14,7 +14,6 @@ from __future__ import annotations
 import fcntl
 import sys
 import termios
-from math import inf
 from typing import Any, Callable
 
 from .crc4 import Crc4
@@ -24,7 +23,8 @@ from .trunks import Stream, Trunk
 
 MOST_READ = 2048            # octets of the trunk that are read at once
 MOST_HEARD = 65_536         # octets of answers
-LOOK = OCTETS_A_SECOND // 4     # octets of the trunk between two looks at what is owed
+LOOK = OCTETS_A_SECOND // 2     # octets of the trunk over which what is owed is looked at
+FEWEST = 32                 # looks in them
 ONES = b'\xff'
 
 
@@ -42,7 +42,7 @@ class Carrier:
         self._rest = bytearray()                # octets of the trunk that are no whole multiframe yet
         self._earlier = 0                       # octets of trunks before this one that are to be answered
         self._last = b''                        # what the program answered last, at most a multiframe
-        self._least, self._until_look = inf, LOOK   # the least that was owed; octets until that is looked at
+        self._least, self._looks, self._passed = 0, 0, 0    # the least that was owed; looks, and octets, since then
 
     # ---- the trunk ----
 
@@ -72,7 +72,8 @@ class Carrier:
         return count
 
     def _give(self, octets: bytes) -> None:
-        self._look_at_owed(len(octets))
+        self._look_at_owed()
+        self._passed += len(octets)
         self.owed += len(octets)
         if not self.program:
             return self._send_ones()
@@ -86,7 +87,7 @@ class Carrier:
 
     def join(self, program: Stream) -> None:
         """A program is connected. It is given the next multiframe."""
-        self.program, self._last, self._least = program, b'', inf
+        self.program, self._last, self._looks, self._passed = program, b'', 0, 0
         self.counts['connections'] += 1
         self._tell({'event': 'connected'})
 
@@ -109,7 +110,6 @@ class Carrier:
             self.counts['answered'] += len(octets)
             self._last = (self._last + octets)[-MULTIFRAME:]
             self._send(octets)
-            self._least = min(self._least, self.owed)
 
     def flush(self) -> None:
         """Gives the program what it did not take before."""
@@ -135,19 +135,23 @@ class Carrier:
         self.counts['ones'] += self.owed
         self._send(ONES * self.owed)
 
-    def _look_at_owed(self, count: int) -> None:
-        """What a program that has read all still owed after each answer in a quarter of a second of the trunk, it will
-        never answer."""
-        self._until_look -= count
-        if self._until_look > 0:
+    def _look_at_owed(self) -> None:
+        """What a program that has read all still owes, each time that something is given to it, it will never answer.
+        Called before that."""
+        if self.owed:
+            self.hear()
+        if self.program and not (self.owed and _unread(self.program)):
+            self._least = min(self._least, self.owed) if self._looks else self.owed
+            self._looks += 1
+        if self._passed < LOOK:
             return
-        least, self._least, self._until_look = self._least, inf, LOOK
-        if not self.program or not 0 < least < inf or len(self._last) < MULTIFRAME or _unread(self.program):
-            return
-        lost = int(least)
-        self.counts['repeated'] += lost
-        self._tell({'event': 'unanswered', 'octets': lost})
-        self._send((self._last * (lost // MULTIFRAME + 1))[:lost])
+        lost = self._least if self._looks >= FEWEST and self.program else 0
+        self._looks = self._passed = 0
+        if lost:
+            self.counts['repeated'] += lost
+            self._tell({'event': 'unanswered', 'octets': lost})
+            again = self._last.rjust(MULTIFRAME, ONES)
+            self._send((again * (lost // MULTIFRAME + 1))[:lost])
 
     # ---- what is known ----
 

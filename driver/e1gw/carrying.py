@@ -41,6 +41,7 @@ from .trunks import Stream, Trunk
 MODE = 0o660                # of the sockets
 REOPEN_MOST = 30.0          # seconds between two tries to open the trunk
 ALIVE = 0.5                 # seconds between two signs of life
+GRACE = 1.0                 # seconds for a program to end
 LASTS = MULTIFRAME / OCTETS_A_SECOND    # seconds of a multiframe
 NOTHING = -1, 0             # no descriptor, no events
 
@@ -244,10 +245,25 @@ class Carriage:
         for door in (self._door, self._status_door):
             if door:
                 door.close()
+        if self.carrier.program:
+            _end_input(self.carrier.program)
         self.carrier.close()
         if self._json:
             self._json.close()
         return self.status
+
+
+def _end_input(program: Stream) -> None:
+    """Ends a program's input, and waits for its end, so that it ends in order. What it still answers goes nowhere."""
+    until = time.monotonic() + GRACE
+    with socket.socket(fileno=os.dup(program.fileno())) as line:
+        line.settimeout(GRACE)
+        try:
+            line.shutdown(socket.SHUT_WR)
+            while line.recv(MOST_READ) and time.monotonic() < until:
+                pass
+        except OSError:
+            pass                # it is gone, or stands still
 
 
 def _serve(asked: argparse.Namespace, journal: Journal) -> int:

@@ -368,6 +368,8 @@ class Service(support.Folder):
         self.until('connected', True)
         self.far.close()
         self.assertEqual(program.recv(1), b'')
+        program.sendall(bytes(100))             # what is answered then goes nowhere
+        program.close()
         self.assertEqual(self.process.wait(SECONDS), 0)
 
     def test_what_is_refused(self) -> None:
