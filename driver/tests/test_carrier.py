@@ -135,8 +135,8 @@ class Pairs(unittest.TestCase):
         self.assertEqual(self.carrier.owed, 0)
 
     def test_octets_that_nobody_answers(self) -> None:
-        """A program dies with 2048 octets in hand, and another one goes on at the same socket. Within half a second of
-        the trunk the multiframe before stands in for them, and the far end has lost no frame."""
+        """A program dies with 2048 octets in hand, and another one goes on at the same socket. Within a second of the
+        trunk the multiframe before stands in for them, and the far end has lost no frame."""
         program, exchange, gateway = self.joined(), support.Exchange(), support.Exchange()
         sent = got = 0
         for count in range(1, 700):
