@@ -27,7 +27,7 @@ from .carrier import MOST_READ, Carrier
 from .control import DoorTaken, listen_unix
 from .crc4 import Crc4
 from .events import WARNED, words_of
-from .faults import Parser, options_words, words_of_fault
+from .faults import Parser, named, options_words, words_of_fault
 from .lines import Event, law_of, read_config
 from .loop import GONE, READ, WRITE, Loop
 from .outlets import Journal, Outlet, hold_descriptors, to_descriptor, to_file
@@ -61,6 +61,13 @@ def parser() -> argparse.ArgumentParser:
     return words
 
 
+def _listening(option: str, path: str) -> socket.socket:
+    try:
+        return listen_unix(path, MODE, None)
+    except OSError as fault:
+        raise named(fault, f'{option} {path}') from None
+
+
 class Carriage:
     """A carrier in service."""
 
@@ -75,9 +82,8 @@ class Carriage:
         self._program_events, self._says_more = 0, False
         self._due: float | None = None      # when the trunk is read next, if that is not when octets come
         self._json = self._open_json(asked.json)
-        self._door = Door(loop, listen_unix(asked.listen, MODE, None), self._came, asked.listen)
-        self._status_door = asked.status and Door(loop, listen_unix(asked.status, MODE, None), self._asked,
-                                                  asked.status)
+        self._door = Door(loop, _listening('--listen', asked.listen), self._came, asked.listen)
+        self._status_door = asked.status and Door(loop, _listening('--status', asked.status), self._asked, asked.status)
         self._notify.ready(f'listens at {asked.listen}')
 
     def _open_json(self, path: str | None) -> Outlet | None:

@@ -204,6 +204,14 @@ class Pairs(unittest.TestCase):
         self.assertEqual(self.give(bytes(324)), ONES * 324)
 
 
+class Alarms(unittest.TestCase):
+    def test_ones_with_crc4_are_still_ais(self) -> None:
+        """Fewer than three zeros in two frames (ITU-T O.162)."""
+        octets = support.run('crc4', given=AIS * 200)
+        for at in range(0, len(octets), 2 * FRAME):
+            self.assertLess(16 * FRAME - int.from_bytes(octets[at:at + 2 * FRAME], 'big').bit_count(), 3)
+
+
 class Cards(unittest.TestCase):
     """A card that keeps slot 0 behind a carrier: its slots stay in their places whoever is connected."""
 
@@ -375,6 +383,7 @@ class Service(support.Folder):
     def test_what_is_refused(self) -> None:
         for words, said in ((['--clear', '--unix', 'card'], '--clear wants --config'),
                             (['--satop', 'x,y'], 'x is no HOST:PORT'), (['--in', 'x'], 'a trunk is --in and --out'),
+                            (['--unix', 'card', '--status', '/nowhere/x'], '--status /nowhere/x: No such file'),
                             (['--unix', 'card', '--listen', self.folder], 'is there and no socket'),
                             (['--unix', 'card', '--listen', self.path('card')], 'another one listens')):
             done = subprocess.run([sys.executable, '-B', LAUNCHER, '--listen', self.path('listen'), *words],
