@@ -136,8 +136,8 @@ class Carrier:
         self._send(ONES * self.owed)
 
     def _look_at_owed(self) -> None:
-        """What a program that has read all still owes, each time that something is given to it, it will never answer.
-        Called before that."""
+        """To be called before the program is given more. What it owed each time, though it had read all, while so many
+        octets came, it will never answer: the multiframe before is sent for it."""
         if self.owed:
             self.hear()
         if self.program and not (self.owed and _unread(self.program)):

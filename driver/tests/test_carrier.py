@@ -19,6 +19,7 @@ from .world import SECONDS
 from e1gw import carrier
 from e1gw.carrier import ONES, Carrier
 from e1gw.clear import Clear, Place
+from e1gw.crc4 import Crc4
 from e1gw.session import FRAME, MULTIFRAME
 from e1gw.trunks import Stream
 
@@ -187,7 +188,10 @@ class Pairs(unittest.TestCase):
 
     def test_another_trunk(self) -> None:
         """What is answered to octets of the first one goes nowhere; the frames go on over both."""
-        program = self.joined()
+        known = Crc4()
+        self.carrier = Carrier(self.told.append, known)
+        self.far, program = self.opened(), self.joined()
+        self.addCleanup(self.carrier.close)
         self.give(b'\x01' * 700)                # 188 wait for the rest of their multiframe
         self.carrier.lose()
         self.far = self.opened()
@@ -195,7 +199,7 @@ class Pairs(unittest.TestCase):
         self.assertEqual(self.give(b'\x02' * 324), b'')
         self.assertEqual(all_of(program), b'\x01' * 700 + b'\x02' * 324)
         self.assertEqual(self.answer(program, b'\x05' * 212 + b'\x06' * 188 + b'\x07' * 324), b'\x07' * 324)
-        self.assertEqual(self.carrier.owed, 0)
+        self.assertEqual((self.carrier.owed, known.sent), (0, 700))     # by which the next CRC multiframe is found
 
     def test_nobody_and_another_trunk(self) -> None:
         self.give(bytes(700))
@@ -246,7 +250,7 @@ class Cards(unittest.TestCase):
             device.taken = device.taken[len(device.taken) // 31 * 31:]
 
 
-class Service(support.Folder):
+class Started(support.Folder):
     """The command itself, with a Unix socket as its trunk."""
 
     def setUp(self) -> None:
@@ -307,6 +311,8 @@ class Service(support.Folder):
             out += line.recv(count - len(out)) or self.fail('the connection has ended')
         return out
 
+
+class Service(Started):
     def both_ways(self, program: socket.socket, seed: int) -> None:
         octets = random.Random(seed).randbytes(20 * MULTIFRAME)
         for at in range(0, len(octets), MULTIFRAME):

@@ -6,18 +6,22 @@ import os
 import select
 import socket
 import subprocess
+import sys
 import time
 from typing import Any, Callable
 
 from . import support
+from .test_carrier import Started
+from .test_keeper import LAUNCHER as KEEPER
 from .test_satop_call import free_ports
 from .world import SECONDS
 from e1gw.carrier import Carrier
 from e1gw.crc4 import Crc4, with_crc4
 from e1gw.lines import Lines, read_config
 from e1gw.satop import Circuit, Satop, connected
-from e1gw.session import Command, Kind, command_record, records_in
+from e1gw.session import FRAME, MULTIFRAME, Command, Kind, command_record, records_in
 from e1gw.trunks import Stream
+from exchange import ACKNOWLEDGED, SEIZED
 
 STEP = 0.001                # seconds of a packet
 
@@ -135,3 +139,50 @@ class Calls(support.Folder):
             end.close()
             self.assertEqual(self.counts(end), {'errored': 0, 'multiframes_found': 1, 'multiframes_lost': 0})
             self.assertGreater(end.crc4.counts['submultiframes'], 50)
+
+
+class Kept(Started):
+    """A card that keeps slot 0, the carrier, and e1gw-keep behind it."""
+
+    def keeps(self) -> subprocess.Popen[bytes]:
+        """A keeper, once its program is connected."""
+        before = self.status()['connections']
+        keeper = subprocess.Popen(
+            [sys.executable, '-B', KEEPER, '--program', support.program(), '--config', self.path('trunk.toml'),
+             '--folder', self.folder, '--unix', self.path('listen'), '--state', self.path('state')],
+            stderr=subprocess.DEVNULL)
+        self.addCleanup(keeper.wait, SECONDS)
+        self.addCleanup(keeper.terminate)
+        self.until('connections', before + 1)
+        return keeper
+
+    def step(self, exchange: support.Exchange) -> bytes:
+        """A multiframe to the gateway and one back, without slots 0 between."""
+        octets = exchange.multiframe()
+        self.far.sendall(b''.join(octets[at + 1:at + FRAME] for at in range(0, MULTIFRAME, FRAME)))
+        return self.read(self.far, 31 * 16)
+
+    def heard(self, exchange: support.Exchange, count: int) -> None:
+        """The card's frames go on, with its own slot 0."""
+        for _ in range(count):
+            slots = self.step(exchange)
+            exchange.hear(b''.join((b'\xdf' if at % 2 else b'\x9b') + slots[31 * at:31 * at + 31] for at in range(16)))
+
+    def test_a_keeper_that_is_started_again(self) -> None:
+        """It goes on with its state, in the same frames: the exchange does not look for them again."""
+        self.write('trunk.toml', 'law = "A"\n[[circuit]]\nnumber = 1\nrole = "incoming"\n')
+        self.starts('--clear', '--config', self.path('trunk.toml'))
+        exchange, keeper = support.Exchange(), self.keeps()
+        self.heard(exchange, 60)
+        self.assertEqual((exchange.aligned, exchange.remote_alarms), (True, False))
+        exchange.pairs[1] = SEIZED
+        self.heard(exchange, 40)
+        self.assertEqual(exchange.signals[1], ACKNOWLEDGED)
+        keeper.terminate()
+        self.assertEqual(keeper.wait(SECONDS), 0)
+        self.until('connected', False)
+        for _ in range(7):
+            self.assertEqual(self.step(exchange), b'\xff' * 31 * 16)
+        self.keeps()
+        self.heard(exchange, 20)                # ends the test if it loses alignment
+        self.assertEqual((exchange.remote_alarms, exchange.signals[1]), (False, ACKNOWLEDGED))
