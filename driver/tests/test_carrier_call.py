@@ -1,9 +1,12 @@
-"""Two carriers at one another over an emulated circuit with CRC-4, each with `e1gw trunk` behind it. The clock of the
-circuit is moved by the test, once all that was given has been answered."""
+"""Carriers with what stands behind them: `e1gw trunk` at both ends of an emulated circuit with CRC-4, whose clock is
+moved by the test once all that was given has been answered; e1gw-keep behind a card that keeps slot 0; two carriers as
+processes."""
 from __future__ import annotations
 
+import json
 import os
 import select
+import signal
 import socket
 import subprocess
 import sys
@@ -11,10 +14,10 @@ import time
 from typing import Any, Callable
 
 from . import support
-from .test_carrier import Started
+from .test_carrier import LAUNCHER, Started
 from .test_keeper import LAUNCHER as KEEPER
 from .test_satop_call import free_ports
-from .world import SECONDS
+from .world import SECONDS, child_of
 from e1gw.carrier import Carrier
 from e1gw.crc4 import Crc4, with_crc4
 from e1gw.lines import Lines, read_config
@@ -186,3 +189,73 @@ class Kept(Started):
         self.keeps()
         self.heard(exchange, 20)                # ends the test if it loses alignment
         self.assertEqual((exchange.remote_alarms, exchange.signals[1]), (False, ACKNOWLEDGED))
+
+
+class Emulated(support.Folder):
+    """Two carriers as processes at one another over SAToP with CRC-4, in real time, and what plays a program at each:
+    it answers with multiframes of an exchange."""
+
+    def setUp(self) -> None:
+        support.program()
+        super().setUp()
+        ends = [f'127.0.0.1:{port}' for port in free_ports(2)]
+        self.programs: dict[str, socket.socket] = {}
+        self.octets = {name: bytearray() for name in ('west', 'east')}
+        self.west = self.start('west', ','.join(ends), '--satop-clock', 'own', '--satop-jitter', '64')
+        self.start('east', ','.join(ends[::-1]))
+
+    def start(self, name: str, satop: str, *words: str) -> subprocess.Popen[bytes]:
+        process = subprocess.Popen(
+            [sys.executable, '-B', LAUNCHER, '--program', support.program(), '--satop', satop, '--crc4', '--reopen',
+             '--listen', self.path(name), '--status', self.path(f'{name}.status'), '--json', self.path(f'{name}.json'),
+             *words], stderr=subprocess.DEVNULL)
+        self.addCleanup(process.wait, SECONDS)
+        self.addCleanup(process.terminate)
+        until = time.monotonic() + SECONDS
+        self.programs[name] = socket.socket(socket.AF_UNIX)
+        self.addCleanup(self.programs[name].close)
+        while self.programs[name].connect_ex(self.path(name)):
+            self.assertLess(time.monotonic(), until)
+            time.sleep(0.01)
+        return process
+
+    def answer(self) -> None:
+        for line in select.select(list(self.programs.values()), [], [], 0.1)[0]:
+            count = len(line.recv(65536))
+            ready = self.octets[next(name for name, each in self.programs.items() if each is line)]
+            while len(ready) < count:
+                ready += support.Exchange().multiframe()
+            line.sendall(ready[:count])
+            del ready[:count]
+
+    def transport(self, name: str) -> dict[str, Any]:
+        with socket.socket(socket.AF_UNIX) as line:
+            line.connect(self.path(f'{name}.status'))
+            found: dict[str, Any] = json.loads(line.makefile('rb').readline())['transport']
+        return found
+
+    def aligned(self) -> None:
+        """Goes on until both ends are."""
+        until = time.monotonic() + SECONDS
+        while not all(self.transport(name).get('aligned') for name in self.programs):
+            self.assertLess(time.monotonic(), until)
+            self.answer()
+
+    def test_a_filter_that_dies(self) -> None:
+        """The trunk is opened again beside the same program."""
+        self.aligned()
+        os.kill(child_of(self.west.pid, 'crc4'), signal.SIGKILL)
+        until = time.monotonic() + SECONDS
+        while 'trunk lost' not in self.told('west'):
+            self.assertLess(time.monotonic(), until)
+            self.answer()
+        self.aligned()
+        events = [json.loads(line) for line in self.told('west').splitlines()]
+        self.assertEqual([each['event'] for each in events if each['event'] in ('trunk', 'trunk lost')],
+                         ['trunk', 'trunk lost', 'trunk'])
+        self.assertRegex(self.told('west'), 'the trunk cannot be read or written: e1gw crc4( --check)? ended by signal')
+        self.assertNotIn('disconnected', {each['event'] for each in events})
+
+    def told(self, name: str) -> str:
+        with open(self.path(f'{name}.json'), encoding='utf-8') as file:
+            return file.read()
