@@ -11,75 +11,26 @@ configuration.
 from __future__ import annotations
 
 import argparse
-import functools
 import os
 import subprocess
 import sys
-from typing import Callable, NoReturn
+from typing import NoReturn
 
 from . import satop
-from .clear import Clear, Place
 from .control import DoorTaken
-from .crc4 import Crc4, with_crc4
 from .driver import Driver
 from .explain import config_words
 from .faults import Parser, number, options_words, words_of_fault
-from .filtered import align
 from .gateway import ConfigRefused, check_config
 from .guards import OnLoss, on_loss_of
 from .keep import seconds_of
-from .lines import SEIZURE_WAIT, law_of, read_config, wait_words
+from .lines import SEIZURE_WAIT, wait_words
 from .loop import Loop
 from .options import Options
 from .outlets import Journal, hold_descriptors
 from .programs import SENDERS, program_of, senders_of
-from .trunks import Trunk, host_and_port, open_files, open_tcp, open_unix
-
-
-class Usage(Exception):
-    """What is wrong with the command line."""
-
-
-def trunk_of(asked: argparse.Namespace) -> Callable[..., Trunk]:
-    """What opens the trunk that was asked for; one of --satop wants the program."""
-    files = bool(asked.input) + bool(asked.out)
-    ways = [asked.unix, asked.tcp, asked.satop, asked.input and asked.out]
-    if files == 1 or sum(map(bool, ways)) != 1:
-        raise Usage('a trunk is --in and --out, or --unix, or --tcp, or --satop')
-    if asked.align and (asked.satop or asked.clear):
-        raise Usage('--align is for all 32 slots of a device or a socket; --satop aligns in any case')
-    if asked.crc4 and asked.clear:
-        raise Usage('--crc4 is for all 32 slots; the device of --clear sends slot 0 itself, and CRC-4 in it')
-    if asked.satop:
-        return _satop_of(asked)
-    if asked.unix:
-        path: str = asked.unix
-        opens: Callable[[], Trunk] = lambda: open_unix(path)       # noqa: E731
-    elif asked.tcp:
-        host, port = host_and_port(asked.tcp)
-        opens = lambda: open_tcp(host, port)                        # noqa: E731
-    else:
-        opens = lambda: open_files(asked.input, asked.out)          # noqa: E731
-    return _clear_of(opens, asked.config) if asked.clear else opens
-
-
-def _clear_of(opens: Callable[[], Trunk], config: str) -> Callable[[], Trunk]:
-    """Opens devices that have slots 1 to 31, one after another beside one gateway."""
-    place = Place()
-
-    def opened() -> Trunk:
-        place.law = place.law or law_of(read_config(config))
-        return Clear(opens(), place)
-    return opened
-
-
-def _satop_of(asked: argparse.Namespace) -> Callable[[str], Trunk]:
-    local, comma, peer = asked.satop.partition(',')
-    if not comma:
-        raise Usage('--satop wants LOCAL:PORT,PEER:PORT')
-    host_and_port(local), host_and_port(peer)
-    circuit = satop.circuit_of(asked)
-    return functools.partial(satop.open_satop, asked.satop, circuit)
+from .trunk_options import Usage, add_trunk, opening_of
+from .trunks import host_and_port
 
 
 def parser() -> argparse.ArgumentParser:
@@ -106,23 +57,13 @@ def parser() -> argparse.ArgumentParser:
 
 
 def _add_trunk(words: argparse._ArgumentGroup) -> None:
-    words.add_argument('--in', dest='input', metavar='FILE', help='a device, file or FIFO to read the trunk from')
-    words.add_argument('--out', metavar='FILE', help='one to write the trunk to, opened after --in; may be the same')
-    words.add_argument('--unix', metavar='PATH', help='a Unix stream socket to connect to, in place of the two')
-    words.add_argument('--tcp', metavar='HOST:PORT', help='a TCP socket to connect to, in place of the two')
-    words.add_argument('--satop', metavar='LOCAL,PEER', help='SAToP (RFC 4553) over UDP, each as HOST:PORT')
-    words.add_argument('--clear', action='store_true', help='the device gives time slots 1 to 31 alone')
-    words.add_argument('--align', action='store_true',
-                       help='octets of the trunk may begin at any bit; e1gw align runs between it and the gateway')
-    words.add_argument('--crc4', action='store_true',
-                       help='CRC-4: e1gw crc4 sends it and e1gw crc4 --check counts it, between trunk and gateway')
+    add_trunk(words)
     words.add_argument('--pace', type=number(0, 20), default=4, metavar='MS',
                        help='a trunk that flows is read each so many milliseconds, 0 to 20; 0 reads it when octets '
                        'come; not with --satop [default: 4]')
     words.add_argument('--most', type=number(1, 65535), metavar='OCTETS',
                        help='octets in a record at most, 1 to 65535; a frame has 32 [default: 2048, 8 ms; 256 with '
                        '--satop or --pace 0]')
-    words.add_argument('--reopen', action='store_true', help='opens a trunk that ends or fails again, within 30 s')
 
 
 def _add_control(words: argparse._ArgumentGroup) -> None:
@@ -161,7 +102,7 @@ def options_of(words: list[str]) -> Options:
     try:
         on_loss: OnLoss = on_loss_of(asked.on_loss)
         http = host_and_port(asked.http) if asked.http else None
-        opens = trunk_of(asked)
+        opening = opening_of(asked)
         keep = seconds_of(asked.keep) if asked.keep else None
     except ValueError as fault:
         raise Usage(str(fault)) from None
@@ -171,13 +112,7 @@ def options_of(words: list[str]) -> Options:
         raise Usage('--picture wants --http, and the counts')
     name = asked.name or os.path.splitext(os.path.basename(asked.config))[0]
     program = program_of(asked.program)
-    if asked.align:
-        opens = functools.partial(align, opens, program)
-    if asked.satop:
-        opens = functools.partial(opens, program)
-    crc4 = Crc4() if asked.crc4 else None
-    if crc4:
-        opens = functools.partial(with_crc4, opens, program, crc4)
+    opens, crc4 = opening(program)
     return Options(
         config=asked.config, program=program, name=name, open_trunk=opens,
         most=asked.most or (2048 if asked.pace and not asked.satop else 256), pace=asked.pace / 1000,

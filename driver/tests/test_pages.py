@@ -6,7 +6,7 @@ import subprocess
 import unittest
 
 from . import support
-from e1gw import control, ctl, keeping, trunk
+from e1gw import carrying, control, ctl, keeping, trunk
 
 
 def page(name: str) -> str:
@@ -24,7 +24,8 @@ def offered(command: str, *words: str) -> set[str]:
 
 class Pages(unittest.TestCase):
     def test_options(self) -> None:
-        for command, parser in (('e1gw-trunk', trunk.parser()), ('e1gw-keep', keeping.parser())):
+        for command, parser in (('e1gw-trunk', trunk.parser()), ('e1gw-keep', keeping.parser()),
+                                ('e1gw-carry', carrying.parser())):
             options = {word for action in parser._actions for word in action.option_strings if word.startswith('--')}
             text = page(f'{command}.1')
             synopsis, described = text.split('.Sh DESCRIPTION')
@@ -51,6 +52,13 @@ class Pages(unittest.TestCase):
         for unit in ('e1gw-trunk', 'e1gw-keep'):
             with open(f'{support.TOP}/system/{unit}@.service', encoding='utf-8') as file:
                 self.assertIn('--control /run/e1gw/%i/control', file.read())
+
+    def test_where_the_sockets_of_a_carrier_are(self) -> None:
+        with open(f'{support.TOP}/system/e1gw-carry@.service', encoding='utf-8') as file:
+            unit = file.read()
+        for option, name in (('--listen', 'trunk'), ('--status', 'status')):
+            self.assertIn(f'{option} /run/e1gw-carry/%i/{name}', unit)
+            self.assertIn(f'/run/e1gw-carry/NAME/{name}', page('e1gw-carry.1'))
 
 
 if __name__ == '__main__':
