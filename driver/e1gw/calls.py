@@ -84,7 +84,7 @@ class Calls:
 
     def look(self) -> None:
         """To be called now and then: writes the calls whose packets are counted, or will not be."""
-        while self._ended and (self._counts.stale() or self._counts.answered_place >= self._ended[0].place):
+        while self._ended and (self._counts.stale() or self._counts.has(self._ended[0].place)):
             self._write(self._ended.pop(0))
 
     def finish(self) -> None:

@@ -1,14 +1,15 @@
 """The lines of a trunk, followed quickly: multiframes that signal what the ones before them did are passed over."""
 from __future__ import annotations
 
-from ..lines import Lines, State
+from ..followed import Followed
+from ..lines import State
 from ..session import FRAME, MULTIFRAME
 
 # Equal multiframes after which nothing changes any more: ten are recognised, and alarms and errors have their course.
 STEADY = 12
 
 
-class Follower(Lines):
+class Follower(Followed):
     """Lines that are given many multiframes at once."""
 
     same = 0                            # multiframes in a row with the signals of the last one
