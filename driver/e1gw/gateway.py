@@ -46,7 +46,8 @@ def version_of(program: str) -> str:
                               stderr=subprocess.DEVNULL, check=False, timeout=GRACE)
     except (OSError, subprocess.TimeoutExpired):
         return ''
-    return done.stdout.decode(errors='replace').strip().removeprefix('e1gw ')
+    name, _, version = done.stdout.decode(errors='replace').strip().partition(' ')
+    return version if name == 'e1gw' else ''
 
 
 def _widen(file: int) -> None:
