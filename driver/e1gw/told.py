@@ -6,7 +6,7 @@ from typing import Any, Callable, Mapping
 
 from .counts import Counts
 from .lines import LEADS, PAIRS, Alignment, Line, Lines, Role, State, Tell, both, law_of, lines_of
-from .session import Command
+from .session import Codec, Command, codec_record, command_record
 
 VERSION = '1'
 MOST_LINE = 4096            # octets of a line
@@ -25,6 +25,7 @@ class Told(Lines):
                  clock: Callable[[], float] = time.monotonic, began: Callable[[], None] = lambda: None) -> None:
         super().__init__(law_of(config), lines_of(config, Line), tell)
         self.counts, self.began, self._clock = counts, began, clock
+        self.commanded: Callable[[bytes], None] = lambda record: None   # called with each C and K record that was given
         self.alarms = both(False)
         self.known = False                  # whether a whole state was ever told
         self.live = False                   # whether what is told now are changes
@@ -35,7 +36,7 @@ class Told(Lines):
         self._led: dict[int, State] = {}    # where commands have led lines whose state is still to be told
         self._words: dict[str, Callable[..., None]] = {
             'at': self._at, 'alarms': self._alarms, 'line': self._row, 'now': self._now,
-            'datagram': self._datagram, 'command': self._command}
+            'datagram': self._datagram, 'command': self._command, 'codec': self._change}
 
     def when(self, place: int) -> float:
         return self._clock()
@@ -108,10 +109,14 @@ class Told(Lines):
         self.counts.count(int(circuit), int(code), self.place, sequence, timestamp, ssrc)
 
     def _command(self, circuit: str, command: str, code: str) -> None:
+        line, given = self.lines[int(circuit)], Command(int(command))
         if int(code) == 0:
-            done = Command(int(command))
-            self.lines[int(circuit)].commanded(done)
-            self._led[int(circuit)] = LEADS[done]
+            line.commanded(given)
+            self._led[line.circuit] = LEADS[given]
+        self.commanded(command_record(line.circuit, given))
+
+    def _change(self, circuit: str, codec: str, payload_type: str, _: str) -> None:
+        self.commanded(codec_record(int(circuit), Codec(int(codec)), int(payload_type)))
 
     def _row(self, circuit: str, role: str, state: str, sent: str, recognised: str, *counts: str) -> None:
         """The row of a circuit in the listing."""

@@ -2,8 +2,6 @@
 program at its control socket. It may end, stand still and be started again at any time: no octet passes through it."""
 from __future__ import annotations
 
-import socket
-import struct
 import time
 from collections import deque
 from dataclasses import dataclass
@@ -11,19 +9,20 @@ from typing import Any, Callable
 
 from .control import Say
 from .counts import Counts
-from .faults import words_of_fault
 from .gateway import version_of
 from .lines import read_config
+from .links import Link
 from .loop import Loop
 from .managed import Answered, Managed
 from .options import Options
 from .outlets import Journal
-from .peers import Peer
 from .restarts import Restarts
-from .session import BadSession, Kind, Reader
+from .running import HELLO
+from .session import BadSession, Kind, Reader, Record
 from .told import BadTelling, Told
 
 TICK = 0.1                  # seconds between two looks, and two tries to connect
+PATIENCE = 0.3              # seconds that an answer of the program waits for the shadow
 EACH = 10                   # ticks between two looks whether octets flow, and in which one has to be answered
 
 
@@ -35,55 +34,66 @@ class WatchOptions(Options):
     program_control: str    # that at which the program takes commands
 
 
-class End(Peer):
-    """This end of a connection."""
+@dataclass(eq=False)
+class Asked:
+    """A record that was given to the program."""
 
-    def __init__(self, link: Link, line: socket.socket) -> None:
-        self._link, self.why = link, 'it has closed the connection'
-        Peer.__init__(self, link.loop, line, lambda _: link.lost(self.why))
+    record: bytes
+    answered: Answered
+    failed: Say
+    answer: Record | None = None
+    until: float = 0.0          # when that is passed on though the shadow has not told of it
+    is_told: bool = False
 
-    def took(self, octets: bytes) -> None:
-        self._link.took(octets)
 
+class Program:
+    """The control socket of the program. An answer is passed on once the shadow has told of the record, too: what
+    follows from it is known then."""
 
-class Link:
-    """A connection to a Unix socket, which is made again as long as there is none."""
+    def __init__(self, loop: Loop, path: str, stands: Callable[[str, bool, str], None]) -> None:
+        self.link = Link(loop, path, lambda _: self._came(), self._took, self._gone)
+        self._stands, self._reader = stands, Reader((Kind.ANSWER,))
+        self._asked: deque[Asked] = deque()
 
-    def __init__(self, loop: Loop, path: str, came: Callable[[int], None], took: Callable[[bytes], None],
-                 gone: Callable[[str], None]) -> None:
-        self.loop, self.path, self.took = loop, path, took
-        self._came, self._gone = came, gone
-        self._end: End | None = None
+    def _came(self) -> None:
+        self._reader = Reader((Kind.ANSWER,))
+        self._stands('program', True, '')
+        self.give(HELLO, lambda answer: None, lambda why: None)     # who gives a record keeps its place
 
-    def look(self) -> None:
-        """To be called now and then: connects. `came` is called with the number of the other end's process."""
-        if self._end:
-            return
-        line = socket.socket(socket.AF_UNIX)
-        line.setblocking(False)
+    def _gone(self, why: str) -> None:
+        asked, self._asked = self._asked, deque()
+        self._stands('program', False, why)
+        for each in asked:
+            each.failed('no answer, the connection to the program is lost')
+
+    def give(self, record: bytes, answered: Answered, failed: Say) -> None:
+        if not self.link.is_there():
+            return failed('no connection to the program')
+        self._asked.append(Asked(record, answered, failed))
+        self.link.send(record)
+
+    def _took(self, octets: bytes) -> None:
+        self._reader.push(octets)
         try:
-            line.connect(self.path)
-        except OSError as fault:
-            line.close()
-            return self._gone(words_of_fault(fault, self.path))
-        self._end = End(self, line)
-        self._came(int(struct.unpack('iii', line.getsockopt(socket.SOL_SOCKET, socket.SO_PEERCRED, 12))[0]))
+            for record in self._reader.whole():
+                asked = next(each for each in self._asked if each.answer is None)
+                asked.answer, asked.until = record, time.monotonic() + PATIENCE
+                record.refusal      # pylint: disable=pointless-statement
+        except (BadSession, StopIteration, ValueError):
+            self.link.close('it answers what is no answer')
 
-    def lost(self, why: str) -> None:
-        self._end = None
-        self._gone(f'{self.path}: {why}')
+    def told(self, record: bytes) -> None:
+        """The shadow has told of a record."""
+        for each in self._asked:
+            if each.record == record and not each.is_told:
+                each.is_told = True
+                return
 
-    def is_there(self) -> bool:
-        return self._end is not None
-
-    def send(self, octets: bytes) -> None:
-        if self._end:
-            self._end.send(octets)
-
-    def close(self, why: str) -> None:
-        if self._end:
-            self._end.why = why
-            self._end.close()
+    def settle(self, now: float, tells: bool) -> None:
+        """Passes on the answers that are to be, in their order. `tells` is whether there is a shadow that tells."""
+        while self._asked and (first := self._asked[0]).answer and (first.is_told or not tells or now >= first.until):
+            self._asked.popleft()
+            first.answered(first.answer)
 
 
 class Pulse:
@@ -129,10 +139,11 @@ class Watcher(Managed):
         super().__init__(loop, options, journal, version_of(options.program), lines, counts, restarts)
         self._connected: dict[str, bool] = {}
         self._since = dict.fromkeys(('shadow', 'program'), time.time())
-        self._answers, self._asked = Reader((Kind.ANSWER,)), deque[tuple[Answered, Say]]()
         self._shadow = Link(loop, options.tell, lines.begin, self._told, self._shadow_gone)
-        self._program = Link(loop, options.program_control, self._program_there, self._answered, self._program_gone)
+        self._program = Program(loop, options.program_control, self._stands)
+        lines.commanded = self._program.told
         self._pulse = Pulse(loop, options.tell, lines.reach)
+        self._silent = 0                        # ticks in which the shadow that is there has told nothing yet
         self._stalls, self._stood = 0, 0.0      # how often no octets came, and since when none come, or 0
         lines.lost()
 
@@ -149,6 +160,7 @@ class Watcher(Managed):
             self.lines.take(octets)
         except BadTelling as fault:
             self._shadow.close(str(fault))
+        self._program.settle(time.monotonic(), self.lines.live)
 
     def _told_all(self) -> None:
         self._stands('shadow', True)
@@ -156,15 +168,17 @@ class Watcher(Managed):
             self.calls.begun()
 
     def _look_at_flow(self, now: float) -> None:
-        """Whether octets of the trunk come."""
+        """Whether octets of the trunk come. A shadow that is there tells nothing before some do."""
         if self.lines.live:
             self._pulse.look()
-        stalled = self.lines.live and self._pulse.quiet > EACH
+        self._silent = self._silent + 1 if self._shadow.is_there() and not self.lines.live else 0
+        stalled = self._silent > EACH or self.lines.live and self._pulse.quiet > EACH
         if stalled and not self._stood:
+            self._stands('shadow', True)
             self._stood = now - EACH * TICK
             self._stalls += 1
             self.tell({'event': 'stalled', 'seconds': EACH * TICK})
-        elif self._stood and not stalled:
+        elif self._stood and self.lines.live and not stalled:
             self.tell({'event': 'flows', 'seconds': round(now - self._stood, 3)})
             self._stood = 0.0
 
@@ -172,32 +186,8 @@ class Watcher(Managed):
         self.lines.lost()
         self._stands('shadow', False, why)
 
-    # ---- the program ----
-
-    def _program_there(self, _: int) -> None:
-        self._answers = Reader((Kind.ANSWER,))
-        self._stands('program', True)
-
-    def _program_gone(self, why: str) -> None:
-        asked, self._asked = self._asked, deque()
-        self._stands('program', False, why)
-        for _, failed in asked:
-            failed('no answer, the connection to the program is lost')
-
     def _give(self, record: bytes, answered: Answered, failed: Say) -> None:
-        if not self._program.is_there():
-            return failed('no connection to the program')
-        self._asked.append((answered, failed))
-        self._program.send(record)
-
-    def _answered(self, octets: bytes) -> None:
-        self._answers.push(octets)
-        try:
-            for record in self._answers.whole():
-                self._asked[0][0](record)
-                self._asked.popleft()
-        except (BadSession, IndexError, ValueError):
-            self._program.close('it answers what is no answer')
+        self._program.give(record, answered, failed)
 
     def dark_words(self) -> str | None:
         return 'the trunk is stalled' if self._stood else self.lines.dark_words()
@@ -208,7 +198,8 @@ class Watcher(Managed):
         """Each TICK."""
         now = time.monotonic()
         self._shadow.look()
-        self._program.look()
+        self._program.link.look()
+        self._program.settle(now, self.lines.live)
         self._look_at_flow(now)
         self.restarts.look(now, self.lines.place, self.lines.open_circuits(), not self.counts.stale())
         self.look()

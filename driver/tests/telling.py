@@ -12,7 +12,8 @@ from typing import Any, Callable
 
 from . import support
 from .world import SECONDS, Served
-from e1gw.session import Kind, Reader, Record, spell
+from e1gw.running import HELLO
+from e1gw.session import CodecRefusal, Kind, Reader, Record, spell
 
 LAUNCHER = os.path.join(support.TOP, 'driver', 'e1gw-watch')
 IDLE = ['{0:2} outgoing idle        10 10          0          0          0 pcma      8'.format(n) for n in range(1, 31)]
@@ -93,11 +94,13 @@ def row(circuit: int, state: str, bits: str = '10 10', counts: tuple[int, int, i
 
 
 class Program(Door):
-    """Answers C and K records: by `answers(record)`, with this code, or with nothing if that is None."""
+    """Answers C and K records: by `answers(record)`, with this code, or with nothing if that is None; then the shadow
+    tells of them, if there is one."""
 
-    def __init__(self, path: str) -> None:
+    def __init__(self, path: str, shadow: Shadow | None = None) -> None:
         self.taken: list[Record] = []
         self.answers: Callable[[Record], int | None] = lambda record: 0
+        self.shadow = shadow
         super().__init__(path)
 
     def came(self, line: socket.socket) -> None:
@@ -109,10 +112,19 @@ class Program(Door):
             while octets := line.recv(4096):
                 reader.push(octets)
                 for record in reader.whole():
-                    self.taken.append(record)
-                    code = self.answers(record)
-                    if code is not None:
-                        line.sendall(spell(Kind.ANSWER, record.circuit, bytes([record.kind, code])))
+                    self._act(line, record)
+
+    def _act(self, line: socket.socket, record: Record) -> None:
+        hello = record.spelled() == HELLO
+        if not hello:
+            self.taken.append(record)
+        code = CodecRefusal.PAYLOAD_TYPE if hello else self.answers(record)
+        if code is None:
+            return
+        line.sendall(spell(Kind.ANSWER, record.circuit, bytes([record.kind, code])))
+        if self.shadow:
+            name = 'command' if record.kind is Kind.COMMAND else 'codec'
+            self.shadow.tell(' '.join([name, str(record.circuit), *map(str, record.body), str(int(code))]))
 
 
 class Watched(Served):
@@ -120,7 +132,8 @@ class Watched(Served):
 
     def __init__(self, config: str, *options: str, rows: list[str] | None = None, **streams: Any) -> None:
         super().__init__(config)
-        self.shadow, self.program = Shadow(self.path('tell'), rows), Program(self.path('program'))
+        self.shadow = Shadow(self.path('tell'), rows)
+        self.program = Program(self.path('program'), self.shadow)
         streams = {'stdin': subprocess.DEVNULL, 'stdout': subprocess.DEVNULL, 'stderr': subprocess.PIPE} | streams
         self.process = subprocess.Popen(
             [sys.executable, '-B', LAUNCHER, '--program', '/bin/true', '--config', self.config, '--tell',

@@ -8,14 +8,20 @@ import signal
 import socket
 import subprocess
 import sys
+import tempfile
+import time
 import unittest
 import urllib.request
 from typing import Any
 
-from .telling import IDLE, LAUNCHER, Program, Shadow, Watched, row
+from .telling import IDLE, LAUNCHER, Shadow, Watched, row
+from .telling import Program as StandIn
 from .test_web import free_port, samples
 from .world import SECONDS
-from e1gw.session import Codec, Command, codec_record, command_record
+from e1gw.loop import Loop
+from e1gw.running import HELLO
+from e1gw.session import Codec, Command, Record, codec_record, command_record
+from e1gw.watcher import PATIENCE, Program
 
 CONFIG = 'law = "A"\n[[circuit]]\nnumber = 1\nprefill = 320\n[[circuit]]\nnumber = 2\nrole = "incoming"\n'
 ROWS = [IDLE[0], row(2, 'idle', role='incoming')[5:], *IDLE[2:]]
@@ -46,6 +52,44 @@ class Watches(unittest.TestCase):
         return lines
 
 
+class Answers(unittest.TestCase):
+    """An answer of the program waits until the shadow has told of the command, and no longer than a moment."""
+
+    def setUp(self) -> None:
+        folder = tempfile.TemporaryDirectory()
+        self.addCleanup(folder.cleanup)
+        door = StandIn(os.path.join(folder.name, 'program'))
+        self.addCleanup(door.close)
+        self.loop, self.said = Loop(1.0), list[str]()
+        self.program = Program(self.loop, door.path, lambda what, on, why: None)
+        self.program.link.look()
+        self.addCleanup(self.program.link.close, '')
+        self.records = [command_record(n, Command.SEIZE) for n in (1, 2)]
+        for record in self.records:
+            self.program.give(record, lambda answer: self.said.append(f'{answer.circuit} {answer.refusal}'),
+                              self.said.append)
+        asked = self.program._asked[-1]     # pylint: disable=protected-access
+        while asked.answer is None:
+            self.loop.turn()
+
+    def test_told(self) -> None:
+        self.program.told(HELLO)
+        self.program.told(self.records[1])
+        self.program.settle(0.0, True)
+        self.assertEqual(self.said, [])
+        self.program.told(self.records[0])
+        self.program.settle(0.0, True)
+        self.assertEqual(self.said, ['1 None', '2 None'])
+
+    def test_not_told_in_time(self) -> None:
+        self.program.settle(time.monotonic() + PATIENCE, True)
+        self.assertEqual(self.said, ['1 None', '2 None'])
+
+    def test_no_shadow(self) -> None:
+        self.program.settle(0.0, False)
+        self.assertEqual(self.said, ['1 None', '2 None'])
+
+
 class Service(Watches):
     def test_status(self) -> None:
         world = self.watched('--name', 'west')
@@ -74,6 +118,24 @@ class Service(Watches):
             self.assertEqual(world.ask(words), f'{front}: done')
             self.assertEqual(world.program.taken[-1].spelled(), record)
 
+    def test_an_answer_comes_behind_what_follows_from_it(self) -> None:
+        """As with e1gw-trunk: a change, then the answer to the command that made it, and a status that has it."""
+        world = self.watched()
+        events = self.events(world)
+        world.program.shadow = None
+
+        def seized(record: Record) -> int:
+            world.shadow.tell('command 1 1 0', row(1, 'seized', '00 10'))
+            return 0
+        world.program.answers = seized
+        self.assertEqual((world.ask('seize 1'), world.state(1)), ('seize 1: done', 'seized'))
+        self.assertEqual([json.loads(next(events))['event'] for _ in range(2)], ['state', 'command'])
+
+    def test_a_shadow_that_does_not_tell_of_a_command(self) -> None:
+        world = self.watched()
+        world.program.shadow = None
+        self.assertEqual([world.ask(f'clear {n}') for n in (1, 3)], ['clear 1: done', 'clear 3: done'])
+
     def test_refusals(self) -> None:
         world = self.watched()
         world.program.answers = lambda record: 1 if record.circuit == 2 else 31 if len(record.body) == 2 else 2
@@ -99,6 +161,7 @@ class Service(Watches):
             line.settimeout(SECONDS)
             line.sendall(f'clear {circuit}\n'.encode())
         said = ['done', 'wrong role', 'not idle']
+        self.assertEqual(len(world.told()['circuits']), 30)
         for circuit, line in enumerate(lines, 1):
             self.assertTrue(line.recv(200).startswith(f'clear {circuit}: {said[circuit % 3]}'.encode()))
             line.close()
@@ -180,7 +243,7 @@ class Connections(Watches):
         status = world.told()
         self.assertEqual((status['program'], status['trunk_up'], status['program_since'] > 1e9), (False, False, True))
         self.assertIn('no connection to the program since', world.ask('status'))
-        world.program = Program(world.path('program'))
+        world.program = StandIn(world.path('program'))
         world.connected()
         self.assertEqual(world.program.taken, [])
         self.assertEqual(world.ask('seize 1'), 'seize 1: done')
@@ -195,7 +258,7 @@ class Connections(Watches):
             world.until(lambda: world.program.taken)
             world.program.close()
             self.assertEqual(line.recv(200), b'seize 1: no answer, the connection to the program is lost\n\n')
-        world.program = Program(world.path('program'))
+        world.program = StandIn(world.path('program'))
 
     def test_a_program_that_answers_nonsense(self) -> None:
         world = self.watched()
