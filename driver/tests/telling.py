@@ -46,11 +46,15 @@ class Door(threading.Thread):
         """Nobody listens any more, and all connections end."""
         with suppress(FileNotFoundError):
             os.unlink(self.path)
-        for line in (self._door, *self.clients):
-            with suppress(OSError):
-                line.shutdown(socket.SHUT_RDWR)
-            line.close()
+        self._end(self._door)
         self.join(SECONDS)
+        for line in self.clients:
+            self._end(line)
+
+    def _end(self, line: socket.socket) -> None:
+        with suppress(OSError):
+            line.shutdown(socket.SHUT_RDWR)
+        line.close()
 
 
 class Shadow(Door):

@@ -363,6 +363,7 @@ class Calls(Watches):
         world.shadow.row(2, 'answered', '01 00', role='incoming')
         world.shadow.tell('alarms 1 1 0 0')
         self.assertEqual(self.next(events, 'cleared', 'circuits'), [[1, 2]])
+        world.until(lambda: len(world.program.taken) == 2)
         self.assertEqual([record.spelled() for record in world.program.taken],
                          [command_record(1, Command.CLEAR), command_record(2, Command.CLEAR_BACK)])
 
