@@ -303,7 +303,7 @@ def _obey_circuit(trunk: Managed, name: str, words: list[str], say: Say) -> None
     else:
         if COMMANDS[name] is Command.SEIZE and (fault := trunk.dark_words()):
             # The gateway would do it; no exchange could see it, and 200 ms later it would be released.
-            trunk.refused(circuit, name, fault)
+            trunk.count(circuit, name, fault)
             return say(front + fault)
         record = command_record(circuit, COMMANDS[name])
     trunk.command(record, circuit, ' '.join([name, *words[1:]]), lambda text: say(front + text))

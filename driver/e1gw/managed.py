@@ -7,7 +7,7 @@ import os
 import socket
 import threading
 import time
-from collections import deque
+from collections import Counter, deque
 from typing import Any, Callable
 
 from .calls import Calls, to_calls
@@ -42,12 +42,11 @@ class Managed:
         self.lines, self.counts, self.restarts = lines, counts, restarts
         self._sockets = Tables(lines.lines.values())
         self.snapshots = Snapshots(loop, lambda: Snapshot(self.status(), self._sockets))
-        self.began = time.monotonic()
+        self.began, self.renewed = time.monotonic(), 0
         self.guards = Guards(options.on_loss, self.clear_all)
         self.status_code: int | None = None         # once it is there this ends
         self.ended: dict[str, str | None] = dict.fromkeys(BESIDE)
-        self.done: dict[tuple[str, str], int] = {}  # commands, by name and answer
-        self.renewed = 0
+        self.done: Counter[tuple[str, str]] = Counter()     # commands, by name and answer
         self.peers: set[Peer] = set()
         self._doors: list[Door] = []
         self._dark_since: float | None = None
@@ -82,9 +81,9 @@ class Managed:
 
     def _open_json(self) -> Outlet | None:
         path = self.options.json
-        if not path:
-            return None
-        return to_descriptor('json', 1, self.note) if path == '-' else to_file('json', path, self.note)
+        if path == '-':
+            return to_descriptor('json', 1, self.note)
+        return to_file('json', path, self.note) if path else None
 
     def open_doors(self) -> None:
         """Opens what others connect to, and the terminal."""
@@ -142,21 +141,17 @@ class Managed:
             if refusal is None:
                 self._obeyed(circuit, record)
             text = refusal.words if refusal else 'done'
-            self._count(circuit, words, text)
+            self.count(circuit, words, text)
             say(words_of_refusal(refusal, circuit, self.lines.lines[circuit].role) if refusal else text)
 
         def failed(text: str) -> None:
-            self._count(circuit, words, text)
+            self.count(circuit, words, text)
             say(text)
         self._give(record, answered, failed)
 
-    def refused(self, circuit: int, words: str, text: str) -> None:
-        """A command that is refused before the gateway is asked."""
-        self._count(circuit, words, text)
-
-    def _count(self, circuit: int, words: str, text: str) -> None:
-        key = words.split()[0], text
-        self.done[key] = self.done.get(key, 0) + 1
+    def count(self, circuit: int, words: str, text: str) -> None:
+        """Counts and tells a command, and what answers it."""
+        self.done[words.split()[0], text] += 1
         self.tell({'event': 'command', 'circuit': circuit, 'command': words, 'answer': text})
 
     def clear_all(self, why: str, blocks: bool = False) -> None:
@@ -281,16 +276,18 @@ class Managed:
 
     def _take_metrics_away(self) -> None:
         """The file of metrics, which nobody keeps up any more. (Its disk may stand still: the wait is short.)"""
-        def run(path: str) -> None:
-            for each in (path, f'{path}.new'):
-                try:
-                    os.unlink(each)
-                except OSError:
-                    pass
         if self.options.metrics:
-            thread = threading.Thread(target=run, args=(self.options.metrics,), name='metrics', daemon=True)
+            thread = threading.Thread(target=_unlink, args=(self.options.metrics,), name='metrics', daemon=True)
             thread.start()
             thread.join(1.0 if self.status_code is not None else 0.0)
+
+
+def _unlink(path: str) -> None:
+    for each in (path, f'{path}.new'):
+        try:
+            os.unlink(each)
+        except OSError:
+            pass
 
 
 def serve(loop: Loop, journal: Journal, made: Callable[[Loop], Managed]) -> int:
