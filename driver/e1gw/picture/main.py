@@ -153,7 +153,8 @@ def session_of(options: argparse.Namespace) -> tuple[Kept, Begun | None, str]:
     what the gateway was, the session is read as if the gateway had begun there."""
     if not options.session or options.session == '-':
         return Kept(['-']), None, ''
-    whole, told = kept(options.session), []
+    whole = kept(options.session)
+    told: list[str] = []
     if options.answers or not (options.config or whole.config):
         return whole, None, MIDDLE if whole.middle else ''
     for session in (kept(options.session, span_of(options)), whole):
