@@ -6,7 +6,7 @@ import struct
 from typing import Callable
 
 from .faults import words_of_fault
-from .loop import Loop
+from .loop import READ, Loop
 from .peers import Peer
 
 
@@ -19,14 +19,22 @@ class End(Peer):
 
     def took(self, octets: bytes) -> None:
         self._link.took(octets)
+        if self.open and self._link.rest:
+            self.loop.forget(self.line.fileno())
+            self.loop.later(self._link.rest, self._again)
+
+    def _again(self) -> None:
+        if self.open:
+            self.loop.watch(self.line.fileno(), READ, self._ready, beside=True)
 
 
 class Link:
-    """A connection to a Unix socket, which is made again as long as there is none."""
+    """A connection to a Unix socket, which is made again as long as there is none. After each read it is not read for
+    so many seconds of `rest`, so that many small writes are one read."""
 
     def __init__(self, loop: Loop, path: str, came: Callable[[int], None], took: Callable[[bytes], None],
-                 gone: Callable[[str], None]) -> None:
-        self.loop, self.path, self.took = loop, path, took
+                 gone: Callable[[str], None], rest: float = 0.0) -> None:
+        self.loop, self.path, self.took, self.rest = loop, path, took, rest
         self._came, self._gone = came, gone
         self._end: End | None = None
 

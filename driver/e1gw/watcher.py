@@ -22,6 +22,7 @@ from .session import BadSession, Kind, Reader, Record
 from .told import BadTelling, Told
 
 TICK = 0.1                  # seconds between two looks, and two tries to connect
+REST = 0.01                 # seconds between two reads of what the shadow tells
 PATIENCE = 0.3              # seconds that an answer of the program waits for the shadow
 EACH = 10                   # ticks between two looks whether octets flow, and in which one has to be answered
 
@@ -139,7 +140,7 @@ class Watcher(Managed):
         super().__init__(loop, options, journal, version_of(options.program), lines, counts, restarts)
         self._connected: dict[str, bool] = {}
         self._since = dict.fromkeys(('shadow', 'program'), time.time())
-        self._shadow = Link(loop, options.tell, lines.begin, self._told, self._shadow_gone)
+        self._shadow = Link(loop, options.tell, lines.begin, self._told, self._shadow_gone, REST)
         self._program = Program(loop, options.program_control, self._stands)
         lines.commanded = self._program.told
         self._pulse = Pulse(loop, options.tell, lines.reach)
