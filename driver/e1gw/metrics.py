@@ -12,6 +12,7 @@ Labels = Mapping[str, object]
 Samples = Iterable[tuple[Labels, float | int]]
 
 ALIGNED = 'aligned'
+OTHERS = ('program', 'shadow')      # with which a watcher is connected
 CIRCUIT_COUNTS = (('seizures', 'Calls begun.'), ('answers', 'Calls answered.'),
                   ('unacknowledged', 'Seizures that were not acknowledged.'),
                   ('faults', 'Invalid line signals.'))
@@ -53,6 +54,9 @@ def _of_trunk(status: Status) -> list[Family]:
          [({'alignment': what}, n) for what, n in status['losses'].items()]),
         ('e1gw_trunk_stalled', 'gauge', '1 while no octets come.', [({}, int(clock['stalled']))]),
         ('e1gw_trunk_stalls_total', 'counter', 'Times without octets.', [({}, clock['stalls'])])]
+    if 'shadow' in status:
+        found.append(('e1gw_connected', 'gauge', '1 where the watcher has a connection.',
+                      [({'to': other}, int(status[other])) for other in OTHERS]))
     return found + (_of_octets(status, clock) if 'transport' in status else [])
 
 
@@ -173,7 +177,7 @@ def _far_end(status: Status) -> str:
 
 def state_of(status: Status) -> str:
     """How the trunk stands at this end, in a word or some."""
-    for other in 'program', 'shadow':
+    for other in OTHERS:
         if not status.get(other, True):
             since = time.strftime('%H:%M:%S', time.gmtime(status[f'{other}_since']))
             return f'no connection to the {other} since {since} UTC'

@@ -202,6 +202,7 @@ class Service(Watches):
         for name, value in (('e1gw_circuit_state{trunk="west",circuit="1",role="outgoing",state="answered"}', 1),
                             ('e1gw_rtp_packets_total{trunk="west",circuit="1",direction="received"}', 100),
                             ('e1gw_rtp_discarded_total{trunk="west",circuit="1",cause="Unwatched"}', 3),
+                            ('e1gw_connected{trunk="west",to="shadow"}', 1),
                             ('e1gw_trunk_up{trunk="west"}', 1), ('e1gw_trunk_stalled{trunk="west"}', 0)):
             self.assertEqual(found.get(name), value, name)
         for name in ('e1gw_trunk_gaps', 'e1gw_trunk_rate', 'e1gw_transport', 'e1gw_crc4', 'e1gw_slowest',
