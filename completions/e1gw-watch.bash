@@ -2,11 +2,11 @@
 
 _e1gw_watch() {
   local cur=${COMP_WORDS[COMP_CWORD]} prev=${COMP_WORDS[COMP_CWORD - 1]}
-  local options='--config --name --program --tell --program-control --control --control-mode --control-group --on-loss
+  local options='--config --name --tell --program-control --control --control-mode --control-group --on-loss
     --http --metrics --json --watch --top --calls --dark --help'
   COMPREPLY=()
   case $prev in
-    --config | --program | --tell | --program-control | --control | --metrics | --json | --calls)
+    --config | --tell | --program-control | --control | --metrics | --json | --calls)
       compopt -o filenames 2> /dev/null
       mapfile -t COMPREPLY < <(compgen -f -- "$cur") ;;
     --on-loss) mapfile -t COMPREPLY < <(compgen -W 'keep clear block' -- "$cur") ;;

@@ -21,10 +21,11 @@ class End(Peer):
         self._link.took(octets)
         if self.open and self._link.rest:
             self.loop.forget(self.line.fileno())
-            self.loop.later(self._link.rest, self._again)
+            self.loop.later(self._link.rest, self.again)
 
-    def _again(self) -> None:
-        if self.open:
+    def again(self) -> None:
+        """Reads it again."""
+        if self.open and not self.loop.watches(self.line.fileno()):
             self.loop.watch(self.line.fileno(), READ, self._ready, beside=True)
 
 
@@ -62,6 +63,12 @@ class Link:
     def send(self, octets: bytes) -> None:
         if self._end:
             self._end.send(octets)
+
+    def rests(self, seconds: float) -> None:
+        """From now on it rests for so long after a read."""
+        self.rest = seconds
+        if self._end and not seconds:
+            self._end.again()
 
     def close(self, why: str) -> None:
         if self._end:

@@ -15,7 +15,6 @@ from .gateway import ConfigRefused
 from .guards import OnLoss, on_loss_of
 from .lines import SEIZURE_WAIT
 from .outlets import Journal, hold_descriptors
-from .programs import program_of
 from .trunks import Trunk, host_and_port
 
 
@@ -28,7 +27,6 @@ class Options:
     """What an operator wants to have of a trunk."""
 
     config: str
-    program: str
     name: str
     watch: bool = False
     top: bool = False
@@ -47,6 +45,7 @@ class Options:
 class DriverOptions(Options):
     """What the driver was asked for."""
 
+    program: str
     open_trunk: Callable[[], Trunk]
     most: int = 256
     pace: float = 0.0
@@ -65,7 +64,6 @@ def add_options(words: argparse.ArgumentParser) -> None:
     """The options of Options that come first."""
     words.add_argument('--config', metavar='FILE', required=True, help='the configuration, e1gw.toml(5)')
     words.add_argument('--name', help='the name of the trunk in metrics and files [default: that of FILE]')
-    words.add_argument('--program', metavar='E1GW', help='the program [default: that of this repository, or e1gw]')
 
 
 def add_control(words: argparse._ArgumentGroup) -> None:
@@ -95,7 +93,7 @@ def add_calls(words: argparse._ArgumentGroup) -> None:
 def fields_of(asked: argparse.Namespace) -> dict[str, Any]:
     """The fields of Options, of a command line. ValueError if one is none."""
     return {
-        'config': asked.config, 'program': program_of(asked.program),
+        'config': asked.config,
         'name': asked.name or os.path.splitext(os.path.basename(asked.config))[0], 'watch': asked.watch,
         'top': asked.top, 'control': asked.control, 'control_mode': asked.control_mode,
         'control_group': asked.control_group, 'http': host_and_port(asked.http) if asked.http else None,

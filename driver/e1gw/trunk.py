@@ -27,7 +27,7 @@ from .loop import Loop
 from .managed import serve
 from .options import DriverOptions, Usage, add_calls, add_control, add_options, fields_of, run
 from .outlets import Journal
-from .programs import SENDERS, senders_of
+from .programs import SENDERS, program_of, senders_of
 from .trunks import Trunk, host_and_port, open_files, open_tcp, open_unix
 
 
@@ -79,6 +79,7 @@ def parser() -> argparse.ArgumentParser:
     words = Parser(prog='e1gw-trunk', description=f'{about}\n\n{rest}',
                    formatter_class=argparse.RawDescriptionHelpFormatter)
     add_options(words)
+    words.add_argument('--program', metavar='E1GW', help='the program [default: that of this repository, or e1gw]')
     words.add_argument('--senders', choices=('any', 'host', 'peer'), help='whose datagrams are received, e1gw(1) '
                        '[default: host if each peer_host is an address, else any]')
     words.add_argument('--repeat', type=int, choices=range(9), default=0, metavar='N',
@@ -140,7 +141,7 @@ def options_of(words: list[str]) -> DriverOptions:
         raise Usage('--keep wants --session')
     if asked.picture and not (asked.http and asked.counts):
         raise Usage('--picture wants --http, and the counts')
-    program = fields['program']
+    program = program_of(asked.program)
     if asked.align:
         opens = functools.partial(align, opens, program)
     if asked.satop:
@@ -149,9 +150,10 @@ def options_of(words: list[str]) -> DriverOptions:
     if crc4:
         opens = functools.partial(with_crc4, opens, program, crc4)
     return DriverOptions(
-        **fields, open_trunk=opens, most=asked.most or (2048 if asked.pace and not asked.satop else 256),
-        pace=asked.pace / 1000, serve=_serve_words(asked), seizure_wait=asked.seizure_wait, reopen=asked.reopen,
-        session=asked.session, keep=keep, gap=asked.gap / 1000, counts=asked.counts, picture=asked.picture, crc4=crc4)
+        **fields, program=program, open_trunk=opens, pace=asked.pace / 1000,
+        most=asked.most or (2048 if asked.pace and not asked.satop else 256), serve=_serve_words(asked),
+        seizure_wait=asked.seizure_wait, reopen=asked.reopen, session=asked.session, keep=keep, gap=asked.gap / 1000,
+        counts=asked.counts, picture=asked.picture, crc4=crc4)
 
 
 def _serve_words(asked: argparse.Namespace) -> list[str]:

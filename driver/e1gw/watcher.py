@@ -2,6 +2,7 @@
 program at its control socket. It may end, stand still and be started again at any time: no octet passes through it."""
 from __future__ import annotations
 
+import threading
 import time
 from collections import deque
 from dataclasses import dataclass
@@ -52,11 +53,15 @@ class Program:
     follows from it is known then."""
 
     def __init__(self, loop: Loop, path: str, stands: Callable[[str, bool, str], None]) -> None:
-        self.link = Link(loop, path, lambda _: self._came(), self._took, self._gone)
+        self.link = Link(loop, path, self._came, self._took, self._gone)
+        self.version = ''
         self._stands, self._reader = stands, Reader((Kind.ANSWER,))
         self._asked: deque[Asked] = deque()
 
-    def _came(self) -> None:
+    def _came(self, process: int) -> None:
+        def ask() -> None:
+            self.version = version_of(f'/proc/{process}/exe')
+        threading.Thread(target=ask, name='version', daemon=True).start()
         self._reader = Reader((Kind.ANSWER,))
         self._stands('program', True, '')
         self.give(HELLO, lambda answer: None, lambda why: None)     # who gives a record keeps its place
@@ -89,6 +94,10 @@ class Program:
             if each.record == record and not each.is_told:
                 each.is_told = True
                 return
+
+    def waits(self) -> bool:
+        """Whether an answer is still to be passed on."""
+        return bool(self._asked)
 
     def settle(self, now: float, tells: bool) -> None:
         """Passes on the answers that are to be, in their order. `tells` is whether there is a shadow that tells."""
@@ -137,7 +146,7 @@ class Watcher(Managed):
         restarts = Restarts(self.restart, self.tell)
         counts = Counts(restarts.counted)
         lines = Told(read_config(options.config), self.tell, counts, began=self._told_all)
-        super().__init__(loop, options, journal, version_of(options.program), lines, counts, restarts)
+        super().__init__(loop, options, journal, '', lines, counts, restarts)
         self._connected: dict[str, bool] = {}
         self._since = dict.fromkeys(('shadow', 'program'), time.time())
         self._shadow = Link(loop, options.tell, lines.begin, self._told, self._shadow_gone, REST)
@@ -161,7 +170,12 @@ class Watcher(Managed):
             self.lines.take(octets)
         except BadTelling as fault:
             self._shadow.close(str(fault))
-        self._program.settle(time.monotonic(), self.lines.live)
+        self._settle(time.monotonic())
+
+    def _settle(self, now: float) -> None:
+        """Passes answers on. While one waits, what the shadow tells is read at once."""
+        self._program.settle(now, self.lines.live)
+        self._shadow.rests(0.0 if self._program.waits() else REST)
 
     def _told_all(self) -> None:
         self._stands('shadow', True)
@@ -189,6 +203,7 @@ class Watcher(Managed):
 
     def _give(self, record: bytes, answered: Answered, failed: Say) -> None:
         self._program.give(record, answered, failed)
+        self._shadow.rests(0.0)
 
     def dark_words(self) -> str | None:
         return 'the trunk is stalled' if self._stood else self.lines.dark_words()
@@ -200,15 +215,16 @@ class Watcher(Managed):
         now = time.monotonic()
         self._shadow.look()
         self._program.link.look()
-        self._program.settle(now, self.lines.live)
+        self._settle(now)
         self._look_at_flow(now)
         self.restarts.look(now, self.lines.place, self.lines.open_circuits(), not self.counts.stale())
         self.look()
         self._look_at_calls(now)
 
     def status(self) -> dict[str, Any]:
-        status = super().status() | {'trunk_up': self._connected.get('program', False),
-                                     'clock': {'stalled': bool(self._stood), 'stalls': self._stalls}}
+        status = super().status() | {
+            'version': self._program.version, 'trunk_up': self._connected.get('program', False),
+            'clock': {'stalled': bool(self._stood), 'stalls': self._stalls}}
         for what, since in self._since.items():
             status |= {what: self._connected.get(what, False), f'{what}_since': round(since, 3)}
         return status

@@ -140,7 +140,7 @@ class Watched(Served):
         self.program = Program(self.path('program'), self.shadow)
         streams = {'stdin': subprocess.DEVNULL, 'stdout': subprocess.DEVNULL, 'stderr': subprocess.PIPE} | streams
         self.process = subprocess.Popen(
-            [sys.executable, '-B', LAUNCHER, '--program', '/bin/true', '--config', self.config, '--tell',
+            [sys.executable, '-B', LAUNCHER, '--config', self.config, '--tell',
              self.shadow.path, '--program-control', self.program.path, '--control', self.path('ctl'),
              *(word.replace('@', self.folder) for word in options)], **streams)
         self.connected()

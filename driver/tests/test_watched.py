@@ -36,12 +36,11 @@ class Trunk(Served):
         super().__init__(config_of(range(1, 5), incoming=(2, 4)))
         self.process = self.exchange = self.start(EXCHANGE, 'card', stdin=subprocess.PIPE, name='exchange')
         self.until(lambda: os.path.exists(self.path('card')))
-        common = ('--program', support.program(), '--config', 'trunk.toml')
-        self.keeper = self.start(KEEPER, *common, '--unix', 'card', '--control', 'program', '--tell', 'tell',
-                                 name='keeper')
+        self.keeper = self.start(KEEPER, '--program', support.program(), '--config', 'trunk.toml', '--unix', 'card',
+                                 '--control', 'program', '--tell', 'tell', name='keeper')
         self.until(lambda: GOES_ON.search(self.said('keeper')))
-        self.watch = (WATCHER, *common, '--program-control', 'program', '--tell', 'tell', '--control', 'ctl',
-                      '--calls', 'calls.csv')
+        self.watch = (WATCHER, '--config', 'trunk.toml', '--program-control', 'program', '--tell', 'tell',
+                      '--control', 'ctl', '--calls', 'calls.csv')
         self.begin()
 
     def begin(self) -> None:
@@ -155,7 +154,8 @@ class Kept(unittest.TestCase):
         trunk.is_in(1, 'idle')
         before = json.loads(trunk.ask('status json'))
         trunk.until(lambda: trunk.told()['octets'] > before['octets'])
-        self.assertEqual(before['version'], support.run('--version').decode().split()[1])
+        version = support.run('--version').decode().split()[1]
+        trunk.until(lambda: trunk.stands(version=version))
         self.assertEqual([before['alarm'], before['remote_alarm']], [{'frame': False, 'multiframe': False}] * 2)
 
 

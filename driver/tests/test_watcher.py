@@ -229,7 +229,7 @@ class Service(Watches):
                             (['--config', '/none', '--tell', 'a', '--program-control', 'b'], '/none: No such file'),
                             (['--config', world.config, '--tell', 'a', '--program-control', 'b', '--control',
                               world.path('ctl')], 'another one listens')):
-            done = subprocess.run([sys.executable, '-B', LAUNCHER, '--program', '/bin/true', *words], check=False,
+            done = subprocess.run([sys.executable, '-B', LAUNCHER, *words], check=False,
                                   stdin=subprocess.DEVNULL, stderr=subprocess.PIPE, timeout=SECONDS)
             self.assertEqual((done.returncode, said in done.stderr.decode()), (2, True), done.stderr)
 
