@@ -143,7 +143,11 @@ class Watched(Served):
             [sys.executable, '-B', LAUNCHER, '--config', self.config, '--tell',
              self.shadow.path, '--program-control', self.program.path, '--control', self.path('ctl'),
              *(word.replace('@', self.folder) for word in options)], **streams)
-        self.connected()
+        try:
+            self.connected()
+        except BaseException:
+            self.__exit__()
+            raise
 
     def __enter__(self) -> Watched:
         return self
