@@ -41,8 +41,9 @@ _WORDS: dict[str, Callable[[Event], str]] = {
     'slots': lambda e: _SLOTS[e['what']].format(e.get('by')),
     'trunk': lambda e: f'trunk open: {e.get("trunk", "")}',
     'trunk lost': lambda e: f'trunk lost: {e["why"]}',
-    'connected': lambda e: 'a program is connected',
-    'disconnected': lambda e: 'the program is gone: ones (AIS) are sent',
+    'connected': lambda e: f'connected to the {e["to"]}' if 'to' in e else 'a program is connected',
+    'disconnected': lambda e: (f'no connection to the {e["from"]}: {e["why"]}' if 'from' in e else
+                               'the program is gone: ones (AIS) are sent'),
     'unanswered': lambda e: f'{e["octets"]} octets were not answered: the multiframe before was sent again for them',
     'crc4': lambda e: _CRC4[e['what']].format(over=_over(e), times=_more_than_once(e), **e),
     'satop': lambda e: f'satop: {e["what"]}{"" if e.get("on", True) else " over"}{_why(e)}',

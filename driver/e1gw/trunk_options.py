@@ -10,11 +10,8 @@ from .clear import Clear, Place
 from .crc4 import Crc4, with_crc4
 from .filtered import align
 from .lines import law_of, read_config
+from .options import Usage
 from .trunks import Trunk, host_and_port, open_files, open_tcp, open_unix
-
-
-class Usage(Exception):
-    """What is wrong with the command line."""
 
 
 def add_trunk(words: argparse._ArgumentGroup) -> None:

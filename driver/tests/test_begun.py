@@ -13,7 +13,8 @@ from . import support
 from .picture_made import Made, Sender, coded, packets
 from .test_behind import Ringed, octets_in
 from .world import SECONDS
-from e1gw import lines
+from e1gw.followed import Followed, Standing
+from e1gw.lines import State
 from e1gw.kept import Kept, kept
 from e1gw.picture.begun import begun
 from e1gw.picture.facts import Facts
@@ -153,8 +154,8 @@ class Lines(unittest.TestCase):
     """Following from the middle."""
 
     def test_begins_in_the_middle(self) -> None:
-        followed = lines.Lines({})
-        standing = lines.Standing(3, lines.State.ANSWERED, 0, 1, 'g726-32', 96)
+        followed = Followed({})
+        standing = Standing(3, State.ANSWERED, 0, 1, 'g726-32', 96)
         followed.begin(5 * 512 + 7, [standing])
         status = followed.status()
         row = status['circuits'][2]

@@ -5,8 +5,9 @@ import os
 import subprocess
 from dataclasses import dataclass
 
+from ..followed import Standing
 from ..kept import Kept, Trouble
-from ..lines import Standing, State
+from ..lines import State
 from ..session import MULTIFRAME
 
 COLUMNS = 10                # of the listing: number, role, state, two pairs, three counts, codec, payload type
