@@ -30,12 +30,13 @@ from .events import WARNED, words_of
 from .faults import Parser, named, options_words, words_of_fault
 from .lines import Event, law_of, read_config
 from .loop import GONE, READ, WRITE, Loop
+from .options import Usage
 from .outlets import Journal, Outlet, hold_descriptors, to_descriptor, to_file
 from .peers import Door
 from .programs import program_of
 from .session import MULTIFRAME, OCTETS_A_SECOND
 from .systemd import Notify
-from .trunk_options import Usage, add_trunk, opening_of
+from .trunk_options import add_trunk, opening_of
 from .trunks import Stream, Trunk
 
 MODE = 0o660                # of the sockets
