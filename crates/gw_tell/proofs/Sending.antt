@@ -12,23 +12,11 @@ use Rattle.gw_tell.specs.Reports.{sent_to, last_after, Shows, Changes, IsPicture
 use Rattle.gw_tell.specs.Clients.{AllAreTold, TellsChanges}
 use Rattle.gw_tell.proofs.Reporting.{changes_go_behind}
 
--- Some lines are sent as they are to a client whose last place is this one, ..
-pub sent_here : (last place : ℕ) (lines : List ℕ) → (last == place) ≡ true → 0 < length lines
-    → (sent_to last place lines ≡ lines) × (last_after last place lines ≡ place)
-sent_here last place [] same some = absurd (omega arith)
-sent_here last place (x ∷ lines) same some = (rw same refl, refl)
-
--- .. and behind the place to any other.
+-- Some lines are sent behind the place to a client whose last place is another.
 pub sent_behind : (last place : ℕ) (lines : List ℕ) → (last == place) ≡ false → 0 < length lines
     → (sent_to last place lines ≡ at_line place ++ lines) × (last_after last place lines ≡ place)
 sent_behind last place [] other some = absurd (omega arith)
 sent_behind last place (x ∷ lines) other some = (rw other refl, refl)
-
--- Without lines nothing is sent.
-pub sent_none : (last place : ℕ) (lines : List ℕ) → length lines ≡ 0
-    → (sent_to last place lines ≡ []) × (last_after last place lines ≡ last)
-sent_none last place [] none = (refl, refl)
-sent_none last place (x ∷ lines) none = absurd (omega arith)
 
 -- What goes behind the line of a place: that line is the front of the text.
 pub front_is : (line pushed report text : List ℕ) (front : ℕ) → pushed ≡ line → front ≡ length pushed

@@ -3,7 +3,7 @@ use Rattle.std.proofs.Common.{length-drop, append-nil, eq-eqb}
 use Rattle.std.proofs.lemmas.List.{take-append-drop}
 use Rattle.std.proofs.lemmas.Bool.{ne_eqb}
 use Rattle.gw_tell.specs.Lines.{at_line}
-use Rattle.gw_tell.proofs.Sending.{sent_here, sent_behind, sent_none}
+use Rattle.gw_tell.proofs.Sending.{sent_behind}
 use Rattle.gw_tell.proofs.client.Client.report.Goals as goal
 
 pub returns-clause-ok : goal.returns-clause-ok
