@@ -184,6 +184,7 @@ class Told(support.Folder):
             self.assertEqual(client.lines()[-1], 'now')
         self.assertTrue(clients[8].has_gone())
         clients[7].socket.close()
+        self.replay.passes(datagram_record(2, RTP))
         self.multiframes(1)
         after = self.client()
         self.multiframes(1)
