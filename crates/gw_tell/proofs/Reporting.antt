@@ -1,5 +1,5 @@
 -- Circuits that are reported one after another.
-use Rattle.std.proofs.Common.{◌≡◌, ◌≢◌, ◌⊎◌, ◌≤◌, ◌<◌, ◌+◌, ◌-◌, ◌++◌, ◌∙◌, ℕ, zero, suc, Bool, true, false, List, []}
+use Rattle.std.proofs.Common.{◌≡◌, ◌≤◌, ◌+◌, ◌-◌, ◌++◌, ◌∙◌, ℕ, zero, suc, Bool, true, false, List, []}
 use Rattle.std.proofs.Common.{length, get_or, set, refl, sym, ap, arith, inl, inr, append_assoc, append-nil}
 use Rattle.std.proofs.lemmas.List.{get_or_default, get_or-set_same, get_or-set_other}
 use Rattle.std.proofs.lemmas.Bool.{cases_eq}
@@ -8,7 +8,7 @@ use Rattle.gw_switch.specs.declared.Alarms.{Alarms}
 use Rattle.gw_records.specs.Records.{Record}
 use Rattle.gw_tell.specs.declared.picture.Picture.{Picture}
 use Rattle.gw_tell.specs.Lines.{alarms_line, row_line, event_line}
-use Rattle.gw_tell.specs.Reports.{no_status, of_circuit, counted_as, quiet_at, RowStep, RowSteps, AlarmsStep}
+use Rattle.gw_tell.specs.Reports.{no_status, of_circuit, counted_as, RowStep, RowSteps, AlarmsStep}
 use Rattle.gw_tell.specs.Reports.{row_lines, Changes, are_due, place_after}
 
 -- What was reported last of a circuit is what it is, but for its counts.
@@ -55,7 +55,8 @@ pub changes_go_behind : (place : ℕ) (r : Record) (code : ℕ) (was is told : P
     → Changes place r code was is told text text' → (lines : List ℕ) × (text' ≡ text ++ lines)
 changes_go_behind place r code was is told text text' changes =
     let a = alarms_go_behind was.alarms is.alarms (text ++ event_line r code) changes.between changes.alarms in
-    let b = rows_go_behind (are_due place (place_after place r)) was.rows is.rows told.rows changes.between text' 30 changes.rows in (
+    let due = are_due place (place_after place r) in
+    let b = rows_go_behind due was.rows is.rows told.rows changes.between text' 30 changes.rows in (
       event_line r code ++ a.0 ++ b.0,
       b.1 ∙ ap (λ (xs : List ℕ). xs ++ b.0) a.1 ∙ simp append_assoc,
     )

@@ -1,6 +1,6 @@
 -- What clients are sent.
-use Rattle.std.proofs.Common.{◌≡◌, ◌≢◌, ◌≤◌, ◌<◌, ◌-◌, ◌++◌, ◌∷◌, ℕ, List, [], length, drop, take, refl, arith}
-use Rattle.std.proofs.Common.{OnOk, false, true, if◌then◌else◌, ◌==◌, ◌∙◌, ap, length-drop, take-append-drop}
+use Rattle.std.proofs.Common.{◌≡◌, ◌≤◌, ◌<◌, ◌++◌, ◌∷◌, ℕ, List, [], length, drop, take, refl, arith}
+use Rattle.std.proofs.Common.{false, ◌==◌, ◌∙◌, ap}
 use Rattle.std.proofs.Common.{Option, sym, length-append}
 use Rattle.std.proofs.Math.Seq.{drop-append_seam, take-append_seam}
 use Rattle.gw_switch.specs.declared.gateway.Gateway.{Gateway}

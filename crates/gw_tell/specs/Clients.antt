@@ -1,5 +1,5 @@
 -- What clients get (modules `client` and `teller`).
-use Rattle.std.specs.Prelude.{◌≡◌, ◌⊎◌, ◌++◌, ◌+◌, ⊤, ℕ, List, [], ◌∷◌, Option, Some, None, slice_index_or}
+use Rattle.std.specs.Prelude.{◌≡◌, ◌⊎◌, ◌++◌, ⊤, ℕ, List, Option, Some, None, slice_index_or}
 use Rattle.e1_g711.specs.declared.Law.{Law}
 use Rattle.gw_switch.specs.declared.gateway.Gateway.{Gateway}
 use Rattle.gw_records.specs.Records.{Record}
@@ -37,7 +37,8 @@ pub record TellsChanges (place : ℕ) (r : Record) (code : ℕ) (gateway : Gatew
   pub is : Picture
   pub shows : Shows is gateway
   pub lines : List ℕ
-  pub changes : Changes place r code was is told (at_line (place_after place r)) (at_line (place_after place r) ++ lines)
+  pub changes : Changes place r code was is told (at_line (place_after place r))
+      (at_line (place_after place r) ++ lines)
   pub true_picture : IsPictureOf is told
   pub told_all : AllAreTold places places' (place_after place r) lines
 

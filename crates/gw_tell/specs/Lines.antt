@@ -1,5 +1,5 @@
 -- The lines that a client gets, each ended by a line feed (e1gw-tell(5)).
-use Rattle.std.specs.Prelude.{◌++◌, ◌<◌, ◌≤◌, ℕ, zero, suc, List, [], ◌∷◌, take, drop, length, codes}
+use Rattle.std.specs.Prelude.{◌++◌, ℕ, List, [], ◌∷◌, take, drop, length, codes}
 use Rattle.std.specs.Prelude.{Bool, true, false, if◌then◌else◌, nat_lt}
 use Rattle.std.specs.List.{flat_map}
 use Rattle.std.specs.Fmt.{decimal}
@@ -33,8 +33,8 @@ abbrev pub alarms_line : Alarms → List ℕ
 alarms_line a = number_line (codes "alarms")
     (flag a.frame ∷ flag a.multiframe ∷ flag a.remote_frame ∷ flag a.remote_multiframe ∷ [])
 
--- sequence number, timestamp and synchronization source of the header of an RTP datagram (RFC 3550, 5.1); zeros
--- if it is too short for a header
+-- sequence number, timestamp and synchronization source of the header of an RTP datagram (RFC 3550, 5.1);
+-- zeros if it is too short for a header
 abbrev pub rtp_numbers : List ℕ → List ℕ
 rtp_numbers octets = if nat_lt (length octets) 12 then 0 ∷ 0 ∷ 0 ∷ []
     else big_number 2 (take 2 (drop 2 octets)) ∷ big_number 4 (take 4 (drop 4 octets))

@@ -1,5 +1,5 @@
 -- What is reported, and when (modules `picture` and `report`).
-use Rattle.std.specs.Prelude.{◌≡◌, ◌≢◌, ◌⊎◌, ◌++◌, ◌<◌, ◌≤◌, ◌/◌, ◌+◌, ◌-◌, ℕ, zero, suc, List, [], ◌∷◌, length}
+use Rattle.std.specs.Prelude.{◌≡◌, ◌≢◌, ◌⊎◌, ◌++◌, ◌≤◌, ◌/◌, ◌+◌, ◌-◌, ℕ, zero, suc, List, [], ◌∷◌, length}
 use Rattle.std.specs.Prelude.{Bool, true, false, if◌then◌else◌, ◌==◌, nat_lt, None, slice_index_or}
 use Rattle.e1_g711.specs.declared.Law.{Law}
 use Rattle.e1_g711.specs.declared.Law.TheVariants as laws
@@ -52,8 +52,8 @@ pub record Shows (picture : Picture) (gateway : Gateway) : Type 0 where
 abbrev pub counted_as : Status → Status → Status
 counted_as is was = record is { sent_count = was.sent_count; received = was.received; dropped = was.dropped }
 
--- what a circuit has to have been for nothing to be reported of it: what it is, but for its counts unless these
--- are due
+-- what a circuit has to have been for nothing to be reported of it: what it is, but for its counts unless
+-- these are due
 abbrev pub quiet_at : Bool → Status → Status → Status
 quiet_at true was is = is
 quiet_at false was is = counted_as is was
@@ -68,7 +68,8 @@ RowStep due c was is told text text' =
 unfoldable pub RowSteps : Bool → List Status → List Status → List Status → List ℕ → List ℕ → ℕ → Type 0
 RowSteps due was is told text text' zero = text' ≡ text
 RowSteps due was is told text text' (suc n) = (between : List ℕ) × RowSteps due was is told text between n
-    × RowStep due (suc n) (of_circuit was (suc n)) (of_circuit is (suc n)) (of_circuit told (suc n)) between text'
+    × RowStep due (suc n) (of_circuit was (suc n)) (of_circuit is (suc n)) (of_circuit told (suc n))
+    between text'
 
 -- the alarms are reported if they changed
 abbrev pub AlarmsStep : Alarms → Alarms → List ℕ → List ℕ → Type 0
@@ -113,8 +114,8 @@ abbrev pub whole_state : Law → ℕ → Picture → List ℕ
 whole_state law place picture = hello_line law ++ at_line place ++ alarms_line picture.alarms
     ++ row_lines picture.rows 30 ++ now_line
 
--- what a client is sent whose last `at` was this place: nothing, or the lines with the place before them if it
--- has changed
+-- what a client is sent whose last `at` was this place: nothing, or the lines with the place before them if
+-- it has changed
 abbrev pub sent_to : ℕ → ℕ → List ℕ → List ℕ
 sent_to last place [] = []
 sent_to last place (x ∷ lines) = (if last == place then [] else at_line place) ++ x ∷ lines

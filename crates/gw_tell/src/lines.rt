@@ -2,7 +2,8 @@
 
 ghost use Rattle.std.specs.Prelude.{◌≡◌, ◌≤◌, ◌+◌, ◌++◌, length};
 ghost use Rattle.gw_records.specs.Records.{named};
-ghost use Rattle.gw_tell.specs.Lines.{at_line, flag, alarms_line, rtp_numbers, event_line, row_line, hello_line};
+ghost use Rattle.gw_tell.specs.Lines.{at_line, flag, alarms_line, rtp_numbers, event_line, row_line};
+ghost use Rattle.gw_tell.specs.Lines.{hello_line};
 
 use crate::text::{Text, push, push_line};
 use byteorder::{BigEndian, ByteOrder};

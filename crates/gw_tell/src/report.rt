@@ -4,7 +4,7 @@ ghost use Rattle.std.specs.Prelude.{◌≡◌, ◌≤◌, ◌+◌, ◌*◌, ◌+
 ghost use Rattle.gw_records.specs.Records.{named};
 ghost use Rattle.gw_tell.specs.Lines.{row_line};
 ghost use Rattle.gw_tell.specs.Reports.{counted_as, quiet_at, RowStep, RowSteps, AlarmsStep, place_after};
-ghost use Rattle.gw_tell.specs.Reports.{are_due, trunk_len, Changes, IsPictureOf, row_lines, whole_state, of_circuit};
+ghost use Rattle.gw_tell.specs.Reports.{Changes, IsPictureOf, row_lines, whole_state};
 ghost use Rattle.gw_tell.specs.Lines.{event_line};
 
 use crate::lines::{hello_line, push_alarms, push_at, push_event, push_row};

@@ -1,4 +1,4 @@
-use Rattle.std.proofs.Common.{arith, sym, append-nil, rules}
+use Rattle.std.proofs.Common.{arith, sym, append-nil}
 use Rattle.gw_tell.proofs.Reporting.{line_on, no_line_yet}
 use Rattle.gw_tell.proofs.report.push_rows.Goals as goal
 

@@ -12,5 +12,6 @@ returns-clause-changes c = record {
 pub returns-clause-true_picture : goal.returns-clause-true_picture
 returns-clause-true_picture c = record {
   alarms_are = c.report_alarms.ensures.told;
-  rows_are = all_are_true _ c.args.told.now.rows c.args.is.now.rows c.report_rows.new.told _ _ 30 c.report_rows.ensures.steps;
+  rows_are = all_are_true _ c.args.told.now.rows c.args.is.now.rows c.report_rows.new.told _ _ 30
+      c.report_rows.ensures.steps;
 }

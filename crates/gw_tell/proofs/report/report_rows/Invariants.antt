@@ -1,4 +1,4 @@
-use Rattle.std.proofs.Common.{◌≡◌, ◌≤◌, ◌<◌, ◌+◌, ◌-◌, ◌*◌, ℕ, length}
+use Rattle.std.proofs.Common.{◌≡◌, ◌≤◌, ◌+◌, ◌-◌, ◌*◌, ℕ, length}
 use Rattle.gw_tell.specs.Reports.{RowSteps, of_circuit}
 use Rattle.gw_tell.proofs.report.report_rows.Given as goal
 

@@ -1,5 +1,5 @@
-use Rattle.std.proofs.Common.{◌∙◌, ◌≡◌, ◌++◌, ◌∷◌, [], take, arith, sym, append_assoc}
-use Rattle.std.proofs.Common.{length, take_all}
+use Rattle.std.proofs.Common.{◌∙◌, ◌≡◌, take, arith, append_assoc}
+use Rattle.std.proofs.Common.{take_all}
 use Rattle.gw_tell.specs.Lines.{number_line}
 use Rattle.gw_tell.proofs.text.push_line.Goals as goal
 

@@ -1,4 +1,4 @@
-use Rattle.std.proofs.Common.{◌++◌, ◌∷◌, [], ◌∙◌, ap, append_assoc, List, ℕ}
+use Rattle.std.proofs.Common.{◌∷◌, [], ◌∙◌, append_assoc}
 use Rattle.std.specs.Fmt.{decimal}
 use Rattle.gw_tell.specs.Lines.{spaced}
 use Rattle.gw_tell.proofs.text.push_number.Goals as goal

@@ -1,5 +1,5 @@
-use Rattle.std.proofs.Common.{◌≡◌, ◌<◌, ◌++◌, ◌∙◌, [], OnOk, true, false, length, drop, take, arith, sym, ap}
-use Rattle.std.proofs.Common.{length-drop, append-nil, eq-eqb}
+use Rattle.std.proofs.Common.{◌≡◌, ◌<◌, ◌++◌, ◌∙◌, length, drop, arith, sym}
+use Rattle.std.proofs.Common.{length-drop}
 use Rattle.std.proofs.lemmas.List.{take-append-drop}
 use Rattle.std.proofs.lemmas.Bool.{ne_eqb}
 use Rattle.gw_tell.specs.Lines.{at_line}

@@ -1,4 +1,4 @@
-use Rattle.std.proofs.Common.{◌≡◌, ◌≤◌, ◌<◌, ℕ, length, []}
+use Rattle.std.proofs.Common.{◌≡◌, ◌≤◌, ◌<◌, ℕ, length}
 use Rattle.gw_tell.specs.Lines.{end_line}
 use Rattle.gw_tell.specs.Clients.{Gets, at}
 use Rattle.gw_tell.proofs.teller.Teller.end.Given as goal

@@ -1,4 +1,4 @@
-use Rattle.std.proofs.Common.{◌∙◌, ◌≡◌, ◌++◌, ap, List, ℕ}
+use Rattle.std.proofs.Common.{◌∙◌, ◌++◌, ap, List, ℕ}
 use Rattle.gw_tell.specs.Lines.{at_line}
 use Rattle.gw_tell.proofs.Reporting.{changes_go_behind}
 use Rattle.gw_tell.proofs.Sending.{front_is, tells}
