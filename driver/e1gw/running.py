@@ -122,6 +122,7 @@ class Run:
         self.is_up = False
         self._said = 0                      # lines of the program that were told
         self.shadow: Process | None = None
+        self.tell: str | None = None        # where the shadow tells how the trunk stands
         os.mkdir(folder, 0o700)
         self.state = self._own(state)       # the file of the state that it begins with
         self._open_tape()
@@ -204,10 +205,11 @@ class Run:
         """What is readable when it answers."""
         return self._hello.fileno() if self._hello and not self.is_up else -1
 
-    def follow(self) -> Process:
-        """Starts the shadow."""
+    def follow(self, tell: str | None = None) -> Process:
+        """Starts the shadow, which tells how the trunk stands at a socket, if one is named."""
+        self.tell = tell
         words = ['replay', '--config', self.version.config, '--save', self.path('followed'), '--totals']
-        words += ['--load', self.state] if self.state else []
+        words += (['--load', self.state] if self.state else []) + (['--tell', tell] if tell else [])
         nowhere = os.open(os.devnull, os.O_WRONLY)
         try:
             self.shadow = self._spawn(words, {0: self.tape, 1: nowhere}, 'shadow')
@@ -282,6 +284,8 @@ class Run:
             self.shadow.close()
         shutil.rmtree(self.folder, ignore_errors=True)
         unlink(self.control)
+        if self.tell:
+            unlink(self.tell)
 
     # ---- through an exec of the keeper ----
 
@@ -293,7 +297,7 @@ class Run:
             os.set_inheritable(file, True)
         return {'folder': self.folder, 'control': self.control, 'version': asdict(self.version), 'tape': self.tape,
                 'hello': hello, 'state': self.state, 'program': self.program.pid, 'shadow': self.shadow.pid,
-                'said': self._said}
+                'said': self._said, 'tell': self.tell}
 
     @classmethod
     def taken_up(cls, kept: Mapping[str, Any]) -> Run:
@@ -301,7 +305,7 @@ class Run:
         run = cls.__new__(cls)
         run.folder, run.control, run.version = kept['folder'], kept['control'], Version(**kept['version'])
         run.tape, run.state, run._state, run.is_up, run._said = kept['tape'], kept['state'], -1, True, kept['said']
-        run.program, run.shadow = Process(kept['program']), Process(kept['shadow'])
+        run.program, run.shadow, run.tell = Process(kept['program']), Process(kept['shadow']), kept.get('tell')
         for file in (run.tape, kept['hello'], run.version.file):
             os.set_inheritable(file, False)
         run._hello = socket.socket(fileno=kept['hello'])

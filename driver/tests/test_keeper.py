@@ -6,6 +6,7 @@ from __future__ import annotations
 
 import contextlib
 import fcntl
+import itertools
 import os
 import random
 import re
@@ -334,6 +335,32 @@ class Failures(Kept):
         self.assertNotIn('at most', self.told())
         self.as_uncut()
 
+    def told_now(self) -> list[str]:
+        """What a new client of --tell is told first."""
+        until = time.monotonic() + SECONDS
+        while True:
+            with socket.socket(socket.AF_UNIX) as line:
+                line.settimeout(SECONDS)
+                with contextlib.suppress(FileNotFoundError, ConnectionRefusedError):
+                    line.connect(self.path('tell'))
+                    self.step()
+                    with line.makefile() as lines:
+                        return list(itertools.takewhile(lambda text: text != 'now\n', lines))
+            self.assertLess(time.monotonic(), until)
+            time.sleep(0.01)
+
+    def test_shadow_that_tells(self) -> None:
+        """Its clients see the calls, also at the next shadow."""
+        self.starts('--tell', self.path('tell'))
+        self.calls()
+        for _ in range(2):
+            rows = [line.split()[3] for line in self.told_now() if line.startswith('line')]
+            self.assertEqual(rows, ['answered'] * 30)
+            os.kill(self.program, signal.SIGKILL)
+            self.goes_on()
+        self.ends()
+        self.assertEqual([name for name in os.listdir(self.folder) if name.startswith('tell')], [])
+
     def test_both(self) -> None:
         """If both are killed no state is known: the calls end, the trunk does not."""
         self.starts()
@@ -506,6 +533,7 @@ class Ends(Kept):
         self.assertIn('config 5 OutOfRange at 0', self.refused('--config', other, *unix))
         self.assertIn('somebody listens', self.refused('--config', self.config, *unix, '--control', self.config))
         self.assertIn('somebody listens', self.refused('--config', self.config, *unix, '--control', self.device.path))
+        self.assertIn('--tell', self.refused('--config', self.config, *unix, '--tell', self.device.path))
 
     def test_program_that_never_answers(self) -> None:
         """A port that is taken: the circuit and the cause are told, and the status is 1."""

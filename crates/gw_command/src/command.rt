@@ -315,6 +315,14 @@ pub fn control_of<'m>(matches: &'m ArgMatches<'_>) -> Option<&'m str>
     text_of(matches, "control")
 }
 
+/// The path of the socket at which clients are told how the trunk stands, the first one, if the matches name
+/// one.
+pub fn tell_of<'m>(matches: &'m ArgMatches<'_>) -> Option<&'m str>
+    ensures { option_map (λ path. path.now) result ≡ text_in (codes "tell") (subcommand_rows_of matches.now) }
+{
+    text_of(matches, "tell")
+}
+
 /// The path of the state that a session begins with, the first one, if the matches name one.
 pub fn load_of<'m>(matches: &'m ArgMatches<'_>) -> Option<&'m str>
     ensures { option_map (λ path. path.now) result ≡ text_in (codes "load") (subcommand_rows_of matches.now) }

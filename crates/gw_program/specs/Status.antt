@@ -47,5 +47,6 @@ trouble_status troubles.NoState = 2
 trouble_status (troubles.State fault) = load_status fault
 trouble_status troubles.NotSaved = 1
 trouble_status troubles.Control = 2
+trouble_status troubles.Tell = 2
 trouble_status (troubles.Config fault) = config_status fault
 trouble_status troubles.OutOfMemory = 3

@@ -60,6 +60,9 @@ pub enum Trouble {
     /// The socket that clients connect to can't be opened.
     #[error("cannot open the control socket")]
     Control,
+    /// The socket at which clients are told how the trunk stands can't be opened.
+    #[error("cannot open the socket of --tell")]
+    Tell,
     /// The file says no configuration.
     #[error("{0}")]
     Config(ConfigFault),
@@ -98,6 +101,7 @@ impl Trouble {
             | Trouble::NoState
             | Trouble::State(_)
             | Trouble::Control
+            | Trouble::Tell
             | Trouble::Config(_) => REFUSED,
         }
     }

@@ -41,6 +41,8 @@ pub struct Session {
     pub waiting: OutputBuffer,
     pub answer: TrunkRecord,
     pub at_once: bool,
+    /// 0, or the number of the refusal that the last record was answered with.
+    pub code: u8,
     datagram: Datagram,
     // How many of the octets that are exchanged are recorded or in the batch.
     recorded: usize,
@@ -69,6 +71,7 @@ impl Session {
             waiting: OutputBuffer::new(),
             answer: TrunkRecord::new(),
             at_once,
+            code: 0,
             datagram: Datagram::new(),
             recorded: 0,
             batch: Batch::new(),
