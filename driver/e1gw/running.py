@@ -22,6 +22,7 @@ END = spell(0x45, 0, b'')   # asks for the end of the session
 # Another codec whose payload type none may have: it is refused, changes nothing, and its answer says that all runs.
 HELLO = spell(Kind.CODEC, 1, b'\1\1')
 TOTALS = ('records', 'octets', 'datagrams', 'dropped', 'port_faults')
+RENEWED = ' begins as new'  # so ends what is said of a circuit that was configured otherwise: nothing failed
 STATE_FILE = 3              # the descriptor at which a program that waits is given its state
 
 
@@ -107,6 +108,12 @@ def open_version(program: str, config: str, words: Sequence[str], copy: str) -> 
         return Version(program, fcntl.fcntl(file, fcntl.F_DUPFD_CLOEXEC, STATE_FILE + 1), copy, list(words))
     finally:
         os.close(file)
+
+
+def told_of(lines: list[str], process: Process) -> str:
+    """How a process ended: what it has said of that, or its status."""
+    said = '; '.join(line for line in lines if not line.endswith(RENEWED))
+    return f'says: {said}' if said else process.words()
 
 
 class Run:
@@ -255,14 +262,12 @@ class Run:
 
     def last_words(self) -> str:
         """How the program ended: what it has said, or its status."""
-        said = '; '.join(self.says())
-        return f'says: {said}' if said else self.program.words()
+        return told_of(self.says(), self.program)
 
     def shadow_words(self) -> str:
         """How the shadow ended."""
         assert self.shadow
-        said = '; '.join(self._told('shadow'))
-        return f'says: {said}' if said else self.shadow.words()
+        return told_of(self._told('shadow'), self.shadow)
 
     def octets(self, name: str) -> int:
         """How many octets of the trunk the program or the shadow took, once it has ended."""

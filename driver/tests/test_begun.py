@@ -130,7 +130,8 @@ class Drawn(Ringed):
         self.assertIn('NotOpen', today)
         other = self.write('other.toml', self.text.replace('320', '321'))
         for broken, config, told in ((octets[:-1], self.config, 'state 4 Sum at 0'),
-                                     (b'', self.config, 'state 1 Short at 0'), (octets, other, 'state 5 Config at 3')):
+                                     (b'', self.config, 'state 1 Short at 0'),
+                                     (octets, other, 'circuit 4 begins as new')):
             with open(state, 'wb') as file:
                 file.write(broken)
             page, said = self.drawn('--config', config, path)
