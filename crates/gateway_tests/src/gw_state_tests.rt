@@ -27,8 +27,8 @@ fn loaded(alloc: Global, config: &GatewayConfig, file: &[u8]) -> Result<Loaded, 
     }
 }
 
-// With memory refused at any of the requests that these calls make (`rt try --test --fail-alloc N`) there is no
-// file or no gateway, and nothing else happens.
+// With memory refused at any of the requests that these calls make (`rt try --test --fail-alloc N`) there is
+// no file or no gateway, and nothing else happens.
 #[test]
 fn state_with_ample_memory(rt: HostRuntime) -> Result<(), Fail> {
     let config = config(Role::Outgoing).ok_or("no configuration")?;

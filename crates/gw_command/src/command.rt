@@ -279,8 +279,8 @@ fn signals_of(ms: u16) -> Option<u16>
     Some((ms + 1) / 2)
 }
 
-/// The wait of a seizure in signals, one every 2 ms, by the first `--seizure-wait` of the matches, if there is
-/// one.
+/// The wait of a seizure in signals, one every 2 ms, by the first `--seizure-wait` of the matches, if there
+/// is one.
 pub fn seizure_wait_of(matches: &ArgMatches<'_>) -> Option<u16>
     ensures found { IfSome result (SaysWait (subcommand_rows_of matches.now)) }
     ensures none { IfNone result ((signals : ℕ) → ¬ SaysWait (subcommand_rows_of matches.now) signals) }

@@ -181,7 +181,8 @@ fn perform_replay<Y: System, S: Source, K: Sink>(
     end_session(system, config, gateway, ended)
 }
 
-// Serves by a configuration, on ports and a tape of the system's. The tape is begun before the ports are opened.
+// Serves by a configuration, on ports and a tape of the system's. The tape is begun before the ports are
+// opened.
 fn perform_serve<Y: System, S: Source, K: Sink>(
     system: &Y,
     alloc: Global,
@@ -206,9 +207,9 @@ fn perform_serve<Y: System, S: Source, K: Sink>(
     end_session(system, config, gateway, ended)
 }
 
-/// Does a session by the configuration of the system's with a gateway of its, on its ports and its tape where it
-/// serves, and saves the state of the gateway. What the system lacked is told, and nothing was read or written
-/// then.
+/// Does a session by the configuration of the system's with a gateway of its, on its ports and its tape where
+/// it serves, and saves the state of the gateway. What the system lacked is told, and nothing was read or
+/// written then.
 pub fn perform_session<Y: System, S: Source + StandardInput, K: Sink + StandardOutput>(
     system: &Y,
     alloc: Global,

@@ -101,8 +101,8 @@ fn checked(
     Ok(totals)
 }
 
-/// Acts on the records of a source with a gateway, whose datagrams come and go through ports, and records on a
-/// tape what the gateway takes.
+/// Acts on the records of a source with a gateway, whose datagrams come and go through ports, and records on
+/// a tape what the gateway takes.
 #[inline(never)]
 pub fn serve_through<S: Source, P: Ports, K: Sink, T: Tape>(
     alloc: Global,

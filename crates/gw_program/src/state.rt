@@ -90,8 +90,8 @@ pub fn load_from<S: Source>(
 ///
 /// # Errors
 ///
-/// [`Trouble::NotSaved`] if a write failed: the sink has taken a prefix of the octets. [`Trouble::OutOfMemory`]:
-/// it has taken none.
+/// [`Trouble::NotSaved`] if a write failed: the sink has taken a prefix of the octets.
+/// [`Trouble::OutOfMemory`]: it has taken none.
 pub fn save_to<K: Sink>(
     alloc: Global,
     config: &GatewayConfig,
@@ -221,8 +221,8 @@ fn is_replaced(rt: &HostRuntime, path: &str) -> bool {
     }
 }
 
-/// Saves the state of a gateway to a file, if one is named. It is written beside the file, synced, and put in its
-/// place whole: if that fails an old file stays as it was.
+/// Saves the state of a gateway to a file, if one is named. It is written beside the file, synced, and put in
+/// its place whole: if that fails an old file stays as it was.
 pub fn keep_gateway(
     rt: &HostRuntime,
     config: &GatewayConfig,

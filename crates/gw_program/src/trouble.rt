@@ -82,8 +82,8 @@ impl Trouble {
         }
     }
 
-    /// The status of the program: 1 at a fault of a session, a socket or a trunk and if a state is not saved, 2
-    /// if the command line, a file or the configuration is refused, and 3 for want of memory.
+    /// The status of the program: 1 at a fault of a session, a socket or a trunk and if a state is not saved,
+    /// 2 if the command line, a file or the configuration is refused, and 3 for want of memory.
     pub fn status(&self) -> u8
         ensures { result ≡ trouble_status self.now }
     {

@@ -133,9 +133,9 @@ impl Session {
         Ok(out.octet)
     }
 
-    // Receives the datagrams that wait at the circuit whose slot the next octet sends, four at most, puts them
-    // into the batch behind the octets that were heard and gives them to the gateway. (It is inlined, since
-    // mostly nothing waits: then an octet saves no registers for it.)
+    // Receives the datagrams that wait at the circuit whose slot the next octet sends, four at most, puts
+    // them into the batch behind the octets that were heard and gives them to the gateway. (It is inlined,
+    // since mostly nothing waits: then an octet saves no registers for it.)
     #[inline(always)]
     fn receive_next<O: Outlet, T: Tape>(
         &mut self,
@@ -181,8 +181,8 @@ impl Session {
     }
 
     /// Gives octets to the gateway, each after the datagrams that wait at the circuit whose slot is sent with
-    /// it, and puts the octets to send behind those of the answer. All are recorded when it returns, mostly in
-    /// one write: the octets are cut where datagrams came.
+    /// it, and puts the octets to send behind those of the answer. All are recorded when it returns, mostly
+    /// in one write: the octets are cut where datagrams came.
     pub fn exchange_all<O: Outlet, K: Sink, T: Tape>(
         &mut self,
         gateway: &mut Gateway,

@@ -1,6 +1,7 @@
 //! A gateway from the octets of its state.
 
-ghost use Rattle.std.specs.Prelude.{◌≡◌, ◌≢◌, ◌≤◌, ◌<◌, ◌++◌, ◌∷◌, [], ℕ, List, IfOk, IfErr, IfSome, IfNone, length, take};
+ghost use Rattle.std.specs.Prelude.{◌≡◌, ◌≢◌, ◌≤◌, ◌<◌, ◌++◌, ◌∷◌, [], ℕ, List, IfOk, IfErr, IfSome, IfNone};
+ghost use Rattle.std.specs.Prelude.{length, take};
 ghost use Rattle.std.specs.Prelude.{slice_index};
 ghost use Rattle.gw_switch.specs.declared.GatewayConfig as configs;
 ghost use Rattle.gw_switch.specs.Standing.{Stands};

@@ -1,5 +1,6 @@
 -- A gateway as octets, and back.
-use Rattle.std.proofs.Common.{◌≡◌, ◌++◌, ◌+◌, ◌-◌, ◌<◌, ◌≤◌, ℕ, List, length, arith, sym, subst, append_assoc, slice_index_or}
+use Rattle.std.proofs.Common.{◌≡◌, ◌++◌, ◌+◌, ◌-◌, ◌<◌, ◌≤◌, ℕ, List, length, arith, sym, subst, append_assoc}
+use Rattle.std.proofs.Common.{slice_index_or}
 use Rattle.gw_switch.specs.declared.GatewayConfig.{GatewayConfig}
 use Rattle.gw_switch.specs.declared.circuits.Channel.{Channel}
 use Rattle.gw_switch.specs.declared.gateway.Gateway.{Gateway}

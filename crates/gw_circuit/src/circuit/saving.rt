@@ -1,6 +1,7 @@
 //! A circuit saved as octets, and loaded from them.
 
-ghost use Rattle.std.specs.Prelude.{◌≡◌, ◌<◌, ◌^◌, ◌++◌, [], ℕ, List, OnOk, IfSome, IfNone, Some, true, false};
+ghost use Rattle.std.specs.Prelude.{◌≡◌, ◌<◌, ◌^◌, ◌++◌, [], ℕ, List, OnOk, IfSome, IfNone, Some, true};
+ghost use Rattle.std.specs.Prelude.{false};
 ghost use Rattle.e1_g711.specs.declared.Law.{Law};
 ghost use Rattle.q421_line.specs.declared.signalling.Line.{Line};
 ghost use Rattle.q421_line.specs.Line as line;
@@ -108,7 +109,8 @@ impl Circuit {
         Some(())
     }
 
-    // Reads a saved line into this circuit; None if the octets are not those of a line, whose line is then new.
+    // Reads a saved line into this circuit; None if the octets are not those of a line, whose line is then
+    // new.
     fn load_line(&mut self, octets: &mut Octets<'_>) -> Option<()>
         ensures loaded { (line : Line) (rest : List ℕ) → line.role ≡ self.old.config.role
             → LineFits line → octets.old ≡ saved_line line ++ rest

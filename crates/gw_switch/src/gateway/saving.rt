@@ -13,8 +13,8 @@ impl Gateway {
     ghost use Rattle.gw_switch.specs.Standing.{Stands};
     ghost use Rattle.gw_switch.specs.Saved.{saved_gateway, GatewayFits, IsSame, AreConfiguredAlike};
 
-    /// Appends the octets of the gateway: those of the trunk, then those of its circuits. Its configuration is
-    /// not among them.
+    /// Appends the octets of the gateway: those of the trunk, then those of its circuits. Its configuration
+    /// is not among them.
     #[tactic(auto, unfolding(crate::specs::Saved::saved_gateway))]
     pub fn save(&self, out: &mut Vec<u8>) -> Result<(), AllocError>
         ensures octets { OnOk result (out.new.items ≡ out.old.items ++ saved_gateway self.now) }
