@@ -18,7 +18,8 @@ HERE = os.path.dirname(os.path.abspath(__file__))
 TOP = os.path.dirname(HERE)
 sys.path[:0] = [HERE, os.path.join(TOP, 'driver'), os.path.join(TOP, 'scripts')]
 from e1gw.clear import Clear  # noqa: E402
-from e1gw.lines import Alignment, Lines  # noqa: E402
+from e1gw.followed import Followed  # noqa: E402
+from e1gw.lines import Alignment  # noqa: E402
 from e1gw.satop import Circuit, Satop, connected  # noqa: E402
 from e1gw.satop_playout import Fill  # noqa: E402
 from e1gw.session import Command  # noqa: E402
@@ -89,7 +90,7 @@ class Lock:
         self.far = Multiplexer(FAR, NEAR, self.network, trial.bits, trial.rtp)
         self.near = Satop(connected(NEAR, FAR), Circuit(jitter=trial.jitter, rtp=trial.rtp, fill=trial.fill),
                           lambda: self.now, program)
-        self.serve, self.lines = Serve(program, config), Lines(config)
+        self.serve, self.lines = Serve(program, config), Followed(config)
         self.exchange = self.far.exchange
         self.alarms = 0             # multiframes in which the exchange was told of an alarm
 

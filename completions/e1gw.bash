@@ -16,7 +16,7 @@ _e1gw_options() {
     align) echo '--totals --help' ;;
     crc4) echo '--check --totals --help' ;;
     encode | decode) echo '--law --codec --payload --ptime --ssrc --sequence --timestamp --totals --help' ;;
-    replay) echo '--config --load --save --seizure-wait --totals --help' ;;
+    replay) echo '--config --load --save --seizure-wait --tell --totals --help' ;;
     check) echo '--config --load --seizure-wait --totals --help' ;;
     serve)
       echo '--config --load --save --record --record-over --repeat --seizure-wait --senders --totals --help' ;;
@@ -44,7 +44,7 @@ _e1gw() {
       return ;;
     --payload | --ssrc | --sequence | --timestamp | --repeat | --seizure-wait)
       return ;;
-    --config | --load | --save | --control | --record)
+    --config | --load | --save | --control | --record | --tell)
       compopt -o filenames 2> /dev/null
       mapfile -t COMPREPLY < <(compgen -f -- "$cur")
       return ;;

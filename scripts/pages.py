@@ -248,7 +248,7 @@ def main():
     compare_options(lines)
     for option, about in described(lines).items():
         if option not in {'check', 'config', 'control', 'load', 'record', 'record-over', 'save', 'seizure-wait',
-                          'senders', 'totals', 'help', 'version'}:
+                          'senders', 'tell', 'totals', 'help', 'version'}:
             compare_values(option, about)
     compare_payloads()
     compare_options_passed_over(lines)

@@ -38,7 +38,7 @@ class Call:
     """One call: when it was seized, answered and ended, who ended it, and where on the trunk it ended."""
 
     circuit: int
-    seized: float
+    seized: float | None        # None if it was up before anything was told
     unacknowledged: int         # of its line, before it
     answered: float | None = None
     ended: float | None = None
@@ -60,13 +60,26 @@ class Calls:
     def took(self, event: Event) -> None:
         """A change of a line's state."""
         circuit, was, state = event['circuit'], State(event['was']), State(event['state'])
+        unwatched = event.get('unwatched', False)
         if was not in IN_CALL and state in IN_CALL:
-            self._calls[circuit] = Call(circuit, self._clock(), self._lines[circuit].unacknowledged)
+            self._begin(circuit, None if unwatched else self._clock())
         call = self._calls.get(circuit)
         if call and state is State.ANSWERED and call.answered is None:
             call.answered = self._clock()
         if call and state not in IN_CALL:
-            self._end(call, self._who(call, was, state), event['place'])
+            self._end(call, 'unwatched' if unwatched else self._who(call, was, state), event['place'])
+
+    def _begin(self, circuit: int, seized: float | None) -> None:
+        self._calls[circuit] = Call(circuit, seized, self._lines[circuit].unacknowledged)
+
+    def begun(self) -> None:
+        """How all lines stand is known again: there may be calls that nobody has told, and counts that began anew."""
+        for n, line in self._lines.items():
+            if line.state in IN_CALL and n not in self._calls:
+                self._begin(n, None)
+                self._calls[n].answered = self._clock() if line.state is State.ANSWERED else None
+            now = self._now(n)
+            self._before[n] = {word: min(self._before.get(n, now).get(word, 0), count) for word, count in now.items()}
 
     def _who(self, call: Call, was: State, state: State) -> str:
         """Who ended a call: the one that hung up first."""
@@ -84,7 +97,7 @@ class Calls:
 
     def look(self) -> None:
         """To be called now and then: writes the calls whose packets are counted, or will not be."""
-        while self._ended and (self._counts.stale() or self._counts.answered_place >= self._ended[0].place):
+        while self._ended and (self._counts.stale() or self._counts.has(self._ended[0].place)):
             self._write(self._ended.pop(0))
 
     def finish(self) -> None:
@@ -95,14 +108,19 @@ class Calls:
             self._write(call)
         self._ended = []
 
+    def _now(self, circuit: int) -> dict[str, int]:
+        counts = self._counts.circuits[circuit]
+        return {**counts.counts(), 'lost': counts.stream.lost}
+
     def _write(self, call: Call) -> None:
-        counts = self._counts.circuits[call.circuit]
-        now = {**counts.counts(), 'lost': counts.stream.lost}
+        now = self._now(call.circuit)
         before = self._before.get(call.circuit, {})
         self._before[call.circuit] = now
         # (a packet that was thought lost may come behind the end of its call)
         numbers = [max(0, now.get(word, 0) - before.get(word, 0)) for word in EACH]
         told: list[object] = [''] * len(EACH) if self._counts.stale() else [*numbers]
+        if call.by == 'unwatched':
+            told[2:] = ['', '']     # of its last packets nobody has told more
         self._put(csv_line([self._trunk, call.circuit, self._lines[call.circuit].role, moment(call.seized),
                             moment(call.answered), moment(call.ended), call.by, call.codec, *told]))
 

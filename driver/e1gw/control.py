@@ -10,7 +10,7 @@ A line is answered by one or more lines and an empty one:
   on-loss clear SECONDS      when the last client that asked for it is gone so long, calls are cleared
   on-loss block SECONDS      the same, and idle incoming circuits are blocked
   on-loss keep               takes that back
-  quit                       ends the trunk
+  quit                       ends the trunk; of e1gw-watch, the watcher alone
   help                       these lines
 """
 from __future__ import annotations
@@ -31,7 +31,7 @@ from .peers import Peer
 from .session import CIRCUITS, Codec, Command, codec_record, command_record
 
 if TYPE_CHECKING:
-    from .driver import Driver
+    from .managed import Managed
     from .snapshots import Snapshot
 
 MOST_LINE = 4096            # octets of a line
@@ -132,18 +132,18 @@ class Client(Peer):
 
     TAKES = MOST_LINE
 
-    def __init__(self, driver: Driver, line: socket.socket) -> None:
-        self.driver = driver
+    def __init__(self, trunk: Managed, line: socket.socket) -> None:
+        self.trunk = trunk
         self.follows = False
         self.last = time.monotonic()    # when it came, or said the last line
         self.silent = True
-        self._typed = Typed(driver.loop, self._obey, lambda text: self.send(f'{text}\n\n'.encode()),
+        self._typed = Typed(trunk.loop, self._obey, lambda text: self.send(f'{text}\n\n'.encode()),
                             Share(self.last), lambda: self.reads(True))
-        Peer.__init__(self, driver.loop, line, lambda _: self._left())
+        Peer.__init__(self, trunk.loop, line, lambda _: self._left())
 
     def _left(self) -> None:
         self._typed.drop()
-        self.driver.left(self)
+        self.trunk.left(self)
 
     def took(self, octets: bytes) -> None:
         if not self._typed.took(octets):
@@ -152,7 +152,7 @@ class Client(Peer):
 
     def idle(self, now: float) -> bool:
         """Whether it wants nothing, and has not for a while."""
-        if self.follows or self._typed.waits() or self.driver.guards.has_asked(self):
+        if self.follows or self._typed.waits() or self.trunk.guards.has_asked(self):
             return False
         return now - self.last > (SILENT if self.silent else IDLE)
 
@@ -162,9 +162,9 @@ class Client(Peer):
             say('following')
             self.follows = True
         elif line.split()[0] == 'on-loss':
-            say(self.driver.guards.asked(self, line.split()[1:]))
+            say(self.trunk.guards.asked(self, line.split()[1:]))
         else:
-            obey(self.driver, line, say)
+            obey(self.trunk, line, say)
 
 
 def who_goes(clients: list[Client], now: float) -> Client | None:
@@ -187,10 +187,10 @@ def _close_gone(clients: list[Client]) -> None:
             client.close()
 
 
-def seat(driver: Driver, line: socket.socket) -> None:
+def seat(trunk: Managed, line: socket.socket) -> None:
     """Takes one who has connected: there are MOST_CLIENTS seats, and one more that is kept for who comes when they are
     all in use."""
-    clients = [peer for peer in driver.peers if isinstance(peer, Client)]
+    clients = [peer for peer in trunk.peers if isinstance(peer, Client)]
     if len(clients) >= MOST_CLIENTS:
         _close_gone(clients)
         clients = [client for client in clients if client.open]
@@ -199,7 +199,7 @@ def seat(driver: Driver, line: socket.socket) -> None:
         goes.close()
     elif len(clients) > MOST_CLIENTS:
         return _refuse(line)
-    driver.peers.add(Client(driver, line))
+    trunk.peers.add(Client(trunk, line))
 
 
 def _refuse(line: socket.socket) -> None:
@@ -214,17 +214,17 @@ def _refuse(line: socket.socket) -> None:
 class Console:
     """The terminal: lines of standard input, answered on standard output."""
 
-    def __init__(self, driver: Driver, say: Say) -> None:
-        self.driver = driver
-        self._typed = Typed(driver.loop, self._obey, say)
-        driver.loop.watch(0, READ, lambda _: self._ready(), beside=True)
+    def __init__(self, trunk: Managed, say: Say) -> None:
+        self.trunk = trunk
+        self._typed = Typed(trunk.loop, self._obey, say)
+        trunk.loop.watch(0, READ, lambda _: self._ready(), beside=True)
 
     def _obey(self, line: str, say: Say) -> None:
         if line == 'events':
             say('following')
-            self.driver.options.watch = True
+            self.trunk.options.watch = True
         else:
-            obey(self.driver, line, say)
+            obey(self.trunk, line, say)
 
     def _ready(self) -> None:
         try:
@@ -234,7 +234,7 @@ class Console:
         except OSError:
             octets = b''
         if not octets:
-            self.driver.loop.forget(0)
+            self.trunk.loop.forget(0)
             self._typed.end()
         elif not self._typed.took(octets):
             self._typed.drop()
@@ -257,38 +257,38 @@ def _codec_fault(words: list[str], law: str) -> str | None:
     return None
 
 
-def obey(driver: Driver, line: str, say: Say) -> None:
+def obey(trunk: Managed, line: str, say: Say) -> None:
     """Does what a line says; `say` is called once, now or later."""
     name, *words = line.split()
     if name == 'status' and words in ([], ['json']):
-        driver.snapshots.ask(lambda now: say(now.json if words else now.table.rstrip('\n')))
+        trunk.snapshots.ask(lambda now: say(now.json if words else now.table.rstrip('\n')))
     elif name == 'status' and len(words) == 1:
-        _say_circuit(driver, words[0], say)
+        _say_circuit(trunk, words[0], say)
     elif name == 'help' and not words:
         say((__doc__ or '').partition('\n\n')[2].rstrip('\n'))
     elif name == 'quit' and not words:
-        say('quit: done')
-        driver.stop('quit')
+        say(trunk.quit_words)
+        trunk.stop('quit')
     elif name in COMMANDS or name == 'codec':
-        _obey_circuit(driver, name, words, say)
+        _obey_circuit(trunk, name, words, say)
     else:
         say(f'{name[:40]}: no such command; there are {", ".join(COMMANDS)}, codec, status, events, on-loss, quit and '
             'help')
 
 
-def _say_circuit(driver: Driver, word: str, say: Say) -> None:
+def _say_circuit(trunk: Managed, word: str, say: Say) -> None:
     """The row of one circuit."""
     circuit = circuit_of(word)
     if circuit is None:
         return say(f'status {word[:40]}: circuits are 1 to 30')
-    driver.snapshots.ask(functools.partial(_say_row, circuit, say))
+    trunk.snapshots.ask(functools.partial(_say_row, circuit, say))
 
 
 def _say_row(circuit: int, say: Say, now: Snapshot) -> None:
     say(circuit_table(now.status, circuit))
 
 
-def _obey_circuit(driver: Driver, name: str, words: list[str], say: Say) -> None:
+def _obey_circuit(trunk: Managed, name: str, words: list[str], say: Say) -> None:
     if len(words) != (3 if name == 'codec' else 1):
         return say(f'{name}: wants ' + ('a circuit, a codec and a payload type' if name == 'codec' else 'a circuit'))
     circuit = circuit_of(words[0])
@@ -296,17 +296,17 @@ def _obey_circuit(driver: Driver, name: str, words: list[str], say: Say) -> None
         return say(f'{name} {words[0][:40]}: circuits are 1 to 30')
     front = f'{name} {circuit}: '
     if name == 'codec':
-        fault = _codec_fault(words[1:], driver.lines.law)
+        fault = _codec_fault(words[1:], trunk.lines.law)
         if fault:
             return say(front + fault)
         record = codec_record(circuit, CODECS[words[1]], int(words[2]))
     else:
-        if COMMANDS[name] is Command.SEIZE and (fault := driver.dark_words()):
+        if COMMANDS[name] is Command.SEIZE and (fault := trunk.dark_words()):
             # The gateway would do it; no exchange could see it, and 200 ms later it would be released.
-            driver.refused(circuit, name, fault)
+            trunk.count(circuit, name, fault)
             return say(front + fault)
         record = command_record(circuit, COMMANDS[name])
-    driver.command(record, circuit, ' '.join([name, *words[1:]]), lambda text: say(front + text))
+    trunk.command(record, circuit, ' '.join([name, *words[1:]]), lambda text: say(front + text))
 
 
 def free_path(path: str) -> None:

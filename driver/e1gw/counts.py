@@ -1,4 +1,4 @@
-"""What became of the datagrams of each circuit: counted from the recording and from what its replay answers."""
+"""What became of the datagrams of each circuit."""
 from __future__ import annotations
 
 import struct
@@ -58,22 +58,55 @@ class Circuit:
 
 
 class Counts:
-    """Counts datagrams. `taped` is given the octets of the recording and `answered` those of its replay, in pieces.
-
-    `counted(circuit, code, place)` is called with the answer to each datagram that came at this place of the trunk."""
+    """Counts datagrams. `counted(circuit, code, place)` is called with what became of each, and where on the trunk."""
 
     def __init__(self, counted: Callable[[int, int, int], None] | None = None) -> None:
         self.circuits = {n: Circuit() for n in CIRCUITS}
-        self.place = 0                      # octets of the trunk on the recording
-        self.answered_place = 0             # of them those that the replay has answered
         self.ended: str | None = None       # why the counts go on no more
         self._counted = counted or (lambda circuit, code, place: None)
+
+    def stale(self) -> bool:
+        """Whether the counts are not those of now."""
+        return self.ended is not None
+
+    def has(self, place: int) -> bool:
+        """Whether all is counted that came before this place of the trunk."""
+        return True
+
+    def count(self, circuit: int, code: int, place: int, sequence: int, timestamp: int, ssrc: int) -> None:
+        """What became of a datagram that came at a place of the trunk, with three numbers of its header."""
+        row = self.circuits[circuit]
+        if code == 0:
+            row.admitted += 1
+            row.stream.take(sequence, timestamp, ssrc, place // SAMPLE)
+        else:
+            word = _WORDS.get(code, str(code))
+            row.refused[word] = row.refused.get(word, 0) + 1
+        self._counted(circuit, code, place)
+
+    def status(self, circuit: int) -> dict[str, Any]:
+        """The counts of a circuit, as plain values."""
+        row = self.circuits[circuit]
+        return {'datagrams': row.counts(), 'lost': row.stream.lost,
+                'jitter_ms': round(row.stream.jitter / 8, 2), 'stale': self.stale()}
+
+
+class Taped(Counts):
+    """Counts from a recording and from what its replay answers. `taped` is given the octets of the one and `answered`
+    those of the other, in pieces."""
+
+    def __init__(self, counted: Callable[[int, int, int], None] | None = None) -> None:
+        super().__init__(counted)
+        self.place = 0                      # octets of the trunk on the recording
+        self.answered_place = 0             # of them those that the replay has answered
         self._tape, self._answers = b'', b''
         self._asked: deque[tuple[int, int, int, int, int]] = deque()
 
     def stale(self) -> bool:
-        """Whether the counts are not those of now."""
-        return self.ended is not None or self.place - self.answered_place > LATE
+        return super().stale() or self.place - self.answered_place > LATE
+
+    def has(self, place: int) -> bool:
+        return self.answered_place >= place
 
     def taped(self, octets: bytes) -> bytes:
         """Octets of the recording: notes each datagram and where on the trunk it came. Returns the records that are
@@ -113,18 +146,5 @@ class Counts:
         self._answers = held[at:]
 
     def _count(self, circuit: int, code: int) -> None:
-        _, place, sequence, timestamp, ssrc = self._asked.popleft()
-        row = self.circuits[circuit]
-        if code == 0:
-            row.admitted += 1
-            row.stream.take(sequence, timestamp, ssrc, place // SAMPLE)
-        else:
-            word = _WORDS.get(code, str(code))
-            row.refused[word] = row.refused.get(word, 0) + 1
-        self._counted(circuit, code, place)
-
-    def status(self, circuit: int) -> dict[str, Any]:
-        """The counts of a circuit, as plain values."""
-        row = self.circuits[circuit]
-        return {'datagrams': row.counts(), 'lost': row.stream.lost,
-                'jitter_ms': round(row.stream.jitter / 8, 2), 'stale': self.stale()}
+        _, *asked = self._asked.popleft()
+        self.count(circuit, code, *asked)

@@ -2,8 +2,6 @@
 from __future__ import annotations
 
 import functools
-import json
-import os
 import socket
 import threading
 import time
@@ -11,32 +9,26 @@ from collections import deque
 from typing import Any
 
 from .behind import Behind
-from .calls import Calls, to_calls
 from .clock import TICK, Clock, Finding
-from .control import Client, Console, Say, listen_unix, seat
-from .counts import Counts
-from .events import NOTICED, WARNED, words_of
+from .control import Say
+from .counts import Taped
 from .explain import gateway_words
-from .faults import named, words_of_fault, words_of_refusal
+from .faults import words_of_fault
+from .followed import Followed
 from .gateway import Gateway, Shadow, version_of
-from .guards import Guards
 from .keep import Ring
-from .lines import OPEN, Event, Lines, Role, State, read_config, wait_words, with_wait
+from .lines import read_config, wait_words, with_wait
 from .loop import READ, WRITE, Loop
-from .options import Options
-from .outlets import Journal, Outlet, to_descriptor, to_file
+from .managed import BESIDE, Answered, Managed
+from .options import DriverOptions
+from .outlets import Journal, Outlet, to_file
 from .pace import Pace
-from .pages import Pages
-from .peers import Door, Peer
 from .pictures import Pictures
 from .restarts import Restarts
-from .session import Codec, Command, Kind, Record, codec_record, command_record, trunk_record
-from .snapshots import Snapshot, Snapshots
-from .sockets import Tables
+from .session import Codec, Command, Kind, Record, trunk_record
 from .trunks import Trunk
 
-# what may end without the calls
-BESIDE = ('shadow', 'recording', 'session', 'states', 'json', 'calls', 'metrics', 'picture', 'pages')
+OWN = ('shadow', 'recording', 'session', 'states', 'picture')       # of this driver, what may end without the calls
 REOPEN_MOST = 30.0              # seconds between two tries to open the trunk
 SELDOM = 5                      # ticks between two looks at what is to become of calls
 
@@ -46,75 +38,48 @@ def _with_place(fault: OSError, trunk: Trunk) -> str:
     return f'{words_of_fault(fault)}{f": {trunk.name}" if trunk.name else ""}'
 
 
-class Driver:
+class Driver(Managed):
     """One trunk in service."""
 
-    def __init__(self, loop: Loop, options: Options, journal: Journal) -> None:
-        self.loop, self.options, self.journal = loop, options, journal
-        self._version = version_of(options.program)
-        self.lines = Lines(with_wait(read_config(options.config), options.seizure_wait), self.tell)
-        self._sockets = Tables(self.lines.lines.values())
-        self.snapshots = Snapshots(loop, lambda: Snapshot(self.status(), self._sockets))
-        self.began = time.monotonic()
+    options: DriverOptions
+    lines: Followed
+    counts: Taped
+
+    def __init__(self, loop: Loop, options: DriverOptions, journal: Journal) -> None:
+        restarts = Restarts(self.restart, self.tell)
+        lines = Followed(with_wait(read_config(options.config), options.seizure_wait), self.tell)
+        super().__init__(loop, options, journal, version_of(options.program), lines, Taped(restarts.counted), restarts)
+        self.ended = dict.fromkeys((*OWN, *BESIDE))
         self.clock = Clock(self.began, options.gap)
-        self.restarts = Restarts(self._restart, self.tell)
-        self.counts = Counts(self.restarts.counted)
-        self.guards = Guards(options.on_loss, self.clear_all)
         self.trunk: Trunk | None = None
-        self.status_code: int | None = None         # once it is there the driver ends
-        self.ended: dict[str, str | None] = dict.fromkeys(BESIDE)
-        self.done: dict[tuple[str, str], int] = {}  # commands, by name and answer
-        self.renewed = 0
         self._ticks = 0
-        self.peers: set[Peer] = set()
-        self._doors: list[Door] = []
         self._paused = False
         self._pace = Pace(options.pace)
         self._slowest: deque[float] = deque([0.0], maxlen=60)
-        self._dark_since: float | None = None
-        self._dark_cleared = False
-        self._notes: deque[tuple[str, str]] = deque()   # from other threads: what has ended, and why
         self._opened: deque[Trunk | OSError | EOFError] = deque()
         self._reopen_after = 1.0
         self._reopen_due: float | None = None
-        self._out = to_descriptor('standard output', 1)
-        self._json = self._open_json()
-        self._calls_out = to_calls(options.calls, self._note) if options.calls else None
-        self.calls = (Calls(options.name, self.lines.lines, self.counts, self._calls_out.put) if self._calls_out
-                      else None)
         self._session, self._ring = self._open_session()
         self.gateway = Gateway(loop, options.program, options.config, self._taped, self._said, self._resume,
                                self._gateway_ended, options.serve)
         again = [options.program, 'replay', '--config', options.config, *wait_words(options.seizure_wait)]
         self.shadow = Shadow(loop, again, self._replayed,
-                             functools.partial(self._end_beside, 'shadow')) if options.counts else None
+                             functools.partial(self.end_beside, 'shadow')) if options.counts else None
         if not options.counts:
             self.counts.ended = 'not asked for'
-        self.pages: Pages | None = None
         self.pictures, self._drawn = self._open_pictures()
 
     # ---- what is opened ----
-
-    def _note(self, what: str, why: str) -> None:
-        """From any thread: something beside the calls has ended."""
-        self._notes.append((what, why))
-        self.loop.wake()
-
-    def _open_json(self) -> Outlet | None:
-        path = self.options.json
-        if not path:
-            return None
-        return to_descriptor('json', 1, self._note) if path == '-' else to_file('json', path, self._note)
 
     def _open_session(self) -> tuple[Outlet | None, Ring | None]:
         options = self.options
         if not options.session:
             return None, None
         if options.keep is None:
-            return to_file('session', options.session, self._note), None
-        behind = Behind(options.program, wait=options.seizure_wait, failed=functools.partial(self._note, 'states'))
+            return to_file('session', options.session, self.note), None
+        behind = Behind(options.program, wait=options.seizure_wait, failed=functools.partial(self.note, 'states'))
         ring = Ring(options.session, options.name, options.config, options.keep, behind, options.seizure_wait)
-        return Outlet('session', ring.write, self._note, ring.close, ring.open, options.session), ring
+        return Outlet('session', ring.write, self.note, ring.close, ring.open, options.session), ring
 
     def _open_pictures(self) -> tuple[Pictures | None, socket.socket | None]:
         """The process that draws, and the socket at which another one asks it."""
@@ -123,44 +88,7 @@ class Driver:
             return None, None
         ours, theirs = socket.socketpair()
         return Pictures(self.loop, options.config, options.seizure_wait, options.picture, options.name, options.program,
-                        theirs, functools.partial(self._end_beside, 'picture')), ours
-
-    def open_doors(self) -> None:
-        """Opens what others connect to, and the terminal."""
-        options = self.options
-        if options.control:
-            try:
-                door = listen_unix(options.control, options.control_mode, options.control_group)
-            except OSError as fault:
-                raise named(fault, f'--control {options.control}') from None
-            self._doors.append(Door(self.loop, door, lambda line, _: seat(self, line), options.control))
-        web = None
-        if options.http:
-            family = socket.AF_INET6 if ':' in options.http[0] else socket.AF_INET
-            try:
-                web = socket.create_server(options.http, family=family)
-            except OSError as fault:
-                raise named(fault, f'--http {options.http[0]}:{options.http[1]}') from None
-        if web or options.top or options.metrics:
-            self._open_pages(web)
-        Console(self, lambda text: self._out.put(f'{text}\n'.encode()))
-
-    def _open_pages(self, door: socket.socket | None) -> None:
-        options = self.options
-        words = {'config': options.config, 'name': options.name, 'top': options.top, 'metrics': options.metrics}
-        try:
-            self.pages = Pages(self.loop, words, door, self._drawn, self._snapshot_wanted, self._end_beside)
-        except OSError as fault:
-            self._end_beside('pages', fault.strerror or str(fault))
-
-    def _snapshot_wanted(self) -> None:
-        if self.pages:
-            self.snapshots.ask(self.pages.give)
-
-    def left(self, peer: Peer) -> None:
-        """A client or a visitor is gone."""
-        self.peers.discard(peer)
-        self.guards.left(peer, time.monotonic())
+                        theirs, functools.partial(self.end_beside, 'picture')), ours
 
     # ---- the trunk ----
 
@@ -312,7 +240,7 @@ class Driver:
     def _said(self, line: str) -> None:
         """A line that the gateway prints."""
         if line.startswith('recording ended'):
-            self._end_beside('recording', line)
+            self.end_beside('recording', line)
         elif line:
             self.journal.line(Journal.INFO, f'gateway: {line}')
             if why := gateway_words(line, self.options.config):
@@ -323,86 +251,32 @@ class Driver:
             self.journal.line(Journal.ERROR, why)
             self.end(1)
 
-    def _end_beside(self, what: str, why: str) -> None:
-        """Something beside the calls has ended; they go on."""
-        if self.status_code is not None and not why:
-            return
-        if self.ended.get(what) is None:
-            self.ended[what] = why
-            if what in ('shadow', 'recording'):
-                self.counts.ended = why
-            if what == 'pages':
-                self._take_metrics_away()
-            self.tell({'event': 'ended', 'what': what, 'why': why})
+    def end_beside(self, what: str, why: str) -> None:
+        super().end_beside(what, why)
+        if what in ('shadow', 'recording'):
+            self.counts.ended = self.ended[what] or self.counts.ended
 
     # ---- calls ----
 
     def dark_words(self) -> str | None:
-        """Why no seizure can reach the other end, or None."""
         if self.trunk is None:
             return 'no trunk'
         if self.clock.stalled:
             return 'the trunk is stalled'
-        if self.lines.alarm():
-            return 'no alignment'
-        return 'the other end has no alignment' if any(self.lines.remote.values()) else None
+        return self.lines.dark_words()
 
-    def command(self, record: bytes, circuit: int, words: str, say: Say) -> None:
-        """Gives the gateway a command or a change of codec; `say` is called with the answer in words."""
-        kind, number, more = record[0], record[4], record[5:]
-
-        def answered(answer: Record) -> None:
-            refusal = answer.refusal
-            text = refusal.words if refusal else 'done'
-            if refusal is None and kind == Kind.COMMAND:
-                self.lines.command(circuit, Command(number))
-            elif refusal is None:
-                self.lines.codec(circuit, Codec(number), more[0])
-            self._count(circuit, words, text)
-            say(words_of_refusal(refusal, circuit, self.lines.lines[circuit].role) if refusal else text)
+    def _give(self, record: bytes, answered: Answered, failed: Say) -> None:
         self.gateway.give(record, answered)
         self.gateway.settle()
         if self.gateway.busy():
             self._pause()
 
-    def refused(self, circuit: int, words: str, text: str) -> None:
-        """A command that the driver itself refuses."""
-        self._count(circuit, words, text)
-
-    def _count(self, circuit: int, words: str, text: str) -> None:
-        key = words.split()[0], text
-        self.done[key] = self.done.get(key, 0) + 1
-        self.tell({'event': 'command', 'circuit': circuit, 'command': words, 'answer': text})
-
-    def clear_all(self, why: str, blocks: bool = False) -> None:
-        """Ends all calls that this end can end: clear at the outgoing end, clear-back at the incoming one. `blocks`
-        blocks idle circuits at the incoming end, too."""
-        cleared = []
-        for n, line in self.lines.lines.items():
-            if line.role is Role.OUTGOING and (line.state in OPEN or line.state is State.SEIZED):
-                self.command(command_record(n, Command.CLEAR), n, 'clear', lambda text: None)
-                cleared.append(n)
-            elif line.role is Role.INCOMING and line.state is State.ANSWERED:
-                self.command(command_record(n, Command.CLEAR_BACK), n, 'clear-back', lambda text: None)
-                cleared.append(n)
-            elif blocks and line.role is Role.INCOMING and line.state is State.IDLE:
-                self.command(command_record(n, Command.BLOCK), n, 'block', lambda text: None)
-        if cleared:
-            self.tell({'event': 'cleared', 'why': why, 'circuits': cleared})
-
-    def _restart(self, circuits: list[int]) -> None:
-        """Gives open circuits the codec that they have, which restarts their playout."""
-        for n in circuits:
-            line = self.lines.lines[n]
-            codec = next(each for each in Codec if each.word(self.lines.law) == line.codec)
-            self.gateway.give(codec_record(n, codec, line.payload), lambda answer: None)
-        self.renewed += len(circuits)
-        self.gateway.settle()
-        if self.gateway.busy():
-            self._pause()
-
-    def _open_circuits(self) -> list[int]:
-        return [n for n, line in self.lines.lines.items() if line.state in OPEN]
+    def _obeyed(self, circuit: int, record: bytes) -> None:
+        kind, number, more = record[0], record[4], record[5:]
+        if kind == Kind.COMMAND:
+            self.lines.command(circuit, Command(number))
+        else:
+            self.lines.codec(circuit, Codec(number), more[0])
 
     # ---- time ----
 
@@ -418,20 +292,11 @@ class Driver:
             for finding in found:
                 self._found(finding)
             if found or not self._ticks:
-                self.restarts.look(now, self.lines.place, self._open_circuits(), not self.counts.stale())
+                self.restarts.look(now, self.lines.place, self.lines.open_circuits(), not self.counts.stale())
         self._look_at_opening()
-        while self._notes:
-            self._end_beside(*self._notes.popleft())
-        self.snapshots.look()
+        self.look()
         if not self._ticks:
             self._look_at_calls(now)
-
-    def _look_at_calls(self, now: float) -> None:
-        """Each SELDOM ticks: what is to become of calls."""
-        self.guards.look(now)
-        self._look_at_dark(now)
-        if self.calls:
-            self.calls.look()
 
     def _found(self, finding: Finding) -> None:
         if finding.what == 'rate':
@@ -441,7 +306,7 @@ class Driver:
         if finding.what == 'gap':
             self._note_slip(self.lines.place, seconds)
         if finding.what in ('gap', 'ahead'):
-            self.restarts.want(self._open_circuits(), f'{finding.what} of {seconds} s')
+            self.restarts.want(self.lines.open_circuits(), f'{finding.what} of {seconds} s')
 
     def _note_slip(self, place: int, seconds: float) -> None:
         """Octets of the trunk were lost: what is kept and what is drawn do not show it by themselves."""
@@ -450,74 +315,19 @@ class Driver:
         if self.pictures:
             self.pictures.slipped(place, seconds)
 
-    def _look_at_dark(self, now: float) -> None:
-        if self.dark_words() is None:
-            self._dark_since, self._dark_cleared = None, False
-            return
-        if self._dark_since is None:
-            self._dark_since = now
-        dark = self.options.dark
-        if dark is not None and not self._dark_cleared and now - self._dark_since >= dark:
-            self._dark_cleared = True
-            self.clear_all(f'the trunk has been dark for {dark:g} s')
-
     def second(self) -> None:
         """Each second."""
         self._slowest.append(0.0)
         self.journal.look()
 
-    # ---- what is told ----
-
-    def tell(self, event: Event) -> None:
-        """Tells a change to all who follow."""
-        name = event['event']
-        if name in WARNED or name in NOTICED:
-            level = Journal.WARNING if name in WARNED or event.get('on') else Journal.NOTICE
-            self.journal.line(level, words_of(event), name)
-        elif name == 'state' and event['state'] == State.FAULT:
-            self.journal.line(Journal.WARNING, words_of(event), name)
-        if self.calls and name == 'state':
-            self.calls.took(event)
-        self.snapshots.changed()
-        followers = [peer for peer in self.peers if isinstance(peer, Client) and peer.follows]
-        if followers or self._json:
-            text = (json.dumps({'time': round(time.time(), 6), **event}) + '\n').encode()
-            for peer in followers:
-                peer.queue(text)
-            if self._json:
-                self._json.put(text)
-        if self.options.watch:
-            self._out.put(f'{words_of(event)}\n'.encode())
-
     def status(self) -> dict[str, Any]:
-        """All that is known without asking the kernel, as plain values."""
-        status = self.lines.status()
-        status |= {
-            'name': self.options.name, 'version': self._version,
-            'time': round(time.time(), 3), 'uptime': round(time.monotonic() - self.began, 3),
+        return super().status() | {
             'trunk_up': self.trunk is not None, 'transport': self.trunk.status() if self.trunk else {},
             'slowest_turn': round(max(self._slowest), 6), 'clock': self.clock.status(),
             'crc4': self.options.crc4.status() if self.options.crc4 else None,
-            'counted': self.counts.answered_place, 'stale': self.counts.stale(), 'ended': dict(self.ended),
-            'renewed': self.renewed,
-            'commands': [{'command': name, 'answer': answer, 'count': n}
-                         for (name, answer), n in sorted(self.done.items())]}
-        for row in status['circuits']:
-            row.update(self.counts.status(row['circuit']))
-        return status
+            'counted': self.counts.answered_place}
 
     # ---- the whole ----
-
-    def stop(self, why: str) -> None:
-        """Ends the trunk as asked."""
-        if self.status_code is None:
-            self.journal.line(Journal.INFO, f'ends: {why}')
-            self.end(0)
-
-    def end(self, status: int) -> None:
-        if self.status_code is None:
-            self.status_code = status
-            self.loop.wake()
 
     def run(self) -> int:
         """Carries the trunk until its end; returns the status."""
@@ -535,39 +345,18 @@ class Driver:
         """Ends what is open, in order; returns the status."""
         if self.trunk:
             self._pause()
-        for door in self._doors:
-            door.close()
+        self._close_doors()
         status = self.gateway.finish()
         if status and not self.status_code:
             self.journal.line(Journal.ERROR, f'the gateway ended with status {status}')
             self.status_code = 1
         if self.shadow:
             self.shadow.finish()
-        for process in (self.pages, self.pictures):
-            if process:
-                process.finish()
-        for peer in list(self.peers):
-            peer.flush()
-            peer.close()
-        if self.calls:
-            self.calls.finish()
-        for outlet in (self._session, self._json, self._calls_out, self._out):
-            if outlet:
-                outlet.close()
-        self._take_metrics_away()
+        if self.pictures:
+            self.pictures.finish()
+        self._close()
+        if self._session:
+            self._session.close()
         if self.trunk:
             self.trunk.close()
         return self.status_code or 0
-
-    def _take_metrics_away(self) -> None:
-        """The file of metrics, which nobody keeps up any more. (Its disk may stand still: the wait is short.)"""
-        def run(path: str) -> None:
-            for each in (path, f'{path}.new'):
-                try:
-                    os.unlink(each)
-                except OSError:
-                    pass
-        if self.options.metrics:
-            thread = threading.Thread(target=run, args=(self.options.metrics,), name='metrics', daemon=True)
-            thread.start()
-            thread.join(1.0 if self.status_code is not None else 0.0)

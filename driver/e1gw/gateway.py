@@ -24,7 +24,11 @@ Ended = Callable[[str], None]
 
 
 class ConfigRefused(Exception):
-    """The program refuses the configuration, in these words."""
+    """The program refuses a configuration, in these words."""
+
+    def __init__(self, words: str, config: str) -> None:
+        super().__init__(words)
+        self.config = config
 
 
 def check_config(program: str, config: str) -> None:
@@ -32,7 +36,7 @@ def check_config(program: str, config: str) -> None:
     done = subprocess.run([program, 'check', '--config', config], stdin=subprocess.DEVNULL,
                           stdout=subprocess.DEVNULL, stderr=subprocess.PIPE, check=False)
     if done.returncode:
-        raise ConfigRefused(done.stderr.decode(errors='replace').strip() or f'status {done.returncode}')
+        raise ConfigRefused(done.stderr.decode(errors='replace').strip() or f'status {done.returncode}', config)
 
 
 def version_of(program: str) -> str:
@@ -42,7 +46,8 @@ def version_of(program: str) -> str:
                               stderr=subprocess.DEVNULL, check=False, timeout=GRACE)
     except (OSError, subprocess.TimeoutExpired):
         return ''
-    return done.stdout.decode(errors='replace').strip().removeprefix('e1gw ')
+    name, _, version = done.stdout.decode(errors='replace').strip().partition(' ')
+    return version if name == 'e1gw' else ''
 
 
 def _widen(file: int) -> None:

@@ -37,6 +37,7 @@ class Asked:
     control: str | None
     state: str | None
     folder: str
+    tell: str | None = None
 
 
 class Phase(Enum):
@@ -139,8 +140,9 @@ class Keeper:
         while self.retired.runs and time.monotonic() < until + GRACE:
             time.sleep(0.002)
             self.retired.look(time.monotonic())
-        if self.asked.control:
-            unlink(self.asked.control)
+        for path in (self.asked.control, self.asked.tell):
+            if path:
+                unlink(path)
         return self.status
 
     def _say(self, level: int, text: str) -> None:
@@ -179,10 +181,11 @@ class Keeper:
             self._is_up()
 
     def _is_up(self) -> None:
-        run, now, path = self.run, time.monotonic(), self.asked.control
-        shadow = run.follow()
-        if path:
-            point(path, run.control)
+        run, now, path, tell = self.run, time.monotonic(), self.asked.control, self.asked.tell
+        shadow = run.follow(f'{tell}.{os.path.basename(run.folder)}' if tell else None)
+        for name, its in ((path, run.control), (tell, run.tell)):
+            if name and its:
+                point(name, its)
         if self.asked.state and not self.was_up:
             unlink(self.asked.state)
         again = f'; clients of {path} connect again' if path and self.was_up else ''

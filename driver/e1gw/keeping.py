@@ -44,6 +44,8 @@ def parser() -> argparse.ArgumentParser:
     words.add_argument('--unix', metavar='PATH', help='a Unix stream socket to connect to, in place of the two')
     words.add_argument('--tcp', metavar='HOST:PORT', help='a TCP socket to connect to, in place of the two')
     words.add_argument('--control', metavar='SOCKET', help='a Unix socket for commands, e1gw(1)')
+    words.add_argument('--tell', metavar='SOCKET', help='a Unix socket at which clients are told how the trunk '
+                       'stands, e1gw-tell(5)')
     words.add_argument('--state', metavar='FILE', help='the state is saved there at the end, and loaded at the start '
                        'if it is there')
     words.add_argument('--folder', metavar='DIR', help='where tapes and states are, in memory [default: '
@@ -76,7 +78,7 @@ def program_words(asked: argparse.Namespace, config: str) -> list[str]:
 def _asked_of(words: argparse.Namespace, folder: str) -> Asked:
     program = shutil.which(program_of(words.program)) or program_of(words.program)
     return Asked(os.path.abspath(program), words.config, lambda config: program_words(words, config), words.control,
-                 words.state, folder)
+                 words.state, folder, words.tell)
 
 
 def _start(words: argparse.Namespace, journal: Journal) -> Keeper:
@@ -84,8 +86,9 @@ def _start(words: argparse.Namespace, journal: Journal) -> Keeper:
     opens = trunk_of(words)
     asked = _asked_of(words, '')
     check_config(asked.program, words.config)
-    if words.control and is_taken(words.control):
-        raise Usage(f'--control {words.control}: somebody listens there, or something else has this name')
+    for option, path in (('--control', words.control), ('--tell', words.tell)):
+        if path and is_taken(path):
+            raise Usage(f'{option} {path}: somebody listens there, or something else has this name')
     journal.line(Journal.INFO, SENDERS[program_words(words, words.config)[1]])
     trunk = opens()
     asked.folder = folder_of(words.folder)

@@ -1,29 +1,15 @@
-"""The thirty lines and the alarms of a trunk, followed from outside of the gateway: from the octets that it was given,
-those that it answered, and the commands that it did.
-
-The rules are frame alignment (ITU-T G.706), multiframe alignment (G.732), a pair of bits recognised when the last ten
-known ones are it, and the tables of ITU-T Q.421. Nothing is asked of the gateway. What it alone knows is what became
-of a datagram.
-"""
+"""The thirty lines and the alarms of a trunk: how they stand and what changes, in the words of the listing, whoever
+tells it: `followed` from octets of the trunk, `told` by a replay."""
 from __future__ import annotations
 
 import tomllib
-from dataclasses import dataclass, field
+from dataclasses import dataclass
 from enum import StrEnum
-from typing import Any, Callable, Iterable, Mapping
+from typing import Any, Callable, Mapping, TypeVar
 
-from .session import CIRCUITS, FRAME, MULTIFRAME, OCTETS_A_SECOND, SAMPLES_A_SECOND, Codec, Command
+from .session import CIRCUITS, SAMPLES_A_SECOND, Codec, Command
 
-RECOGNISED = 10             # equal pairs in a row
 SEIZURE_WAIT = 200          # milliseconds after which a seizure is released, if nothing else is asked for
-SIGNAL_TIME = 2             # milliseconds between two signals of a line
-WRONG_FRAMES = 3            # wrong octets in a row that lose frame alignment
-WRONG_MULTIFRAMES = 2
-SIGNAL = 0x1B               # the frame alignment signal, without its first bit
-SECOND = 0x40               # the bit of the octet between two signals
-REMOTE = 0x20               # bit A of that octet
-REMOTE_MULTIFRAME = 0x04    # bit y of slot 16 in frame 0
-MOST_QUIET = 64             # records that are known to change nothing
 WAIT = 'seizure_wait'       # the name of that time beside the tables of a configuration
 
 Event = dict[str, Any]
@@ -59,39 +45,10 @@ LEADS = {Command.SEIZE: State.SEIZED, Command.CLEAR: State.RELEASING, Command.AN
          Command.CLEAR_BACK: State.CLEAREDBACK, Command.BLOCK: State.BLOCKED, Command.UNBLOCK: State.IDLE}
 PAIRS = {None: '--', 0: '00', 1: '01', 2: '10', 3: '11'}
 
-Row = dict[int, State]
-Table = dict[State, Row]
-
-
-def _outgoing() -> Table:
-    """ITU-T Q.421, the end that seizes: where each recognised pair leads."""
-    free = {2: State.IDLE, 3: State.BLOCKED, 1: State.FAULT, 0: State.FAULT}
-    call = {2: State.FAULT, 3: State.CLEAREDBACK, 1: State.ANSWERED, 0: State.FAULT}
-    return {
-        State.IDLE: free, State.BLOCKED: free, State.FAULT: free,
-        State.SEIZED: {2: State.SEIZED, 3: State.ACKED, 1: State.FAULT, 0: State.FAULT},
-        State.ACKED: {2: State.FAULT, 3: State.ACKED, 1: State.ANSWERED, 0: State.FAULT},
-        State.ANSWERED: call, State.CLEAREDBACK: call,
-        State.RELEASING: {2: State.IDLE, 3: State.RELEASING, 1: State.RELEASING, 0: State.RELEASING},
-    }
-
-
-def _incoming() -> Table:
-    """The end that is seized."""
-    def row(free: State, seized: State, other: State = State.FAULT) -> Row:
-        return {2: free, 0: seized, 1: other, 3: other}
-    table = {state: row(State.IDLE, state) for state in OPEN | {State.FAULT}}
-    table[State.IDLE] = row(State.IDLE, State.ACKED)
-    table[State.BLOCKED] = row(State.BLOCKED, State.BLOCKED, State.BLOCKED)
-    return table
-
-
-TABLES: dict[Role, Table] = {Role.OUTGOING: _outgoing(), Role.INCOMING: _incoming()}
-
 
 @dataclass(slots=True)
 class Line:
-    """One circuit's line, and how often it did what."""
+    """One circuit's line, and how often it did what. Times are seconds of the clock that it is followed by."""
 
     circuit: int
     role: Role = Role.OUTGOING
@@ -101,67 +58,49 @@ class Line:
     prefill: int = 0
     port: int | None = None
     state: State = State.FAULT
-    since: int = 0                      # the place of the last change of state
+    since: float = 0                    # the time of the last change of state
     sent: int | None = None             # the pair that the gateway sends
     recognised: int | None = None
-    last: int | None = None             # the last known pair
-    times: int = 0                      # how often in a row
-    wait: int = SEIZURE_WAIT // SIGNAL_TIME         # signals after which a seizure is released
-    waits: int = 0                      # signals since a seizure
     seizures: int = 0
     answers: int = 0
     unacknowledged: int = 0
     faults: int = 0
-    open_for: int = 0                   # octets with the path open, before this stretch
-    opened: int | None = None
+    open_for: float = 0                 # with the path open, before this stretch
+    opened: float | None = None
     configured: tuple[str, int] = ('pcma', 8)       # the codec and payload type of the configuration
 
-    def hear(self, pair: int) -> None:
-        """A pair of bits came."""
-        self.times = self.times + 1 if pair == self.last else 1
-        self.last = pair
-        if self.times >= RECOGNISED:
-            self.recognised = pair
+    def begin(self, state: State, now: float) -> None:
+        """It stands so; what was before is not known."""
+        self.state, self.since, self.opened = state, now, now if state in OPEN else None
 
-    def turn(self) -> None:
-        """The line's turn to send in slot 16."""
-        before = self.state
-        if self.recognised is not None:
-            self.state = TABLES[self.role][before][self.recognised]
-        if before is self.state is State.SEIZED:
-            self.waits += 1
-            if self.waits >= self.wait:
-                self.state = State.RELEASING
-                self.unacknowledged += 1
+    def commanded(self, command: Command) -> None:
+        """Counts a command that was done."""
+        self.seizures += command is Command.SEIZE
+        self.answers += command is Command.ANSWER
 
-    def settled(self) -> bool:
-        """More of the same pair changes nothing."""
-        return (self.state is not State.SEIZED and self.recognised is not None and self.last == self.recognised
-                and TABLES[self.role][self.state][self.recognised] is self.state)
-
-    def changed(self, before: State, place: int) -> None:
-        """Counts a change of state at a place of the trunk."""
+    def changed(self, before: State, now: float) -> None:
+        """Counts a change of state."""
         state = self.state
         if state in OPEN and self.opened is None:
-            self.opened = place
+            self.opened = now
         elif state not in OPEN and self.opened is not None:
-            self.open_for += place - self.opened
+            self.open_for += now - self.opened
             self.opened = None
         if self.role is Role.INCOMING:
             self.seizures += before is State.IDLE and state is State.ACKED
         else:
             self.answers += before is State.ACKED and state is State.ANSWERED
         self.faults += state is State.FAULT
-        self.since = place
+        self.since = now
 
-    def status(self, place: int) -> dict[str, Any]:
+    def status(self, now: float) -> dict[str, Any]:
         """All that is known of it, as plain values."""
-        opened = 0 if self.opened is None else place - self.opened
+        opened = 0 if self.opened is None else now - self.opened
         return {
             'circuit': self.circuit, 'role': str(self.role), 'state': str(self.state), 'sent': PAIRS[self.sent],
-            'recognised': PAIRS[self.recognised], 'for': round((place - self.since) / OCTETS_A_SECOND, 3),
+            'recognised': PAIRS[self.recognised], 'for': round(now - self.since, 3),
             'seizures': self.seizures, 'answers': self.answers, 'unacknowledged': self.unacknowledged,
-            'faults': self.faults, 'open': round((self.open_for + opened) / OCTETS_A_SECOND, 3), 'codec': self.codec,
+            'faults': self.faults, 'open': round(self.open_for + opened, 3), 'codec': self.codec,
             'payload': self.payload, 'configured_codec': self.configured[0], 'configured_payload': self.configured[1],
             'prefill': self.prefill, 'jitter_buffer_ms': self.prefill * 1000 / SAMPLES_A_SECOND}
 
@@ -186,10 +125,13 @@ def law_of(config: Mapping[str, Any]) -> str:
     return str(config.get('law', 'A'))
 
 
-def lines_of(config: Mapping[str, Any]) -> dict[int, Line]:
+ALine = TypeVar('ALine', bound=Line)
+
+
+def lines_of(config: Mapping[str, Any], kind: type[ALine]) -> dict[int, ALine]:
     """The thirty lines of a configuration, as a session begins."""
     law = law_of(config)
-    lines = {n: Line(n, codec=Codec.G711.word(law), payload=8 if law == 'A' else 0) for n in CIRCUITS}
+    lines = {n: kind(n, codec=Codec.G711.word(law), payload=8 if law == 'A' else 0) for n in CIRCUITS}
     for table in config.get('circuit', []):
         line = lines[table['number']]
         line.role = Role(table.get('role', line.role))
@@ -200,309 +142,70 @@ def lines_of(config: Mapping[str, Any]) -> dict[int, Line]:
         line.port = table.get('local_port')
     for line in lines.values():
         line.configured = line.codec, line.payload
-        line.wait = -(-config.get(WAIT, SEIZURE_WAIT) // SIGNAL_TIME)
     return lines
 
 
-@dataclass(frozen=True)
-class Standing:
-    """What a circuit is at a moment."""
-
-    circuit: int
-    state: State
-    sent: int
-    recognised: int | None
-    codec: str
-    payload: int
-
-
-def _both(value: bool) -> dict[Alignment, bool]:
+def both(value: bool) -> dict[Alignment, bool]:
     return dict.fromkeys(Alignment, value)
 
 
-@dataclass
-class _Frames:
-    """Frame alignment, in places of the trunk."""
-
-    start: int | None = None            # the place, modulo 64, of a signal
-    errors: list[int] = field(default_factory=lambda: [0, 0])   # in a row: signals, octets between
-    tail: bytes = b''                   # octets that the search has not done with
-
-    def search(self, octets: bytes) -> int | None:
-        """Looks for a signal, an octet between 32 later and a signal 64 later, in the tail and these octets. Returns
-        where in all of them the first signal is, or None and keeps what has to be looked at again."""
-        n = 0
-        while True:
-            while n < len(octets) and octets[n] & 0x7F != SIGNAL:
-                n += 1
-            if n + FRAME >= len(octets):
-                self.tail = octets[n:]
-                return None
-            if not octets[n + FRAME] & SECOND:
-                n += FRAME + 1
-            elif n + 2 * FRAME >= len(octets):
-                self.tail = octets[n:]
-                return None
-            elif octets[n + 2 * FRAME] & 0x7F != SIGNAL:
-                n += 2 * FRAME + 1
-            else:
-                return n
-
-    def wrong(self, octet: int, odd: bool) -> bool:
-        """An octet of slot 0 while aligned; returns whether it is a wrong one."""
-        wrong = not octet & SECOND if odd else octet & 0x7F != SIGNAL
-        self.errors[odd] = self.errors[odd] + 1 if wrong else 0
-        return wrong
-
-    def is_lost(self, odd: bool) -> bool:
-        return self.errors[odd] >= WRONG_FRAMES
-
-
-@dataclass
-class _Multiframes:
-    """Multiframe alignment, in octets of slot 16."""
-
-    start: int | None = None            # the place, modulo 512, of slot 16 in frame 0
-    errors: int = 0
-    before: int | None = None           # the octet of slot 16 before this one, while there is no alignment
-
-
 class Lines:
-    """Follows a trunk. `tell(event)` is called with a dictionary at each change."""
+    """The lines and the alarms of a trunk. `tell(event)` is called with a dictionary at each change."""
 
-    def __init__(self, config: Mapping[str, Any] | str | None = None, tell: Tell | None = None) -> None:
-        tables = read_config(config) if isinstance(config, str) else config or {}
-        self.law = law_of(tables)
-        self.lines = lines_of(tables)
+    def __init__(self, law: str, lines: Mapping[int, Line], tell: Tell | None = None) -> None:
+        self.law, self.lines = law, lines
         self.tell: Tell = tell or (lambda event: None)
         self.place = 0                          # octets of the trunk so far
-        self.wrong_signals = 0                  # wrong octets of slot 0 while aligned
         self.losses = {each: 0 for each in Alignment}
-        self.remote = _both(False)              # alarms that the other end sends
-        self.alarms = _both(True)               # alarms that the gateway sends
-        self._frames = _Frames()
-        self._multi = _Multiframes()
-        self._fresh: dict[int, int] = {}        # pairs that came, by circuit, and wait for the line's turn
-        self._quiet: dict[tuple[int, int], tuple[bytes, bytes]] = {}    # by place and length: what changes nothing
-        self._disturbed = False
+        self.remote = both(False)               # alarms that the other end sends
+        self.alarms = both(True)                # alarms that the gateway sends
 
-    def aligned(self, what: Alignment = Alignment.MULTIFRAME) -> bool:
-        """Whether the gateway has this alignment."""
-        start = self._frames.start if what is Alignment.FRAME else self._multi.start
-        return start is not None
-
-    def frame_start(self) -> int | None:
-        """The place, modulo 64, of a frame alignment signal; None where there is no alignment."""
-        return self._frames.start
+    def when(self, place: int) -> float:
+        """The time of this place of the trunk, in seconds, for the times of lines."""
+        raise NotImplementedError
 
     def alarm(self) -> bool:
         """Whether the gateway sends an alarm."""
         return any(self.alarms.values())
 
-    def begin(self, place: int, circuits: Iterable[Standing]) -> None:
-        """Follows from this place of the trunk on, with circuits that are this. What is sent tells the alarms."""
-        self.place, self.alarms = place, _both(False)
-        for each in circuits:
-            line = self.lines[each.circuit]
-            line.state, line.sent, line.recognised = each.state, each.sent, each.recognised
-            line.codec, line.payload = each.codec, each.payload
-            line.last, line.times = each.recognised, RECOGNISED
-            line.since, line.opened = place, place if each.state in OPEN else None
+    def dark_words(self) -> str | None:
+        """Why no seizure can reach the other end, or None."""
+        if self.alarm():
+            return 'no alignment'
+        return 'the other end has no alignment' if any(self.remote.values()) else None
 
-    # ---- the trunk ----
-
-    def trunk(self, given: bytes, answered: bytes) -> None:
-        """Octets of the trunk, and as many that the gateway answered."""
-        start = self._frames.start
-        key, seen = (self.place % MULTIFRAME, len(given)), (b'', b'')
-        if start is not None:
-            # Slots 0 and 16 as they were a while ago, when they changed nothing, need no closer look.
-            seen = given[(start - self.place) % 16::16], answered[-self.place % 16::16]
-            if self._quiet.get(key) == seen:
-                self.place += len(given)
-                return
-        self._disturbed = False
-        self._look_at(given, answered)
-        self.place += len(given)
-        if start is None or not self._is_quiet() or len(self._quiet) >= MOST_QUIET:
-            self._quiet.clear()
-        else:
-            self._quiet[key] = seen
-
-    def _is_quiet(self) -> bool:
-        """Whether more of the same changes nothing."""
-        lines = self.lines
-        return (not self._disturbed and self._multi.start is not None and not self._multi.errors
-                and self._frames.errors == [0, 0] and all(line.settled() for line in lines.values())
-                and all(lines[n].last == pair for n, pair in self._fresh.items()))
-
-    def _look_at(self, given: bytes, answered: bytes) -> None:
-        at = 0
-        while at < len(given):
-            if self._frames.start is None:
-                upto = self._search(given, at)
-                self._send_all(answered, at, upto)
-                at = upto
-            else:
-                at = self._exchange(given, answered, at)
-
-    def _search(self, given: bytes, at: int) -> int:
-        """Searches for frames from an octet on; returns the octet behind the search."""
-        frames = self._frames
-        held = len(frames.tail)
-        found = frames.search(frames.tail + given[at:])
-        if found is None:
-            return len(given)
-        place = self.place + at - held + found
-        frames.start, frames.errors, frames.tail = place % 64, [0, 0], b''
-        self._lose_multiframes(False)
-        self._event('aligned', what='frame', place=place + 64)
-        return place + 65 - self.place
-
-    def _send_all(self, answered: bytes, at: int, upto: int) -> None:
-        """What is sent while no frame is heard."""
-        for sent in range(at + -(self.place + at) % 16, upto, 16):
-            self._send(self.place + sent, answered[sent])
-
-    def _exchange(self, given: bytes, answered: bytes, at: int) -> int:
-        """Octets of slots 0 and 16, heard and sent, in their order. Returns where the octets or the alignment end."""
-        base, start = self.place, self._frames.start or 0
-        sent = at + -(base + at) % 16
-        heard = at + (start - (base + at)) % 16
-        while sent < len(given) or heard < len(given):
-            if heard <= sent:
-                if not self._hear(base + heard, given[heard]):
-                    self._frames.tail = b''
-                    self._send_all(answered, sent, heard + 1)
-                    return heard + 1
-                heard += 16
-            else:
-                self._send(base + sent, answered[sent])
-                sent += 16
-        return len(given)
-
-    def _hear(self, place: int, octet: int) -> bool:
-        """An octet of slot 0 or 16; returns whether the alignment stands."""
-        frames = self._frames
-        behind = place - (frames.start or 0)
-        if behind % FRAME:
-            self._hear_signalling(place, octet)
-            return True
-        odd = behind % 64 != 0
-        if frames.wrong(octet, odd):
-            self.wrong_signals += 1
-            self._disturbed = True
-        if odd:
-            self._remote(Alignment.FRAME, bool(octet & REMOTE))
-        if not frames.is_lost(odd):
-            return True
-        frames.start = None
-        self.losses[Alignment.FRAME] += 1
-        self._lose_multiframes(True)
-        self._remote(Alignment.FRAME, False)
-        self._event('lost', what='frame', place=place)
-        return False
-
-    def _hear_signalling(self, place: int, octet: int) -> None:
-        """An octet of slot 16."""
-        multi = self._multi
-        if multi.start is None:
-            if octet >> 4 == 0 and multi.before:
-                multi.start, multi.errors = place % MULTIFRAME, 0
-                self._remote(Alignment.MULTIFRAME, bool(octet & REMOTE_MULTIFRAME))
-                self._event('aligned', what='multiframe', place=place)
-            multi.before = octet
-            return
-        frame = (place - multi.start) % MULTIFRAME // FRAME
-        if frame:
-            self._fresh[frame], self._fresh[frame + 15] = octet >> 6, octet >> 2 & 3
-            return
-        self._remote(Alignment.MULTIFRAME, bool(octet & REMOTE_MULTIFRAME))
-        multi.errors = multi.errors + 1 if octet >> 4 else 0
-        self._disturbed |= multi.errors > 0
-        if multi.errors >= WRONG_MULTIFRAMES:
-            self._lose_multiframes(True)
-            multi.before = octet
-
-    def _lose_multiframes(self, count: bool) -> None:
-        multi = self._multi
-        if multi.start is not None:
-            self.losses[Alignment.MULTIFRAME] += count
-            self._event('lost', what='multiframe', place=self.place)
-        multi.start = multi.before = None
-        self._remote(Alignment.MULTIFRAME, False)
+    def open_circuits(self) -> list[int]:
+        return [n for n, line in self.lines.items() if line.state in OPEN]
 
     def _remote(self, what: Alignment, on: bool) -> None:
         if self.remote[what] != on:
             self.remote[what] = on
             self._event('remote alarm', what=str(what), on=on, place=self.place)
 
-    def _send(self, place: int, octet: int) -> None:
-        """An octet that the gateway sends in slot 0 or 16."""
-        frame = place % MULTIFRAME // FRAME
-        if place % FRAME == 0:
-            if frame % 2:
-                self._alarm(Alignment.FRAME, bool(octet & REMOTE), place)
-        elif frame == 0:
-            self._alarm(Alignment.MULTIFRAME, bool(octet & REMOTE_MULTIFRAME), place)
-        else:
-            self._turn(frame, octet >> 6, place)
-            self._turn(frame + 15, octet >> 2 & 3, place)
-
     def _alarm(self, what: Alignment, on: bool, place: int) -> None:
         if self.alarms[what] != on:
             self.alarms[what] = on
             self._event('alarm', what=str(what), on=on, place=place)
 
-    def _turn(self, circuit: int, pair: int, place: int) -> None:
-        line = self.lines[circuit]
-        before = line.state
-        fresh = self._fresh.pop(circuit, None)
-        if fresh is not None:
-            line.hear(fresh)
-        line.turn()
-        line.sent = pair
-        if line.state is not before:
-            self._changed(line, before, place)
-
-    # ---- commands ----
-
-    def command(self, circuit: int, command: Command) -> None:
-        """A command that was done."""
-        line = self.lines[circuit]
-        self._quiet.clear()
-        before, line.state = line.state, LEADS[Command(command)]
-        if command == Command.SEIZE:
-            line.waits = 0
-            line.seizures += 1
-        if command == Command.ANSWER:
-            line.answers += 1
-        self._changed(line, before, self.place)
-
-    def codec(self, circuit: int, codec: Codec, payload_type: int) -> None:
-        """A change of codec that was done."""
-        line = self.lines[circuit]
-        line.codec, line.payload = Codec(codec).word(self.law), payload_type
-        self._event('codec', circuit=circuit, codec=line.codec, payload=payload_type, place=self.place)
-
-    def _changed(self, line: Line, before: State, place: int) -> None:
-        line.changed(before, place)
+    def _changed(self, line: Line, before: State, place: int, **more: Any) -> None:
+        line.changed(before, self.when(place))
         self._event('state', circuit=line.circuit, role=str(line.role), was=str(before), state=str(line.state),
-                    place=place)
+                    place=place, **more)
+
+    def _codec(self, line: Line, codec: str, payload_type: int) -> None:
+        line.codec, line.payload = codec, payload_type
+        self._event('codec', circuit=line.circuit, codec=codec, payload=payload_type, place=self.place)
 
     def _event(self, event: str, **fields: Any) -> None:
-        self._disturbed = True
         self.tell({'event': event, **fields})
-
-    # ---- how it stands ----
 
     def status(self) -> dict[str, Any]:
         """All that is known, as a dictionary of plain values."""
+        now = self.when(self.place)
         return {
             'octets': self.place, 'law': self.law,
             'alarm': {str(what): on for what, on in self.alarms.items()},
             'remote_alarm': {str(what): on for what, on in self.remote.items()},
             'losses': {str(what): n for what, n in self.losses.items()},
-            'wrong_signals': self.wrong_signals,
-            'circuits': [line.status(self.place) for line in self.lines.values()],
+            'circuits': [line.status(now) for line in self.lines.values()],
         }

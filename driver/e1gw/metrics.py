@@ -11,6 +11,8 @@ Status = Mapping[str, Any]
 Labels = Mapping[str, object]
 Samples = Iterable[tuple[Labels, float | int]]
 
+ALIGNED = 'aligned'
+OTHERS = ('program', 'shadow')      # with which a watcher is connected
 CIRCUIT_COUNTS = (('seizures', 'Calls begun.'), ('answers', 'Calls answered.'),
                   ('unacknowledged', 'Seizures that were not acknowledged.'),
                   ('faults', 'Invalid line signals.'))
@@ -45,16 +47,25 @@ Family = tuple[str, str, str, Samples]
 def _of_trunk(status: Status) -> list[Family]:
     clock, ends = status['clock'], (('this', status['alarm']), ('other', status['remote_alarm']))
     found: list[Family] = [
-        ('e1gw_trunk_octets_total', 'counter', 'Octets of the trunk.', [({}, status['octets'])]),
         ('e1gw_trunk_up', 'gauge', '1 where the trunk is open.', [({}, int(status['trunk_up']))]),
         ('e1gw_alarm', 'gauge', 'Alarms: loss of alignment at this end, RAI or distant multiframe alarm of the other.',
          [({'end': end, 'alignment': what}, int(on)) for end, alarms in ends for what, on in alarms.items()]),
         ('e1gw_alignment_losses_total', 'counter', 'How often alignment was lost.',
          [({'alignment': what}, n) for what, n in status['losses'].items()]),
+        ('e1gw_trunk_stalled', 'gauge', '1 while no octets come.', [({}, int(clock['stalled']))]),
+        ('e1gw_trunk_stalls_total', 'counter', 'Times without octets.', [({}, clock['stalls'])])]
+    if 'shadow' in status:
+        found.append(('e1gw_connected', 'gauge', '1 where the watcher has a connection.',
+                      [({'to': other}, int(status[other])) for other in OTHERS]))
+    return found + (_of_octets(status, clock) if 'transport' in status else [])
+
+
+def _of_octets(status: Status, clock: Status) -> list[Family]:
+    """What is known of each octet of the trunk, where a driver carries it."""
+    found: list[Family] = [
+        ('e1gw_trunk_octets_total', 'counter', 'Octets of the trunk.', [({}, status['octets'])]),
         ('e1gw_wrong_signals_total', 'counter', 'Frame alignment signals in error.',
          [({}, status['wrong_signals'])]),
-        ('e1gw_trunk_stalled', 'gauge', '1 while no octets come.', [({}, int(clock['stalled']))]),
-        ('e1gw_trunk_stalls_total', 'counter', 'Times without octets.', [({}, clock['stalls'])]),
         ('e1gw_trunk_gaps_total', 'counter', 'Slips, at which octets of the trunk were lost.', [({}, clock['gaps'])]),
         ('e1gw_trunk_gap_seconds_total', 'counter', 'Seconds of the trunk that slips have lost.',
          [({}, clock['gap_seconds'])])]
@@ -63,6 +74,8 @@ def _of_trunk(status: Status) -> list[Family]:
                       [({}, clock['ppm'])]))
     numbers = [({'what': what}, n) for what, n in status['transport'].items()
                if isinstance(n, (int, float)) and not isinstance(n, bool)]
+    found.append(('e1gw_slowest_turn_seconds', 'gauge', 'The longest time from octets of the trunk to their answer in '
+                  'the last minute.', [({}, status['slowest_turn'])]))
     found.append(('e1gw_transport', 'untyped', 'What the transport of the trunk tells of itself.', numbers))
     return found
 
@@ -147,9 +160,7 @@ def _of_driver(status: Status) -> list[Family]:
          [({}, status['renewed'])]),
         ('e1gw_ended', 'gauge', '1 where something beside the calls has ended.',
          [({'what': what}, int(why is not None)) for what, why in status['ended'].items()]),
-        ('e1gw_slowest_turn_seconds', 'gauge', 'The longest time from octets of the trunk to their answer in the last '
-         'minute.', [({}, status['slowest_turn'])]),
-        ('e1gw_uptime_seconds', 'gauge', 'Seconds since the driver began.', [({}, status['uptime'])]),
+        ('e1gw_uptime_seconds', 'gauge', 'Seconds since this program began.', [({}, status['uptime'])]),
         ('e1gw_build_info', 'gauge', 'The version of e1gw; always 1.', [({'version': status['version']}, 1)])]
 
 
@@ -161,32 +172,42 @@ def _alarms(alarms: Mapping[str, bool], words: Mapping[str, str], good: str) -> 
 
 def _far_end(status: Status) -> str:
     """What the other end tells, which is heard only where this end has alignment."""
-    is_heard = status['trunk_up'] and not status['clock']['stalled'] and not any(status['alarm'].values())
-    return _alarms(status['remote_alarm'], REMOTE, 'no alarm') if is_heard else 'not heard'
+    return _alarms(status['remote_alarm'], REMOTE, 'no alarm') if state_of(status) == ALIGNED else 'not heard'
 
 
 def state_of(status: Status) -> str:
     """How the trunk stands at this end, in a word or some."""
+    for other in OTHERS:
+        if not status.get(other, True):
+            since = time.strftime('%H:%M:%S', time.gmtime(status[f'{other}_since']))
+            return f'no connection to the {other} since {since} UTC'
     return 'no trunk' if not status['trunk_up'] else 'stalled' if status['clock']['stalled'] else _alarms(
-        status['alarm'], LOSSES, 'aligned')
+        status['alarm'], LOSSES, ALIGNED)
 
 
 def _head(status: Status) -> list[str]:
-    clock, state = status['clock'], state_of(status)
-    rate = '' if clock['ppm'] is None else f', rate {clock["ppm"]:+.0f} ppm'
+    clock = status['clock']
     at = time.strftime('%H:%M:%S', time.gmtime(status['time']))
     lines = [
         f'trunk {status["name"]}, e1gw {status["version"]}, up {status["uptime"]:.0f} s',
-        f'{status["octets"] / 256_000:.1f} s of the trunk at {at} UTC, {state}; the other end: '
+        f'{status["octets"] / 256_000:.1f} s of the trunk at {at} UTC, {state_of(status)}; the other end: '
         + _far_end(status),
         'alignment lost: ' + ', '.join(f'{what} {n}' for what, n in status['losses'].items())
-        + f'; stalls {clock["stalls"]}, slips {clock["gaps"]} ({clock["gap_seconds"]:.1f} s){rate}; slowest turn '
-        f'{status["slowest_turn"] * 1000:.1f} ms']
+        + f'; stalls {clock["stalls"]}{_slips(status, clock)}']
     lines += _crc4_line(status)
     lines += [f'ended: {what}: {why}' for what, why in status['ended'].items() if why is not None]
     if status['stale']:
         lines.append('the counts of packets are not those of now')
     return lines
+
+
+def _slips(status: Status, clock: Status) -> str:
+    """Slips, the rate and the slowest turn, which only a driver knows."""
+    if 'gaps' not in clock:
+        return ''
+    rate = '' if clock['ppm'] is None else f', rate {clock["ppm"]:+.0f} ppm'
+    return (f', slips {clock["gaps"]} ({clock["gap_seconds"]:.1f} s){rate}; slowest turn '
+            f'{status["slowest_turn"] * 1000:.1f} ms')
 
 
 def _crc4_line(status: Status) -> list[str]:

@@ -1,28 +1,33 @@
-"""What a driver of a trunk is asked for."""
+"""What is asked of who carries a trunk or watches it: the options that both have, and what a driver is asked for."""
 from __future__ import annotations
 
+import argparse
+import os
+import subprocess
+import sys
 from dataclasses import dataclass, field
-from typing import Callable
+from typing import Any, Callable, NoReturn
 
 from .crc4 import Crc4
-from .guards import OnLoss
+from .explain import config_words
+from .faults import number, options_words, words_of_fault
+from .gateway import ConfigRefused
+from .guards import OnLoss, on_loss_of
 from .lines import SEIZURE_WAIT
-from .trunks import Trunk
+from .outlets import Journal, hold_descriptors
+from .trunks import Trunk, host_and_port
 
 
-@dataclass
+class Usage(Exception):
+    """What is wrong with the command line."""
+
+
+@dataclass(kw_only=True)
 class Options:
-    """What the driver was asked for."""
+    """What an operator wants to have of a trunk."""
 
     config: str
-    program: str
     name: str
-    open_trunk: Callable[[], Trunk]
-    most: int = 256
-    pace: float = 0.0
-    serve: list[str] = field(default_factory=list)      # further options of e1gw serve
-    seizure_wait: int = SEIZURE_WAIT        # milliseconds
-    reopen: bool = False
     watch: bool = False
     top: bool = False
     control: str | None = None
@@ -31,12 +36,87 @@ class Options:
     http: tuple[str, int] | None = None
     metrics: str | None = None
     json: str | None = None
-    session: str | None = None
     calls: str | None = None
-    keep: int | None = None
-    gap: float = 0.1
     dark: float | None = None
     on_loss: OnLoss = OnLoss()
+
+
+@dataclass(kw_only=True)
+class DriverOptions(Options):
+    """What the driver was asked for."""
+
+    program: str
+    open_trunk: Callable[[], Trunk]
+    most: int = 256
+    pace: float = 0.0
+    serve: list[str] = field(default_factory=list)      # further options of e1gw serve
+    seizure_wait: int = SEIZURE_WAIT        # milliseconds
+    reopen: bool = False
+    session: str | None = None
+    keep: int | None = None
+    gap: float = 0.1
     counts: bool = True
     picture: float | None = None
     crc4: Crc4 | None = None
+
+
+def add_options(words: argparse.ArgumentParser) -> None:
+    """The options of Options that come first."""
+    words.add_argument('--config', metavar='FILE', required=True, help='the configuration, e1gw.toml(5)')
+    words.add_argument('--name', help='the name of the trunk in metrics and files [default: that of FILE]')
+
+
+def add_control(words: argparse._ArgumentGroup) -> None:
+    """Those of control and of what is told."""
+    words.add_argument('--control', metavar='PATH', help='a Unix socket for commands, e1gw-ctl(1)')
+    words.add_argument('--control-mode', type=lambda text: int(text, 8), default=0o660, metavar='MODE',
+                       help='its mode, in octal [default: 660]')
+    words.add_argument('--control-group', metavar='GROUP', help='its group')
+    words.add_argument('--on-loss', nargs='+', default=['keep'], metavar='WORD',
+                       help='keep, clear SECONDS, or block SECONDS: what is done with the calls when the last '
+                       'control client that asked for it is gone [default: keep]')
+    words.add_argument('--http', metavar='HOST:PORT',
+                       help='serves /metrics (Prometheus), /status (JSON), /table and / (the table, or the picture)')
+    words.add_argument('--metrics', metavar='FILE', help='a file of metrics for node_exporter, every 5 s')
+    words.add_argument('--json', metavar='FILE', help='a line of JSON for each change; - is standard output')
+    words.add_argument('--watch', action='store_true', help='tells each change on standard output')
+    words.add_argument('--top', action='store_true', help='the table in the terminal, twice a second')
+
+
+def add_calls(words: argparse._ArgumentGroup) -> None:
+    """Those of calls."""
+    words.add_argument('--calls', metavar='FILE', help='a line of CSV for each call; ten files of 10 MiB are kept')
+    words.add_argument('--dark', type=number(0, 86_400, float), metavar='SECONDS',
+                       help='clears the calls of a trunk that has been in alarm for so long [default: never]')
+
+
+def fields_of(asked: argparse.Namespace) -> dict[str, Any]:
+    """The fields of Options, of a command line. ValueError if one is none."""
+    return {
+        'config': asked.config,
+        'name': asked.name or os.path.splitext(os.path.basename(asked.config))[0], 'watch': asked.watch,
+        'top': asked.top, 'control': asked.control, 'control_mode': asked.control_mode,
+        'control_group': asked.control_group, 'http': host_and_port(asked.http) if asked.http else None,
+        'metrics': asked.metrics, 'json': asked.json, 'calls': asked.calls, 'dark': asked.dark,
+        'on_loss': on_loss_of(asked.on_loss)}
+
+
+def run(name: str, words: list[str] | None, serve: Callable[[list[str], Journal], int]) -> NoReturn:
+    """Serves by a command line until the end, and tells what is wrong with it."""
+    hold_descriptors()
+    sys.setswitchinterval(0.001)
+    journal = Journal(name=name)
+    status = 2
+    try:
+        status = serve(sys.argv[1:] if words is None else words, journal)
+    except Usage as fault:
+        journal.line(Journal.ERROR, f'{fault}; see {name} --help{options_words()}')
+    except ConfigRefused as fault:
+        journal.line(Journal.ERROR, str(fault))
+        if why := config_words(fault.config):
+            journal.line(Journal.ERROR, why)
+    except (OSError, subprocess.CalledProcessError) as fault:
+        journal.line(Journal.ERROR, words_of_fault(fault))
+    journal.close()
+    # A thread may still wait for a disk or a reader; nothing waits for it.
+    os._exit(status)

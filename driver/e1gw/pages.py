@@ -194,7 +194,7 @@ class Making:
 
     def __init__(self, words: Words) -> None:
         self.words, self.loop = words, Loop(1.0)
-        self._lines = list(lines_of(read_config(words.config)).values())
+        self._lines = list(lines_of(read_config(words.config), Line).values())
         self._line = socket.socket(fileno=words.line)
         self._line.setblocking(False)
         self._seen: Seen | None = None

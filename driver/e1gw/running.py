@@ -22,6 +22,7 @@ END = spell(0x45, 0, b'')   # asks for the end of the session
 # Another codec whose payload type none may have: it is refused, changes nothing, and its answer says that all runs.
 HELLO = spell(Kind.CODEC, 1, b'\1\1')
 TOTALS = ('records', 'octets', 'datagrams', 'dropped', 'port_faults')
+RENEWED = ' begins as new'  # so ends what is said of a circuit that was configured otherwise: nothing failed
 STATE_FILE = 3              # the descriptor at which a program that waits is given its state
 
 
@@ -109,6 +110,12 @@ def open_version(program: str, config: str, words: Sequence[str], copy: str) -> 
         os.close(file)
 
 
+def told_of(lines: list[str], process: Process) -> str:
+    """How a process ended: what it has said of that, or its status."""
+    said = '; '.join(line for line in lines if not line.endswith(RENEWED))
+    return f'says: {said}' if said else process.words()
+
+
 class Run:
     """A program and its shadow. `folder` is their own; `control` is where the program listens. It begins with the state
     of a file, or with none. One that `waits` has read the configuration, and touches the trunk once `give` has given
@@ -122,6 +129,7 @@ class Run:
         self.is_up = False
         self._said = 0                      # lines of the program that were told
         self.shadow: Process | None = None
+        self.tell: str | None = None        # where the shadow tells how the trunk stands
         os.mkdir(folder, 0o700)
         self.state = self._own(state)       # the file of the state that it begins with
         self._open_tape()
@@ -204,10 +212,11 @@ class Run:
         """What is readable when it answers."""
         return self._hello.fileno() if self._hello and not self.is_up else -1
 
-    def follow(self) -> Process:
-        """Starts the shadow."""
+    def follow(self, tell: str | None = None) -> Process:
+        """Starts the shadow, which tells how the trunk stands at a socket, if one is named."""
+        self.tell = tell
         words = ['replay', '--config', self.version.config, '--save', self.path('followed'), '--totals']
-        words += ['--load', self.state] if self.state else []
+        words += (['--load', self.state] if self.state else []) + (['--tell', tell] if tell else [])
         nowhere = os.open(os.devnull, os.O_WRONLY)
         try:
             self.shadow = self._spawn(words, {0: self.tape, 1: nowhere}, 'shadow')
@@ -253,14 +262,12 @@ class Run:
 
     def last_words(self) -> str:
         """How the program ended: what it has said, or its status."""
-        said = '; '.join(self.says())
-        return f'says: {said}' if said else self.program.words()
+        return told_of(self.says(), self.program)
 
     def shadow_words(self) -> str:
         """How the shadow ended."""
         assert self.shadow
-        said = '; '.join(self._told('shadow'))
-        return f'says: {said}' if said else self.shadow.words()
+        return told_of(self._told('shadow'), self.shadow)
 
     def octets(self, name: str) -> int:
         """How many octets of the trunk the program or the shadow took, once it has ended."""
@@ -282,6 +289,8 @@ class Run:
             self.shadow.close()
         shutil.rmtree(self.folder, ignore_errors=True)
         unlink(self.control)
+        if self.tell:
+            unlink(self.tell)
 
     # ---- through an exec of the keeper ----
 
@@ -293,7 +302,7 @@ class Run:
             os.set_inheritable(file, True)
         return {'folder': self.folder, 'control': self.control, 'version': asdict(self.version), 'tape': self.tape,
                 'hello': hello, 'state': self.state, 'program': self.program.pid, 'shadow': self.shadow.pid,
-                'said': self._said}
+                'said': self._said, 'tell': self.tell}
 
     @classmethod
     def taken_up(cls, kept: Mapping[str, Any]) -> Run:
@@ -301,7 +310,7 @@ class Run:
         run = cls.__new__(cls)
         run.folder, run.control, run.version = kept['folder'], kept['control'], Version(**kept['version'])
         run.tape, run.state, run._state, run.is_up, run._said = kept['tape'], kept['state'], -1, True, kept['said']
-        run.program, run.shadow = Process(kept['program']), Process(kept['shadow'])
+        run.program, run.shadow, run.tell = Process(kept['program']), Process(kept['shadow']), kept.get('tell')
         for file in (run.tape, kept['hello'], run.version.file):
             os.set_inheritable(file, False)
         run._hello = socket.socket(fileno=kept['hello'])

@@ -11,75 +11,20 @@ configuration.
 from __future__ import annotations
 
 import argparse
-import functools
-import os
-import subprocess
-import sys
-from typing import Callable, NoReturn
+from typing import NoReturn
 
 from . import satop
-from .clear import Clear, Place
-from .control import DoorTaken
-from .crc4 import Crc4, with_crc4
 from .driver import Driver
-from .explain import config_words
-from .faults import Parser, number, options_words, words_of_fault
-from .filtered import align
-from .gateway import ConfigRefused, check_config
-from .guards import OnLoss, on_loss_of
+from .faults import Parser, number
+from .gateway import check_config
 from .keep import seconds_of
-from .lines import SEIZURE_WAIT, law_of, read_config, wait_words
+from .lines import SEIZURE_WAIT, wait_words
 from .loop import Loop
-from .options import Options
-from .outlets import Journal, hold_descriptors
+from .managed import serve
+from .options import DriverOptions, Usage, add_calls, add_control, add_options, fields_of, run
+from .outlets import Journal
 from .programs import SENDERS, program_of, senders_of
-from .trunks import Trunk, host_and_port, open_files, open_tcp, open_unix
-
-
-class Usage(Exception):
-    """What is wrong with the command line."""
-
-
-def trunk_of(asked: argparse.Namespace) -> Callable[..., Trunk]:
-    """What opens the trunk that was asked for; one of --satop wants the program."""
-    files = bool(asked.input) + bool(asked.out)
-    ways = [asked.unix, asked.tcp, asked.satop, asked.input and asked.out]
-    if files == 1 or sum(map(bool, ways)) != 1:
-        raise Usage('a trunk is --in and --out, or --unix, or --tcp, or --satop')
-    if asked.align and (asked.satop or asked.clear):
-        raise Usage('--align is for all 32 slots of a device or a socket; --satop aligns in any case')
-    if asked.crc4 and asked.clear:
-        raise Usage('--crc4 is for all 32 slots; the device of --clear sends slot 0 itself, and CRC-4 in it')
-    if asked.satop:
-        return _satop_of(asked)
-    if asked.unix:
-        path: str = asked.unix
-        opens: Callable[[], Trunk] = lambda: open_unix(path)       # noqa: E731
-    elif asked.tcp:
-        host, port = host_and_port(asked.tcp)
-        opens = lambda: open_tcp(host, port)                        # noqa: E731
-    else:
-        opens = lambda: open_files(asked.input, asked.out)          # noqa: E731
-    return _clear_of(opens, asked.config) if asked.clear else opens
-
-
-def _clear_of(opens: Callable[[], Trunk], config: str) -> Callable[[], Trunk]:
-    """Opens devices that have slots 1 to 31, one after another beside one gateway."""
-    place = Place()
-
-    def opened() -> Trunk:
-        place.law = place.law or law_of(read_config(config))
-        return Clear(opens(), place)
-    return opened
-
-
-def _satop_of(asked: argparse.Namespace) -> Callable[[str], Trunk]:
-    local, comma, peer = asked.satop.partition(',')
-    if not comma:
-        raise Usage('--satop wants LOCAL:PORT,PEER:PORT')
-    host_and_port(local), host_and_port(peer)
-    circuit = satop.circuit_of(asked)
-    return functools.partial(satop.open_satop, asked.satop, circuit)
+from .trunk_options import add_trunk, opening_of
 
 
 def parser() -> argparse.ArgumentParser:
@@ -87,8 +32,7 @@ def parser() -> argparse.ArgumentParser:
     about, _, rest = (__doc__ or '').partition('\n\n')
     words = Parser(prog='e1gw-trunk', description=f'{about}\n\n{rest}',
                    formatter_class=argparse.RawDescriptionHelpFormatter)
-    words.add_argument('--config', metavar='FILE', required=True, help='the configuration, e1gw.toml(5)')
-    words.add_argument('--name', help='the name of the trunk in metrics and files [default: that of FILE]')
+    add_options(words)
     words.add_argument('--program', metavar='E1GW', help='the program [default: that of this repository, or e1gw]')
     words.add_argument('--senders', choices=('any', 'host', 'peer'), help='whose datagrams are received, e1gw(1) '
                        '[default: host if each peer_host is an address, else any]')
@@ -100,92 +44,54 @@ def parser() -> argparse.ArgumentParser:
     words.add_argument('--totals', action='store_true', help='tells at the end what the gateway has counted')
     _add_trunk(words.add_argument_group('the trunk'))
     satop.add_arguments(words)
-    _add_control(words.add_argument_group('control and what is told'))
-    _add_calls(words.add_argument_group('sessions and calls'))
+    told = words.add_argument_group('control and what is told')
+    add_control(told)
+    told.add_argument('--picture', type=number(10, 3600, float), metavar='SECONDS',
+                      help='/ is a picture of the last seconds, 10 to 3600, drawn by a process of its own')
+    told.add_argument('--no-counts', dest='counts', action='store_false',
+                      help='no shadow: what becomes of datagrams is not counted')
+    _add_sessions(words.add_argument_group('sessions and calls'))
     return words
 
 
 def _add_trunk(words: argparse._ArgumentGroup) -> None:
-    words.add_argument('--in', dest='input', metavar='FILE', help='a device, file or FIFO to read the trunk from')
-    words.add_argument('--out', metavar='FILE', help='one to write the trunk to, opened after --in; may be the same')
-    words.add_argument('--unix', metavar='PATH', help='a Unix stream socket to connect to, in place of the two')
-    words.add_argument('--tcp', metavar='HOST:PORT', help='a TCP socket to connect to, in place of the two')
-    words.add_argument('--satop', metavar='LOCAL,PEER', help='SAToP (RFC 4553) over UDP, each as HOST:PORT')
-    words.add_argument('--clear', action='store_true', help='the device gives time slots 1 to 31 alone')
-    words.add_argument('--align', action='store_true',
-                       help='octets of the trunk may begin at any bit; e1gw align runs between it and the gateway')
-    words.add_argument('--crc4', action='store_true',
-                       help='CRC-4: e1gw crc4 sends it and e1gw crc4 --check counts it, between trunk and gateway')
+    add_trunk(words)
     words.add_argument('--pace', type=number(0, 20), default=4, metavar='MS',
                        help='a trunk that flows is read each so many milliseconds, 0 to 20; 0 reads it when octets '
                        'come; not with --satop [default: 4]')
     words.add_argument('--most', type=number(1, 65535), metavar='OCTETS',
                        help='octets in a record at most, 1 to 65535; a frame has 32 [default: 2048, 8 ms; 256 with '
                        '--satop or --pace 0]')
-    words.add_argument('--reopen', action='store_true', help='opens a trunk that ends or fails again, within 30 s')
 
 
-def _add_control(words: argparse._ArgumentGroup) -> None:
-    words.add_argument('--control', metavar='PATH', help='a Unix socket for commands, e1gw-ctl(1)')
-    words.add_argument('--control-mode', type=lambda text: int(text, 8), default=0o660, metavar='MODE',
-                       help='its mode, in octal [default: 660]')
-    words.add_argument('--control-group', metavar='GROUP', help='its group')
-    words.add_argument('--on-loss', nargs='+', default=['keep'], metavar='WORD',
-                       help='keep, clear SECONDS, or block SECONDS: what is done with the calls when the last '
-                       'control client that asked for it is gone [default: keep]')
-    words.add_argument('--http', metavar='HOST:PORT',
-                       help='serves /metrics (Prometheus), /status (JSON), /table and / (the table, or the picture)')
-    words.add_argument('--picture', type=number(10, 3600, float), metavar='SECONDS',
-                       help='/ is a picture of the last seconds, 10 to 3600, drawn by a process of its own')
-    words.add_argument('--metrics', metavar='FILE', help='a file of metrics for node_exporter, every 5 s')
-    words.add_argument('--json', metavar='FILE', help='a line of JSON for each change; - is standard output')
-    words.add_argument('--watch', action='store_true', help='tells each change on standard output')
-    words.add_argument('--top', action='store_true', help='the table in the terminal, twice a second')
-    words.add_argument('--no-counts', dest='counts', action='store_false',
-                       help='no shadow: what becomes of datagrams is not counted')
-
-
-def _add_calls(words: argparse._ArgumentGroup) -> None:
+def _add_sessions(words: argparse._ArgumentGroup) -> None:
     words.add_argument('--session', metavar='FILE', help='keeps all that the gateway takes, for e1gw replay and check')
-    words.add_argument('--calls', metavar='FILE', help='a line of CSV for each call; ten files of 10 MiB are kept')
     words.add_argument('--keep', metavar='TIME', help='--session is a folder for the last 30m, 1h, 2d, in twelve files')
     words.add_argument('--gap', type=number(20, 10_000), default=100, metavar='MS',
                        help='lost octets of so many milliseconds restart the playout of open calls [default: 100]')
-    words.add_argument('--dark', type=number(0, 86_400, float), metavar='SECONDS',
-                       help='clears the calls of a trunk that has been in alarm for so long [default: never]')
+    add_calls(words)
 
 
-def options_of(words: list[str]) -> Options:
+def options_of(words: list[str]) -> DriverOptions:
     """The options of a command line; Usage where they are none."""
     asked = parser().parse_args(words)
     try:
-        on_loss: OnLoss = on_loss_of(asked.on_loss)
-        http = host_and_port(asked.http) if asked.http else None
-        opens = trunk_of(asked)
+        opening = opening_of(asked)
+        fields = fields_of(asked)
         keep = seconds_of(asked.keep) if asked.keep else None
     except ValueError as fault:
         raise Usage(str(fault)) from None
     if keep is not None and not asked.session:
         raise Usage('--keep wants --session')
-    if asked.picture and not (http and asked.counts):
+    if asked.picture and not (asked.http and asked.counts):
         raise Usage('--picture wants --http, and the counts')
-    name = asked.name or os.path.splitext(os.path.basename(asked.config))[0]
     program = program_of(asked.program)
-    if asked.align:
-        opens = functools.partial(align, opens, program)
-    if asked.satop:
-        opens = functools.partial(opens, program)
-    crc4 = Crc4() if asked.crc4 else None
-    if crc4:
-        opens = functools.partial(with_crc4, opens, program, crc4)
-    return Options(
-        config=asked.config, program=program, name=name, open_trunk=opens,
-        most=asked.most or (2048 if asked.pace and not asked.satop else 256), pace=asked.pace / 1000,
-        serve=_serve_words(asked), seizure_wait=asked.seizure_wait, reopen=asked.reopen, watch=asked.watch,
-        top=asked.top, control=asked.control, control_mode=asked.control_mode, control_group=asked.control_group,
-        http=http, metrics=asked.metrics, json=asked.json, session=asked.session, calls=asked.calls, keep=keep,
-        gap=asked.gap / 1000, dark=asked.dark, on_loss=on_loss, counts=asked.counts, picture=asked.picture,
-        crc4=crc4)
+    opens, crc4 = opening(program)
+    return DriverOptions(
+        **fields, program=program, open_trunk=opens, pace=asked.pace / 1000,
+        most=asked.most or (2048 if asked.pace and not asked.satop else 256), serve=_serve_words(asked),
+        seizure_wait=asked.seizure_wait, reopen=asked.reopen, session=asked.session, keep=keep, gap=asked.gap / 1000,
+        counts=asked.counts, picture=asked.picture, crc4=crc4)
 
 
 def _serve_words(asked: argparse.Namespace) -> list[str]:
@@ -194,45 +100,15 @@ def _serve_words(asked: argparse.Namespace) -> list[str]:
             + wait_words(asked.seizure_wait) + ['--senders', asked.senders or senders_of(asked.config)])
 
 
-def _serve(options: Options, journal: Journal) -> int:
-    loop = Loop()
-    driver: list[Driver] = []
+def _serve(words: list[str], journal: Journal) -> int:
+    options = options_of(words)
 
-    def caught(number: int) -> None:
-        if number == 1:
-            journal.line(Journal.NOTICE, 'the terminal is gone')
-        elif driver:
-            driver[0].stop(f'signal {number}')
-        else:
-            os._exit(0)
-    loop.catch_signals(caught)
-    check_config(options.program, options.config)
-    journal.line(Journal.INFO, SENDERS[options.serve[-1]])
-    driver.append(Driver(loop, options, journal))
-    try:
-        driver[0].open_doors()
-    except (OSError, DoorTaken, KeyError, ValueError) as fault:
-        journal.line(Journal.ERROR, f'cannot listen: {words_of_fault(fault)}')
-        driver[0].end(2)
-    return driver[0].run()
+    def made(loop: Loop) -> Driver:
+        check_config(options.program, options.config)
+        journal.line(Journal.INFO, SENDERS[options.serve[-1]])
+        return Driver(loop, options, journal)
+    return serve(Loop(), journal, made)
 
 
 def main(words: list[str] | None = None) -> NoReturn:
-    hold_descriptors()
-    sys.setswitchinterval(0.001)
-    journal = Journal()
-    status = 2
-    try:
-        options = options_of(sys.argv[1:] if words is None else words)
-        status = _serve(options, journal)
-    except Usage as fault:
-        journal.line(Journal.ERROR, f'{fault}; see e1gw-trunk --help{options_words()}')
-    except ConfigRefused as fault:
-        journal.line(Journal.ERROR, str(fault))
-        if why := config_words(options.config):
-            journal.line(Journal.ERROR, why)
-    except (OSError, subprocess.CalledProcessError) as fault:
-        journal.line(Journal.ERROR, words_of_fault(fault))
-    journal.close()
-    # A thread may still wait for a disk or a reader; nothing waits for it.
-    os._exit(status)
+    run('e1gw-trunk', words, _serve)

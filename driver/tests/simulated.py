@@ -11,8 +11,9 @@ import tempfile
 
 from . import support
 from e1gw.clock import TICK, Clock
-from e1gw.counts import Counts
-from e1gw.lines import Event, Lines
+from e1gw.counts import Taped
+from e1gw.followed import Followed
+from e1gw.lines import Event
 from e1gw.restarts import Restarts
 from e1gw.session import (FRAME, MULTIFRAME, Codec, Command, Kind, Packet, Reader, codec_record, command_record,
                           datagram_record, trunk_record)
@@ -36,10 +37,10 @@ class Call:
                                         stdout=subprocess.PIPE)
         self.events: list[Event] = []
         self.restarts: list[float] = []         # when
-        self.exchange, self.lines = support.Exchange(), Lines(path, self.events.append)
+        self.exchange, self.lines = support.Exchange(), Followed(path, self.events.append)
         self.clock = Clock(0.0, gap)
         self._restarts = Restarts(self._restart, self.events.append)
-        self.counts = Counts(self._restarts.counted)
+        self.counts = Taped(self._restarts.counted)
         self._reader = Reader((Kind.TRUNK, Kind.DATAGRAM, Kind.ANSWER))
         self.now, self._tick = 0.0, TICK
         self.sent, self.heard, self._speaks = 0, 0, False

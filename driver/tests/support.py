@@ -14,7 +14,7 @@ sys.path[:0] = [os.path.join(TOP, 'driver'), os.path.join(TOP, 'scripts')]
 from exchange import Exchange       # noqa: E402
 from service import Service         # noqa: E402
 
-__all__ = ['Exchange', 'Folder', 'Service', 'TOP', 'program', 'run']
+__all__ = ['Exchange', 'Folder', 'Service', 'TOP', 'program', 'run', 'without']
 
 
 class Folder(unittest.TestCase):
@@ -41,6 +41,16 @@ def program() -> str:
     if not os.access(path, os.X_OK):
         raise unittest.SkipTest('no program: E1GW names one, scripts/drivers builds it')
     return path
+
+
+def without(sent: bytes, circuit: int) -> bytes:
+    """What a gateway sent from its first octet on, with a circuit's slot and its ABCD bits left blank."""
+    others = bytearray(sent)
+    for at in range(circuit + (circuit > 15), len(sent), 32):
+        others[at] = 0
+    for at in range(32 * ((circuit - 1) % 15 + 1) + 16, len(sent), 512):
+        others[at] &= 0xf0 if circuit > 15 else 0x0f
+    return bytes(others)
 
 
 def run(*words: str, given: bytes = b'') -> bytes:

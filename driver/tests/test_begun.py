@@ -13,7 +13,8 @@ from . import support
 from .picture_made import Made, Sender, coded, packets
 from .test_behind import Ringed, octets_in
 from .world import SECONDS
-from e1gw import lines
+from e1gw.followed import Followed, Standing
+from e1gw.lines import State
 from e1gw.kept import Kept, kept
 from e1gw.picture.begun import begun
 from e1gw.picture.facts import Facts
@@ -129,7 +130,8 @@ class Drawn(Ringed):
         self.assertIn('NotOpen', today)
         other = self.write('other.toml', self.text.replace('320', '321'))
         for broken, config, told in ((octets[:-1], self.config, 'state 4 Sum at 0'),
-                                     (b'', self.config, 'state 1 Short at 0'), (octets, other, 'state 5 Config at 3')):
+                                     (b'', self.config, 'state 1 Short at 0'),
+                                     (octets, other, 'circuit 4 begins as new')):
             with open(state, 'wb') as file:
                 file.write(broken)
             page, said = self.drawn('--config', config, path)
@@ -153,8 +155,8 @@ class Lines(unittest.TestCase):
     """Following from the middle."""
 
     def test_begins_in_the_middle(self) -> None:
-        followed = lines.Lines({})
-        standing = lines.Standing(3, lines.State.ANSWERED, 0, 1, 'g726-32', 96)
+        followed = Followed({})
+        standing = Standing(3, State.ANSWERED, 0, 1, 'g726-32', 96)
         followed.begin(5 * 512 + 7, [standing])
         status = followed.status()
         row = status['circuits'][2]

@@ -12,7 +12,7 @@ from . import support
 from .test_driver import FOUR, aligned, call
 from .world import SECONDS, World, config_of
 from e1gw.calls import FIELDS, KEPT, Calls, Rotated
-from e1gw.counts import Counts
+from e1gw.counts import Taped
 from e1gw.lines import Line, Role
 
 
@@ -22,7 +22,7 @@ class Ends(unittest.TestCase):
     def setUp(self) -> None:
         self.now, self.rows = 1_000_000_000.0, list[list[str]]()
         self.lines = {1: Line(1), 2: Line(2, Role.INCOMING)}
-        self.counts = Counts()
+        self.counts = Taped()
         self.calls = Calls('west', self.lines, self.counts, self.put, lambda: self.now)
 
     def put(self, line: bytes) -> None:

@@ -10,7 +10,7 @@ from . import support
 from .world import World, config_of
 from e1gw.clear import Clear, Place
 from e1gw.events import words_of
-from e1gw.lines import Lines
+from e1gw.followed import Followed
 from e1gw.session import Command
 from e1gw.trunks import Trunk
 from exchange import ACKNOWLEDGED, Serve
@@ -245,7 +245,7 @@ class Gateway(support.Folder):
 
     def calls_through_a_loss(self, call: wire.Call, count: int) -> None:
         events: list[dict[str, Any]] = []
-        device, lines = Device(b''), Lines({'law': 'A'}, events.append)
+        device, lines = Device(b''), Followed({'law': 'A'}, events.append)
         trunk = Clear(device, Place('A'))
         trunk.tell = events.append
 

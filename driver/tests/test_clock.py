@@ -6,9 +6,10 @@ from types import SimpleNamespace
 
 from . import support
 from e1gw.clock import TICK, Clock, Finding
-from e1gw.counts import Counts, Stream
+from e1gw.counts import Stream, Taped
 from e1gw.driver import Driver
-from e1gw.lines import Alignment, Lines
+from e1gw.followed import Followed
+from e1gw.lines import Alignment
 from e1gw.session import codec_record, datagram_record, spell, trunk_record, Codec, Kind, Packet
 
 assert support.TOP
@@ -126,7 +127,7 @@ class Flow(unittest.TestCase):
 
     def test_no_seizure_while_no_octets_come(self) -> None:
         trunk = Trunk()
-        driver = SimpleNamespace(trunk=trunk, clock=trunk.clock, lines=Lines({}))
+        driver = SimpleNamespace(trunk=trunk, clock=trunk.clock, lines=Followed({}))
         driver.lines.alarms = dict.fromkeys(Alignment, False)
         words = lambda: Driver.dark_words(driver)       # noqa: E731
         trunk.go(2)
@@ -188,7 +189,7 @@ class Streams(unittest.TestCase):
 
     def test_answers_are_those_of_the_datagrams_before(self) -> None:
         answers_of: list[tuple[int, int, int]] = []
-        counts = Counts(lambda *answer: answers_of.append(answer))
+        counts = Taped(lambda *answer: answers_of.append(answer))
         packet = Packet(8, 1, 0, 1, b'\xD5' * 160).spelled()
         tape = (trunk_record(bytes(64)) + datagram_record(3, b'') + codec_record(3, Codec.G711, 8)
                 + datagram_record(4, packet) + trunk_record(bytes(32)))

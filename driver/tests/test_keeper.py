@@ -6,6 +6,7 @@ from __future__ import annotations
 
 import contextlib
 import fcntl
+import itertools
 import os
 import random
 import re
@@ -239,22 +240,24 @@ class Kept(support.Folder):
                 packets[record.circuit].append(record.body)
         return octets, packets
 
-    def as_uncut(self) -> None:
-        """All that was heard and received is what the uncut session gives, but for what is lost; all calls are up."""
+    def as_uncut(self, but: int = 0) -> None:
+        """All that was heard and received is what the uncut session gives, but for what is lost and for a circuit. All
+        other calls are up."""
         octets, packets = self.uncut()
         self.assertEqual(len(octets), len(self.heard))
         for place, (mine, its) in enumerate(zip(self.heard, octets)):
             if mine is not None:
-                self.assertEqual(mine, its, f'record {place}')
+                one, other = (support.without(octets, but) if but else octets for octets in (mine, its))
+                self.assertEqual(one, other, f'record {place}')
         lost = self.heard.count(None)
         self.peers.take()
-        for circuit in CIRCUITS:
+        for circuit in sorted({*CIRCUITS} - {but}):
             mine, its = self.peers.packets[circuit], packets[circuit]
             self.assertLessEqual(len(its) - len(mine), lost)
             self.assertEqual(mine, [packet for packet in its if packet in set(mine)], f'circuit {circuit}')
             numbers = [packet_of(packet).sequence for packet in its]
             self.assertEqual(numbers, list(range(numbers[0], numbers[0] + len(numbers))))
-        self.assertEqual(self.device.exchange.signals, self.up())
+        self.assertEqual({**self.device.exchange.signals, but: 0}, {**self.up(), but: 0})
         self.assertFalse(self.device.exchange.remote_alarms)
 
     def ends(self) -> None:
@@ -334,6 +337,32 @@ class Failures(Kept):
         self.assertNotIn('at most', self.told())
         self.as_uncut()
 
+    def told_now(self) -> list[str]:
+        """What a new client of --tell is told first."""
+        until = time.monotonic() + SECONDS
+        while True:
+            with socket.socket(socket.AF_UNIX) as line:
+                line.settimeout(SECONDS)
+                with contextlib.suppress(FileNotFoundError, ConnectionRefusedError):
+                    line.connect(self.path('tell'))
+                    self.step()
+                    with line.makefile() as lines:
+                        return list(itertools.takewhile(lambda text: text != 'now\n', lines))
+            self.assertLess(time.monotonic(), until)
+            time.sleep(0.01)
+
+    def test_shadow_that_tells(self) -> None:
+        """Its clients see the calls, also at the next shadow."""
+        self.starts('--tell', self.path('tell'))
+        self.calls()
+        for _ in range(2):
+            rows = [line.split()[3] for line in self.told_now() if line.startswith('line')]
+            self.assertEqual(rows, ['answered'] * 30)
+            os.kill(self.program, signal.SIGKILL)
+            self.goes_on()
+        self.ends()
+        self.assertEqual([name for name in os.listdir(self.folder) if name.startswith('tell')], [])
+
     def test_both(self) -> None:
         """If both are killed no state is known: the calls end, the trunk does not."""
         self.starts()
@@ -366,7 +395,7 @@ class Handovers(Kept):
         self.ends()
 
     def test_configurations(self) -> None:
-        """One that is none, and one with another circuit 7: all others go on."""
+        """One that is none, one of another law, and one with another circuit 7: all others go on."""
         self.starts()
         self.calls()
         program = self.program
@@ -377,14 +406,23 @@ class Handovers(Kept):
         self.awaits('reload: refused.*config 2 UnknownKey at 30: .*trunk.toml')
         self.step(10)
         os.kill(program, 0)
+        self.write('trunk.toml', right.replace('"A"', '"mu"'))
+        self.keeper.send_signal(signal.SIGHUP)
+        self.awaits('reload: refused.*: state 5 Config at 0')
+        self.goes_on()
+        self.step(10)
         self.write('trunk.toml', self.peers.config(prefill=400))
         self.keeper.send_signal(signal.SIGHUP)
-        self.awaits('reload: (refused.* at 7|program)')
+        self.goes_on()
+        self.awaits('program: circuit 7 begins as new')
         self.step(60)
-        for circuit, pair in self.up().items():
-            if circuit != 7:
-                self.assertEqual(self.device.exchange.signals[circuit], pair, circuit)
+        self.assertNotEqual(self.device.exchange.signals[7], self.up()[7])
+        os.kill(self.program, signal.SIGKILL)
+        self.goes_on()
+        self.step(10)
+        self.assertEqual(self.told().count('begins as new'), 1)
         self.write('trunk.toml', right)
+        self.as_uncut(7)
 
     def test_keeper_replaced(self) -> None:
         """Another keeper in its place holds what it held."""
@@ -506,6 +544,7 @@ class Ends(Kept):
         self.assertIn('config 5 OutOfRange at 0', self.refused('--config', other, *unix))
         self.assertIn('somebody listens', self.refused('--config', self.config, *unix, '--control', self.config))
         self.assertIn('somebody listens', self.refused('--config', self.config, *unix, '--control', self.device.path))
+        self.assertIn('--tell', self.refused('--config', self.config, *unix, '--tell', self.device.path))
 
     def test_program_that_never_answers(self) -> None:
         """A port that is taken: the circuit and the cause are told, and the status is 1."""

@@ -9,7 +9,8 @@ from typing import Any
 
 from . import support
 from e1gw import session
-from e1gw.lines import SEIZURE_WAIT, Lines, read_config, with_wait
+from e1gw.followed import Followed
+from e1gw.lines import SEIZURE_WAIT, read_config, with_wait
 from e1gw.session import Codec, Command, Kind
 
 SESSIONS = int(os.environ.get('E1GW_SESSIONS', '8'))
@@ -23,7 +24,7 @@ class Trunk:
         self.events: list[dict[str, Any]] = []
         self.exchange = support.Exchange()
         self.answers = support.Exchange()
-        self.lines = Lines(config or {'law': 'A'}, self.events.append)
+        self.lines = Followed(config or {'law': 'A'}, self.events.append)
 
     def go(self, multiframes: int, cut: int = 512) -> None:
         given = b''.join(self.exchange.multiframe() for _ in range(multiframes))
@@ -209,7 +210,7 @@ def random_config(rng: random.Random) -> str:
 
 def followed(config: str, given: bytes, answered: bytes, wait: int = SEIZURE_WAIT) -> list[list[str]]:
     """Number, role, state and recognised pair of each line."""
-    lines = Lines(with_wait(read_config(config), wait))
+    lines = Followed(with_wait(read_config(config), wait))
     answers = (record for record in session.records_in(answered) if record.kind is not Kind.DATAGRAM)
     for record in session.records_in(given):
         answer = next(answers)

@@ -13,7 +13,8 @@ from .support import program, run
 
 from .picture_made import TROUBLES, Made, Sender, answered, recorded, rtp
 
-from e1gw.lines import Lines, read_config
+from e1gw.followed import Followed
+from e1gw.lines import read_config
 from e1gw.picture import Live, page
 from e1gw.picture.facts import MOST, Cell, Facts, Row, Spans, RANK
 from e1gw.picture.findings import findings
@@ -150,7 +151,7 @@ class Gathered(unittest.TestCase):
         self.assertEqual(places, sorted(set(places)))
 
 
-class Followed(unittest.TestCase):
+class Quick(unittest.TestCase):
     """Passing over multiframes that are alike changes nothing."""
 
     def test_like_each_octet(self) -> None:
@@ -171,7 +172,7 @@ class Followed(unittest.TestCase):
 
     def alike(self, records: list[bytes], config: dict[str, object], seed: int) -> None:
         told: tuple[list[object], list[object]] = ([], [])
-        slow, quick = Lines(config, told[0].append), Follower(config, told[1].append)
+        slow, quick = Followed(config, told[0].append), Follower(config, told[1].append)
         answers = records_in(answered(records, []))
         waiting: list[tuple[bytes, bytes]] = []
         for record, answer in zip(records, answers):

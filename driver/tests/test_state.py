@@ -14,7 +14,8 @@ from e1gw import session
 from e1gw.session import Codec, Command
 
 CODECS = ('', 'g726-16', 'g726-24', 'g726-32', 'g726-40')
-SEIZED, IDLE = 0b00, 0b10
+SEIZED, ANSWERED, IDLE, ACKNOWLEDGED = 0b00, 0b01, 0b10, 0b11
+ADMITTED = session.spell(session.Kind.ANSWER, 7, bytes((session.Kind.DATAGRAM, 0)))      # a datagram of circuit 7
 
 
 class Coding(NamedTuple):
@@ -58,14 +59,16 @@ def records_of(rng: random.Random, law: str, milliseconds: int) -> Iterator[byte
     exchange, numbers = support.Exchange(law), dict.fromkeys(range(1, 31), 0)
     stream = bytearray()
     for at in range(milliseconds // 2):
-        if at == 10:
+        if at == 16:
             exchange.pairs = {circuit: SEIZED if circuit % 2 else IDLE for circuit in range(1, 31)}
             for circuit in range(2, 31, 2):
                 yield session.command_record(circuit, Command.SEIZE)
         if at == 30:
-            exchange.pairs = {circuit: SEIZED if circuit % 2 else 0b01 for circuit in range(1, 31)}
+            exchange.pairs = {circuit: SEIZED if circuit % 2 else ACKNOWLEDGED for circuit in range(1, 31)}
             for circuit in range(1, 31, 2):
                 yield session.command_record(circuit, Command.ANSWER)
+        if at == 44:
+            exchange.pairs = {circuit: SEIZED if circuit % 2 else ANSWERED for circuit in range(1, 31)}
         stream += exchange.multiframe()
         if rng.random() < 0.02:
             del stream[-rng.randrange(1, 40):]
@@ -83,7 +86,38 @@ def records_of(rng: random.Random, law: str, milliseconds: int) -> Iterator[byte
             yield session.codec_record(rng.randrange(1, 31), rng.choice(list(Codec)), rng.randrange(96, 128))
 
 
-class Cut(support.Folder):
+def hostile_records(rng: random.Random, law: str, many: int) -> Iterator[bytes]:
+    """Whatever a client may give, in any order: noise in between, datagrams of any octets, codecs of any type."""
+    exchange = support.Exchange(law)
+    for _ in range(many):
+        circuit, what = rng.randrange(1, 31), rng.randrange(8)
+        if what < 4:
+            exchange.pairs = {number: rng.randrange(4) for number in range(1, 31)} if what == 0 else exchange.pairs
+            yield session.trunk_record(exchange.multiframe() if what else rng.randbytes(rng.randrange(1, 900)))
+        elif what == 4:
+            yield session.command_record(circuit, rng.choice(list(Command)))
+        elif what == 5:
+            yield session.codec_record(circuit, rng.choice(list(Codec)), rng.randrange(128))
+        elif what == 6:
+            yield session.datagram_record(circuit, rng.randbytes(rng.randrange(300)))
+        else:
+            yield datagram(rng, law, circuit, rng.randrange(65_536))
+
+
+def pieces_of(rng: random.Random, records: list[bytes], many: int) -> list[bytes]:
+    """The records in so many pieces, cut at random places."""
+    places = sorted(rng.randrange(len(records)) for _ in range(many - 1))
+    return [b''.join(records[a:b]) for a, b in zip([0, *places], [*places, len(records)])]
+
+
+def of_others(answers: bytes, circuit: int) -> tuple[bytes, list[session.Record]]:
+    """The octets and the records that are not a circuit's."""
+    found = list(session.records_in(answers, session.KINDS_WRITTEN))
+    sent = b''.join(record.body for record in found if record.kind is session.Kind.TRUNK)
+    return support.without(sent, circuit), [record for record in found if record.circuit not in (0, circuit)]
+
+
+class Pieces(support.Folder):
     """Sessions in pieces, each of which begins with the state that the one before saved."""
 
     def answers(self, config: str, pieces: list[bytes]) -> bytes:
@@ -94,14 +128,18 @@ class Cut(support.Folder):
             out.append(support.run('replay', '--config', config, *load, '--save', self.path('state'), given=piece))
         return b''.join(out)
 
+
+class Cut(Pieces):
+    """With one configuration the answers are those of the session that was not cut."""
+
     def test_at_every_record(self) -> None:
         for law in ('A', 'mu'):
             rng = random.Random(law)
             config = self.write('trunk.toml', config_of(law))
-            records = list(records_of(rng, law, 220))
+            records = list(records_of(rng, law, 100))
             whole = support.run('replay', '--config', config, given=b''.join(records))
             self.assertGreater(len(whole), 20_000)
-            for place in range(0, len(records), 3):
+            for place in range(law == 'mu', len(records), 2):
                 pieces = [b''.join(records[:place]), b''.join(records[place:])]
                 self.assertEqual(self.answers(config, pieces), whole, (law, place))
 
@@ -111,10 +149,17 @@ class Cut(support.Folder):
                 rng = random.Random(f'{law} {seed}')
                 config = self.write('trunk.toml', config_of(law))
                 records = list(records_of(rng, law, 400))
-                places = sorted(rng.randrange(len(records)) for _ in range(19))
-                pieces = [b''.join(records[a:b]) for a, b in zip([0, *places], [*places, len(records)])]
                 whole = support.run('replay', '--config', config, given=b''.join(records))
-                self.assertEqual(self.answers(config, pieces), whole, (law, seed))
+                self.assertEqual(self.answers(config, pieces_of(rng, records, 20)), whole, (law, seed))
+
+    def test_hostile(self) -> None:
+        for law in ('A', 'mu'):
+            for many in (2, 2, 2, 20):
+                rng = random.Random(f'{law} {many}')
+                config = self.write('trunk.toml', config_of(law))
+                records = list(hostile_records(rng, law, 400))
+                whole = support.run('replay', '--config', config, given=b''.join(records))
+                self.assertEqual(self.answers(config, pieces_of(rng, records, many)), whole, (law, many))
 
     def test_noise(self) -> None:
         for seed in range(10):
@@ -142,6 +187,57 @@ class Cut(support.Folder):
         self.assertEqual(cut.returncode, 1)
         rest = support.run('replay', '--config', config, '--load', self.path('state'), given=b''.join(records[50:]))
         self.assertEqual(cut.stdout + rest, whole)
+
+
+class Reconfigured(Pieces):
+    """A state that is loaded with another configuration of circuit 7."""
+
+    def in_call(self, law: str, config: str) -> tuple[list[bytes], int, bytes]:
+        """Records, a place among them at which circuit 7 is in a call, and the answers up to it. The state is saved."""
+        for seed in range(50):
+            rng = random.Random(f'{law} {seed}')
+            records = list(records_of(rng, law, 400))
+            place = rng.randrange(len(records) // 3, len(records) // 2)
+            first = support.run('replay', '--config', config, '--save', self.path('state'),
+                                given=b''.join(records[:place]))
+            if ADMITTED in first[-2000:]:
+                return records, place, first
+        raise AssertionError('no call')
+
+    def test_all_others_go_on(self) -> None:
+        changes = ({'prefill': 161}, {'role': '"outgoing"'}, {'ssrc': 77}, {'codec': '"g726-40"', 'payload': 99})
+        for law, keys in zip(('A', 'mu', 'mu', 'A'), changes):
+            config, other = self.write('trunk.toml', config_of(law)), self.write('other.toml', config_of(law, **keys))
+            records, place, first = self.in_call(law, config)
+            whole = support.run('replay', '--config', config, given=b''.join(records))
+            done = subprocess.run([support.program(), 'replay', '--config', other, '--load', self.path('state')],
+                                  input=b''.join(records[place:]), stdout=subprocess.PIPE, stderr=subprocess.PIPE)
+            self.assertEqual((done.returncode, done.stderr), (0, b'circuit 7 begins as new\n'), keys)
+            self.assertTrue(first + done.stdout != whole, keys)
+            self.assertEqual(of_others(first + done.stdout, 7), of_others(whole, 7), keys)
+
+    def test_the_circuit_begins_as_new(self) -> None:
+        """It is listed as in a new gateway of its configuration; all others as they were, behind any configuration."""
+        config = self.write('trunk.toml', config_of('A'))
+        other = self.write('other.toml', config_of('A', prefill=0, role='"outgoing"'))
+        self.answers(config, [b''.join(records_of(random.Random(6), 'A', 300))])
+        listed, new = [], support.run('check', '--config', other).splitlines()
+        for name in (config, other):
+            listed.append(support.run('check', '--config', name, '--load', self.path('state')).splitlines())
+        self.assertEqual(listed[1], [*listed[0][:6], new[6], *listed[0][7:]])
+        support.run('replay', '--config', other, '--load', self.path('state'), '--save', self.path('state'))
+        again = support.run('check', '--config', other, '--load', self.path('state')).splitlines()
+        self.assertEqual(again, listed[1])
+
+    def test_hosts_and_ports_renew_nothing(self) -> None:
+        config = self.write('trunk.toml', config_of('A'))
+        there = {'local_port': 24000, 'peer_host': '"127.0.0.1"', 'peer_port': 24002}
+        other = self.write('other.toml', config_of('A', **there))
+        records = list(records_of(random.Random(7), 'A', 300))
+        whole = support.run('replay', '--config', config, given=b''.join(records))
+        first = support.run('replay', '--config', config, '--save', self.path('state'), given=b''.join(records[:90]))
+        rest = support.run('replay', '--config', other, '--load', self.path('state'), given=b''.join(records[90:]))
+        self.assertEqual(first + rest, whole)
 
 
 class Refused(support.Folder):
@@ -224,8 +320,11 @@ class Refused(support.Folder):
 
     def test_another_configuration(self) -> None:
         self.assertEqual(self.loaded(self.state, self.write('mu.toml', config_of('mu'))), (2, 'state 5 Config at 0\n'))
-        other = self.write('other.toml', config_of('A', prefill=161))
-        self.assertEqual(self.loaded(self.state, other), (2, 'state 5 Config at 7\n'))
+        for place, value in ((6 + 6 * 16, 2), (7 + 6 * 16, 5), (8 + 6 * 16, 128), (9 + 6 * 16, 25), (10 + 6 * 16, 7)):
+            octets = bytearray(self.state[:-32])
+            octets[place] = value
+            told = self.loaded(bytes(octets) + hashlib.sha256(octets).digest())
+            self.assertEqual(told, (2, 'state 5 Config at 7\n'), place)
 
     def test_no_file(self) -> None:
         self.assertEqual(self.told('--config', self.config, '--load', self.path('none')),

@@ -347,12 +347,13 @@ class Clients(Configured):
         os.waitid(os.P_PID, trunk.serving.pid, os.WSTOPPED)
         for client in clients[2:4]:
             client.close()
-        with trunk.client() as ninth, trunk.client() as tenth, trunk.client() as eleventh:
+        with trunk.client() as ninth, trunk.client() as tenth:
             trunk.serving.send_signal(signal.SIGCONT)
-            self.assertEqual(self.closed(eleventh), b'')
             for circuit, client in ((9, ninth), (10, tenth), (1, clients[0]), (8, clients[7])):
                 client.sendall(blocks([circuit]))
                 self.assertEqual(answers_of(client, 1), self.refused([circuit]))
+            with trunk.client() as eleventh:
+                self.assertEqual(self.closed(eleventh), b'')
 
     def test_a_trunk_that_waits(self) -> None:
         trunk = self.trunk(waits=True)

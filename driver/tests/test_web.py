@@ -115,8 +115,8 @@ class Pages(unittest.TestCase):
         for name in ('alerts.yml', 'dashboard.json'):
             with open(f'{support.TOP}/package/{name}', encoding='utf-8') as file:
                 named |= set(re.findall(r'\be1gw_\w+', file.read()))
-        with_crc4 = exposition(self.world.status() | {'crc4': Crc4().status()})
-        declared = set(re.findall(r'^# TYPE (\w+)', self.get('/metrics') + with_crc4, re.M)) | {'e1gw_trunk_rate_ppm'}
+        more = exposition(self.world.status() | {'crc4': Crc4().status(), 'program': True, 'shadow': True})
+        declared = set(re.findall(r'^# TYPE (\w+)', self.get('/metrics') + more, re.M)) | {'e1gw_trunk_rate_ppm'}
         self.assertLessEqual(named, declared)
 
     def test_a_file_of_metrics(self) -> None:

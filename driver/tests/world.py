@@ -66,18 +66,92 @@ def config_of(circuits: range, codec: str = 'pcma', payload: int = 8, prefill: i
     return ''.join(text)
 
 
-class World:
+class Served:
+    """A program in service whose control socket is `ctl` of a folder of its own."""
+
+    process: subprocess.Popen[bytes]
+
+    def __init__(self, config: str) -> None:
+        self._folder = tempfile.TemporaryDirectory()
+        self.folder = self._folder.name
+        self.config = self.path('trunk.toml')
+        with open(self.config, 'w', encoding='utf-8') as file:
+            file.write(config)
+
+    def close(self) -> None:
+        """Ends what the program is connected with."""
+
+    def __exit__(self, *_: object) -> None:
+        self.close()
+        if self.process.poll() is None:
+            self.process.terminate()
+        self.process.wait(SECONDS)
+        if self.process.stderr:
+            self.process.stderr.close()
+        self._folder.cleanup()
+
+    def path(self, name: str) -> str:
+        return os.path.join(self.folder, name)
+
+    def ask(self, command: str | bytes) -> str:
+        """The answer to a command."""
+        with socket.socket(socket.AF_UNIX) as line:
+            line.connect(self.path('ctl'))      # waits for a place; with a time limit it would be refused
+            line.settimeout(SECONDS)
+            with contextlib.suppress(BrokenPipeError):      # who has no seat is told so at once
+                line.sendall((command.encode() if isinstance(command, str) else command) + b'\n')
+            answer = b''
+            while not answer.endswith(b'\n\n'):
+                piece = line.recv(65536)
+                if not piece:
+                    raise EOFError(answer)
+                answer += piece
+        return answer.decode().rstrip('\n')
+
+    def told(self) -> dict[str, Any]:
+        """The status, which may be a moment old; every change that was told is in it."""
+        found: dict[str, Any] = json.loads(self.ask('status json'))
+        return found
+
+    def status(self) -> dict[str, Any]:
+        """The status of now."""
+        began = round(time.time(), 3)
+        while (found := self.told())['time'] < began:
+            time.sleep(0.01)
+        return found
+
+    def state(self, circuit: int) -> str:
+        return str(self.told()['circuits'][circuit - 1]['state'])
+
+    def follow(self) -> Any:
+        """A stream of events."""
+        line = socket.socket(socket.AF_UNIX)
+        line.settimeout(SECONDS)
+        line.connect(self.path('ctl'))
+        line.sendall(b'events\n')
+        stream = line.makefile('r', encoding='utf-8')
+        assert stream.readline() == 'following\n' and stream.readline() == '\n'
+        line.close()
+        return stream
+
+    def quit(self) -> tuple[int, str]:
+        """Ends it; its status and what stands on standard error."""
+        self.ask('quit')
+        return self.wait()
+
+    def wait(self) -> tuple[int, str]:
+        said = self.process.stderr.read() if self.process.stderr else b''
+        return self.process.wait(SECONDS), said.decode()
+
+
+class World(Served):
     """A driver at a Unix socket, with a folder of its own. The exchange acknowledges and answers what is seized.
 
     It gives octets when a test does, and not by a clock; so but for an option --gap no pause is a stall."""
 
     def __init__(self, config: str, *options: str, answers: bool = True, front: tuple[str, ...] = (),
                  **streams: Any) -> None:
-        self._folder = tempfile.TemporaryDirectory()
-        self.folder = self._folder.name
-        self.config = self.path('trunk.toml')
-        with open(self.config, 'w', encoding='utf-8') as file:
-            file.write(config)
+        super().__init__(config)
         self.exchange = support.Exchange()
         self.answers = answers
         self.sent, self.heard = bytearray(), bytearray()
@@ -91,9 +165,6 @@ class World:
                  '--unix', self.path('card'), '--control', self.path('ctl'),
                  *(word.replace('@', self.folder) for word in options)], **streams)
             self.take(door)
-
-    def path(self, name: str) -> str:
-        return os.path.join(self.folder, name)
 
     def new_door(self) -> socket.socket:
         """The socket anew, for a driver that opens its trunk again."""
@@ -115,14 +186,8 @@ class World:
     def __enter__(self) -> World:
         return self
 
-    def __exit__(self, *_: object) -> None:
+    def close(self) -> None:
         self.line.close()
-        if self.process.poll() is None:
-            self.process.terminate()
-        self.process.wait(SECONDS)
-        if self.process.stderr:
-            self.process.stderr.close()
-        self._folder.cleanup()
 
     def step(self, multiframes: int = 1) -> None:
         """Multiframes to and fro."""
@@ -162,36 +227,6 @@ class World:
             self.step()
         raise AssertionError('it does not come to hold')
 
-    def ask(self, command: str | bytes) -> str:
-        """The answer to a command."""
-        with socket.socket(socket.AF_UNIX) as line:
-            line.connect(self.path('ctl'))      # waits for a place; with a time limit it would be refused
-            line.settimeout(SECONDS)
-            with contextlib.suppress(BrokenPipeError):      # who has no seat is told so at once
-                line.sendall((command.encode() if isinstance(command, str) else command) + b'\n')
-            answer = b''
-            while not answer.endswith(b'\n\n'):
-                piece = line.recv(65536)
-                if not piece:
-                    raise EOFError(answer)
-                answer += piece
-        return answer.decode().rstrip('\n')
-
-    def told(self) -> dict[str, Any]:
-        """The status, which may be a moment old; every change that was told is in it."""
-        found: dict[str, Any] = json.loads(self.ask('status json'))
-        return found
-
-    def status(self) -> dict[str, Any]:
-        """The status of now."""
-        began = round(time.time(), 3)
-        while (found := self.told())['time'] < began:
-            time.sleep(0.01)
-        return found
-
-    def state(self, circuit: int) -> str:
-        return str(self.told()['circuits'][circuit - 1]['state'])
-
     def settled(self) -> dict[str, Any]:
         """The status once the shadow has answered all."""
         until = time.monotonic() + SECONDS
@@ -201,23 +236,3 @@ class World:
                 return status
             time.sleep(0.02)
         raise AssertionError('the shadow does not answer')
-
-    def follow(self) -> Any:
-        """A stream of events."""
-        line = socket.socket(socket.AF_UNIX)
-        line.settimeout(SECONDS)
-        line.connect(self.path('ctl'))
-        line.sendall(b'events\n')
-        stream = line.makefile('r', encoding='utf-8')
-        assert stream.readline() == 'following\n' and stream.readline() == '\n'
-        line.close()
-        return stream
-
-    def quit(self) -> tuple[int, str]:
-        """Ends it; its status and what stands on standard error."""
-        self.ask('quit')
-        return self.wait()
-
-    def wait(self) -> tuple[int, str]:
-        said = self.process.stderr.read() if self.process.stderr else b''
-        return self.process.wait(SECONDS), said.decode()

@@ -53,7 +53,8 @@ class Units(unittest.TestCase):
 
     def test_removal_stops_all(self) -> None:
         """Each kind of unit is stopped, ties before the trunks that they command."""
-        self.assertEqual(self.units(), ['e1gw-keep@*.service', 'e1gw-tie@*.service', 'e1gw-trunk@*.service'])
+        self.assertEqual(self.units(), ['e1gw-carry@*.service', 'e1gw-keep@*.service', 'e1gw-tie@*.service',
+                                        'e1gw-trunk@*.service', 'e1gw-watch@*.service'])
         self.assertEqual(asked('prerm', 'remove'), ['deb-systemd-invoke', 'stop', *self.units()])
 
     def test_upgrade_stops_none(self) -> None:

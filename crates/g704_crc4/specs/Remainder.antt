@@ -1,6 +1,7 @@
 -- The remainder of a submultiframe, bit by bit (ITU-T G.704, 2.3.3.5). Polynomials says what it is the
 -- remainder of.
-use Rattle.std.specs.Prelude.{ℕ, ◌+◌, ◌-◌, ◌*◌, ◌/◌, ◌%◌, ◌^◌, Bool, true, false, not, ◌==◌, List, [], ◌∷◌, ◌++◌}
+use Rattle.std.specs.Prelude.{ℕ, ◌+◌, ◌-◌, ◌*◌, ◌/◌, ◌%◌, ◌^◌, Bool, true, false, not, ◌==◌, List, [], ◌∷◌}
+use Rattle.std.specs.Prelude.{◌++◌}
 use Rattle.g704_crc4.specs.declared.remainder.Remainder.{Remainder}
 
 -- A bit as a number.

@@ -1,6 +1,7 @@
 //! Received check bits.
 
-ghost use Rattle.std.specs.Prelude.{◌≡◌, ◌+◌, ◌%◌, ◌/◌, ◌<◌, ◌≤◌, ℕ, Bool, if◌then◌else◌, List, Option, [], ◌∷◌, ◌++◌, length, true};
+ghost use Rattle.std.specs.Prelude.{◌≡◌, ◌+◌, ◌%◌, ◌/◌, ◌<◌, ◌≤◌, ℕ, Bool, if◌then◌else◌, List, Option, []};
+ghost use Rattle.std.specs.Prelude.{◌∷◌, ◌++◌, length, true};
 ghost use Rattle.g704_crc4.specs.Checking.{same, check_bits_with, far_end_event, block_event, event_of};
 ghost use Rattle.g704_crc4.specs.Checking.{counts_of, counts_with, errors_with};
 ghost use Rattle.g704_crc4.specs.declared.remainder.Remainder.{Remainder};

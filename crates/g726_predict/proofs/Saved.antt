@@ -1,6 +1,7 @@
 -- The variables as numbers of 16 bits, and back.
 use Rattle.std.proofs.Common.{◌≡◌, refl, sym, ap, ◌∙◌, subst, ℕ, ◌+◌, ◌<◌, ◌≤◌, ℤ, pos, Bool, true, false}
-use Rattle.std.proofs.Common.{nat_le, nat_lt, ◌-◌, take, drop, List, [], ◌∷◌, ◌++◌, length, map, get_or, All, arith, SFits, w16, to_z, of_z}
+use Rattle.std.proofs.Common.{nat_le, nat_lt, ◌-◌, take, drop, List, [], ◌∷◌, ◌++◌, length, map, get_or, All, arith}
+use Rattle.std.proofs.Common.{SFits, w16, to_z, of_z}
 use Rattle.std.proofs.lemmas.Bool.Decides.{nat_tests}
 use Rattle.std.proofs.lemmas.Int.{to_z-of_z, of_z-to_z}
 use Rattle.std.proofs.lemmas.List.{ext_get_or, get_or-take, get_or-drop, length-take-le, length-drop}

@@ -1,5 +1,6 @@
 -- Numbers that are read from 32 bits.
-use Rattle.std.proofs.Common.{Bool, Option, Some, refl, ◌≡◌, ◌∙◌, ap, ◌<◌, ◌≤◌, ℕ, ℤ, pos, negsuc, ◌≤ℤ◌, to_z, of_z, w16, w32, arith}
+use Rattle.std.proofs.Common.{Bool, Option, Some, refl, ◌≡◌, ◌∙◌, ap, ◌<◌, ◌≤◌, ℕ, ℤ, pos, negsuc, ◌≤ℤ◌, to_z, of_z}
+use Rattle.std.proofs.Common.{w16, w32, arith}
 use Rattle.std.proofs.lemmas.Int.{ints, to_z-of_z}
 use lib.Signed.{mag}
 use Rattle.g726_tone.specs.Adaptation.{Adaptation, IsKept, InRange}

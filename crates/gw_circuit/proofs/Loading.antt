@@ -1,5 +1,6 @@
 -- Speech and circuits as octets, and back.
-use Rattle.std.proofs.Common.{◌≡◌, ◌<◌, ◌≤◌, ◌*◌, ◌%◌, ◌^◌, ℕ, true, List, [], ◌∷◌, ◌++◌, length, refl, sym, ap, ◌∙◌, append_assoc}
+use Rattle.std.proofs.Common.{◌≡◌, ◌<◌, ◌≤◌, ◌*◌, ◌%◌, ◌^◌, ℕ, true, List, [], ◌∷◌, ◌++◌, length, refl, sym, ap, ◌∙◌}
+use Rattle.std.proofs.Common.{append_assoc}
 use Rattle.std.proofs.Common.{All, OnOk}
 use mathlib.Core.HLevel.{is_prop→PathP}
 use Rattle.std.proofs.Props.{props}
@@ -27,7 +28,7 @@ use Rattle.gw_circuit.specs.Coding.{coding_after}
 use Rattle.gw_circuit.specs.Speech.{Speaks}
 use Rattle.gw_circuit.specs.Replies.{packet_size}
 use Rattle.gw_circuit.specs.Saved.{saved_coding, saved_packet, saved_speech, saved_numbers, saved_circuit}
-use Rattle.gw_circuit.specs.Standing.{Stands}
+use Rattle.gw_circuit.specs.Standing.{StandsSince}
 use Rattle.gw_circuit.proofs.Spells.{stretch-none}
 use Rattle.gw_circuit.proofs.Turns.{keeps-of, with_parts, stands-new}
 
@@ -142,10 +143,10 @@ same-circuit one other law config line speech clock sequence sent received dropp
 
 -- a circuit with a new line, and speech that begins anew, stands before its first item
 pub stands-cleared : (c : Circuit) (law : Law) (config : CircuitConfig) (items : List Item) (l : Line) (s : Speech)
-    → Stands c law config items → line.Stands l c.config.role []
+    → StandsSince c law config items → line.Stands l c.config.role []
     → Speaks s c.law (record { kind = c.config.codec; payload_type = c.config.payload_type }) (packet_size c.config)
     c.config.prefill [] [] → c.config.sequence < 2 ^ 16
-    → Stands (record {
+    → StandsSince (record {
       law = c.law;
       config = c.config;
       line = l;
@@ -161,11 +162,11 @@ stands-cleared c law config items l s stands at speaks small =
     rw (← keeps.law_is, ← keeps.config_is) (stands-new c.law c.config l s at speaks small)
 
 -- so does a circuit that stands there, with these parts
-with-parts : (c : Circuit) (law : Law) (config : CircuitConfig) (l : Line) (s : Speech) → Stands c law config []
+with-parts : (c : Circuit) (law : Law) (config : CircuitConfig) (l : Line) (s : Speech) → StandsSince c law config []
     → line.Stands l config.role []
     → Speaks s law (coding_after law config []) (packet_size config) config.prefill [] []
-    → Stands (with_parts c l s) law config []
-unfolding Stands
+    → StandsSince (with_parts c l s) law config []
+unfolding StandsSince
 with-parts c law config l s keeps at speaks = record {
   law_is = keeps.law_is;
   config_is = keeps.config_is;
@@ -181,14 +182,14 @@ with-parts c law config l s keeps at speaks = record {
 
 -- the same where its line was read already
 pub stands-reset : (k c : Circuit) (law : Law) (config : CircuitConfig) (l : Line) (s : Speech)
-    → k ≡ record c { line = k.line } → Stands c law config [] → line.Stands l k.config.role []
+    → k ≡ record c { line = k.line } → StandsSince c law config [] → line.Stands l k.config.role []
     → Speaks s k.law (coding_after law config []) (packet_size config) config.prefill [] []
-    → Stands (with_parts k l s) law config []
+    → StandsSince (with_parts k l s) law config []
 stands-reset k c law config l s is stands at speaks =
     let keeps = keeps-of c law config [] stands in
     let law_is : k.law ≡ law = ap (λ (x : Circuit). x.law) is ∙ keeps.law_is in
     let config_is : k.config ≡ config = ap (λ (x : Circuit). x.config) is ∙ keeps.config_is in
-    subst (λ (x : Circuit). Stands (with_parts x l s) law config []) (sym is)
+    subst (λ (x : Circuit). StandsSince (with_parts x l s) law config []) (sym is)
     (with-parts c law config l s stands (rw config_is at at) (rw law_is at speaks))
 
 -- where a result is tested to be none, what it says of that holds

@@ -1,5 +1,5 @@
--- The octets of a saved circuit. Its law and its configuration are not among them: a circuit that is loaded has
--- its own.
+-- The octets of a saved circuit. Its law and its configuration are not among them: a circuit that is loaded
+-- has its own.
 use Rattle.std.specs.Prelude.{ℕ, List, ◌∷◌, ◌++◌, ◌<◌, ◌^◌, length}
 use Rattle.saved_octets.specs.Numbers.{two_octets, four_octets}
 use Rattle.g726_codec.specs.declared.CodecKind.{CodecKind}

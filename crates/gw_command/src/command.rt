@@ -279,8 +279,8 @@ fn signals_of(ms: u16) -> Option<u16>
     Some((ms + 1) / 2)
 }
 
-/// The wait of a seizure in signals, one every 2 ms, by the first `--seizure-wait` of the matches, if there is
-/// one.
+/// The wait of a seizure in signals, one every 2 ms, by the first `--seizure-wait` of the matches, if there
+/// is one.
 pub fn seizure_wait_of(matches: &ArgMatches<'_>) -> Option<u16>
     ensures found { IfSome result (SaysWait (subcommand_rows_of matches.now)) }
     ensures none { IfNone result ((signals : ℕ) → ¬ SaysWait (subcommand_rows_of matches.now) signals) }
@@ -313,6 +313,14 @@ pub fn control_of<'m>(matches: &'m ArgMatches<'_>) -> Option<&'m str>
         ≡ text_in (codes "control") (subcommand_rows_of matches.now) }
 {
     text_of(matches, "control")
+}
+
+/// The path of the socket at which clients are told how the trunk stands, the first one, if the matches name
+/// one.
+pub fn tell_of<'m>(matches: &'m ArgMatches<'_>) -> Option<&'m str>
+    ensures { option_map (λ path. path.now) result ≡ text_in (codes "tell") (subcommand_rows_of matches.now) }
+{
+    text_of(matches, "tell")
 }
 
 /// The path of the state that a session begins with, the first one, if the matches name one.

@@ -6,5 +6,5 @@ mod command;
 pub use command::{
     Filter, Job, Request, Session, arguments, asks_check, control_of, job_of, load_of, path_of,
     recording_of, records_over, repeat_of, request_of, save_of, seizure_wait_of, senders_of,
-    session_of, wants_totals,
+    session_of, tell_of, wants_totals,
 };

@@ -102,6 +102,9 @@ const SEIZURE_WAIT_TEXT: &str =
 const CONTROL_TEXT: &str =
     "Unix socket at which clients connect, who give C, K and E records\nand get R records";
 
+const TELL_TEXT: &str =
+    "Unix socket at which clients are told how the trunk stands and\nwhat changes";
+
 // The options.
 #[derive(Clone, Copy)]
 enum Opt {
@@ -122,6 +125,7 @@ enum Opt {
     Repeat,
     SeizureWait,
     Control,
+    Tell,
     Crc4Check,
 }
 
@@ -145,13 +149,14 @@ const OF_A_STREAM: &[Opt] = &[
     Opt::Totals,
 ];
 
-// The options of a session of a gateway.
-const OF_A_SESSION: &[Opt] = &[
+// The options of a session from records to records.
+const OF_REPLAY: &[Opt] = &[
     Opt::Config,
     Opt::Load,
     Opt::Save,
     Opt::Totals,
     Opt::SeizureWait,
+    Opt::Tell,
 ];
 
 // The options of a session whose answers are not written.
@@ -201,7 +206,7 @@ const SUBCOMMANDS: [Subcommand; 8] = [
         name: "replay",
         about: "Records of a gateway, answered by records",
         after_help: REPLAY_HELP,
-        options: OF_A_SESSION,
+        options: OF_REPLAY,
     },
     Subcommand {
         name: "check",
@@ -371,6 +376,11 @@ fn control_option<'a>(alloc: Global) -> Arg<'a> {
     option(alloc, "control", CONTROL_TEXT).value_name("SOCKET")
 }
 
+// Where clients are told how the trunk stands.
+fn tell_option<'a>(alloc: Global) -> Arg<'a> {
+    option(alloc, "tell", TELL_TEXT).value_name("SOCKET")
+}
+
 // The option that is meant.
 fn declared<'a>(alloc: Global, option: Opt) -> Arg<'a> {
     match option {
@@ -391,6 +401,7 @@ fn declared<'a>(alloc: Global, option: Opt) -> Arg<'a> {
         Opt::Repeat => repeat_option(alloc),
         Opt::SeizureWait => seizure_wait_option(alloc),
         Opt::Control => control_option(alloc),
+        Opt::Tell => tell_option(alloc),
         Opt::Crc4Check => flag(alloc, "check", CRC4_CHECK_TEXT),
     }
 }

@@ -102,23 +102,25 @@ module _ (s s' : SourceState) (k k' : SinkState) {P T : Type 0} (reads : Config 
     }
 
     -- a session that was done on new streams
-    pub session_done : (session : Session) → NotBegun s s' k k' lacks told
+    pub session_done : (lacks_watch : Trouble → Type 0) (session : Session) → NotBegun s s' k k' lacks told
         ⊎ HasConfig reads (λ config. NotBegun s s' k k' (lacks_gateway config) told
         ⊎ HasGateway (starts config) (λ gateway gateway'. by_session session
-        (EndedSaved (λ end. Runs s s' k k' end gateway gateway') (saves config gateway') told)
+        (NotBegun s s' k k' lacks_watch told
+        ⊎ EndedSaved (λ end. Runs s s' k k' end gateway gateway') (saves config gateway') told)
         (EndedSaved (λ end. Checks s s' k k' end gateway gateway') (saves config gateway') told)
         (NotBegun s s' k k' (lacks_more config) told
         ⊎ HasServed (opens config) begins (λ ports ports' tape tape'.
         EndedSaved (λ end. Serves (around s k (ports_tell ports) (tape_tells tape))
         (around s' k' (ports_tell ports') (tape_tells tape')) end gateway gateway') (saves config gateway') told))))
         → s.reads ≡ 0 → s.given ≡ Some [] → s.failures ≡ 0 → k.failures ≡ 0 → DoesSession load save asks session told
-    session_done session (inl n) a b c d =
+    session_done lacks_watch session (inl n) a b c d =
         on_new s s' k k' (inl (told_untouched (λ e. e) (λ e. e) n)) a b c d
-    session_done session (inr h) a b c d = with_config session h.config h.done a b c d
+    session_done lacks_watch session (inr h) a b c d = with_config session h.config h.done a b c d
       where
         with_gateway : (session : Session) (config : Config) (gateway gateway' : Gateway) → starts config gateway
             → by_session session
-            (EndedSaved (λ end. Runs s s' k k' end gateway gateway') (saves config gateway') told)
+            (NotBegun s s' k k' lacks_watch told
+            ⊎ EndedSaved (λ end. Runs s s' k k' end gateway gateway') (saves config gateway') told)
             (EndedSaved (λ end. Checks s s' k k' end gateway gateway') (saves config gateway') told)
             (NotBegun s s' k k' (lacks_more config) told
             ⊎ HasServed (opens config) begins (λ ports ports' tape tape'.
@@ -126,7 +128,9 @@ module _ (s s' : SourceState) (k k' : SinkState) {P T : Type 0} (reads : Config 
             (around s' k' (ports_tell ports') (tape_tells tape')) end gateway gateway') (saves config gateway') told))
             → s.reads ≡ 0 → s.given ≡ Some [] → s.failures ≡ 0 → k.failures ≡ 0
             → DoesSession load save asks session told
-        with_gateway Replay config gateway gateway' new e a b c d = on_new s s' k k' (inr (record {
+        with_gateway Replay config gateway gateway' new (inl n) a b c d =
+            on_new s s' k k' (inl (told_untouched (λ e. e) (λ e. e) n)) a b c d
+        with_gateway Replay config gateway gateway' new (inr e) a b c d = on_new s s' k k' (inr (record {
           config = config;
           read = tt;
           done = record { gateway = gateway; gateway' = gateway'; begun = begun config gateway new; done = saved_told config gateway' e };
@@ -152,7 +156,8 @@ module _ (s s' : SourceState) (k k' : SinkState) {P T : Type 0} (reads : Config 
         with_config : (session : Session) (config : Config)
             → NotBegun s s' k k' (lacks_gateway config) told
             ⊎ HasGateway (starts config) (λ gateway gateway'. by_session session
-            (EndedSaved (λ end. Runs s s' k k' end gateway gateway') (saves config gateway') told)
+            (NotBegun s s' k k' lacks_watch told
+            ⊎ EndedSaved (λ end. Runs s s' k k' end gateway gateway') (saves config gateway') told)
             (EndedSaved (λ end. Checks s s' k k' end gateway gateway') (saves config gateway') told)
             (NotBegun s s' k k' (lacks_more config) told
             ⊎ HasServed (opens config) begins (λ ports ports' tape tape'.

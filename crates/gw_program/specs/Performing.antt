@@ -20,7 +20,8 @@ pub record Ended (ends : Result Totals RunFault → Type 0) (told : Result Total
   pub done : ends end
   pub told_is : told ≡ told_as end
 
--- what is told of how a session ended and of the saving of its state: a saving that failed is told in any case
+-- what is told of how a session ended and of the saving of its state: a saving that failed is told in any
+-- case
 abbrev pub told_after : Result Totals RunFault → Result (Unit {0}) Trouble → Result Totals Trouble
 told_after end (Ok u) = told_as end
 told_after end (Err trouble) = Err trouble

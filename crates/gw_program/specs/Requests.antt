@@ -98,8 +98,8 @@ DoesSession load save asks session told = OnNewStreams (λ a a'. ByGateway a a' 
     (EndedSaved (λ end. Checks a.source a'.source a.sink a'.sink end gateway gateway') (IsSaved save) told)
     (EndedSaved (λ end. Serves a a' end gateway gateway') (IsSaved save) told)))
 
--- Octets came from a trunk and were sent to it, clients asked and were answered, and this was done of it. What
--- was sent went to the device in time: all of it, except for whole multiframes if the device was slow.
+-- Octets came from a trunk and were sent to it, clients asked and were answered, and this was done of it.
+-- What was sent went to the device in time: all of it, except for whole multiframes if the device was slow.
 pub record HasTrunk (does : List ℕ → List ℕ → List ℕ → List ℕ → Type 0) : Type 0 where
   pub came : List ℕ
   pub asked : List ℕ

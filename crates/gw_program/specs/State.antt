@@ -10,6 +10,7 @@ use Rattle.gw_records.specs.Streams.{SourceState, SinkState, Gives, Breaks}
 use Rattle.gw_state.specs.declared.fault.LoadFault.{LoadFault}
 use Rattle.gw_state.specs.declared.fault.LoadFault.TheVariants as loads
 use Rattle.gw_state.specs.Faults.{Refuses}
+use Rattle.gw_state.specs.declared.loading.Loaded.{Loaded}
 use Rattle.gw_state.specs.Loaded.{IsLoaded}
 use Rattle.gw_program.specs.declared.trouble.Trouble.{Trouble}
 use Rattle.gw_program.specs.declared.trouble.Trouble.TheVariants as troubles
@@ -32,10 +33,10 @@ FailsToRead source source' troubles.OutOfMemory = ⊤
 FailsToRead source source' _ = ⊥
 
 -- a gateway was loaded from what a source gave
-pub record WasLoaded (config : GatewayConfig) (source source' : SourceState) (gateway : Gateway) : Type 0 where
+pub record WasLoaded (config : GatewayConfig) (source source' : SourceState) (loaded : Loaded) : Type 0 where
   pub octets : List ℕ
   pub read : WasRead source source' octets
-  pub loaded : IsLoaded config octets gateway
+  pub is : IsLoaded config octets loaded
 
 -- what a source gave was refused
 pub record WasRefused (config : GatewayConfig) (source source' : SourceState) (fault : LoadFault) : Type 0 where
@@ -62,22 +63,24 @@ FailsToSave sink sink' octets _ = ⊥
 -- the gateway of some state
 pub record IsFromState (config : GatewayConfig) (gateway : Gateway) : Type 0 where
   pub octets : List ℕ
-  pub loaded : IsLoaded config octets gateway
+  pub loaded : Loaded
+  pub is : IsLoaded config octets loaded
+  pub gateway_is : gateway ≡ loaded.gateway
 
 -- a session begins with a new gateway, or if a file is named with the gateway of a state
 abbrev pub HasBegun : {X : Type 0} → GatewayConfig → Option X → Gateway → Type 0
 HasBegun config None gateway = Stands config gateway []
 HasBegun config (Some path) gateway = IsFromState config gateway
 
--- a gateway is given this wait: one event more
-abbrev pub WasGiven : GatewayConfig → ℕ → Gateway → Gateway → Type 0
-WasGiven config signals first gateway = (events : List Event) → Stands config first events
+-- a gateway is given this wait: one event more, however it was configured at first
+abbrev pub WasGiven : ℕ → Gateway → Gateway → Type 0
+WasGiven signals first gateway = (config : GatewayConfig) (events : List Event) → Stands config first events
     → Stands config gateway (events ++ Event.Wait signals ∷ [])
 
 -- a gateway is given the wait that is asked for, and is as it was if none is
-abbrev pub Waits : GatewayConfig → Option ℕ → Gateway → Gateway → Type 0
-Waits config None first gateway = gateway ≡ first
-Waits config (Some signals) first gateway = WasGiven config signals first gateway
+abbrev pub Waits : Option ℕ → Gateway → Gateway → Type 0
+Waits None first gateway = gateway ≡ first
+Waits (Some signals) first gateway = WasGiven signals first gateway
 
 -- a session begins with a gateway that began so, and was given the wait that is asked for if one is
 pub record BeginsWaiting {X : Type 0} (config : GatewayConfig) (path : Option X) (Asks : Option ℕ → Type 0)
@@ -86,7 +89,7 @@ pub record BeginsWaiting {X : Type 0} (config : GatewayConfig) (path : Option X)
   pub begun : HasBegun config path first
   pub wait : Option ℕ
   pub asked : Asks wait
-  pub waits : Waits config wait first gateway
+  pub waits : Waits wait first gateway
 
 -- octets that were refused so
 pub record AreRefused (config : GatewayConfig) (fault : LoadFault) : Type 0 where

@@ -1,6 +1,6 @@
 -- What a failed call comes to, and the status of the program at each trouble: 1 at a fault of a session, a
--- socket or a trunk other than want of memory and if a state is not saved, 2 if the command line, a file or the
--- configuration is refused, 3 for want of memory.
+-- socket or a trunk other than want of memory and if a state is not saved, 2 if the command line, a file or
+-- the configuration is refused, 3 for want of memory.
 use Rattle.std.specs.Prelude.{ℕ}
 use Rattle.std.specs.declared.io.ErrorKind as kinds
 use Rattle.std.specs.declared.io.ErrorKind.TheVariants as errors
@@ -47,5 +47,6 @@ trouble_status troubles.NoState = 2
 trouble_status (troubles.State fault) = load_status fault
 trouble_status troubles.NotSaved = 1
 trouble_status troubles.Control = 2
+trouble_status troubles.Tell = 2
 trouble_status (troubles.Config fault) = config_status fault
 trouble_status troubles.OutOfMemory = 3

@@ -10,8 +10,8 @@ use Rattle.gw_session.specs.Serve.{Around}
 use Rattle.gw_trunk.specs.Serving.{Carried}
 use Rattle.gw_program.specs.Sessions.{Serves}
 
--- A gateway served a trunk on which these octets came and went, and clients, by whom this was asked and to whom
--- this was answered. What went is what the definitions give after all that had happened to the gateway.
+-- A gateway served a trunk on which these octets came and went, and clients, by whom this was asked and to
+-- whom this was answered. What went is what the definitions give after all that had happened to the gateway.
 pub record CarriesTrunk (a a' : Around) (came asked went told : List ℕ) (end : Result Totals RunFault)
     (gateway gateway' : Gateway) : Type 0 where
   pub served : Serves a a' end gateway gateway'

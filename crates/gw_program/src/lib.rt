@@ -23,7 +23,7 @@ pub use performing::{System, perform_job, perform_session};
 pub use recording::{Recording, Tape, begin, tell_end};
 pub use report::{PassedOver, passed_over, print_discarded, print_tally, print_totals};
 pub use requests::{Commands, perform};
-pub use sessions::{check, replay, serve_through};
+pub use sessions::{check, replay, replay_watched, serve_through};
 pub use setup::read_config;
 pub use standard::{Held, hold};
 pub use state::{begin_gateway, keep_gateway, load_from, save_to};

@@ -11,11 +11,11 @@ ghost use Rattle.gw_program.specs.Performing.{by_session, told_as, IsTold, Ended
 use crate::jobs::do_job;
 use crate::report::passed_over;
 use crate::sealed::{StandardInput, StandardOutput};
-use crate::sessions::{check, replay, serve_through};
+use crate::sessions::{check, replay_watched, serve_through};
 use crate::trouble::Trouble;
 use gw_command::{Job, Session};
 use gw_config::Config;
-use gw_session::{Ports, RunFault, Sink, Source, Tape, Totals};
+use gw_session::{Ports, RunFault, Sink, Source, Tape, Totals, Watch};
 use gw_switch::Gateway;
 use std::alloc::Global;
 
@@ -32,6 +32,9 @@ pub trait System {
 
     /// What a session is recorded on.
     type Tape: Tape + Drop;
+
+    /// What the records of a replay are shown to.
+    type Watch: Watch + Drop;
 
     /// Holds of a configuration that was read.
     ghost reads: { Self → Config → Type 0 };
@@ -60,6 +63,9 @@ pub trait System {
     /// Holds of a configuration and why no ports were opened for it.
     ghost lacks_ports: { Self → Config → Trouble → Type 0 };
 
+    /// Holds of why nothing was opened that the records of a replay are shown to.
+    ghost lacks_watch: { Self → Trouble → Type 0 };
+
     /// Reads the configuration.
     fn read_config(&self) -> Result<Config, Trouble>
         ensures ok { IfOk result (λ config. reads self.now config) }
@@ -83,6 +89,13 @@ pub trait System {
     fn open_ports(&self, config: &Config) -> Result<Self::Ports, Trouble>
         ensures ok { IfOk result (λ ports. opens self.now config.now ports) }
         ensures err { IfErr result (λ trouble. lacks_ports self.now config.now trouble) };
+
+    /// Opens what the records of a replay are shown to, which begins with this gateway.
+    fn open_watch(&self, config: &Config, gateway: &Gateway) -> Result<Self::Watch, Trouble>
+        ensures { IfErr result (λ trouble. lacks_watch self.now trouble) };
+
+    /// Ends what the records of a replay were shown to.
+    fn end_watch(&self, watch: &mut Self::Watch);
 
     /// Tells where a recording has ended before its session.
     fn tell_end(&self, tape: &Self::Tape);
@@ -147,7 +160,29 @@ pub(crate) fn end_session<Y: System>(
     }
 }
 
-// Serves by a configuration, on ports and a tape of the system's. The tape is begun before the ports are opened.
+// Replays with a gateway, and shows each record to a watch of the system's.
+fn perform_replay<Y: System, S: Source, K: Sink>(
+    system: &Y,
+    alloc: Global,
+    config: &Config,
+    gateway: &mut Gateway,
+    source: &mut S,
+    sink: &mut K,
+) -> Result<Totals, Trouble>
+    requires { CanBegin (S.tells source.old) (K.tells sink.old) }
+    ensures { NotBegun (S.tells source.old) (S.tells source.new) (K.tells sink.old) (K.tells sink.new)
+        (Y.lacks_watch system.now) result
+        ⊎ EndedSaved (λ end. Runs (S.tells source.old) (S.tells source.new) (K.tells sink.old) (K.tells sink.new)
+        end gateway.old gateway.new) (Y.saves system.now config.now gateway.new) result }
+{
+    let mut watch = system.open_watch(config, gateway)?;
+    let ended = replay_watched(alloc, gateway, source, sink, &mut watch);
+    system.end_watch(&mut watch);
+    end_session(system, config, gateway, ended)
+}
+
+// Serves by a configuration, on ports and a tape of the system's. The tape is begun before the ports are
+// opened.
 fn perform_serve<Y: System, S: Source, K: Sink>(
     system: &Y,
     alloc: Global,
@@ -172,9 +207,9 @@ fn perform_serve<Y: System, S: Source, K: Sink>(
     end_session(system, config, gateway, ended)
 }
 
-/// Does a session by the configuration of the system's with a gateway of its, on its ports and its tape where it
-/// serves, and saves the state of the gateway. What the system lacked is told, and nothing was read or written
-/// then.
+/// Does a session by the configuration of the system's with a gateway of its, on its ports and its tape where
+/// it serves, and saves the state of the gateway. What the system lacked is told, and nothing was read or
+/// written then.
 pub fn perform_session<Y: System, S: Source + StandardInput, K: Sink + StandardOutput>(
     system: &Y,
     alloc: Global,
@@ -189,7 +224,9 @@ pub fn perform_session<Y: System, S: Source + StandardInput, K: Sink + StandardO
         NotBegun (S.tells source.old) (S.tells source.new) (K.tells sink.old) (K.tells sink.new)
         (Y.lacks_gateway system.now config) result
         ⊎ HasGateway (Y.starts system.now config) (λ gateway gateway'. by_session session
-        (EndedSaved (λ end. Runs (S.tells source.old) (S.tells source.new) (K.tells sink.old) (K.tells sink.new)
+        (NotBegun (S.tells source.old) (S.tells source.new) (K.tells sink.old) (K.tells sink.new)
+        (Y.lacks_watch system.now) result
+        ⊎ EndedSaved (λ end. Runs (S.tells source.old) (S.tells source.new) (K.tells sink.old) (K.tells sink.new)
         end gateway gateway') (Y.saves system.now config gateway') result)
         (EndedSaved (λ end. Checks (S.tells source.old) (S.tells source.new) (K.tells sink.old) (K.tells sink.new)
         end gateway gateway') (Y.saves system.now config gateway') result)
@@ -204,10 +241,7 @@ pub fn perform_session<Y: System, S: Source + StandardInput, K: Sink + StandardO
     let config = system.read_config()?;
     let mut gateway = system.begin_gateway(&config)?;
     match session {
-        Session::Replay => {
-            let ended = replay(alloc, &mut gateway, source, sink);
-            end_session(system, &config, &gateway, ended)
-        }
+        Session::Replay => perform_replay(system, alloc, &config, &mut gateway, source, sink),
         Session::Check => {
             let ended = check(alloc, &mut gateway, source, sink);
             end_session(system, &config, &gateway, ended)

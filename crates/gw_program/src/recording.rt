@@ -11,7 +11,8 @@ use std::os::fd::OwnedFd;
 use std::os::unix::fs::OpenOptionsExt;
 use std::os::unix::net::UnixStream;
 
-// The permissions of a new file, less the umask: others may not read it, since it holds the speech of all calls.
+// The permissions of a new file, less the umask: others may not read it, since it holds the speech of all
+// calls.
 const MODE: u32 = 0o640;
 
 /// A recording that is asked for.
@@ -81,8 +82,8 @@ fn open(rt: &HostRuntime, recording: Recording<'_>) -> Result<File, Trouble> {
     }
 }
 
-// Has each write that would wait fail. (What is set is set of all descriptors of this opening of the file, so it
-// is set through another one, by a type that can set it. What was opened by its path has no others.)
+// Has each write that would wait fail. (What is set is set of all descriptors of this opening of the file, so
+// it is set through another one, by a type that can set it. What was opened by its path has no others.)
 fn never_wait(file: &File) -> io::Result<()> {
     let other = UnixStream::from(OwnedFd::from(file.try_clone()?));
     other.set_nonblocking(true)

@@ -7,7 +7,8 @@ ghost use Rattle.gw_program.specs.Sessions.{Runs, Serves, Checks, Lists, checked
 
 use crate::listing::listing;
 use gw_session::{
-    Ports, RunFault, Sink, SinkFault, Source, Tape, Totals, run, serve_recorded, write_all,
+    Ports, RunFault, Sink, SinkFault, Source, Tape, Totals, Watch, run, run_watched,
+    serve_recorded, write_all,
 };
 use gw_switch::Gateway;
 use std::alloc::Global;
@@ -25,6 +26,22 @@ pub fn replay<S: Source, K: Sink>(
         gateway.old gateway.new }
 {
     run(alloc, gateway, source, sink)
+}
+
+/// The same, and shows each record to a watch.
+#[inline(never)]
+pub fn replay_watched<S: Source, K: Sink, W: Watch>(
+    alloc: Global,
+    gateway: &mut Gateway,
+    source: &mut S,
+    sink: &mut K,
+    watch: &mut W,
+) -> Result<Totals, RunFault>
+    requires { CanBegin (S.tells source.old) (K.tells sink.old) }
+    ensures { Runs (S.tells source.old) (S.tells source.new) (K.tells sink.old) (K.tells sink.new) result
+        gateway.old gateway.new }
+{
+    run_watched(alloc, gateway, source, sink, watch)
 }
 
 // Takes all octets and keeps none, so that no write fails.
@@ -84,8 +101,8 @@ fn checked(
     Ok(totals)
 }
 
-/// Acts on the records of a source with a gateway, whose datagrams come and go through ports, and records on a
-/// tape what the gateway takes.
+/// Acts on the records of a source with a gateway, whose datagrams come and go through ports, and records on
+/// a tape what the gateway takes.
 #[inline(never)]
 pub fn serve_through<S: Source, P: Ports, K: Sink, T: Tape>(
     alloc: Global,

@@ -5,12 +5,13 @@ ghost use Rattle.std.specs.Io.KnownBytes.{Appends};
 ghost use Rattle.gw_records.specs.Streams.{CanCount};
 ghost use Rattle.gw_state.specs.Layout.{state_file};
 ghost use Rattle.gw_program.specs.State.{WasRead, FailsToRead, WasLoaded, FailsToLoad, FailsToSave};
-ghost use Rattle.gw_program.specs.State.{HasBegun, Waits, BeginsWaiting, LacksGateway, IsSaved, load_trouble};
+ghost use Rattle.gw_program.specs.State.{IsFromState, HasBegun, Waits, BeginsWaiting, LacksGateway, IsSaved};
+ghost use Rattle.gw_program.specs.State.{load_trouble};
 
 use crate::trouble::Trouble;
 use gw_records::read_behind;
 use gw_session::{FromRead, Sink, Source, ToWrite, write_all};
-use gw_state::{LoadFault, load_gateway, state_file};
+use gw_state::{LoadFault, Loaded, load_gateway, state_file};
 use gw_switch::{Gateway, GatewayConfig};
 use std::alloc::Global;
 use std::fs::{self, File, OpenOptions};
@@ -61,18 +62,18 @@ fn load_trouble(fault: LoadFault) -> Trouble
     }
 }
 
-/// The gateway of this configuration whose state a source gives up to its end. It has the history of the gateway
-/// that was saved so.
+/// The gateway whose state a source gives up to its end, with this configuration: it has the history of the
+/// gateway that was saved so, and then circuits that were configured otherwise begin as new.
 ///
 /// # Errors
 ///
 /// [`Trouble::NoState`] if a read failed or there are more octets than a state has, [`Trouble::State`] if the
-/// octets are not a state of this configuration, [`Trouble::OutOfMemory`].
+/// octets are no state that can be loaded, [`Trouble::OutOfMemory`].
 pub fn load_from<S: Source>(
     alloc: Global,
     config: &GatewayConfig,
     source: &mut S,
-) -> Result<Gateway, Trouble>
+) -> Result<Loaded, Trouble>
     requires { CanCount (S.tells source.old).failures }
     ensures ok { IfOk result (WasLoaded config.now (S.tells source.old) (S.tells source.new)) }
     ensures err { IfErr result (FailsToLoad config.now (S.tells source.old) (S.tells source.new)) }
@@ -80,7 +81,7 @@ pub fn load_from<S: Source>(
     let mut octets = Vec::new(alloc);
     read_whole(source, &mut octets)?;
     match load_gateway(alloc, config, octets.as_slice()) {
-        Ok(gateway) => Ok(gateway),
+        Ok(loaded) => Ok(loaded),
         Err(fault) => Err(load_trouble(fault)),
     }
 }
@@ -89,8 +90,8 @@ pub fn load_from<S: Source>(
 ///
 /// # Errors
 ///
-/// [`Trouble::NotSaved`] if a write failed: the sink has taken a prefix of the octets. [`Trouble::OutOfMemory`]:
-/// it has taken none.
+/// [`Trouble::NotSaved`] if a write failed: the sink has taken a prefix of the octets.
+/// [`Trouble::OutOfMemory`]: it has taken none.
 pub fn save_to<K: Sink>(
     alloc: Global,
     config: &GatewayConfig,
@@ -112,6 +113,30 @@ pub fn save_to<K: Sink>(
     }
 }
 
+// Says which circuits begin as new, since they were configured otherwise.
+fn tell_renewed(rt: &HostRuntime, old: &GatewayConfig, config: &GatewayConfig) {
+    for at in 0..config.circuits.len() {
+        if old.circuits[at] != config.circuits[at] {
+            let _ = eprintln!(rt; "circuit {} begins as new", at + 1);
+        }
+    }
+}
+
+// The gateway whose state a file has, with this configuration.
+fn loaded_gateway(rt: &HostRuntime, config: &GatewayConfig, path: &str) -> Result<Gateway, Trouble>
+    ensures ok { IfOk result (IsFromState config.now) }
+    ensures err { IfErr result (LacksGateway config.now (Some path)) }
+{
+    match fs::open(rt, path) {
+        Ok(file) => {
+            let loaded = load_from(rt.alloc(), config, &mut FromRead::new(file))?;
+            tell_renewed(rt, &loaded.old, config);
+            Ok(loaded.gateway)
+        }
+        Err(error) => Err(Trouble::of(&error, Trouble::NoState)),
+    }
+}
+
 // The gateway whose state a file has if one is named, else a new one.
 fn first_gateway(
     rt: &HostRuntime,
@@ -121,18 +146,15 @@ fn first_gateway(
     ensures ok { IfOk result (HasBegun config.now path.entry) }
     ensures err { IfErr result (LacksGateway config.now path.entry) }
 {
-    let Some(path) = path else {
-        return Gateway::open(rt.alloc(), config).map_err(|_| Trouble::OutOfMemory);
-    };
-    match fs::open(rt, path) {
-        Ok(file) => load_from(rt.alloc(), config, &mut FromRead::new(file)),
-        Err(error) => Err(Trouble::of(&error, Trouble::NoState)),
+    match path {
+        Some(path) => loaded_gateway(rt, config, path),
+        None => Gateway::open(rt.alloc(), config).map_err(|_| Trouble::OutOfMemory),
     }
 }
 
 // The gateway, given this wait if there is one.
 fn waiting(gateway: Gateway, wait: Option<u16>) -> Gateway
-    ensures { (config : GatewayConfig) → Waits config wait gateway result }
+    ensures { Waits wait gateway result }
 {
     let mut gateway = gateway;
     if let Some(signals) = wait {
@@ -143,7 +165,7 @@ fn waiting(gateway: Gateway, wait: Option<u16>) -> Gateway
 
 /// The gateway that a session begins with: the one whose state a file has if one is named, else a new one.
 /// Its wait for an acknowledgement, in signals, is `wait`; without one it is that of the state, or 100
-/// signals.
+/// signals. Circuits of a state that were configured otherwise begin as new, and standard error says which.
 pub fn begin_gateway(
     rt: &HostRuntime,
     config: &GatewayConfig,
@@ -199,8 +221,8 @@ fn is_replaced(rt: &HostRuntime, path: &str) -> bool {
     }
 }
 
-/// Saves the state of a gateway to a file, if one is named. It is written beside the file, synced, and put in its
-/// place whole: if that fails an old file stays as it was.
+/// Saves the state of a gateway to a file, if one is named. It is written beside the file, synced, and put in
+/// its place whole: if that fails an old file stays as it was.
 pub fn keep_gateway(
     rt: &HostRuntime,
     config: &GatewayConfig,

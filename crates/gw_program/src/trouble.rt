@@ -60,6 +60,9 @@ pub enum Trouble {
     /// The socket that clients connect to can't be opened.
     #[error("cannot open the control socket")]
     Control,
+    /// The socket at which clients are told how the trunk stands can't be opened.
+    #[error("cannot open the socket of --tell")]
+    Tell,
     /// The file says no configuration.
     #[error("{0}")]
     Config(ConfigFault),
@@ -79,8 +82,8 @@ impl Trouble {
         }
     }
 
-    /// The status of the program: 1 at a fault of a session, a socket or a trunk and if a state is not saved, 2
-    /// if the command line, a file or the configuration is refused, and 3 for want of memory.
+    /// The status of the program: 1 at a fault of a session, a socket or a trunk and if a state is not saved,
+    /// 2 if the command line, a file or the configuration is refused, and 3 for want of memory.
     pub fn status(&self) -> u8
         ensures { result ≡ trouble_status self.now }
     {
@@ -98,6 +101,7 @@ impl Trouble {
             | Trouble::NoState
             | Trouble::State(_)
             | Trouble::Control
+            | Trouble::Tell
             | Trouble::Config(_) => REFUSED,
         }
     }

@@ -58,8 +58,8 @@ abbrev pub FourCome : Option Waiting → Option Waiting → Option ℕ → List 
 FourCome old new circuit came = IfKnown old new
     (λ v w. (came ≡ first_four v circuit) × ((c : ℕ) → w c ≡ behind_four v circuit c))
 
--- Of octets that were heard the first ones are recorded or in the batch, as many as this says; datagrams came,
--- and so is all but for the octets that are still behind those.
+-- Of octets that were heard the first ones are recorded or in the batch, as many as this says; datagrams
+-- came, and so is all but for the octets that are still behind those.
 pub record RecordsBehind (t t' : Taping) (heard : List ℕ) (recorded recorded' : ℕ)
     (happened : List Event) : Type 0 where
   pub within : recorded' ≤ length heard

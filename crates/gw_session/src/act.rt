@@ -122,6 +122,7 @@ impl Session {
     {
         self.totals.records = self.totals.records.saturating_add(1);
         self.totals.octets = self.totals.octets.saturating_add(body.len() as u64);
+        self.code = 0;
         self.answer.clear();
         let _ = self.answer.try_extend_from_slice(&trunk_front(body.len()));
         let recorded = self.exchange_all(gateway, outlet, body, sink, tape)?;
@@ -144,6 +145,7 @@ impl Session {
         requires writes { CanCount (K.tells sink.old).failures }
         ensures puts { Puts (K.tells sink.old) (K.tells sink.new) self.new.waiting.items
             (self.old.waiting.items ++ written_out (Answered recorded.circuit recorded.kind code)) result }
+        ensures code { self.new.code ≡ code }
         ensures counts { self.new.totals
             ≡ record self.old.totals { records = at_most (self.old.totals.records + 1) } }
         ensures few { OnOk result (length self.new.waiting.items ≤ most_waiting self.old.at_once) }
@@ -151,6 +153,7 @@ impl Session {
         ensures room { vec_len self.new.room ≡ vec_len self.old.room }
     {
         self.totals.records = self.totals.records.saturating_add(1);
+        self.code = code;
         let octets = [ANSWER, recorded.circuit(), 0, 2, recorded.kind(), code];
         put_out(recorded, &octets, &mut self.waiting, self.at_once, sink)
     }

@@ -11,15 +11,17 @@ ghost use Rattle.gw_session.specs.World.{state_of, world_of};
 use crate::exchange::Session;
 use crate::outlet::Outlet;
 use crate::tape::Tape;
+use crate::watch::Watch;
 use gw_records::{
     FRONT_LEN, Kinds, Reader, RunFault, Sink, Source, Totals, answer, first_record, flush,
 };
 use gw_switch::Gateway;
 
-/// Acts on the records of the source, of these kinds, by a gateway, and records on a tape what it takes. It
-/// is inlined, so that a session tests for no other kinds than its own.
+/// Acts on the records of the source, of these kinds, by a gateway, records on a tape what it takes, and
+/// shows each record to a watch when the gateway has acted on it. It is inlined, so that a session tests for
+/// no other kinds than its own.
 #[inline(always)]
-pub fn attend<O: Outlet, S: Source, K: Sink, T: Tape>(
+pub fn attend<O: Outlet, S: Source, K: Sink, T: Tape, W: Watch>(
     kinds: &Kinds,
     reader: &mut Reader,
     session: &mut Session,
@@ -28,6 +30,7 @@ pub fn attend<O: Outlet, S: Source, K: Sink, T: Tape>(
     source: &mut S,
     sink: &mut K,
     tape: &mut T,
+    watch: &mut W,
 ) -> Result<Totals, RunFault>
     requires begins { CanBegin (S.tells source.old) (K.tells sink.old) }
     requires holds { held reader.old ≡ [] }
@@ -57,6 +60,7 @@ pub fn attend<O: Outlet, S: Source, K: Sink, T: Tape>(
             Ok(first) => {
                 let body = &reader.held()[FRONT_LEN..first.len];
                 session.act(gateway, outlet, first.head, body, sink, tape)?;
+                watch.after(&first.head, body, session.code, gateway);
                 reader.pass(first.len);
             }
             Err(ending) => {

@@ -41,6 +41,8 @@ pub struct Session {
     pub waiting: OutputBuffer,
     pub answer: TrunkRecord,
     pub at_once: bool,
+    /// 0, or the number of the refusal that the last record was answered with.
+    pub code: u8,
     datagram: Datagram,
     // How many of the octets that are exchanged are recorded or in the batch.
     recorded: usize,
@@ -69,6 +71,7 @@ impl Session {
             waiting: OutputBuffer::new(),
             answer: TrunkRecord::new(),
             at_once,
+            code: 0,
             datagram: Datagram::new(),
             recorded: 0,
             batch: Batch::new(),
@@ -130,9 +133,9 @@ impl Session {
         Ok(out.octet)
     }
 
-    // Receives the datagrams that wait at the circuit whose slot the next octet sends, four at most, puts them
-    // into the batch behind the octets that were heard and gives them to the gateway. (It is inlined, since
-    // mostly nothing waits: then an octet saves no registers for it.)
+    // Receives the datagrams that wait at the circuit whose slot the next octet sends, four at most, puts
+    // them into the batch behind the octets that were heard and gives them to the gateway. (It is inlined,
+    // since mostly nothing waits: then an octet saves no registers for it.)
     #[inline(always)]
     fn receive_next<O: Outlet, T: Tape>(
         &mut self,
@@ -178,8 +181,8 @@ impl Session {
     }
 
     /// Gives octets to the gateway, each after the datagrams that wait at the circuit whose slot is sent with
-    /// it, and puts the octets to send behind those of the answer. All are recorded when it returns, mostly in
-    /// one write: the octets are cut where datagrams came.
+    /// it, and puts the octets to send behind those of the answer. All are recorded when it returns, mostly
+    /// in one write: the octets are cut where datagrams came.
     pub fn exchange_all<O: Outlet, K: Sink, T: Tape>(
         &mut self,
         gateway: &mut Gateway,

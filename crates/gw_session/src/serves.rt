@@ -7,6 +7,7 @@ ghost use Rattle.gw_session.specs.Serve.{ServesAll, ServesUntil, around};
 use crate::attend::attend;
 use crate::exchange::Session;
 use crate::tape::{NoTape, Tape};
+use crate::watch::NoWatch;
 use gw_records::{Kinds, Ports, Reader, RunFault, Sink, Source, Totals};
 use gw_switch::Gateway;
 use std::alloc::Global;
@@ -107,5 +108,6 @@ pub fn serve_recorded<S: Source, P: Ports, K: Sink, T: Tape>(
         source,
         sink,
         tape,
+        &mut NoWatch,
     )
 }

@@ -79,8 +79,8 @@ impl<T: Tape> Tape for Option<T> {
 }
 
 /// The kind and the circuit of a record that was put on a tape. Only [`record`] and [`record_octets`] make
-/// one, when nothing is left in a batch, and each answer takes one: so a record is on the tape before its answer
-/// is written.
+/// one, when nothing is left in a batch, and each answer takes one: so a record is on the tape before its
+/// answer is written.
 #[derive(Drop)]
 pub struct OnTape {
     kind: u8,

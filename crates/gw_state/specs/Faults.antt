@@ -1,16 +1,19 @@
--- Why octets are not a state of a configuration.
-use Rattle.std.specs.Prelude.{◌≡◌, ◌≢◌, ◌<◌, ◌≤◌, ◌+◌, ◌/◌, ℕ, List, [], ◌∷◌, ◌++◌, length, take, slice_get}
+-- Why octets are not a state that can be loaded.
+use Rattle.std.specs.Prelude.{◌≡◌, ◌≢◌, ◌⊎◌, ◌<◌, ◌≤◌, ◌+◌, ℕ, List, [], ◌∷◌, ◌++◌, length, take, slice_get}
+use Rattle.std.specs.Prelude.{flat_map, All}
 use Rattle.std.specs.Prelude.{Some, ⊤}
+use Rattle.gw_circuit.specs.declared.config.CircuitConfig.{CircuitConfig}
 use Rattle.gw_switch.specs.declared.GatewayConfig.{GatewayConfig}
 use Rattle.gw_switch.specs.declared.gateway.Gateway.{Gateway}
 use Rattle.gw_switch.specs.Events.{Event}
-use Rattle.gw_switch.specs.Standing.{Stands}
-use Rattle.gw_switch.specs.Saved.{saved_gateway, GatewayFits}
+use Rattle.gw_switch.specs.Saved.{saved_gateway}
 use Rattle.gw_state.specs.declared.fault.LoadFault.{LoadFault}
 use Rattle.gw_state.specs.declared.fault.LoadFault.TheVariants.{OutOfMemory, Refused}
 use Rattle.gw_state.specs.declared.fault.StateKind.{StateKind}
 use Rattle.gw_state.specs.declared.fault.StateKind.TheVariants as kinds
-use Rattle.gw_state.specs.Layout.{mark, state_head, summed}
+use Rattle.gw_state.specs.Layout.{mark, law_octet, saved_config, summed, saved_settings, SettingsFit}
+use Rattle.gw_state.specs.Layout.{ConfigFits}
+use Rattle.gw_state.specs.Loaded.{StandsAs}
 
 abbrev pub kind_number : StateKind → ℕ
 kind_number kinds.Short = 1
@@ -53,41 +56,30 @@ IsOutside octets (Refused kinds.Version number) = IsOfVersion octets
 IsOutside octets (Refused kinds.Sum number) = IsDamaged octets
 IsOutside octets _ = ⊥
 
--- octets differ from a head first at this place
-pub record DiffersAt (head octets : List ℕ) (place : ℕ) : Type 0 where
-  pub within : place < length head
-  pub before : take place octets ≡ take place head
-  pub there : slice_get octets place ≢ slice_get head place
+-- octets begin with the settings of circuits; those of the circuit of this number are those of none
+pub record HasNoSettings (octets : List ℕ) (number : ℕ) : Type 0 where
+  pub before : List CircuitConfig
+  pub left : List ℕ
+  pub whole : octets ≡ flat_map saved_settings before ++ left
+  pub fit : All SettingsFit before
+  pub number_is : number ≡ length before + 1
+  pub none : (c : CircuitConfig) (rest : List ℕ) → SettingsFit c → left ≢ saved_settings c ++ rest
 
--- the first octet that differs from the head of this configuration is one of this circuit, or of the law, which
--- has the number 0
-pub record IsOther (config : GatewayConfig) (front : List ℕ) (number : ℕ) : Type 0 where
-  pub place : ℕ
-  pub differs : DiffersAt (state_head config) front place
-  pub number_is : number ≡ (place + 10) / 16
-
--- memory was refused, or the configuration is another
-abbrev pub DiffersFirst : GatewayConfig → List ℕ → LoadFault → Type 0
-DiffersFirst config front OutOfMemory = ⊤
-DiffersFirst config front (Refused kinds.Config number) = IsOther config front number
-DiffersFirst config front (Refused _ number) = ⊥
-
--- mark, version and check sum are right, and the configuration is another
-pub record IsOfAnother (config : GatewayConfig) (octets : List ℕ) (number : ℕ) : Type 0 where
-  pub begins : Begins (mark ++ 1 ∷ []) octets
-  pub front : List ℕ
-  pub whole : octets ≡ summed front
-  pub other : IsOther config front number
+-- The octet of another law, which has the number 0; or the settings of circuit `number` are those of none.
+abbrev pub IsOther : GatewayConfig → List ℕ → ℕ → Type 0
+IsOther config octets number =
+    ((number ≡ 0) × ((rest : List ℕ) → octets ≢ law_octet config.law ∷ rest))
+    ⊎ ((left : List ℕ) × (octets ≡ law_octet config.law ∷ left) × HasNoSettings left number)
 
 -- a fault of a value
 abbrev pub IsOfValue : LoadFault → Type 0
 IsOfValue (Refused kinds.Value number) = ⊤
 IsOfValue _ = ⊥
 
--- these octets do not begin with those of a gateway of this configuration
-pub record IsOfNone (config : GatewayConfig) (state : List ℕ) : Type 0 where
-  pub none : (saved : Gateway) (events : List Event) (rest : List ℕ) → Stands config saved events
-      → GatewayFits saved → state ≢ saved_gateway saved ++ rest
+-- these octets do not begin with those of a gateway whose circuits are configured so
+pub record IsOfNone (old : GatewayConfig) (state : List ℕ) : Type 0 where
+  pub none : (first : GatewayConfig) (saved : Gateway) (events : List Event) (rest : List ℕ)
+      → StandsAs first saved events old → state ≢ saved_gateway saved ++ rest
 
 -- behind the octets of a gateway there are more
 pub record HasMore (state : List ℕ) : Type 0 where
@@ -98,20 +90,35 @@ pub record HasMore (state : List ℕ) : Type 0 where
 
 -- octets are not those of a gateway
 abbrev pub IsNoGateway : GatewayConfig → List ℕ → LoadFault → Type 0
-IsNoGateway config state (Refused kinds.Value number) = IsOfNone config state
-IsNoGateway config state (Refused kinds.Left number) = HasMore state
-IsNoGateway config state _ = ⊥
+IsNoGateway old state (Refused kinds.Value number) = IsOfNone old state
+IsNoGateway old state (Refused kinds.Left number) = HasMore state
+IsNoGateway old state _ = ⊥
 
--- this is between the head of a configuration and the right check sum
-pub record HasState (config : GatewayConfig) (octets : List ℕ) (Is : List ℕ → Type 0) : Type 0 where
+-- octets begin with a configuration of the same law; those behind it are not those of a gateway
+pub record HasNoGateway (config : GatewayConfig) (octets : List ℕ) (fault : LoadFault) : Type 0 where
+  pub old : GatewayConfig
   pub state : List ℕ
-  pub whole : octets ≡ summed (state_head config ++ state)
-  pub is : Is state
+  pub law : old.law ≡ config.law
+  pub fits : ConfigFits old
+  pub whole : octets ≡ saved_config old ++ state
+  pub is : IsNoGateway old state fault
 
--- why octets are not a state of this configuration: the first reason, or that memory was refused
+-- why octets between the version and the check sum are refused: the first reason, or that memory was refused
+abbrev pub IsNotRead : GatewayConfig → List ℕ → LoadFault → Type 0
+IsNotRead config octets OutOfMemory = ⊤
+IsNotRead config octets (Refused kinds.Config number) = IsOther config octets number
+IsNotRead config octets fault = HasNoGateway config octets fault
+
+-- mark, version and check sum are right, and what is between them is refused
+pub record IsInside (config : GatewayConfig) (octets : List ℕ) (fault : LoadFault) : Type 0 where
+  pub inner : List ℕ
+  pub whole : octets ≡ summed (mark ++ 1 ∷ inner)
+  pub is : IsNotRead config inner fault
+
+-- why octets are not a state that can be loaded: the first reason, or that memory was refused
 abbrev pub Refuses : GatewayConfig → List ℕ → LoadFault → Type 0
 Refuses config octets OutOfMemory = ⊤
-Refuses config octets (Refused kinds.Config number) = IsOfAnother config octets number
-Refuses config octets (Refused kinds.Value number) = HasState config octets (IsOfNone config)
-Refuses config octets (Refused kinds.Left number) = HasState config octets HasMore
+Refuses config octets (Refused kinds.Config number) = IsInside config octets (Refused kinds.Config number)
+Refuses config octets (Refused kinds.Value number) = IsInside config octets (Refused kinds.Value number)
+Refuses config octets (Refused kinds.Left number) = IsInside config octets (Refused kinds.Left number)
 Refuses config octets fault = IsOutside octets fault

@@ -1,6 +1,6 @@
 -- The file of a state: a mark, the configuration that the state is of, the gateway, and a check sum over all
 -- before it.
-use Rattle.std.specs.Prelude.{ℕ, List, [], ◌∷◌, ◌++◌, flat_map}
+use Rattle.std.specs.Prelude.{◌≡◌, ◌<◌, ◌^◌, ℕ, List, [], ◌∷◌, ◌++◌, flat_map, length, All}
 use Rattle.saved_octets.specs.Numbers.{two_octets, four_octets}
 use Rattle.sha2.specs.Sha256.{sha256}
 use Rattle.e1_g711.specs.declared.Law.{Law}
@@ -33,6 +33,16 @@ saved_start ssrc sequence timestamp = four_octets ssrc ++ two_octets sequence ++
 unfoldable pub saved_settings : CircuitConfig → List ℕ
 saved_settings c = role_octet c.role ∷ kind_number c.codec ∷ c.payload_type ∷ c.ptime
     ∷ two_octets c.prefill ++ saved_start c.ssrc c.sequence c.timestamp
+
+-- how a circuit is set up, with each number in its width, as in every circuit
+pub record SettingsFit (c : CircuitConfig) : Type 0 where
+  pub ssrc : c.ssrc < 2 ^ 32
+  pub sequence : c.sequence < 2 ^ 16
+  pub timestamp : c.timestamp < 2 ^ 32
+
+-- so are all thirty
+abbrev pub ConfigFits : GatewayConfig → Type 0
+ConfigFits config = (length config.circuits ≡ 30) × All SettingsFit config.circuits
 
 -- the law, and how circuits 1 to 30 are set up
 abbrev pub saved_config : GatewayConfig → List ℕ

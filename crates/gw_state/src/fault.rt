@@ -17,7 +17,7 @@ pub enum StateKind {
     Version,
     /// 4: the check sum is not that of the octets before it.
     Sum,
-    /// 5: the state of another configuration.
+    /// 5: another law, or octets that configure no circuit.
     Config,
     /// 6: a value that the trunk or a circuit cannot have, or the octets end within it.
     Value,
@@ -53,8 +53,8 @@ pub enum LoadFault {
     Refused {
         /// The kind of the fault.
         kind: StateKind,
-        /// The circuit that has another configuration or the value; 0 for the law, for the trunk, and at the other
-        /// kinds.
+        /// The circuit that is not configured or has the value; 0 for the law, for the trunk, and at the
+        /// other kinds.
         at: u8,
     },
 }

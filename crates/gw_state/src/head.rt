@@ -15,7 +15,7 @@ use std::alloc::{AllocError, Global};
 // The letters E1GS and the version.
 const MARK: [u8; 5] = [0x45, 0x31, 0x47, 0x53, 1];
 
-fn law_octet(law: Law) -> u8
+pub(crate) fn law_octet(law: Law) -> u8
     ensures { result ≡ law_octet law }
 {
     match law {

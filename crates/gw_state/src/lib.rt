@@ -5,7 +5,8 @@ mod fault;
 mod head;
 mod loading;
 mod saving;
+mod settings;
 
 pub use fault::{LoadFault, StateKind};
-pub use loading::load_gateway;
+pub use loading::{Loaded, load_gateway};
 pub use saving::state_file;

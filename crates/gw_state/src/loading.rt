@@ -1,17 +1,20 @@
 //! A gateway from the octets of its state.
 
-ghost use Rattle.std.specs.Prelude.{◌≡◌, ◌≢◌, ◌≤◌, ◌<◌, ◌++◌, ◌∷◌, [], ℕ, List, IfOk, IfErr, IfSome, IfNone, length, take};
+ghost use Rattle.std.specs.Prelude.{◌≡◌, ◌≢◌, ◌≤◌, ◌<◌, ◌++◌, ◌∷◌, [], ℕ, List, IfOk, IfErr, IfSome, IfNone};
+ghost use Rattle.std.specs.Prelude.{length, take};
 ghost use Rattle.std.specs.Prelude.{slice_index};
 ghost use Rattle.gw_switch.specs.declared.GatewayConfig as configs;
 ghost use Rattle.gw_switch.specs.Standing.{Stands};
 ghost use Rattle.gw_switch.specs.Saved.{saved_gateway};
-ghost use Rattle.gw_state.specs.Layout.{mark, summed, state_head};
-ghost use Rattle.gw_state.specs.Faults.{Begins, DiffersAt, IsOutside, DiffersFirst, IsOfValue, IsNoGateway};
+ghost use Rattle.gw_switch.specs.Reconfigured.{RenewalsConfigure};
+ghost use Rattle.gw_state.specs.Layout.{mark, summed, saved_config, ConfigFits};
+ghost use Rattle.gw_state.specs.Faults.{Begins, IsOutside, IsOther, IsOfValue, IsNoGateway, IsNotRead};
 ghost use Rattle.gw_state.specs.Faults.{Refuses};
-ghost use Rattle.gw_state.specs.Loaded.{GoesOn, IsLoaded};
+ghost use Rattle.gw_state.specs.Loaded.{GoesOn, ReadsAs, IsLoaded};
 
 use crate::fault::{LoadFault, StateKind};
-use crate::head::state_head;
+use crate::head::law_octet;
+use crate::settings::read_circuits;
 use gw_switch::{Gateway, GatewayConfig, StateFault};
 use saved_octets::Octets;
 use sha2::{Digest, Sha256};
@@ -56,41 +59,6 @@ fn front_of(octets: &[u8]) -> Result<&[u8], LoadFault>
     summed_front(octets).ok_or(LoadFault::of(StateKind::Sum))
 }
 
-// Where octets first differ from a head; None if they begin with it.
-fn first_difference(head: &[u8], octets: &[u8]) -> Option<usize>
-    ensures differs { IfSome result (DiffersAt head.now octets.now) }
-    ensures begins { IfNone result (take (length head.now) octets.now ≡ head.now) }
-{
-    for place in 0..head.len() {
-        if place >= octets.len() || octets[place] != head[place] {
-            return Some(place);
-        }
-    }
-    None
-}
-
-// The octets of the gateway in those before the check sum.
-fn state_of<'o>(
-    alloc: Global,
-    config: &GatewayConfig,
-    front: &'o [u8],
-) -> Result<&'o [u8], LoadFault>
-    ensures ok { IfOk result (λ state. front.now ≡ state_head config.now ++ state.now) }
-    ensures err { IfErr result (λ fault. DiffersFirst config.now front.now fault) }
-{
-    let head = match state_head(alloc, config) {
-        Ok(head) => head,
-        Err(_) => return Err(LoadFault::OutOfMemory),
-    };
-    match first_difference(head.as_slice(), front) {
-        None => Ok(&front[head.len()..]),
-        Some(place) => Err(LoadFault::Refused {
-            kind: StateKind::Config,
-            at: ((place + 10) / 16) as u8,
-        }),
-    }
-}
-
 // The fault of a value.
 fn of_value(fault: StateFault) -> LoadFault
     ensures { IsOfValue result }
@@ -105,19 +73,48 @@ fn of_value(fault: StateFault) -> LoadFault
     }
 }
 
-// The gateway whose octets these are, read into one that was opened.
-fn gateway_of(opened: Gateway, state: &[u8]) -> Result<Gateway, LoadFault>
-    ensures loaded { IfOk result (λ gateway. state.now ≡ saved_gateway gateway) }
-    ensures stands { (config : configs.GatewayConfig) → Stands config opened []
-        → IfOk result (λ gateway. GoesOn config state.now gateway) }
-    ensures err { (config : configs.GatewayConfig) → Stands config opened []
-        → IfErr result (IsNoGateway config state.now) }
+// The octets between the version and the check sum.
+fn inner_of(octets: &[u8]) -> Result<&[u8], LoadFault>
+    ensures inner { IfOk result (λ inner. octets.now ≡ summed (mark ++ 1 ∷ inner.now)) }
+    ensures err { IfErr result (IsOutside octets.now) }
 {
-    let mut left = Octets::new(state);
-    match opened.load(&mut left) {
+    let front = front_of(octets)?;
+    Ok(&front[5..])
+}
+
+// How the circuits of a trunk of this law were configured. The error is the number of the circuit that is not
+// configured, or 0 for the law.
+fn read_config(config: &GatewayConfig, octets: &mut Octets<'_>) -> Result<GatewayConfig, u8>
+    ensures next { (old : configs.GatewayConfig) (rest : List ℕ) → ConfigFits old → old.law ≡ config.now.law
+        → octets.old ≡ saved_config old ++ rest → (result ≡ Ok old) × (octets.new ≡ rest) }
+    ensures read { IfOk result (λ old. octets.old ≡ saved_config old ++ octets.new) }
+    ensures law { IfOk result (λ old. old.law ≡ config.now.law) }
+    ensures fits { IfOk result ConfigFits }
+    ensures err { IfErr result (IsOther config.now octets.old) }
+{
+    if octets.read_u8() != Some(law_octet(config.law)) {
+        return Err(0);
+    }
+    let mut circuits = config.circuits;
+    read_circuits(&mut circuits, octets)?;
+    Ok(GatewayConfig {
+        law: config.law,
+        circuits,
+    })
+}
+
+// The gateway whose octets these are, read into one that was opened.
+fn gateway_of(opened: Gateway, octets: &mut Octets<'_>) -> Result<Gateway, LoadFault>
+    ensures loaded { IfOk result (λ gateway. octets.old ≡ saved_gateway gateway) }
+    ensures stands { (old : configs.GatewayConfig) → Stands old opened []
+        → IfOk result (GoesOn old octets.old) }
+    ensures err { (old : configs.GatewayConfig) → Stands old opened []
+        → IfErr result (IsNoGateway old octets.old) }
+{
+    match opened.load(octets) {
         Err(fault) => Err(of_value(fault)),
         Ok(gateway) => {
-            if left.is_empty() {
+            if octets.is_empty() {
                 Ok(gateway)
             } else {
                 Err(LoadFault::of(StateKind::Left))
@@ -126,8 +123,46 @@ fn gateway_of(opened: Gateway, state: &[u8]) -> Result<Gateway, LoadFault>
     }
 }
 
-/// The gateway of this configuration whose state the octets are. It stands after the history of the gateway that
-/// was saved so.
+// The gateway whose configuration and octets these are, with its circuits configured as they are to be.
+fn read_gateway(
+    alloc: Global,
+    config: &GatewayConfig,
+    octets: &mut Octets<'_>,
+) -> Result<Loaded, LoadFault>
+    ensures ok { IfOk result (ReadsAs config.now octets.old) }
+    ensures err { IfErr result (IsNotRead config.now octets.old) }
+{
+    let old = match read_config(config, octets) {
+        Ok(old) => old,
+        Err(at) => {
+            return Err(LoadFault::Refused {
+                kind: StateKind::Config,
+                at,
+            });
+        }
+    };
+    let Ok(opened) = Gateway::open(alloc, &old) else {
+        return Err(LoadFault::OutOfMemory);
+    };
+    let saved = gateway_of(opened, octets)?;
+    match saved.reconfigured(alloc, &old, config) {
+        Ok(gateway) => Ok(Loaded { gateway, old }),
+        Err(_) => Err(LoadFault::OutOfMemory),
+    }
+}
+
+/// A gateway that was loaded.
+#[derive(Drop)]
+pub struct Loaded {
+    /// The gateway, whose circuits are configured as they are to be.
+    pub gateway: Gateway,
+    /// How its circuits were configured when it was saved. Those that are configured otherwise now have begun
+    /// as new.
+    pub old: GatewayConfig,
+}
+
+/// The gateway whose state the octets are, with this configuration. Circuits that were configured so when it
+/// was saved go on: they stand after the history of the gateway that was saved. All others begin as new.
 ///
 /// # Errors
 ///
@@ -136,14 +171,12 @@ pub fn load_gateway(
     alloc: Global,
     config: &GatewayConfig,
     octets: &[u8],
-) -> Result<Gateway, LoadFault>
+) -> Result<Loaded, LoadFault>
     ensures loaded { IfOk result (IsLoaded config.now octets.now) }
     ensures err { IfErr result (Refuses config.now octets.now) }
 {
-    let front = front_of(octets)?;
-    let state = state_of(alloc, config, front)?;
-    let Ok(opened) = Gateway::open(alloc, config) else {
-        return Err(LoadFault::OutOfMemory);
-    };
-    gateway_of(opened, state)
+    gw_switch::laws::renewals_configure();
+    gw_switch::laws::renewals_are_apart();
+    let inner = inner_of(octets)?;
+    read_gateway(alloc, config, &mut Octets::new(inner))
 }

@@ -18,8 +18,8 @@ fn append_sum(octets: &mut Vec<u8>) -> Result<(), AllocError>
     octets.extend_from_slice(&sum)
 }
 
-/// The file of the state of a gateway of this configuration: `E1GS`, the version 1, the configuration, the trunk,
-/// the circuits 1 to 30, and the SHA-256 (FIPS 180-4) of all before it.
+/// The file of the state of a gateway of this configuration: `E1GS`, the version 1, the configuration, the
+/// trunk, the circuits 1 to 30, and the SHA-256 (FIPS 180-4) of all before it.
 #[tactic(auto, unfolding(crate::specs::Layout::state_file))]
 pub fn state_file(
     alloc: Global,

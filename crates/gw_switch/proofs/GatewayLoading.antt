@@ -1,14 +1,18 @@
 -- A gateway as octets, and back.
-use Rattle.std.proofs.Common.{◌≡◌, ◌++◌, ◌+◌, ◌-◌, ◌<◌, ◌≤◌, ℕ, List, length, arith, sym, subst, append_assoc, slice_index_or}
+use Rattle.std.proofs.Common.{◌≡◌, ◌++◌, ◌+◌, ◌-◌, ◌<◌, ◌≤◌, ℕ, List, length, arith, sym, subst, append_assoc}
+use Rattle.std.proofs.Common.{slice_index_or}
 use Rattle.gw_switch.specs.declared.GatewayConfig.{GatewayConfig}
 use Rattle.gw_switch.specs.declared.circuits.Channel.{Channel}
 use Rattle.gw_switch.specs.declared.gateway.Gateway.{Gateway}
 use Rattle.gw_switch.specs.declared.trunk.Trunk.{Trunk}
 use Rattle.gw_switch.specs.Events.{Event, octets, view}
-use Rattle.gw_switch.specs.Whole.{spare_config}
 use Rattle.gw_switch.specs.Trunk.{HasHeard}
 use Rattle.gw_switch.specs.Standing.{Stands, CircuitsStand}
 use Rattle.gw_switch.specs.Saved.{saved_gateway, saved_trunk, saved_circuits, GatewayFits, IsSame, AreAlike}
+use Rattle.gw_switch.specs.Saved.{AreConfiguredAlike}
+use Rattle.gw_switch.specs.Whole.{spare_config}
+use Rattle.gw_circuit.specs.Lives.{config_after, items_since}
+use Rattle.gw_circuit.specs.Standing as alone
 
 -- the octets of a gateway begin with those of its trunk
 pub gateway-octets : (g : Gateway) (all rest : List ℕ) → all ≡ saved_gateway g ++ rest
@@ -29,12 +33,12 @@ same-stands config g other events trunk circuits stands = (
   },
 )
 
--- the circuits of two gateways of one configuration have the same laws and configurations
-pub are-alike : (config : GatewayConfig) (mine saved : Gateway) (before events : List Event) → Stands config mine before
-    → Stands config saved events → GatewayFits saved
-    → AreAlike mine.circuits.channels.items saved.circuits.channels.items
-unfolding Stands
-are-alike config mine saved before events ours theirs fits = record {
+-- the circuits of two gateways that are configured alike have the same laws and configurations
+pub are-alike : (config other : GatewayConfig) (mine saved : Gateway) (before events : List Event)
+    → Stands config mine before → Stands other saved events → AreConfiguredAlike other events config before
+    → GatewayFits saved → AreAlike mine.circuits.channels.items saved.circuits.channels.items
+unfolding Stands alone.Stands
+are-alike config other mine saved before events ours theirs alike fits = record {
   many = omega (arith, mine.circuits.thirty, mine.circuits.channels.ok.0, saved.circuits.thirty, saved.circuits.channels.ok.0);
   each = λ i d e less.
       let last : i + 1 ≤ 30 = omega (arith, mine.circuits.thirty, mine.circuits.channels.ok.0) in
@@ -43,10 +47,11 @@ are-alike config mine saved before events ours theirs fits = record {
       let number : i + 1 - 1 ≡ i = omega arith in
       record {
         law = config.law;
-        config = slice_index_or config.circuits i spare_config;
-        items = view (i + 1) events;
-        before = view (i + 1) before;
-        theirs = rw number at (theirs.circuits (i + 1) (omega arith) last e);
+        config = config_after (slice_index_or config.circuits i spare_config) (view (i + 1) before);
+        items = items_since (view (i + 1) events);
+        before = items_since (view (i + 1) before);
+        theirs = rw (alike.law, rw number at (alike.each (i + 1) (omega arith) last))
+            at (rw number at (theirs.circuits (i + 1) (omega arith) last e));
         ours = rw number at (ours.circuits (i + 1) (omega arith) last d);
         fits = fits.circuits i e there;
       };

@@ -1,6 +1,7 @@
 -- Slots and nibbles as octets, and back.
 use Rattle.std.proofs.Common.{◌≡◌, ◌++◌, ◌∷◌, [], ◌<◌, ◌≤◌, ◌+◌, ℕ, List, length, All, flat_map, take, refl, arith}
-use Rattle.std.proofs.Common.{sym, ap, subst, ◌∙◌, append_assoc, slice_set, slice_index_or, Option, Some, None, IfSome}
+use Rattle.std.proofs.Common.{sym, ap, subst, ◌∙◌, append_assoc, slice_set, slice_index_or, drop, add-one, drop-cons}
+use Rattle.std.proofs.Common.{Option, Some, None, IfSome}
 use Rattle.std.proofs.lemmas.Grind.{take-set_at, take_at_read}
 use Rattle.std.proofs.lemmas.List.{take_all, length-take-le}
 use Rattle.std.proofs.lemmas.List.Elements.{All-push}
@@ -54,6 +55,23 @@ pub push-next : {A : Type 0} (xs : List A) (i : ℕ) (x d : A) → x ≡ slice_i
     → take i xs ++ x ∷ [] ≡ take (i + 1) xs
 push-next {A = A} xs i x d is less =
     ap (λ (y : A). take i xs ++ y ∷ []) is ∙ sym (take_at_read xs i d (omega arith)).1
+
+-- the octets of the saved items from one on begin with those of that one
+pub next-saved : {A : Type 0} (octets : A → List ℕ) (saved : List A) (i : ℕ) (d : A) (now rest : List ℕ)
+    → now ≡ flat_map octets (drop i saved) ++ rest → i < length saved
+    → now ≡ octets (slice_index_or saved i d) ++ (flat_map octets (drop (i + 1) saved) ++ rest)
+next-saved {A = A} octets saved i d now rest e less =
+    let cut : drop i saved ≡ slice_index_or saved i d ∷ drop (i + 1) saved = rw add-one (drop-cons saved i d less) in
+    e ∙ ap (λ (xs : List A). flat_map octets xs ++ rest) cut
+    ∙ append_assoc (octets (slice_index_or saved i d)) (flat_map octets (drop (i + 1) saved)) rest
+
+-- with one item more the first ones are those that were saved
+pub same-front : {A : Type 0} (mine saved : List A) (i : ℕ) (x : A) → take i mine ≡ take i saved
+    → x ≡ slice_index_or saved i x → i < length mine → i < length saved
+    → take (i + 1) (slice_set mine i x) ≡ take (i + 1) saved
+same-front {A = A} mine saved i x front is less less' =
+    take-set_at mine i (i + 1) x refl less ∙ ap (λ (xs : List A). xs ++ x ∷ []) front
+    ∙ push-next saved i x x is less'
 
 -- one item more is saved
 pub one-saved : {A : Type 0} (octets : A → List ℕ) (xs : List A) (i : ℕ) (x d : A) (old now new : List ℕ)

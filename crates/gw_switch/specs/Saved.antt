@@ -1,5 +1,5 @@
 -- The octets of a saved gateway. Its configuration is not among them: a gateway that is loaded has its own.
-use Rattle.std.specs.Prelude.{◌≡◌, ◌<◌, ◌^◌, ℕ, List, [], ◌∷◌, ◌++◌, Option, Some, None, IfSome}
+use Rattle.std.specs.Prelude.{◌≡◌, ◌<◌, ◌≤◌, ◌^◌, ℕ, List, [], ◌∷◌, ◌++◌, Option, Some, None, IfSome}
 use Rattle.std.specs.Prelude.{All, flat_map, length, Bool, slice_index_or}
 use Rattle.saved_octets.specs.Numbers.{two_octets, flag_octet}
 use Rattle.g704_align.specs.Saved.{saved_aligner}
@@ -8,9 +8,11 @@ use Rattle.e1_g711.specs.declared.Law.{Law}
 use Rattle.gw_circuit.specs.declared.config.CircuitConfig.{CircuitConfig}
 use Rattle.gw_circuit.specs.Items.{Item}
 use Rattle.gw_circuit.specs.Saved.{saved_circuit, CircuitFits}
-use Rattle.gw_circuit.specs.Standing.{Stands}
+use Rattle.gw_circuit.specs.Lives.{config_after}
+use Rattle.gw_circuit.specs.Standing.{StandsSince}
 use Rattle.gw_switch.specs.declared.GatewayConfig.{GatewayConfig}
-use Rattle.gw_switch.specs.Events.{Event}
+use Rattle.gw_switch.specs.Events.{Event, view}
+use Rattle.gw_switch.specs.Whole.{config_of}
 use Rattle.gw_switch.specs.Standing as gateway
 use Rattle.gw_switch.specs.declared.circuits.Channel.{Channel}
 use Rattle.gw_switch.specs.declared.gateway.Gateway.{Gateway}
@@ -81,6 +83,16 @@ pub record IsSame (g other : Gateway) : Type 0 where
   pub trunk : g.trunk ≡ other.trunk
   pub circuits : g.circuits.channels.items ≡ other.circuits.channels.items
 
+-- how circuit c is configured after events
+abbrev pub config_in : GatewayConfig → List Event → ℕ → CircuitConfig
+config_in config events c = config_after (config_of config c) (view c events)
+
+-- the law of both gateways and the present configuration of each circuit are the same
+pub record AreConfiguredAlike (config : GatewayConfig) (events : List Event) (other : GatewayConfig)
+    (before : List Event) : Type 0 where
+  pub law : config.law ≡ other.law
+  pub each : (c : ℕ) → 1 ≤ c → c ≤ 30 → config_in config events c ≡ config_in other before c
+
 -- a gateway in the state of another one has its history
 abbrev pub SameStatesHaveOneHistory : Type 0
 SameStatesHaveOneHistory = (config : GatewayConfig) (g other : Gateway) (events : List Event) → IsSame g other
@@ -92,8 +104,8 @@ pub record IsAlike (mine saved : Channel) : Type 0 where
   pub config : CircuitConfig
   pub items : List Item
   pub before : List Item
-  pub theirs : Stands saved.circuit law config items
-  pub ours : Stands mine.circuit law config before
+  pub theirs : StandsSince saved.circuit law config items
+  pub ours : StandsSince mine.circuit law config before
   pub fits : ChannelFits saved
 
 -- so does each of the saved circuits

@@ -24,7 +24,7 @@ use Rattle.gw_switch.specs.declared.OctetSent.{OctetSent}
 use Rattle.gw_switch.specs.declared.Alarms.{Alarms}
 use Rattle.gw_switch.specs.Hearing.{slot16_octets, heard, signalled, remote_frame, remote_multiframe}
 use Rattle.gw_switch.specs.Events.{Event, octets, view}
-use Rattle.gw_switch.specs.Events.Event.{Octet, Datagram, Command, Codec, Wait}
+use Rattle.gw_switch.specs.Events.Event.{Octet, Datagram, Command, Codec, Wait, Configure}
 
 -- what is sent in an octet's turn: the octet, and a datagram with its circuit's number, if any
 pub record Sending : Type 0 where
@@ -130,13 +130,14 @@ alarms_of s = record {
 abbrev pub alarms_after : List Event → Alarms
 alarms_after events = alarms_of (octets events)
 
--- the reply to one event; a wait has no answer
+-- the reply to one event; a wait and a configuration have no answer
 pub data Reply : Type 0 where
   Sent : (sending : Sending) → Reply
   Admitted : (answer : Result (Unit {0}) Dropped) → Reply
   Obeyed : (answer : Result (Unit {0}) LineFault) → Reply
   Changed : (answer : Result (Unit {0}) CodecFault) → Reply
   Waited : Reply
+  Begun : Reply
 
 -- the reply to an event, after the events before it
 abbrev pub reply_to : GatewayConfig → List Event → Event → Reply
@@ -147,6 +148,7 @@ reply_to config before (Command c asked) = Reply.Obeyed (command_reply config be
 reply_to config before (Codec c kind payload_type) =
     Reply.Changed (codec_reply config before c kind payload_type)
 reply_to config before (Wait signals) = Reply.Waited
+reply_to config before (Configure c other) = Reply.Begun
 
 -- the replies to events, after the events before them
 abbrev pub whole_from : GatewayConfig → List Event → List Event → List Reply

@@ -77,6 +77,7 @@ octets-without (Event.Datagram circuit bytes ∷ es) = octets-without es
 octets-without (Event.Command circuit command ∷ es) = octets-without es
 octets-without (Event.Codec circuit kind payload_type ∷ es) = octets-without es
 octets-without (Event.Wait signals ∷ es) = octets-without es
+octets-without (Event.Configure circuit config ∷ es) = octets-without es
 
 -- .. and no commands.
 commands-without : (es : List Event) → commands_in (without_datagrams es) ≡ commands_in es
@@ -88,6 +89,8 @@ commands-without (Event.Command circuit command ∷ es) =
 commands-without (Event.Codec circuit kind payload_type ∷ es) =
     ap (λ (xs : List Event). Event.Codec circuit kind payload_type ∷ xs) (commands-without es)
 commands-without (Event.Wait signals ∷ es) = ap (λ (xs : List Event). Event.Wait signals ∷ xs) (commands-without es)
+commands-without (Event.Configure circuit config ∷ es) =
+    ap (λ (xs : List Event). Event.Configure circuit config ∷ xs) (commands-without es)
 
 -- Octets of the trunk before events are no commands.
 commands-behind : (xs : List ℕ) (es : List Event) → commands_in (map Event.Octet xs ++ es) ≡ commands_in es

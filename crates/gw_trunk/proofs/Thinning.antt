@@ -10,7 +10,8 @@ use Rattle.std.proofs.lemmas.List.Concat.{flat_map-append}
 use Rattle.gw_records.specs.Streams.{at_most}
 use Rattle.gw_trunk.specs.declared.in_time.Course.{Course}
 use Rattle.gw_trunk.specs.Multiframes.{Multiframe, IsWhole, multiframe_octets, left_of, number_discarded}
-use Rattle.gw_trunk.specs.Multiframes.{IsThinned, course_after, course_discarding, PassesOn, Steps, IsPrompt, GoesInTime}
+use Rattle.gw_trunk.specs.Multiframes.{IsThinned, course_after, course_discarding, PassesOn, Steps, IsPrompt}
+use Rattle.gw_trunk.specs.Multiframes.{GoesInTime}
 
 -- What is left of octets that are discarded or not, and of more of the same.
 left-goes : (discarded : Bool) (first octets more : List ℕ)

@@ -68,8 +68,8 @@ at places k = slice_index_or places k None
 abbrev pub OnlyAt : ℕ → List (Option Client) → List (Option Client) → Type 0
 OnlyAt place places places' = (k : ℕ) → k ≢ place → at places' k ≡ at places k
 
--- What came as an answer went to the client whose record was the last one, if it is still there. The clients at
--- all other places are as they were, and if no record waits for its answer nothing came.
+-- What came as an answer went to the client whose record was the last one, if it is still there. The clients
+-- at all other places are as they were, and if no record waits for its answer nothing came.
 pub record HasAnswered (asker : Option ℕ) (places places' : List (Option Client)) (answered answered' : List ℕ)
     : Type 0 where
   pub octets : List ℕ

@@ -3,7 +3,8 @@
 ghost use Rattle.std.specs.Prelude.{◌≡◌, ◌⊎◌, ◌==◌, ◌||◌, ◌-◌, ◌<◌, ◌≤◌, Some, None, true, false, length};
 ghost use Rattle.std.specs.Prelude.{IfSome};
 ghost use Rattle.std.specs.List.{list_all};
-ghost use Rattle.gw_trunk.specs.Clients.{Answers, Asks, AllKeep, Gets, HasAnswered, IsAwake, Keeps, OnlyAt, at};
+ghost use Rattle.gw_trunk.specs.Clients.{Answers, Asks, AllKeep, Gets, HasAnswered, IsAwake, Keeps, OnlyAt};
+ghost use Rattle.gw_trunk.specs.Clients.{at};
 ghost use Rattle.gw_trunk.specs.Clients.{is_quiet};
 
 use crate::client::{Asked, Client};
@@ -139,8 +140,8 @@ fn note_all(events: &Events, octets: &mut bool, knocks: &mut bool, places: &mut 
     }
 }
 
-// A new client takes the place of the lowest rank: a free one, else that of a client that has left, else that of
-// the oldest client that never gave a record.
+// A new client takes the place of the lowest rank: a free one, else that of a client that has left, else that
+// of the oldest client that never gave a record.
 fn rank(place: &Option<Client>) -> u64 {
     match place {
         None => 0,
@@ -167,8 +168,8 @@ fn place_for_one(places: &[Option<Client>; 8]) -> Option<usize>
 }
 
 impl Clients {
-    /// Clients who connect to `door`, with none yet, and what a descriptor waits with them. The answers to them
-    /// come from `answers`, which never waits. The error is the system's.
+    /// Clients who connect to `door`, with none yet, and what a descriptor waits with them. The answers to
+    /// them come from `answers`, which never waits. The error is the system's.
     pub fn open(
         rt: &HostRuntime,
         descriptor: i32,

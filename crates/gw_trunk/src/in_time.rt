@@ -189,8 +189,8 @@ fn pass<O: Outgoing>(
 }
 
 /// A device that octets go to in time. If it takes none within the time that it is waited for, whole
-/// multiframes are discarded until it takes some again, counted from the first octet. The rest of a multiframe
-/// that has begun to go is held for it. The first discarded multiframe is reported once.
+/// multiframes are discarded until it takes some again, counted from the first octet. The rest of a
+/// multiframe that has begun to go is held for it. The first discarded multiframe is reported once.
 #[derive(Drop)]
 pub struct InTime<O: Outgoing, E> {
     outgoing: O,

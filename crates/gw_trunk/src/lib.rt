@@ -14,6 +14,7 @@ mod waiting;
 mod with_clients;
 
 pub use device::{DeviceFault, FromDevice, Incoming, NoClients, Outgoing, Taken, ToDevice};
+pub use door::open_door;
 pub use in_time::InTime;
 pub use serving::serve_trunk;
 pub use sink::TrunkSink;

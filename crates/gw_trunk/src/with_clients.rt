@@ -14,13 +14,13 @@ use std::io;
 use std::io::Read;
 use std::os::fd::AsRawFd;
 
-/// A reader of std over a descriptor, and the clients of a Unix socket. The reader is read only if octets have
-/// come, so one that waits for them keeps no client from being asked.
+/// A reader of std over a descriptor, and the clients of a Unix socket. The reader is read only if octets
+/// have come, so one that waits for them keeps no client from being asked.
 ///
-/// A client gives C and K records, and the answer to a record goes to the client who gave it: it comes from the
-/// other end of `answers`. The record of kind `E`, of circuit 0 and without a body, asks for the end: nothing
-/// comes any more then. A client that goes, sends something else, or does not take an answer at once loses its
-/// connection, and nothing else happens.
+/// A client gives C and K records, and the answer to a record goes to the client who gave it: it comes from
+/// the other end of `answers`. The record of kind `E`, of circuit 0 and without a body, asks for the end:
+/// nothing comes any more then. A client that goes, sends something else, or does not take an answer at once
+/// loses its connection, and nothing else happens.
 #[derive(Drop)]
 pub struct WithClients<R> {
     reader: R,
@@ -36,8 +36,8 @@ pub struct WithClients<R> {
 }
 
 impl<R: Drop> WithClients<R> {
-    /// What comes from the reader, whose descriptor this is, and from those who connect to `door`. The answers
-    /// to them come from `answers`, which never waits. The error is the system's.
+    /// What comes from the reader, whose descriptor this is, and from those who connect to `door`. The
+    /// answers to them come from `answers`, which never waits. The error is the system's.
     pub fn open(
         rt: &HostRuntime,
         reader: R,
@@ -60,9 +60,9 @@ impl<R: Drop> WithClients<R> {
     }
 }
 
-/// What comes from the reader, whose descriptor this is, and from the clients of the Unix socket at a path; and
-/// what takes the answers to them. An old socket there at which nobody listens is replaced. The error is the
-/// system's.
+/// What comes from the reader, whose descriptor this is, and from the clients of the Unix socket at a path;
+/// and what takes the answers to them. An old socket there at which nobody listens is replaced. The error is
+/// the system's.
 pub fn open_clients<R: Drop>(
     rt: &HostRuntime,
     reader: R,

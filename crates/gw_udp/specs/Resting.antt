@@ -25,8 +25,8 @@ pub record Rests {S : Type 0} (old new : Resting S) (r : Result (Option (ℕ × 
   pub stays : new.socket ≡ old.socket
   pub none : r ≡ Ok None
 
--- A receive asked the socket inside, or rested; either way as many receives may rest as before. (So at least one
--- of `most` and 1 receives asks.)
+-- A receive asked the socket inside, or rested; either way as many receives may rest as before. (So at least
+-- one of `most` and 1 receives asks.)
 abbrev pub RestingReceives : {S : Type 0} → Received S → Received (Resting S)
 RestingReceives receives old new r room = (Asks receives old new r room ⊎ Rests old new r) × (new.most ≡ old.most)
 

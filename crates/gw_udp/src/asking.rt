@@ -1,6 +1,7 @@
 //! When a resting socket asks the one inside.
 
-ghost use Rattle.std.specs.Prelude.{◌≡◌, ◌≤◌, ℕ, List, length, Ok, None, IfOk, IfErr, IfSome, IsTrue, IsFalse};
+ghost use Rattle.std.specs.Prelude.{◌≡◌, ◌≤◌, ℕ, List, length, Ok, None, IfOk, IfErr, IfSome, IsTrue};
+ghost use Rattle.std.specs.Prelude.{IsFalse};
 ghost use Rattle.std.specs.Prelude.{if◌then◌else◌};
 ghost use Rattle.gw_udp.specs.Resting.{RestingIsBound, RestingReceives, RestingSends, Asks, rests_after};
 ghost use Rattle.gw_udp.specs.Socket.{KeepsBound, ReceivesAny};

@@ -21,8 +21,8 @@ struct Poller {
     events: Events,
 }
 
-/// The sockets of circuits that something has come to since they were last asked, as far as the system says so. It is
-/// asked once in 240 receives, of all circuits together.
+/// The sockets of circuits that something has come to since they were last asked, as far as the system says
+/// so. It is asked once in 240 receives, of all circuits together.
 #[derive(Drop)]
 pub(crate) struct Readiness {
     poller: Option<Poller>,
@@ -84,7 +84,8 @@ impl Readiness {
         }
     }
 
-    /// Whether the system has said that something came to the socket of this circuit since this was last asked.
+    /// Whether the system has said that something came to the socket of this circuit since this was last
+    /// asked.
     #[inline]
     pub(crate) fn came(&mut self, circuit: CircuitNo) -> bool {
         self.receives = self.receives.wrapping_add(1);

@@ -1,6 +1,7 @@
 //! A non-blocking datagram socket, and std's as one.
 
-ghost use Rattle.std.specs.Prelude.{◌≡◌, ◌≤◌, ℕ, List, length, Ok, None, IfOk, IfErr, IfSome, IsTrue, IsFalse, ⊤};
+ghost use Rattle.std.specs.Prelude.{◌≡◌, ◌≤◌, ℕ, List, length, Ok, None, IfOk, IfErr, IfSome, IsTrue};
+ghost use Rattle.std.specs.Prelude.{IsFalse, ⊤};
 ghost use Rattle.gw_udp.specs.Socket.{Bound, KeepsBound, Refused, Received, ReceivesAny, Sent};
 
 use crate::outcome::{received, sent, was_refused};
@@ -51,8 +52,8 @@ pub trait Socket: Drop {
         ensures rests { IsTrue result → (room : List ℕ) → receives self.old self.new (Ok None) room }
         ensures stays { IsFalse result → self.new ≡ self.old };
 
-    /// Receives the first datagram that waits into the front of `room`, and returns its length, in octets, and
-    /// its sender. None if none waits.
+    /// Receives the first datagram that waits into the front of `room`, and returns its length, in octets,
+    /// and its sender. None if none waits.
     fn receive(&mut self, room: &mut [u8]) -> Result<Option<(usize, SocketAddr)>, PortFault>
         ensures bound { IfOk result (λ got. IfSome got (λ g. g.0 ≤ length room.new)) }
         ensures receives { receives self.old self.new result room.new };

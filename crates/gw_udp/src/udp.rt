@@ -1,6 +1,7 @@
 //! The ports of circuits: one socket for each circuit.
 
-ghost use Rattle.std.specs.Prelude.{◌≡◌, ◌≤◌, ℕ, List, vec_len, length, Ok, None, IfOk, IfErr, IfSome, IsSomeAnd};
+ghost use Rattle.std.specs.Prelude.{◌≡◌, ◌≤◌, ℕ, List, vec_len, length, Ok, None, IfOk, IfErr, IfSome};
+ghost use Rattle.std.specs.Prelude.{IsSomeAnd};
 ghost use Rattle.std.specs.Prelude.{IsTrue, IsFalse, string_bytes};
 ghost use Rattle.std.specs.IoError.{error_kind};
 ghost use Rattle.gw_records.specs.Ports.{Receives, Sends, CountsFault, KeepsSends, KeepsReceives};
@@ -196,8 +197,8 @@ fn receive_from<S: Socket>(
     }
 }
 
-// Whether a receive at the socket of a circuit finds none without asking the system; if there is no socket, it
-// does.
+// Whether a receive at the socket of a circuit finds none without asking the system; if there is no socket,
+// it does.
 #[inline]
 fn rests_at<S: Socket>(
     endpoints: &mut Vec<Option<Endpoint<S>>>,

@@ -38,7 +38,7 @@ most-last role line (command asked ∷ items) =
 most-last role line (wait signals ∷ items) = most-last role (after_item role line (wait signals)) items
 
 -- so it is the wait in force
-most-is : (role : Role) (items : List Item) → (signalling role items).released_after ≡ wait_after items
+pub most-is : (role : Role) (items : List Item) → (signalling role items).released_after ≡ wait_after items
 unfolding signalling
 most-is role items = most-last role at_first items
 

@@ -2,7 +2,8 @@
 use Rattle.std.specs.Prelude.{ℕ, List, [], ◌∷◌, ◌++◌, Option, Some, None, ◌<◌, ◌^◌, IfSome}
 use Rattle.saved_octets.specs.Numbers.{two_octets}
 use Rattle.q421_line.specs.declared.State.{State}
-use Rattle.q421_line.specs.declared.State.TheVariants.{Idle, Seized, Acked, Answered, ClearedBack, Releasing, Blocked, Fault}
+use Rattle.q421_line.specs.declared.State.TheVariants.{Idle, Seized, Acked, Answered, ClearedBack, Releasing}
+use Rattle.q421_line.specs.declared.State.TheVariants.{Blocked, Fault}
 use Rattle.q421_line.specs.declared.recognition.Recognition.{Recognition}
 use Rattle.q421_line.specs.declared.signalling.Line.{Line}
 

@@ -7,6 +7,7 @@ ghost use Rattle.q421_line.specs.Commands.{command_outcome, told_of};
 ghost use Rattle.q421_line.specs.Signalling.{Item, signal, command, wait};
 ghost use Rattle.q421_line.specs.Signalling.{signalling, next_by, after_count};
 ghost use Rattle.q421_line.specs.Line.{Stands};
+ghost use Rattle.q421_line.specs.Laws.{wait_after};
 
 mod saving;
 
@@ -105,6 +106,13 @@ impl Line {
             → Stands self.new role (items ++ wait signals ∷ []) }
     {
         self.released_after = signals;
+    }
+
+    /// The wait for an acknowledgement: at how many signals a seizure is released.
+    pub fn released_after(&self) -> u16
+        ensures { (role : Role) (items : List Item) → Stands self.now role items → result ≡ wait_after items }
+    {
+        self.released_after
     }
 
     /// The state.

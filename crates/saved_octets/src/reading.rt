@@ -1,6 +1,7 @@
 //! A reader of octets.
 
-ghost use Rattle.std.specs.Prelude.{◌≡◌, ◌++◌, ◌∷◌, ◌^◌, ◌<◌, ℕ, Bool, ◌==◌, List, length, IfSome, IfNone, Some, All, flat_map};
+ghost use Rattle.std.specs.Prelude.{◌≡◌, ◌++◌, ◌∷◌, ◌^◌, ◌<◌, ℕ, Bool, ◌==◌, List, length, IfSome, IfNone};
+ghost use Rattle.std.specs.Prelude.{Some, All, flat_map};
 ghost use Rattle.std.specs.Prelude.{option_map};
 ghost use Rattle.saved_octets.specs.Numbers.{flag_octet, two_octets, four_octets};
 

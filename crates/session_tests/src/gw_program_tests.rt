@@ -15,6 +15,7 @@ fn prints_troubles(rt: HostRuntime) -> Result<(), Fail> {
         (Trouble::Session(RunFault::OutOfMemory), "out of memory"),
         (Trouble::Socket(3), "socket 3"),
         (Trouble::Trunk, "cannot wait for the trunk"),
+        (Trouble::Tell, "cannot open the socket of --tell"),
         (Trouble::File, "cannot read the configuration"),
         (Trouble::Config(ConfigFault::OutOfMemory), "out of memory"),
         (

@@ -5,8 +5,9 @@ import os
 import subprocess
 from dataclasses import dataclass
 
+from ..followed import Standing
 from ..kept import Kept, Trouble
-from ..lines import Standing, State
+from ..lines import State
 from ..session import MULTIFRAME
 
 COLUMNS = 10                # of the listing: number, role, state, two pairs, three counts, codec, payload type
@@ -32,15 +33,16 @@ def standing_of(line: str) -> Standing:
 
 
 def listed(state: str, program: str, config: str) -> list[Standing]:
-    """The circuits of a state, as `e1gw check` lists them. Trouble if it refuses the state."""
+    """The circuits of a state, as `e1gw check` lists them. Trouble if it refuses the state, or begins a circuit as new
+    since it was configured otherwise."""
     words = [program, 'check', '--config', config, '--load', state]
     try:
         done = subprocess.run(words, stdin=subprocess.DEVNULL, stdout=subprocess.PIPE, stderr=subprocess.PIPE,
                               check=False)
     except OSError as fault:
         raise Trouble(f'{program}: {fault.strerror}') from fault
-    if done.returncode:
-        told = done.stderr.decode(errors='replace').strip()
+    told = done.stderr.decode(errors='replace').strip()
+    if done.returncode or told:
         raise Trouble(told.splitlines()[-1] if told else f'e1gw check: status {done.returncode}')
     return [standing_of(line) for line in done.stdout.decode().splitlines()]
 

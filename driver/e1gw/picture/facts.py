@@ -13,7 +13,8 @@ from collections.abc import Iterable, Iterator
 from dataclasses import dataclass, field
 from typing import Any
 
-from ..lines import SEIZURE_WAIT, Standing
+from ..followed import Standing
+from ..lines import SEIZURE_WAIT
 from ..repetitions import Repetitions
 from .sound import Heard, Turns
 

@@ -1,14 +1,15 @@
 """The lines of a trunk, followed quickly: multiframes with the signals of those before are skipped."""
 from __future__ import annotations
 
-from ..lines import Lines, State
+from ..followed import Followed
+from ..lines import State
 from ..session import FRAME, MULTIFRAME
 
 # Equal multiframes after which nothing changes: ten are recognised, and alarms and errors have settled.
 STEADY = 12
 
 
-class Follower(Lines):
+class Follower(Followed):
     """Lines that get many multiframes at once."""
 
     same = 0                            # consecutive multiframes with the last one's signals

@@ -138,10 +138,11 @@ class Tie:
     def _stands(self, status: dict[str, Any]) -> None:
         """Takes the status of the trunk, and makes up for missed events."""
         octets = int(status['octets'])
-        still = octets == self._octets
+        # (a watcher knows by its shadow whether octets come)
+        lives = bool(status['shadow']) if 'shadow' in status else octets != self._octets
         self._octets = octets
         clock = status.get('clock') or {}
-        self._set_dark(still or not status.get('trunk_up', True) or bool(clock.get('stalled'))
+        self._set_dark(not lives or not status.get('trunk_up', True) or bool(clock.get('stalled'))
                        or any(status['alarm'].values()) or any(status['remote_alarm'].values()))
         for row in status['circuits']:
             n = int(row['circuit'])

@@ -1,6 +1,7 @@
 //! The adaptation saved as octets, and loaded from them.
 
-ghost use Rattle.std.specs.Prelude.{◌≡◌, ◌++◌, ◌<◌, ◌≤◌, ◌^◌, ◌≤ℤ◌, ℕ, ℤ, unsigned_abs, List, OnOk, IfSome, Some, pos};
+ghost use Rattle.std.specs.Prelude.{◌≡◌, ◌++◌, ◌<◌, ◌≤◌, ◌^◌, ◌≤ℤ◌, ℕ, ℤ, unsigned_abs, List, OnOk, IfSome};
+ghost use Rattle.std.specs.Prelude.{Some, pos};
 ghost use Rattle.saved_octets.specs.Numbers.{two_octets, four_octets};
 ghost use Rattle.g726_tone.specs.Adaptation.{Adaptation, InRange};
 ghost use Rattle.g726_tone.specs.Saved.{saved_adaptation, saved_scales, saved_speeds, AreScales, AreSpeeds};

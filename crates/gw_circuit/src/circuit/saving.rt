@@ -1,6 +1,7 @@
 //! A circuit saved as octets, and loaded from them.
 
-ghost use Rattle.std.specs.Prelude.{◌≡◌, ◌<◌, ◌^◌, ◌++◌, [], ℕ, List, OnOk, IfSome, IfNone, Some, true, false};
+ghost use Rattle.std.specs.Prelude.{◌≡◌, ◌<◌, ◌^◌, ◌++◌, [], ℕ, List, OnOk, IfSome, IfNone, Some, true};
+ghost use Rattle.std.specs.Prelude.{false};
 ghost use Rattle.e1_g711.specs.declared.Law.{Law};
 ghost use Rattle.q421_line.specs.declared.signalling.Line.{Line};
 ghost use Rattle.q421_line.specs.Line as line;
@@ -10,7 +11,7 @@ ghost use Rattle.gw_circuit.specs.declared.circuit.Circuit.{Circuit};
 ghost use Rattle.gw_circuit.specs.Items.{Item};
 ghost use Rattle.gw_circuit.specs.Saved.{saved_circuit, saved_clocks, saved_counts, saved_numbers};
 ghost use Rattle.gw_circuit.specs.Saved.{NumbersFit, CircuitFits};
-ghost use Rattle.gw_circuit.specs.Standing.{Stands};
+ghost use Rattle.gw_circuit.specs.Standing.{StandsSince};
 
 use crate::circuit::Circuit;
 use q421_line::{Line, Role};
@@ -61,7 +62,7 @@ impl Circuit {
     /// Puts the circuit back to what it was before its first item. It takes no memory.
     pub fn clear(&mut self)
         ensures stands { (law : Law) (config : CircuitConfig) (items : List Item)
-            → Stands self.old law config items → Stands self.new law config [] }
+            → StandsSince self.old law config items → StandsSince self.new law config [] }
         ensures config { (self.new.law ≡ self.old.law) × (self.new.config ≡ self.old.config) }
     {
         self.speech
@@ -85,12 +86,12 @@ impl Circuit {
     /// not those of a circuit; then it is as it was before its first item. It takes no memory.
     pub fn load(&mut self, octets: &mut Octets<'_>) -> Option<()>
         ensures loaded { (other : Circuit) (law : Law) (config : CircuitConfig) (items before : List Item)
-            (rest : List ℕ) → Stands other law config items → CircuitFits other
-            → Stands self.old law config before → octets.old ≡ saved_circuit other ++ rest
+            (rest : List ℕ) → StandsSince other law config items → CircuitFits other
+            → StandsSince self.old law config before → octets.old ≡ saved_circuit other ++ rest
             → (result ≡ Some tt) × (self.new ≡ other) × (octets.new ≡ rest) }
         ensures read { IfSome result (λ done. octets.old ≡ saved_circuit self.new ++ octets.new) }
         ensures none { (law : Law) (config : CircuitConfig) (items : List Item)
-            → Stands self.old law config items → IfNone result (Stands self.new law config []) }
+            → StandsSince self.old law config items → IfNone result (StandsSince self.new law config []) }
         ensures config { (self.new.law ≡ self.old.law) × (self.new.config ≡ self.old.config) }
     {
         self.clear();
@@ -108,7 +109,8 @@ impl Circuit {
         Some(())
     }
 
-    // Reads a saved line into this circuit; None if the octets are not those of a line, whose line is then new.
+    // Reads a saved line into this circuit; None if the octets are not those of a line, whose line is then
+    // new.
     fn load_line(&mut self, octets: &mut Octets<'_>) -> Option<()>
         ensures loaded { (line : Line) (rest : List ℕ) → line.role ≡ self.old.config.role
             → LineFits line → octets.old ≡ saved_line line ++ rest

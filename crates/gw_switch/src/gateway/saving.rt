@@ -11,10 +11,10 @@ impl Gateway {
     ghost use Rattle.gw_switch.specs.declared.gateway.Gateway.{Gateway};
     ghost use Rattle.gw_switch.specs.Events.{Event};
     ghost use Rattle.gw_switch.specs.Standing.{Stands};
-    ghost use Rattle.gw_switch.specs.Saved.{saved_gateway, GatewayFits, IsSame};
+    ghost use Rattle.gw_switch.specs.Saved.{saved_gateway, GatewayFits, IsSame, AreConfiguredAlike};
 
-    /// Appends the octets of the gateway: those of the trunk, then those of its circuits. Its configuration is
-    /// not among them.
+    /// Appends the octets of the gateway: those of the trunk, then those of its circuits. Its configuration
+    /// is not among them.
     #[tactic(auto, unfolding(crate::specs::Saved::saved_gateway))]
     pub fn save(&self, out: &mut Vec<u8>) -> Result<(), AllocError>
         ensures octets { OnOk result (out.new.items ≡ out.old.items ++ saved_gateway self.now) }
@@ -24,13 +24,13 @@ impl Gateway {
         self.circuits.save(out)
     }
 
-    /// Reads a saved gateway into this one, which was opened by the same configuration. It takes no memory. If
-    /// the octets are not those of a gateway there is none any more.
+    /// Reads a saved gateway into this one, whose circuits are configured as those that were saved. It takes
+    /// no memory. If the octets are not those of a gateway there is none any more.
     #[tactic(auto, unfolding(crate::specs::Saved::saved_gateway))]
     pub fn load(mut self, octets: &mut Octets<'_>) -> Result<Gateway, StateFault>
-        ensures loaded { (config : GatewayConfig) (saved : Gateway) (events before : List Event) (rest : List ℕ)
-            → Stands config saved events → GatewayFits saved → Stands config self before
-            → octets.old ≡ saved_gateway saved ++ rest
+        ensures loaded { (config other : GatewayConfig) (saved : Gateway) (events before : List Event)
+            (rest : List ℕ) → Stands config saved events → GatewayFits saved → Stands other self before
+            → AreConfiguredAlike config events other before → octets.old ≡ saved_gateway saved ++ rest
             → IsOkAnd result (λ g. IsSame g saved × Stands config g events) × (octets.new ≡ rest) }
         ensures read { IfOk result (λ g. octets.old ≡ saved_gateway g ++ octets.new) }
     {

@@ -20,10 +20,9 @@ returns-in-Replay g c = inr (record {
   read = c.in_ok-config.ensures.ok;
   done = inr (record {
     gateway = c.in_ok-gateway.gateway;
-    gateway' = c.replay-ended.new.gateway;
+    gateway' = c.perform_replay.new.gateway;
     begun = c.in_ok-gateway.ensures.ok;
-    done = rw c.in-Replay.is
-        (record { end = c.replay-ended.result; done = c.replay-ended.ensures; tells = c.end_session.ensures });
+    done = rw c.in-Replay.is c.perform_replay.ensures;
   });
 })
 
@@ -36,7 +35,7 @@ returns-in-Check g c = inr (record {
     gateway' = c.check-ended.new.gateway;
     begun = c.in_ok-gateway.ensures.ok;
     done = rw c.in-Check.is
-        (record { end = c.check-ended.result; done = c.check-ended.ensures; tells = c.end_session-in-Check.ensures });
+        (record { end = c.check-ended.result; done = c.check-ended.ensures; tells = c.end_session.ensures });
   });
 })
 

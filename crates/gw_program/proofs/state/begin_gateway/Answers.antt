@@ -7,5 +7,5 @@ returns-clause-ok c = record {
   begun = c.in_ok-first.ensures.ok;
   wait = c.args.wait;
   asked = refl;
-  waits = c.waiting.ensures _;
+  waits = c.waiting.ensures;
 }

@@ -1,7 +1,8 @@
 use Rattle.std.proofs.Common.{rules, ◌≡◌, ◌<◌, ℕ, length, get_or, true, Some, ap, sym, ◌∙◌, refl, w16, arith}
 use Rattle.std.proofs.lemmas.Int.{to_z-of_z}
 use Rattle.g726_predict.specs.Predictor.{Prediction}
-use Rattle.g726_predict.proofs.Saved.{numbered, numbered-saved, saved-numbered, saved-words, words-known, are_words, listed}
+use Rattle.g726_predict.proofs.Saved.{numbered, numbered-saved, saved-numbered, saved-words, words-known, are_words}
+use Rattle.g726_predict.proofs.Saved.{listed}
 use Rattle.g726_predict.proofs.filter.Filter.of_numbers.Goals as goal
 
 pub returns-then-not-are_words-clause-loaded : goal.returns-then-not-are_words-clause-loaded

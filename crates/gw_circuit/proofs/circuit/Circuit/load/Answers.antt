@@ -5,7 +5,8 @@ use Rattle.gw_circuit.specs.declared.circuit.Circuit.{Circuit}
 use Rattle.gw_circuit.specs.Coding.{coding_after}
 use Rattle.gw_circuit.specs.Replies.{packet_size, heard_in, calls_in}
 use Rattle.gw_circuit.specs.Saved.{saved_circuit, saved_clocks, saved_counts, saved_speech}
-use Rattle.gw_circuit.proofs.Loading.{circuit-octets, numbers-told, same-circuit, stands-reset, none-holds, none-says, some-says, some-is-there, read-three}
+use Rattle.gw_circuit.proofs.Loading.{circuit-octets, numbers-told, same-circuit, stands-reset, none-holds, none-says}
+use Rattle.gw_circuit.proofs.Loading.{some-says, some-is-there, read-three}
 use Rattle.gw_circuit.proofs.Spells.{stretch-none}
 use Rattle.gw_circuit.proofs.Turns.{keeps-of}
 use Rattle.gw_circuit.proofs.circuit.Circuit.load.Goals as goal

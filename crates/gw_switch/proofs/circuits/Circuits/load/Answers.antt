@@ -1,8 +1,8 @@
 use Rattle.std.proofs.Common.{◌++◌, ◌+◌, ◌∙◌, ◌<◌, length, drop, arith, refl}
 use Rattle.std.proofs.lemmas.Bool.{false≢true}
 use Rattle.gw_switch.specs.Saved.{saved_channel, saved_circuits}
-use Rattle.gw_switch.proofs.Loading.{one-read}
-use Rattle.gw_switch.proofs.CircuitsLoading.{next-saved, same-front, same-behind, alike-at}
+use Rattle.gw_switch.proofs.Loading.{one-read, next-saved, same-front}
+use Rattle.gw_switch.proofs.CircuitsLoading.{same-behind, alike-at}
 use Rattle.gw_switch.proofs.circuits.Circuits.load.Goals as goal
 
 pub returns-then-not-load_channel-clause-loaded : goal.returns-then-not-load_channel-clause-loaded
@@ -17,7 +17,7 @@ returns-then-not-load_channel-clause-loaded c = λ saved rest alike e.
     let prior = c.loop-number.invariant.loaded saved rest alike e in
     let told = c.if-not-load_channel.ensures.loaded _ (saved_circuits (drop (i + 1) saved) ++ rest)
     (alike-at c.args.self.now.channels.items saved i c.index_mut-channel.result.now x alike (was ∙ first) all)
-    (next-saved saved i x c.loop-number.octets rest prior.1 (omega (arith, alike.many))) in
+    (next-saved saved_channel saved i x c.loop-number.octets rest prior.1 (omega (arith, alike.many))) in
     absurd (false≢true told.0)
 
 pub loop-number-preserved : goal.loop-number-preserved
@@ -39,6 +39,6 @@ loop-number-preserved c =
           let prior = c.loop-number.invariant.loaded saved rest alike e in
           let told = c.if-not-load_channel.ensures.loaded _ (saved_circuits (drop (i + 1) saved) ++ rest)
           (alike-at c.args.self.now.channels.items saved i c.index_mut-channel.result.now x alike (was ∙ first) all)
-          (next-saved saved i x c.loop-number.octets rest prior.1 (omega (arith, alike.many))) in
+          (next-saved saved_channel saved i x c.loop-number.octets rest prior.1 (omega (arith, alike.many))) in
           (same-front mine saved i x prior.0 told.1 now (omega (arith, alike.many)), told.2);
     }

@@ -1,0 +1,97 @@
+-- What circuits see of a gateway that is reconfigured.
+use Rattle.std.proofs.Common.{◌≡◌, ◌≢◌, ◌⊎◌, ℕ, zero, suc, ◌<◌, ◌≤◌, List, [], ◌∷◌, ◌++◌, inl, inr, refl, sym, ap, ◌∙◌}
+use Rattle.std.proofs.Common.{append_assoc, append-nil, arith}
+use Rattle.std.proofs.lemmas.Bool.{eq-eqb, ne_eqb, cases_eq}
+use Rattle.gw_circuit.specs.declared.config.CircuitConfig.{CircuitConfig}
+use Rattle.gw_circuit.specs.Items.{Item}
+use Rattle.gw_switch.specs.declared.GatewayConfig.{GatewayConfig}
+use Rattle.gw_switch.specs.Events.{Event, octets, view}
+use Rattle.gw_switch.specs.Whole.{config_of}
+use Rattle.gw_switch.specs.Reconfigured.{IsRenewal, AreRenewals, RenewalsAreApart}
+use Rattle.gw_switch.proofs.Views.{view-push, view-join, octets-push_other}
+
+-- a circuit sees that it is configured, and not that another one is
+view-configured : (c d : ℕ) (new : CircuitConfig) (events : List Event)
+    → ((d ≡ c) × (view c (events ++ Event.Configure d new ∷ []) ≡ view c events ++ Item.Configure new ∷ []))
+    ⊎ ((d ≢ c) × (view c (events ++ Event.Configure d new ∷ []) ≡ view c events))
+view-configured c d new events = elim (cases_eq d c) [
+  | inl e ↦ inl (e, view-push c events (Event.Configure d new) ∙ rw (eq-eqb d c e) refl)
+  | inr ne ↦ inr (ne, view-push c events (Event.Configure d new) ∙ rw (ne_eqb d c ne) (append-nil (view c events)))
+]
+
+-- what circuit c has seen of what happened to it
+record HasSeen (c : ℕ) (old new : GatewayConfig) (before after : List Event) : Type 0 where
+  same : config_of old c ≡ config_of new c → view c after ≡ view c before
+  other : config_of old c ≢ config_of new c
+      → view c after ≡ view c before ++ Item.Configure (config_of new c) ∷ []
+
+-- what circuits have seen when the first n of them were renewed
+record HaveSeen (old new : GatewayConfig) (events after : List Event) (n : ℕ) : Type 0 where
+  trunk : octets after ≡ octets events
+  done : (c : ℕ) → 1 ≤ c → c ≤ n → HasSeen c old new events after
+  left : (c : ℕ) → n < c → view c after ≡ view c events
+
+-- one circuit more is renewed
+seen-next : (old new : GatewayConfig) (events after last : List Event) (n : ℕ) → HaveSeen old new events after n
+    → IsRenewal (suc n) (config_of old (suc n)) (config_of new (suc n)) last
+    → HaveSeen old new events (after ++ last) (suc n)
+seen-next old new events after last n seen (inl same) = rw (same.1, append-nil after) (record {
+  trunk = seen.trunk;
+  done = λ c low high. elim (cases_eq (suc n) c) [
+    | inl e ↦ record {
+      same = λ alike. seen.left c (omega (arith, e));
+      other = λ ne. absurd (ne (rw e at same.0));
+    }
+    | inr ne ↦ seen.done c low (omega (arith, ne))
+  ];
+  left = λ c low. seen.left c (omega arith);
+})
+seen-next old new events after last n seen (inr other) = rw other.1 (record {
+  trunk = octets-push_other after (Event.Configure (suc n) (config_of new (suc n))) refl ∙ seen.trunk;
+  done = λ c low high. elim (view-configured c (suc n) (config_of new (suc n)) after) [
+    | inl own ↦ record {
+      same = λ alike. absurd (other.0 (rw (← own.0) at alike));
+      other = λ ne. own.1 ∙ ap (λ v. v ++ Item.Configure (config_of new (suc n)) ∷ [])
+          (seen.left c (omega (arith, own.0)))
+          ∙ ap (λ d. view c events ++ Item.Configure (config_of new d) ∷ []) own.0;
+    }
+    | inr ne ↦ record {
+      same = λ alike. ne.1 ∙ (seen.done c low (omega (arith, ne.0))).same alike;
+      other = λ unlike. ne.1 ∙ (seen.done c low (omega (arith, ne.0))).other unlike;
+    }
+  ];
+  left = λ c low. elim (view-configured c (suc n) (config_of new (suc n)) after) [
+    | inl own ↦ absurd (omega (arith, own.0))
+    | inr ne ↦ ne.1 ∙ seen.left c (omega arith)
+  ];
+})
+
+-- the first circuits have seen what happens to them
+seen-all : (old new : GatewayConfig) (events more : List Event) (n : ℕ) → AreRenewals old new n more
+    → HaveSeen old new events (events ++ more) n
+seen-all old new events more zero are = rw (are, append-nil events) (record {
+  trunk = refl;
+  done = λ c low high. absurd (omega arith);
+  left = λ c low. refl;
+})
+seen-all old new events more (suc n) (before, last, are, is, joined) =
+    rw (joined, ← append_assoc events before last)
+    (seen-next old new events (events ++ before) last n (seen-all old new events before n are) is)
+
+-- where trunk and view are the same, so is the view of what comes later
+later-same : (c : ℕ) (here there later : List Event) → octets here ≡ octets there → view c here ≡ view c there
+    → view c (here ++ later) ≡ view c (there ++ later)
+later-same c here there later trunk seen =
+    view-join c here later ∙ rw (seen, trunk) (sym (view-join c there later))
+
+-- renewals have no octet, and each circuit sees its own alone
+pub apart : RenewalsAreApart
+apart old new events more are =
+    let seen = seen-all old new events more 30 are in (
+      seen.trunk,
+      λ c low high. record {
+        same = λ alike later.
+            later-same c (events ++ more) events later seen.trunk ((seen.done c low high).same alike);
+        other = (seen.done c low high).other;
+      },
+    )

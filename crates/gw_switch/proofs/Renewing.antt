@@ -1,0 +1,114 @@
+-- A gateway whose circuits are configured one after the other.
+use Rattle.std.proofs.Common.{◌≡◌, ◌≢◌, ◌⊎◌, ℕ, zero, suc, ◌+◌, ◌-◌, ◌<◌, ◌≤◌, List, [], ◌∷◌, ◌++◌, inl, inr, refl, sym}
+use Rattle.std.proofs.Common.{ap, ◌∙◌}
+use Rattle.std.proofs.Common.{append_assoc, append-nil, arith, slice_index_or, length}
+use Rattle.std.proofs.lemmas.List.{get_or_default}
+use Rattle.std.proofs.Common.{Option, Some, None, SomeIff}
+use Rattle.std.proofs.lemmas.Bool.{eq-eqb, ne_eqb, cases_eq}
+use Rattle.std.proofs.lemmas.List.Sums.{fold-append}
+use Rattle.gw_circuit.specs.declared.config.CircuitConfig.{CircuitConfig}
+use Rattle.gw_circuit.specs.Items.{Item}
+use Rattle.gw_circuit.specs.Lives.{next_config, config_after}
+use Rattle.gw_switch.specs.declared.GatewayConfig.{GatewayConfig}
+use Rattle.gw_switch.specs.declared.gateway.Gateway.{Gateway}
+use Rattle.gw_switch.specs.Events.{Event, view, own_one}
+use Rattle.gw_switch.specs.Whole.{config_of, spare_config}
+use Rattle.gw_switch.specs.Saved.{config_in}
+use Rattle.gw_switch.specs.Reconfigured.{IsRenewal, AreRenewals, HasTaken, RenewalsConfigure}
+use Rattle.gw_switch.proofs.Views.{view-push}
+
+-- the configuration of a circuit after a configuration that is its own, or another's
+config-own : (first : CircuitConfig) (items : List Item) (c d : ℕ) (new : CircuitConfig)
+    → ((d ≡ c) × (config_after first (items ++ own_one c d (Item.Configure new)) ≡ new))
+    ⊎ ((d ≢ c) × (config_after first (items ++ own_one c d (Item.Configure new)) ≡ config_after first items))
+config-own first items c d new = elim (cases_eq d c) [
+  | inl e ↦ inl (e, rw (eq-eqb d c e) (fold-append next_config first items (Item.Configure new ∷ [])))
+  | inr ne ↦ inr (ne, rw (ne_eqb d c ne) (ap (config_after first) (append-nil items)))
+]
+
+-- the same of what a circuit is configured to be after events
+config-push : (first : GatewayConfig) (events : List Event) (c d : ℕ) (new : CircuitConfig)
+    → ((d ≡ c) × (config_in first (events ++ Event.Configure d new ∷ []) c ≡ new))
+    ⊎ ((d ≢ c) × (config_in first (events ++ Event.Configure d new ∷ []) c ≡ config_in first events c))
+config-push first events c d new =
+    rw (view-push c events (Event.Configure d new)) (config-own (config_of first c) (view c events) c d new)
+
+-- circuits up to this one are configured by the new configuration, and those behind it as they were
+record AreUpTo (first : GatewayConfig) (events : List Event) (old new : GatewayConfig) (n : ℕ) : Type 0 where
+  done : (c : ℕ) → 1 ≤ c → c ≤ n → config_in first events c ≡ config_of new c
+  left : (c : ℕ) → n < c → c ≤ 30 → config_in first events c ≡ config_of old c
+
+-- before the first event a circuit is configured as the gateway is
+config-none : (config : GatewayConfig) (c : ℕ) → config_in config [] c ≡ config_of config c
+unfolding view
+config-none config c = refl
+
+-- one circuit more is configured by the new configuration
+up-next : (first : GatewayConfig) (events last : List Event) (old new : GatewayConfig) (n : ℕ)
+    → AreUpTo first events old new n → n < 30
+    → IsRenewal (suc n) (config_of old (suc n)) (config_of new (suc n)) last
+    → AreUpTo first (events ++ last) old new (suc n)
+up-next first events last old new n up less (inl same) = rw (same.1, append-nil events) (record {
+  done = λ c low high. elim (cases_eq (suc n) c) [
+    | inl e ↦ rw e at (up.left (suc n) (omega arith) (omega arith) ∙ same.0)
+    | inr ne ↦ up.done c low (omega (arith, ne))
+  ];
+  left = λ c low high. up.left c (omega arith) high;
+})
+up-next first events last old new n up less (inr other) = rw other.1 (record {
+  done = λ c low high. elim (config-push first events c (suc n) (config_of new (suc n))) [
+    | inl own ↦ own.1 ∙ ap (config_of new) own.0
+    | inr ne ↦ ne.1 ∙ up.done c low (omega (arith, ne.0))
+  ];
+  left = λ c low high. elim (config-push first events c (suc n) (config_of new (suc n))) [
+    | inl own ↦ absurd (omega (arith, own.0))
+    | inr ne ↦ ne.1 ∙ up.left c (omega arith) high
+  ];
+})
+
+-- the first circuits are configured by the new configuration after what happens to them
+all-up : (first : GatewayConfig) (events more : List Event) (old new : GatewayConfig) (n : ℕ)
+    → AreUpTo first events old new 0 → n ≤ 30 → AreRenewals old new n more → AreUpTo first (events ++ more) old new n
+all-up first events more old new zero up less are = rw (are, append-nil events) up
+all-up first events more old new (suc n) up less (before, last, are, is, joined) =
+    rw (joined, ← append_assoc events before last)
+    (up-next first (events ++ before) last old new n (all-up first events before old new n up (omega arith) are)
+    (omega arith) is)
+
+-- a gateway that is reconfigured has the configuration of the new gateway
+pub renewed : RenewalsConfigure
+renewed first old new events more law alike are = record {
+  law = alike.law ∙ law;
+  each = λ c low high.
+      (all-up first events more old new 30 (record {
+        done = λ d some none. absurd (omega arith);
+        left = λ d some high. alike.each d (omega arith) high ∙ config-none old d;
+      }) (omega arith) are).done c low high ∙ sym (config-none new c);
+}
+
+-- a gateway that has taken events, and then others, has taken both
+pub more-taken : (first now next : Gateway) (more last : List Event) → HasTaken first now more → HasTaken now next last
+    → HasTaken first next (more ++ last)
+more-taken first now next more last taken goes config events stands =
+    rw append_assoc at (goes config (events ++ more) (taken config events stands))
+
+-- with what happens to the next circuit that is what happens to one more
+pub more-are : (old new : GatewayConfig) (n : ℕ) (more last : List Event) → AreRenewals old new n more
+    → IsRenewal (suc n) (config_of old (suc n)) (config_of new (suc n)) last
+    → AreRenewals old new (suc n) (more ++ last)
+more-are old new n more last are is = (more, last, are, is, refl)
+
+-- the configuration of the circuit behind the first n
+pub config-behind : (config : GatewayConfig) (n : ℕ) (k : CircuitConfig) → n < length config.circuits
+    → slice_index_or config.circuits n k ≡ config_of config (suc n)
+config-behind config n k less =
+    let number : suc n - 1 ≡ n = omega arith in
+    rw number (get_or_default config.circuits n k spare_config less)
+
+-- the number of the circuit behind the first n
+pub some-number : (found : Option ℕ) (n number : ℕ) → SomeIff found ((1 ≤ n + 1) × (n + 1 ≤ 30)) (n + 1)
+    → found ≡ Some number → n < 30 → number ≡ suc n
+some-number None n number is e less = absurd (cc e)
+some-number (Some k) n number is e less =
+    let same : k ≡ number = cc e in
+    omega (arith, is.1, same)

@@ -1,0 +1,50 @@
+-- What clients are sent.
+use Rattle.std.proofs.Common.{◌≡◌, ◌≤◌, ◌<◌, ◌++◌, ◌∷◌, ℕ, List, [], length, drop, take, refl, arith}
+use Rattle.std.proofs.Common.{false, ◌==◌, ◌∙◌, ap}
+use Rattle.std.proofs.Common.{Option, sym, length-append}
+use Rattle.std.proofs.Math.Seq.{drop-append_seam, take-append_seam}
+use Rattle.gw_switch.specs.declared.gateway.Gateway.{Gateway}
+use Rattle.gw_records.specs.Records.{Record}
+use Rattle.gw_tell.specs.declared.client.Client.{Client}
+use Rattle.gw_tell.specs.declared.picture.Picture.{Picture}
+use Rattle.gw_tell.specs.Lines.{at_line}
+use Rattle.gw_tell.specs.Reports.{sent_to, last_after, Shows, Changes, IsPictureOf, place_after}
+use Rattle.gw_tell.specs.Clients.{AllAreTold, TellsChanges}
+use Rattle.gw_tell.proofs.Reporting.{changes_go_behind}
+
+-- Some lines are sent behind the place to a client whose last place is another.
+pub sent_behind : (last place : ℕ) (lines : List ℕ) → (last == place) ≡ false → 0 < length lines
+    → (sent_to last place lines ≡ at_line place ++ lines) × (last_after last place lines ≡ place)
+sent_behind last place [] other some = absurd (omega arith)
+sent_behind last place (x ∷ lines) other some = (rw other refl, refl)
+
+-- What goes behind the line of a place: that line is the front of the text.
+pub front_is : (line pushed report text : List ℕ) (front : ℕ) → pushed ≡ line → front ≡ length pushed
+    → text ≡ report → (lines : List ℕ) × (report ≡ pushed ++ lines)
+    → (front ≤ length text) × (take front text ≡ line) × (report ≡ line ++ drop front text)
+front_is line pushed report text front a b c (lines, d) =
+    let e : front ≡ length line = b ∙ ap length a in
+    let f : text ≡ line ++ lines = c ∙ d ∙ ap (λ (xs : List ℕ). xs ++ lines) a in
+    let g : drop front text ≡ lines = rw (e, f) (drop-append_seam line lines) in (
+      omega (arith, e, ap length f, length-append line lines),
+      rw (e, f) (take-append_seam line lines),
+      d ∙ ap (λ (xs : List ℕ). xs ++ lines) a ∙ ap (λ (xs : List ℕ). line ++ xs) (sym g),
+    )
+
+-- The clients were told what changed.
+pub tells : (place : ℕ) (r : Record) (code : ℕ) (gateway : Gateway) (was told is : Picture)
+    (places places' : List (Option Client)) (at : ℕ) (pushed report text : List ℕ) (front : ℕ)
+    → Shows is gateway → at ≡ place_after place r → pushed ≡ at_line at → front ≡ length pushed → text ≡ report
+    → Changes place r code was is told pushed report → IsPictureOf is told
+    → AllAreTold places places' at (drop front text) → TellsChanges place r code gateway was told places places'
+tells place r code gateway was told is places places' at pushed report text front shows at_is line len same changes
+    true_picture told_all =
+    let behind = changes_go_behind place r code was is told pushed report changes in
+    let f = front_is (at_line at) pushed report text front line len same behind in record {
+      is = is;
+      shows = shows;
+      lines = drop front text;
+      changes = rw (← at_is, ← f.2, ← line) changes;
+      true_picture = true_picture;
+      told_all = rw (← at_is) told_all;
+    }

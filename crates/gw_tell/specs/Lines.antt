@@ -1,0 +1,68 @@
+-- The lines that a client gets, each ended by a line feed (e1gw-tell(5)).
+use Rattle.std.specs.Prelude.{◌++◌, ℕ, List, [], ◌∷◌, take, drop, length, codes}
+use Rattle.std.specs.Prelude.{Bool, true, false, if◌then◌else◌, nat_lt}
+use Rattle.std.specs.List.{flat_map}
+use Rattle.std.specs.Fmt.{decimal}
+use Rattle.byteorder.specs.Endian.{big_number}
+use Rattle.e1_g711.specs.declared.Law.{Law}
+use Rattle.e1_g711.specs.declared.Law.TheVariants.{A, Mu}
+use Rattle.gw_circuit.specs.declared.Status.{Status}
+use Rattle.gw_switch.specs.declared.Alarms.{Alarms}
+use Rattle.gw_listing.specs.Row.{row}
+use Rattle.gw_records.specs.Records.{Record}
+
+-- a space and a number in decimal
+unfoldable pub spaced : ℕ → List ℕ
+spaced n = 32 ∷ decimal n
+
+-- a line of a word and numbers, one space before each
+unfoldable pub number_line : List ℕ → List ℕ → List ℕ
+number_line word numbers = word ++ flat_map spaced numbers ++ 10 ∷ []
+
+-- the octets of the trunk that the session has acted on
+abbrev pub at_line : ℕ → List ℕ
+at_line place = number_line (codes "at") (place ∷ [])
+
+-- an alarm as a number
+abbrev pub flag : Bool → ℕ
+flag false = 0
+flag true = 1
+
+-- loss of frame alignment and of multiframe alignment, and what the other end sends in bits A and y
+abbrev pub alarms_line : Alarms → List ℕ
+alarms_line a = number_line (codes "alarms")
+    (flag a.frame ∷ flag a.multiframe ∷ flag a.remote_frame ∷ flag a.remote_multiframe ∷ [])
+
+-- sequence number, timestamp and synchronization source of the header of an RTP datagram (RFC 3550, 5.1);
+-- zeros if it is too short for a header
+abbrev pub rtp_numbers : List ℕ → List ℕ
+rtp_numbers octets = if nat_lt (length octets) 12 then 0 ∷ 0 ∷ 0 ∷ []
+    else big_number 2 (take 2 (drop 2 octets)) ∷ big_number 4 (take 4 (drop 4 octets))
+    ∷ big_number 4 (take 4 (drop 8 octets)) ∷ []
+
+-- the line of a record that was answered with this code; octets of the trunk have none
+abbrev pub event_line : Record → ℕ → List ℕ
+event_line (Record.Trunk octets) code = []
+event_line (Record.Datagram circuit octets) code =
+    number_line (codes "datagram") (circuit ∷ code ∷ rtp_numbers octets)
+event_line (Record.Command circuit command) code =
+    number_line (codes "command") (circuit ∷ command ∷ code ∷ [])
+event_line (Record.Codec circuit codec payload_type) code =
+    number_line (codes "codec") (circuit ∷ codec ∷ payload_type ∷ code ∷ [])
+
+-- the line of a circuit: its row of a listing
+unfoldable pub row_line : ℕ → Status → List ℕ
+row_line circuit status = codes "line " ++ row circuit status ++ 10 ∷ []
+
+-- the first line, with the law of the trunk as the configuration names it
+abbrev pub hello_line : Law → List ℕ
+hello_line A = codes "e1gw tell 1 A\n"
+hello_line Mu = codes "e1gw tell 1 mu\n"
+
+-- all that follows are changes
+abbrev pub now_line : List ℕ
+now_line = codes "now\n"
+
+-- the session has ended
+abbrev pub end_line : List ℕ
+end_line = codes "end\n"

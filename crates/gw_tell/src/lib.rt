@@ -1,0 +1,11 @@
+//! How a trunk stands and what changes, told to clients as lines of text while a session goes on.
+#![tactic(auto)]
+
+mod client;
+mod lines;
+mod picture;
+mod report;
+mod teller;
+mod text;
+
+pub use teller::Teller;

@@ -1,0 +1,116 @@
+//! The lines that a client gets.
+
+ghost use Rattle.std.specs.Prelude.{◌≡◌, ◌≤◌, ◌+◌, ◌++◌, length};
+ghost use Rattle.gw_records.specs.Records.{named};
+ghost use Rattle.gw_tell.specs.Lines.{at_line, flag, alarms_line, rtp_numbers, event_line, row_line};
+ghost use Rattle.gw_tell.specs.Lines.{hello_line};
+
+use crate::text::{Text, push, push_line};
+use byteorder::{BigEndian, ByteOrder};
+use e1_g711::Law;
+use g704_cas::CircuitNo;
+use gw_circuit::Status;
+use gw_records::{Head, octet_of_codec, octet_of_command};
+use gw_switch::Alarms;
+
+// The length of the fixed header of an RTP datagram (RFC 3550, 5.1).
+const HEADER_LEN: usize = 12;
+
+/// Adds the line of a place.
+pub fn push_at(text: &mut Text, place: u64)
+    requires { length text.old.items + 24 ≤ 2700 }
+    ensures line { text.new.items ≡ text.old.items ++ at_line place }
+    ensures len { length text.new.items ≤ length text.old.items + 24 }
+{
+    push_line(text, b"at", &[place]);
+}
+
+// An alarm as a number.
+fn flag(alarm: bool) -> u64
+    ensures { result ≡ flag alarm }
+{
+    if alarm { 1 } else { 0 }
+}
+
+/// Adds the line of the alarms.
+pub fn push_alarms(text: &mut Text, alarms: &Alarms)
+    requires { length text.old.items + 91 ≤ 2700 }
+    ensures line { text.new.items ≡ text.old.items ++ alarms_line alarms.now }
+    ensures len { length text.new.items ≤ length text.old.items + 91 }
+{
+    let numbers = [
+        flag(alarms.frame),
+        flag(alarms.multiframe),
+        flag(alarms.remote_frame),
+        flag(alarms.remote_multiframe),
+    ];
+    push_line(text, b"alarms", &numbers);
+}
+
+// Sequence number, timestamp and synchronization source of a datagram; zeros if it is too short.
+fn rtp_numbers(octets: &[u8]) -> [u64; 3]
+    ensures { result ≡ rtp_numbers octets.now }
+{
+    if octets.len() < HEADER_LEN {
+        return [0, 0, 0];
+    }
+    [
+        u64::from(BigEndian::read_u16(&octets[2..4])),
+        u64::from(BigEndian::read_u32(&octets[4..8])),
+        u64::from(BigEndian::read_u32(&octets[8..12])),
+    ]
+}
+
+/// Adds the line of a record that was answered with this code, if it has one.
+pub fn push_event(text: &mut Text, head: &Head, body: &[u8], code: u8)
+    requires { length text.old.items + 114 ≤ 2700 }
+    ensures line { text.new.items ≡ text.old.items ++ event_line (named head.now body.now) code }
+    ensures len { length text.new.items ≤ length text.old.items + 114 }
+{
+    let code = u64::from(code);
+    match *head {
+        Head::Trunk => {}
+        Head::Datagram(circuit) => {
+            let [sequence, timestamp, source] = rtp_numbers(body);
+            let numbers = [u64::from(circuit.get()), code, sequence, timestamp, source];
+            push_line(text, b"datagram", &numbers);
+        }
+        Head::Command(circuit, command) => {
+            let command = u64::from(octet_of_command(command));
+            push_line(text, b"command", &[u64::from(circuit.get()), command, code]);
+        }
+        Head::Codec(circuit, codec, payload_type) => {
+            let codec = u64::from(octet_of_codec(codec));
+            let numbers = [
+                u64::from(circuit.get()),
+                codec,
+                u64::from(payload_type),
+                code,
+            ];
+            push_line(text, b"codec", &numbers);
+        }
+    }
+}
+
+/// Adds the line of a circuit.
+#[tactic(auto, unfolding(crate::specs::Lines::row_line))]
+pub fn push_row(text: &mut Text, circuit: CircuitNo, status: &Status)
+    requires { length text.old.items + 80 ≤ 2700 }
+    ensures line { text.new.items ≡ text.old.items ++ row_line circuit status.now }
+    ensures len { length text.new.items ≡ length text.old.items + 80 }
+{
+    push(text, b"line ");
+    push(text, gw_listing::line(circuit, status).as_str().as_bytes());
+    push(text, b"\n");
+}
+
+/// The first line.
+pub fn hello_line(law: Law) -> &'static [u8]
+    ensures line { result.now ≡ hello_line law }
+    ensures len { length result.now ≤ 15 }
+{
+    match law {
+        Law::A => b"e1gw tell 1 A\n",
+        Law::Mu => b"e1gw tell 1 mu\n",
+    }
+}

@@ -1,0 +1,43 @@
+//! Text that is put together in room of its own.
+
+ghost use Rattle.std.specs.Prelude.{◌≡◌, ◌≤◌, ◌+◌, ◌*◌, ◌++◌, length};
+ghost use Rattle.gw_tell.specs.Lines.{spaced, number_line};
+
+use arrayvec::ArrayVec;
+use itoa::Buffer;
+
+/// Room for the longest text, which all lines of thirty circuits stand in.
+pub type Text = ArrayVec<u8, 2_700>;
+
+/// Adds octets.
+pub fn push(text: &mut Text, octets: &[u8])
+    requires { length text.old.items + length octets.now ≤ 2700 }
+    ensures { text.new.items ≡ text.old.items ++ octets.now }
+{
+    let _ = text.try_extend_from_slice(octets);
+}
+
+// Adds a space and a number in decimal.
+fn push_number(text: &mut Text, n: u64)
+    requires { length text.old.items + 21 ≤ 2700 }
+    ensures number { text.new.items ≡ text.old.items ++ spaced n }
+    ensures len { length text.new.items ≤ length text.old.items + 21 }
+{
+    let mut digits = Buffer::new();
+    text.push(b' ');
+    push(text, digits.format(n).as_bytes());
+}
+
+/// Adds a line of a word and numbers.
+pub fn push_line(text: &mut Text, word: &[u8], numbers: &[u64])
+    requires { length text.old.items + (length word.now + 21 * length numbers.now + 1) ≤ 2700 }
+    ensures line { text.new.items ≡ text.old.items ++ number_line word.now numbers.now }
+    ensures len { length text.new.items
+        ≤ length text.old.items + (length word.now + 21 * length numbers.now + 1) }
+{
+    push(text, word);
+    for n in numbers {
+        push_number(text, *n);
+    }
+    text.push(b'\n');
+}

@@ -1,0 +1,310 @@
+"""Carries the octets of an E1 trunk to a program at a Unix socket, and back: to e1gw-keep(1), mostly.
+
+For trunks that are no plain device: a card that keeps time slot 0, octets at any bit offset, CRC-4, SAToP over UDP. It
+does nothing else. One program is connected at a time; the next one waits. While nobody is, the octets of the trunk are
+thrown away, and it is sent ones (AIS).
+
+Signals: SIGTERM, SIGINT end.
+Statuses: 0 ended as asked, or with the trunk's input; 1 the trunk failed; 2 the command line, or a socket that is
+taken.
+"""
+from __future__ import annotations
+
+import argparse
+import json
+import os
+import signal
+import socket
+import subprocess
+import sys
+import threading
+import time
+from collections import deque
+from typing import Callable, NoReturn
+
+from . import satop
+from .carrier import MOST_READ, Carrier
+from .control import DoorTaken, listen_unix
+from .crc4 import Crc4
+from .events import WARNED, words_of
+from .faults import Parser, named, options_words, words_of_fault
+from .lines import Event, law_of, read_config
+from .loop import GONE, READ, WRITE, Loop
+from .options import Usage
+from .outlets import Journal, Outlet, hold_descriptors, to_descriptor, to_file
+from .peers import Door
+from .programs import program_of
+from .session import MULTIFRAME, OCTETS_A_SECOND
+from .systemd import Notify
+from .trunk_options import add_trunk, opening_of
+from .trunks import Stream, Trunk
+
+MODE = 0o660                # of the sockets
+REOPEN_MOST = 30.0          # seconds between two tries to open the trunk
+ALIVE = 0.5                 # seconds between two signs of life
+GRACE = 1.0                 # seconds for a program to end
+LASTS = MULTIFRAME / OCTETS_A_SECOND    # seconds of a multiframe
+NOTHING = -1, 0             # no descriptor, no events
+
+
+def parser() -> argparse.ArgumentParser:
+    """The options."""
+    about, _, rest = (__doc__ or '').partition('\n\n')
+    words = Parser(prog='e1gw-carry', description=f'{about}\n\n{rest}',
+                   formatter_class=argparse.RawDescriptionHelpFormatter)
+    words.add_argument('--listen', metavar='PATH', required=True, help='the Unix socket at which a program connects')
+    words.add_argument('--config', metavar='FILE', help='the configuration, e1gw.toml(5); --clear wants its law')
+    words.add_argument('--program', metavar='E1GW', help='the program [default: that of this repository, or e1gw]')
+    words.add_argument('--status', metavar='PATH', help='a Unix socket that gives a line of JSON to each who connects')
+    words.add_argument('--json', metavar='FILE', help='a line of JSON for each change; - is standard output')
+    add_trunk(words.add_argument_group('the trunk'))
+    satop.add_arguments(words)
+    return words
+
+
+def _listening(option: str, path: str) -> socket.socket:
+    try:
+        return listen_unix(path, MODE, None)
+    except OSError as fault:
+        raise named(fault, f'{option} {path}') from None
+
+
+class Carriage:
+    """A carrier in service."""
+
+    def __init__(self, loop: Loop, asked: argparse.Namespace, opens: Callable[[], Trunk], crc4: Crc4 | None,
+                 journal: Journal) -> None:
+        self.loop, self.journal, self.carrier = loop, journal, Carrier(self.tell, crc4, self._gone)
+        self.status: int | None = None              # once it is there the carriage ends
+        self._opens, self._reopens, self._reopen_after = opens, asked.reopen, 1.0
+        self._opened: deque[Trunk | Exception] = deque()        # from another thread
+        self._began, self._notify = time.monotonic(), Notify()
+        self._trunk_watched = NOTHING
+        self._program_events, self._says_more = 0, False
+        self._due: float | None = None      # when the trunk is read next, if that is not when octets come
+        self._json = self._open_json(asked.json)
+        self._door = Door(loop, _listening('--listen', asked.listen), self._came, asked.listen)
+        self._status_door = asked.status and Door(loop, _listening('--status', asked.status), self._asked, asked.status)
+        self._notify.ready(f'listens at {asked.listen}')
+
+    def _open_json(self, path: str | None) -> Outlet | None:
+        def ended(_: str, why: str) -> None:
+            self.journal.line(Journal.WARNING, f'json ended, the octets go on: {why}')
+        if not path:
+            return None
+        return to_descriptor('json', 1, ended) if path == '-' else to_file('json', path, ended)
+
+    # ---- the trunk ----
+
+    def _open_trunk(self) -> None:
+        """Opens the trunk in a thread, since that may wait."""
+        def run() -> None:
+            try:
+                self._opened.append(self._opens())
+            except (OSError, EOFError, ValueError) as fault:
+                self._opened.append(fault)
+            self.loop.wake()
+        threading.Thread(target=run, name='opening the trunk', daemon=True).start()
+
+    def _take_opened(self) -> None:
+        found = self._opened.popleft()
+        if isinstance(found, Exception):
+            return self._lost(f'the trunk cannot be opened: {words_of_fault(found)}', 1)
+        self._reopen_after, found.tell = 1.0, self.tell
+        self.tell({'event': 'trunk', **found.status()})
+        self.carrier.open(found)
+        self._watch()
+
+    def _lost(self, why: str, status: int) -> None:
+        if not self._reopens:
+            self.journal.line(Journal.ERROR if status else Journal.INFO, why)
+            return self.end(status)
+        if self._reopen_after == 1.0:
+            self.tell({'event': 'trunk lost', 'why': why})
+        self.loop.later(self._reopen_after, self._open_trunk)
+        self._reopen_after = min(REOPEN_MOST, 2 * self._reopen_after)
+
+    def _do(self, what: Callable[[], None]) -> None:
+        """Does something with the octets, and watches for what can be gone on with then."""
+        try:
+            what()
+        except (EOFError, OSError) as fault:
+            trunk = self.carrier.trunk
+            where = f': {trunk.name}' if trunk and trunk.name else ''
+            self._watch_trunk(*NOTHING)
+            self._due = None
+            self.carrier.lose()
+            if isinstance(fault, EOFError):
+                self._lost('the trunk has ended', 0)
+            else:
+                self._lost(f'the trunk cannot be read or written: {words_of_fault(fault)}{where}', 1)
+        self._watch()
+
+    def _watch(self) -> None:
+        trunk, program = self.carrier.trunk, self.carrier.program
+        if trunk and trunk.waiting():
+            self._watch_trunk(trunk.writer(), WRITE)
+        elif trunk and self.carrier.may_read() and self._due is None:
+            self._watch_trunk(trunk.fileno(), READ)
+        else:
+            self._watch_trunk(*NOTHING)
+        if program:
+            events = (READ if self.carrier.owed or not self._says_more else 0) | (WRITE if program.waiting() else 0)
+            if events != self._program_events:
+                self._program_events = events
+                self.loop.change(program.fileno(), events)
+
+    def _watch_trunk(self, file: int, events: int) -> None:
+        if self._trunk_watched == (file, events):
+            return
+        if self._trunk_watched != NOTHING:
+            self.loop.forget(self._trunk_watched[0])
+        self._trunk_watched = file, events
+        if events:
+            self.loop.watch(file, events, lambda _: self._do(self._flush if events == WRITE else self._carry))
+
+    def _carry(self) -> None:
+        """Reads the trunk. The next multiframe can't be whole before one has lasted; till then each read is in vain."""
+        self._due = None
+        if not self.carrier.may_read():
+            return
+        trunk, count = self.carrier.trunk, self.carrier.carry()
+        if trunk and trunk.paced and 0 < count < MOST_READ:
+            self._due = time.monotonic() + LASTS
+
+    def _flush(self) -> None:
+        if self.carrier.trunk:
+            self.carrier.trunk.flush()
+
+    # ---- the program ----
+
+    def _came(self, line: socket.socket, _: object) -> None:
+        file = line.detach()
+        self.loop.change(self._door.door.fileno(), 0)
+        self.loop.watch(file, READ, self._program_ready)
+        self._program_events, self._says_more = READ, False
+        self.carrier.join(Stream(file, file, 'program'))
+        self._watch()
+
+    def _gone(self, program: Stream) -> None:
+        self.loop.forget(program.fileno())
+        program.close()
+        self.loop.change(self._door.door.fileno(), READ)
+
+    def _program_ready(self, events: int) -> None:
+        if events & WRITE:
+            self._do(self.carrier.flush)
+        if not self.carrier.program:
+            return
+        if self.carrier.owed:
+            self._do(self.carrier.hear)
+        elif events & GONE:
+            self._do(self.carrier.leave)
+        elif events & READ:
+            self._says_more = True      # than it was asked, or that it says no more: that is seen with the next answer
+            self._watch()
+
+    # ---- what is told ----
+
+    def tell(self, event: Event) -> None:
+        name = event['event']
+        level = Journal.WARNING if name in WARNED or event.get('on') else Journal.NOTICE
+        self.journal.line(level, words_of(event), name)
+        if self._json:
+            self._json.put((json.dumps({'time': round(time.time(), 6), **event}) + '\n').encode())
+
+    def _asked(self, line: socket.socket, _: object) -> None:
+        """The status for who has connected, who is never waited for."""
+        status = {'time': round(time.time(), 3), 'uptime': round(time.monotonic() - self._began, 3),
+                  **self.carrier.status()}
+        line.setblocking(False)
+        try:
+            line.send((json.dumps(status) + '\n').encode())
+        except OSError:
+            pass
+        line.close()
+
+    # ---- the whole ----
+
+    def end(self, status: int) -> None:
+        if self.status is None:
+            self.status = status
+            self.loop.wake()
+
+    def _tick(self) -> None:
+        self._notify.alive(time.monotonic())
+        self.journal.look()
+
+    def run(self) -> int:
+        """Carries the octets until its end; returns the status."""
+        self.loop.every(ALIVE, self._tick)
+        self._open_trunk()
+        while self.status is None:
+            trunk, deadline = self.carrier.trunk, self._due
+            if trunk and self._trunk_watched[1] == READ:
+                deadline = trunk.deadline
+            self.loop.turn(deadline)
+            if self._opened:
+                self._take_opened()
+            elif deadline is not None and time.monotonic() >= deadline:
+                self._do(self._carry)
+        self._notify.tell('STOPPING=1')
+        for door in (self._door, self._status_door):
+            if door:
+                door.close()
+        if self.carrier.program:
+            _end_input(self.carrier.program)
+        self.carrier.close()
+        if self._json:
+            self._json.close()
+        return self.status
+
+
+def _end_input(program: Stream) -> None:
+    """Ends a program's input, and waits for its end, so that it ends in order. What it still answers goes nowhere."""
+    until = time.monotonic() + GRACE
+    with socket.socket(fileno=os.dup(program.fileno())) as line:
+        line.settimeout(GRACE)
+        try:
+            line.shutdown(socket.SHUT_WR)
+            while line.recv(MOST_READ) and time.monotonic() < until:
+                pass
+        except OSError:
+            pass                # it is gone, or stands still
+
+
+def _serve(asked: argparse.Namespace, journal: Journal) -> int:
+    if asked.clear and asked.config:
+        law_of(read_config(asked.config))
+    opening = opening_of(asked)
+    opens, crc4 = opening(program_of(asked.program) if asked.satop or asked.align or asked.crc4 else '')
+    loop, found = Loop(), deque[Carriage]()
+
+    def caught(number: int) -> None:
+        if number == signal.SIGHUP:
+            return journal.line(Journal.NOTICE, 'the terminal is gone')
+        journal.line(Journal.INFO, f'ends: signal {number}')
+        if not found:
+            os._exit(0)
+        found[0].end(0)
+    loop.catch_signals(caught)
+    found.append(Carriage(loop, asked, opens, crc4, journal))
+    return found[0].run()
+
+
+def main(words: list[str] | None = None) -> NoReturn:
+    hold_descriptors()
+    sys.setswitchinterval(0.001)
+    journal = Journal(name='e1gw-carry')
+    status = 2
+    try:
+        status = _serve(parser().parse_args(words), journal)
+    except (Usage, ValueError) as fault:
+        journal.line(Journal.ERROR, f'{fault}; see e1gw-carry --help{options_words()}')
+    except DoorTaken as fault:
+        journal.line(Journal.ERROR, f'cannot listen: {fault}')
+    except (OSError, subprocess.CalledProcessError) as fault:
+        journal.line(Journal.ERROR, words_of_fault(fault))
+    journal.close()
+    # A thread may still wait for a device or a disk; nothing waits for it.
+    os._exit(status)

@@ -1,0 +1,311 @@
+"""A trunk as an operator has it, whoever carries it: commands, status, events, pages, metrics, a line for each call,
+and what is done with calls by itself."""
+from __future__ import annotations
+
+import json
+import os
+import socket
+import threading
+import time
+from collections import Counter, deque
+from typing import Any, Callable
+
+from .calls import Calls, to_calls
+from .control import Client, Console, DoorTaken, Say, listen_unix, seat
+from .counts import Counts
+from .events import NOTICED, WARNED, words_of
+from .faults import named, words_of_fault, words_of_refusal
+from .guards import Guards
+from .lines import OPEN, Event, Lines, Role, State
+from .loop import Loop
+from .options import Options
+from .outlets import Journal, Outlet, to_descriptor, to_file
+from .pages import Pages
+from .peers import Door, Peer
+from .restarts import Restarts
+from .session import Codec, Command, Record, codec_record, command_record
+from .snapshots import Snapshot, Snapshots
+from .sockets import Tables
+
+BESIDE = ('json', 'calls', 'metrics', 'pages')      # what may end without the calls
+Answered = Callable[[Record], None]
+
+
+class Managed:
+    """A trunk that is managed. What carries it gives it `lines` and `counts`, and carries commands to it."""
+
+    quit_words = 'quit: done'
+
+    def __init__(self, loop: Loop, options: Options, journal: Journal, version: str, lines: Lines, counts: Counts,
+                 restarts: Restarts) -> None:
+        self.loop, self.options, self.journal, self._version = loop, options, journal, version
+        self.lines, self.counts, self.restarts = lines, counts, restarts
+        self._sockets = Tables(lines.lines.values())
+        self.snapshots = Snapshots(loop, lambda: Snapshot(self.status(), self._sockets))
+        self.began, self.renewed = time.monotonic(), 0
+        self.guards = Guards(options.on_loss, self.clear_all)
+        self.status_code: int | None = None         # once it is there this ends
+        self.ended: dict[str, str | None] = dict.fromkeys(BESIDE)
+        self.done: Counter[tuple[str, str]] = Counter()     # commands, by name and answer
+        self.peers: set[Peer] = set()
+        self._doors: list[Door] = []
+        self._dark_since: float | None = None
+        self._dark_cleared = False
+        self._notes: deque[tuple[str, str]] = deque()   # from other threads: what has ended, and why
+        self._out = to_descriptor('standard output', 1)
+        self._json = self._open_json()
+        self._calls_out = to_calls(options.calls, self.note) if options.calls else None
+        self.calls = Calls(options.name, lines.lines, counts, self._calls_out.put) if self._calls_out else None
+        self.pages: Pages | None = None
+        self._drawn: socket.socket | None = None        # the end at which pictures are asked for
+
+    # ---- what carries the trunk has to have ----
+
+    def dark_words(self) -> str | None:
+        """Why no seizure can reach the other end, or None."""
+        raise NotImplementedError
+
+    def _give(self, record: bytes, answered: Answered, failed: Say) -> None:
+        """Gives the gateway a C or K record. `answered` is called with its answer, or `failed` with why it has none."""
+        raise NotImplementedError
+
+    def _obeyed(self, circuit: int, record: bytes) -> None:
+        """A C or K record was done."""
+
+    # ---- what is opened ----
+
+    def note(self, what: str, why: str) -> None:
+        """From any thread: something beside the calls has ended."""
+        self._notes.append((what, why))
+        self.loop.wake()
+
+    def _open_json(self) -> Outlet | None:
+        path = self.options.json
+        if path == '-':
+            return to_descriptor('json', 1, self.note)
+        return to_file('json', path, self.note) if path else None
+
+    def open_doors(self) -> None:
+        """Opens what others connect to, and the terminal."""
+        options = self.options
+        if options.control:
+            try:
+                door = listen_unix(options.control, options.control_mode, options.control_group)
+            except OSError as fault:
+                raise named(fault, f'--control {options.control}') from None
+            self._doors.append(Door(self.loop, door, lambda line, _: seat(self, line), options.control))
+        web = None
+        if options.http:
+            family = socket.AF_INET6 if ':' in options.http[0] else socket.AF_INET
+            try:
+                web = socket.create_server(options.http, family=family)
+            except OSError as fault:
+                raise named(fault, f'--http {options.http[0]}:{options.http[1]}') from None
+        if web or options.top or options.metrics:
+            self._open_pages(web)
+        Console(self, lambda text: self._out.put(f'{text}\n'.encode()))
+
+    def _open_pages(self, door: socket.socket | None) -> None:
+        options = self.options
+        words = {'config': options.config, 'name': options.name, 'top': options.top, 'metrics': options.metrics}
+        try:
+            self.pages = Pages(self.loop, words, door, self._drawn, self._snapshot_wanted, self.end_beside)
+        except OSError as fault:
+            self.end_beside('pages', fault.strerror or str(fault))
+
+    def _snapshot_wanted(self) -> None:
+        if self.pages:
+            self.snapshots.ask(self.pages.give)
+
+    def left(self, peer: Peer) -> None:
+        """A client or a visitor is gone."""
+        self.peers.discard(peer)
+        self.guards.left(peer, time.monotonic())
+
+    def end_beside(self, what: str, why: str) -> None:
+        """Something beside the calls has ended; they go on."""
+        if self.status_code is not None and not why:
+            return
+        if self.ended.get(what) is None:
+            self.ended[what] = why
+            if what == 'pages':
+                self._take_metrics_away()
+            self.tell({'event': 'ended', 'what': what, 'why': why})
+
+    # ---- calls ----
+
+    def command(self, record: bytes, circuit: int, words: str, say: Say) -> None:
+        """Gives the gateway a command or a change of codec; `say` is called with the answer in words."""
+        def answered(answer: Record) -> None:
+            refusal = answer.refusal
+            if refusal is None:
+                self._obeyed(circuit, record)
+            text = refusal.words if refusal else 'done'
+            self.count(circuit, words, text)
+            say(words_of_refusal(refusal, circuit, self.lines.lines[circuit].role) if refusal else text)
+
+        def failed(text: str) -> None:
+            self.count(circuit, words, text)
+            say(text)
+        self._give(record, answered, failed)
+
+    def count(self, circuit: int, words: str, text: str) -> None:
+        """Counts and tells a command, and what answers it."""
+        self.done[words.split()[0], text] += 1
+        self.tell({'event': 'command', 'circuit': circuit, 'command': words, 'answer': text})
+
+    def clear_all(self, why: str, blocks: bool = False) -> None:
+        """Ends all calls that this end can end: clear at the outgoing end, clear-back at the incoming one. `blocks`
+        blocks idle circuits at the incoming end, too."""
+        cleared = []
+        for n, line in self.lines.lines.items():
+            command = None
+            if line.role is Role.OUTGOING and (line.state in OPEN or line.state is State.SEIZED):
+                command = Command.CLEAR
+            elif line.role is Role.INCOMING and line.state is State.ANSWERED:
+                command = Command.CLEAR_BACK
+            elif blocks and line.role is Role.INCOMING and line.state is State.IDLE:
+                command = Command.BLOCK
+            if command:
+                self.command(command_record(n, command), n, command.word, lambda text: None)
+                cleared += [n] * (command is not Command.BLOCK)
+        if cleared:
+            self.tell({'event': 'cleared', 'why': why, 'circuits': cleared})
+
+    def restart(self, circuits: list[int]) -> None:
+        """Gives open circuits the codec that they have, which restarts their playout."""
+        for n in circuits:
+            line = self.lines.lines[n]
+            codec = next(each for each in Codec if each.word(self.lines.law) == line.codec)
+            self._give(codec_record(n, codec, line.payload), lambda answer: None, lambda why: None)
+        self.renewed += len(circuits)
+
+    def _look_at_calls(self, now: float) -> None:
+        """A few times a second: what is to become of calls."""
+        self.guards.look(now)
+        self._look_at_dark(now)
+        if self.calls:
+            self.calls.look()
+
+    def _look_at_dark(self, now: float) -> None:
+        if self.dark_words() is None:
+            self._dark_since, self._dark_cleared = None, False
+            return
+        if self._dark_since is None:
+            self._dark_since = now
+        dark = self.options.dark
+        if dark is not None and not self._dark_cleared and now - self._dark_since >= dark:
+            self._dark_cleared = True
+            self.clear_all(f'the trunk has been dark for {dark:g} s')
+
+    # ---- what is told ----
+
+    def look(self) -> None:
+        """Each tick: what has ended, and who waits for a status."""
+        while self._notes:
+            self.end_beside(*self._notes.popleft())
+        self.snapshots.look()
+
+    def tell(self, event: Event) -> None:
+        """Tells a change to all who follow."""
+        name = event['event']
+        if name in WARNED or name in NOTICED:
+            level = Journal.WARNING if name in WARNED or event.get('on') else Journal.NOTICE
+            self.journal.line(level, words_of(event), name)
+        elif name == 'state' and event['state'] == State.FAULT:
+            self.journal.line(Journal.WARNING, words_of(event), name)
+        if self.calls and name == 'state':
+            self.calls.took(event)
+        self.snapshots.changed()
+        followers = [peer for peer in self.peers if isinstance(peer, Client) and peer.follows]
+        if followers or self._json:
+            text = (json.dumps({'time': round(time.time(), 6), **event}) + '\n').encode()
+            for peer in followers:
+                peer.queue(text)
+            if self._json:
+                self._json.put(text)
+        if self.options.watch:
+            self._out.put(f'{words_of(event)}\n'.encode())
+
+    def status(self) -> dict[str, Any]:
+        """All that is known without asking the kernel, as plain values."""
+        status: dict[str, Any] = self.lines.status() | {
+            'name': self.options.name, 'version': self._version,
+            'time': round(time.time(), 3), 'uptime': round(time.monotonic() - self.began, 3),
+            'stale': self.counts.stale(), 'ended': dict(self.ended), 'renewed': self.renewed,
+            'commands': [{'command': name, 'answer': answer, 'count': n}
+                         for (name, answer), n in sorted(self.done.items())]}
+        for row in status['circuits']:
+            row.update(self.counts.status(row['circuit']))
+        return status
+
+    # ---- the whole ----
+
+    def run(self) -> int:
+        """Goes on until the end; returns the status."""
+        raise NotImplementedError
+
+    def stop(self, why: str) -> None:
+        """Ends as asked."""
+        if self.status_code is None:
+            self.journal.line(Journal.INFO, f'ends: {why}')
+            self.end(0)
+
+    def end(self, status: int) -> None:
+        if self.status_code is None:
+            self.status_code = status
+            self.loop.wake()
+
+    def _close_doors(self) -> None:
+        for door in self._doors:
+            door.close()
+
+    def _close(self) -> None:
+        """Ends what is open beside the calls."""
+        if self.pages:
+            self.pages.finish()
+        for peer in list(self.peers):
+            peer.flush()
+            peer.close()
+        if self.calls:
+            self.calls.finish()
+        for outlet in (self._json, self._calls_out, self._out):
+            if outlet:
+                outlet.close()
+        self._take_metrics_away()
+
+    def _take_metrics_away(self) -> None:
+        """The file of metrics, which nobody keeps up any more. (Its disk may stand still: the wait is short.)"""
+        if self.options.metrics:
+            thread = threading.Thread(target=_unlink, args=(self.options.metrics,), name='metrics', daemon=True)
+            thread.start()
+            thread.join(1.0 if self.status_code is not None else 0.0)
+
+
+def _unlink(path: str) -> None:
+    for each in (path, f'{path}.new'):
+        try:
+            os.unlink(each)
+        except OSError:
+            pass
+
+
+def serve(loop: Loop, journal: Journal, made: Callable[[Loop], Managed]) -> int:
+    """Serves a trunk until the end, or until a signal asks for it; returns the status."""
+    trunk: list[Managed] = []
+
+    def caught(number: int) -> None:
+        if number == 1:
+            journal.line(Journal.NOTICE, 'the terminal is gone')
+        elif trunk:
+            trunk[0].stop(f'signal {number}')
+        else:
+            os._exit(0)
+    loop.catch_signals(caught)
+    trunk.append(made(loop))
+    try:
+        trunk[0].open_doors()
+    except (OSError, DoorTaken, KeyError, ValueError) as fault:
+        journal.line(Journal.ERROR, f'cannot listen: {words_of_fault(fault)}')
+        trunk[0].end(2)
+    return trunk[0].run()

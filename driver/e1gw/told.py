@@ -1,0 +1,151 @@
+"""What a shadow tells (`e1gw replay --tell`, e1gw(1)): the whole state of a trunk, then each change, line by line."""
+from __future__ import annotations
+
+import time
+from typing import Any, Callable, Mapping
+
+from .counts import Counts
+from .lines import LEADS, PAIRS, Alignment, Line, Lines, Role, State, Tell, both, law_of, lines_of
+from .session import Codec, Command, codec_record, command_record
+
+VERSION = '1'
+MOST_LINE = 4096            # octets of a line
+UNWATCHED = 'Unwatched'     # why datagrams were refused while nobody was told
+BITS = {text: pair for pair, text in PAIRS.items()}
+
+
+class BadTelling(Exception):
+    """What is told is not understood; the words say what it is."""
+
+
+class Told(Lines):
+    """Follows what a shadow tells. Its clock is this machine's. `began` is called with each whole state."""
+
+    def __init__(self, config: Mapping[str, Any], tell: Tell, counts: Counts,
+                 clock: Callable[[], float] = time.monotonic, began: Callable[[], None] = lambda: None) -> None:
+        super().__init__(law_of(config), lines_of(config, Line), tell)
+        self.counts, self.began, self._clock = counts, began, clock
+        self.commanded: Callable[[bytes], None] = lambda record: None   # called with each C and K record that was given
+        self.alarms = both(False)
+        self.known = False                  # whether a whole state was ever told
+        self.live = False                   # whether what is told now are changes
+        self._before = 0                    # octets of the sessions before this one
+        self._session: object = None
+        self._is_placed = False
+        self._held = b''
+        self._led: dict[int, State] = {}    # where commands have led lines whose state is still to be told
+        self._words: dict[str, Callable[..., None]] = {
+            'at': self._at, 'alarms': self._alarms, 'line': self._row, 'now': self._now,
+            'datagram': self._datagram, 'command': self._command, 'codec': self._change}
+
+    def when(self, place: int) -> float:
+        return self._clock()
+
+    def begin(self, session: object) -> None:
+        """A shadow is there that will tell the whole state; `session` is equal for one that told before."""
+        if session != self._session:
+            self._session, self._before = session, self.place
+        self._held, self.live, self._is_placed, self._words['e1gw'] = b'', False, False, self._greet
+        self._led.clear()
+        for row in self.counts.circuits.values():
+            row.stream.ssrc = -1            # of what came meanwhile nothing is known
+
+    def lost(self) -> None:
+        """Nobody tells any more."""
+        self.live, self.counts.ended = False, 'no shadow tells'
+
+    def take(self, octets: bytes) -> None:
+        """Octets that are told. BadTelling where they are not understood; what stands before that was done."""
+        *lines, self._held = (self._held + octets).split(b'\n')
+        if len(self._held) > MOST_LINE:
+            raise BadTelling(f'a line of more than {MOST_LINE} octets')
+        for line in lines:
+            self._take(line.decode(errors='replace'))
+
+    def _take(self, line: str) -> None:
+        name, *words = line.split() or ['']
+        if 'e1gw' in self._words and name != 'e1gw':
+            raise BadTelling(f'it does not begin with "e1gw tell": {line[:80]}')
+        word = self._words.get(name)
+        if word is None:
+            return          # of a later version
+        try:
+            word(*words)
+        except (KeyError, TypeError, ValueError):
+            raise BadTelling(f'not understood: {line[:80]}') from None
+
+    def _greet(self, tell: str, version: str, law: str) -> None:
+        if (tell, version) != ('tell', VERSION):
+            raise BadTelling(f'it speaks version {version}, and {VERSION} is known')
+        self.law = law
+        del self._words['e1gw']
+
+    def reach(self, place: int) -> None:
+        """The session is at this place, or was."""
+        self.place = max(self.place, self._before + place)
+
+    def _at(self, place: str) -> None:
+        if not self._is_placed and self._before + int(place) < self.place:
+            self._before = self.place       # another session after all
+        self._is_placed = True
+        self.place = self._before + int(place)
+
+    def _now(self) -> None:
+        self.live, self.known, self.counts.ended = True, True, None
+        self.began()
+
+    def _alarms(self, frame: str, multiframe: str, far_frame: str, far_multiframe: str) -> None:
+        for what, bit in (Alignment.FRAME, frame), (Alignment.MULTIFRAME, multiframe):
+            lost = bool(int(bit))
+            if self.known and lost is not self.alarms[what]:
+                self.losses[what] += lost
+                self._event('lost' if lost else 'aligned', what=str(what), place=self.place)
+            self._alarm(what, lost, self.place)
+        self._remote(Alignment.FRAME, bool(int(far_frame)))
+        self._remote(Alignment.MULTIFRAME, bool(int(far_multiframe)))
+
+    def _datagram(self, circuit: str, code: str, *numbers: str) -> None:
+        sequence, timestamp, ssrc = map(int, numbers)
+        self.counts.count(int(circuit), int(code), self.place, sequence, timestamp, ssrc)
+
+    def _command(self, circuit: str, command: str, code: str) -> None:
+        line, given = self.lines[int(circuit)], Command(int(command))
+        if int(code) == 0:
+            line.commanded(given)
+            self._led[line.circuit] = LEADS[given]
+        self.commanded(command_record(line.circuit, given))
+
+    def _change(self, circuit: str, codec: str, payload_type: str, _: str) -> None:
+        self.commanded(codec_record(int(circuit), Codec(int(codec)), int(payload_type)))
+
+    def _row(self, circuit: str, role: str, state: str, sent: str, recognised: str, *counts: str) -> None:
+        """The row of a circuit in the listing."""
+        made, admitted, refused, codec, payload_type = counts
+        line = self.lines[int(circuit)]
+        line.role, line.sent, line.recognised = Role(role), BITS[sent], BITS[recognised]
+        self._count(line.circuit, int(made), int(admitted), int(refused))
+        if not self.known:
+            line.codec, line.payload = codec, int(payload_type)
+            return line.begin(State(state), self._clock())
+        if (codec, int(payload_type)) != (line.codec, line.payload):
+            self._codec(line, codec, int(payload_type))
+        if state != line.state:
+            self._move(line, State(state))
+
+    def _move(self, line: Line, state: State) -> None:
+        """A line has another state than was told before."""
+        before, line.state = line.state, state
+        commanded = self._led.pop(line.circuit, None)
+        if before is State.SEIZED and state in (State.RELEASING, State.IDLE) and self.live and not commanded:
+            line.unacknowledged += 1
+        self._changed(line, before, self.place, **({} if self.live else {'unwatched': True}))
+
+    def _count(self, circuit: int, sent: int, admitted: int, refused: int) -> None:
+        """All datagrams of a circuit since its gateway was new."""
+        row = self.counts.circuits[circuit]
+        row.sent, row.admitted = sent, admitted
+        unwatched = refused - sum(row.refused.values())
+        if unwatched < 0:
+            row.refused, unwatched = {}, refused        # of another gateway
+        if unwatched:
+            row.refused[UNWATCHED] = row.refused.get(UNWATCHED, 0) + unwatched

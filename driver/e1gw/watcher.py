@@ -1,0 +1,240 @@
+"""The watcher of a trunk that `e1gw trunk` carries by itself: knows what a shadow tells, and gives commands to the
+program at its control socket. It may end, stand still and be started again at any time: no octet passes through it."""
+from __future__ import annotations
+
+import threading
+import time
+from collections import deque
+from dataclasses import dataclass
+from typing import Any, Callable
+
+from .control import Say
+from .counts import Counts
+from .gateway import version_of
+from .lines import read_config
+from .links import Link
+from .loop import Loop
+from .managed import Answered, Managed
+from .options import Options
+from .outlets import Journal
+from .restarts import Restarts
+from .running import HELLO
+from .session import BadSession, Kind, Reader, Record
+from .told import BadTelling, Told
+
+TICK = 0.1                  # seconds between two looks, and two tries to connect
+REST = 0.01                 # seconds between two reads of what the shadow tells
+PATIENCE = 0.3              # seconds that an answer of the program waits for the shadow
+EACH = 10                   # ticks between two looks whether octets flow, and in which one has to be answered
+
+
+@dataclass(kw_only=True)
+class WatchOptions(Options):
+    """What the watcher was asked for."""
+
+    tell: str               # the socket at which the shadow tells
+    program_control: str    # that at which the program takes commands
+
+
+@dataclass(eq=False)
+class Asked:
+    """A record that was given to the program."""
+
+    record: bytes
+    answered: Answered
+    failed: Say
+    answer: Record | None = None
+    until: float = 0.0          # when that is passed on though the shadow has not told of it
+    is_told: bool = False
+
+
+class Program:
+    """The control socket of the program. An answer is passed on once the shadow has told of the record, too: what
+    follows from it is known then."""
+
+    def __init__(self, loop: Loop, path: str, stands: Callable[[str, bool, str], None]) -> None:
+        self.link = Link(loop, path, self._came, self._took, self._gone)
+        self.version = ''
+        self._stands, self._reader = stands, Reader((Kind.ANSWER,))
+        self._asked: deque[Asked] = deque()
+
+    def _came(self, process: int) -> None:
+        def ask() -> None:
+            self.version = version_of(f'/proc/{process}/exe')
+        threading.Thread(target=ask, name='version', daemon=True).start()
+        self._reader = Reader((Kind.ANSWER,))
+        self._stands('program', True, '')
+        self.give(HELLO, lambda answer: None, lambda why: None)     # who gives a record keeps its place
+
+    def _gone(self, why: str) -> None:
+        asked, self._asked = self._asked, deque()
+        self._stands('program', False, why)
+        for each in asked:
+            each.failed('no answer, the connection to the program is lost')
+
+    def give(self, record: bytes, answered: Answered, failed: Say) -> None:
+        if not self.link.is_there():
+            return failed('no connection to the program')
+        self._asked.append(Asked(record, answered, failed))
+        self.link.send(record)
+
+    def _took(self, octets: bytes) -> None:
+        self._reader.push(octets)
+        try:
+            for record in self._reader.whole():
+                asked = next(each for each in self._asked if each.answer is None)
+                asked.answer, asked.until = record, time.monotonic() + PATIENCE
+                record.refusal      # pylint: disable=pointless-statement
+        except (BadSession, StopIteration, ValueError):
+            self.link.close('it answers what is no answer')
+
+    def told(self, record: bytes) -> None:
+        """The shadow has told of a record."""
+        for each in self._asked:
+            if each.record == record and not each.is_told:
+                each.is_told = True
+                return
+
+    def waits(self) -> bool:
+        """Whether an answer is still to be passed on."""
+        return bool(self._asked)
+
+    def settle(self, now: float, tells: bool) -> None:
+        """Passes on the answers that are to be, in their order. `tells` is whether there is a shadow that tells."""
+        while self._asked and (first := self._asked[0]).answer and (first.is_told or not tells or now >= first.until):
+            self._asked.popleft()
+            first.answered(first.answer)
+
+
+class Pulse:
+    """Connects to the shadow each second for the place of the trunk alone: who comes is told it at the next octets, and
+    nothing is while none come. `flows` is called with it."""
+
+    def __init__(self, loop: Loop, path: str, flows: Callable[[int], None]) -> None:
+        self._link = Link(loop, path, lambda _: None, self._took, lambda _: self._over())
+        self._flows, self._held = flows, b''
+        self._wait, self.quiet = 0, -1      # ticks until the next one, and since one that has no answer
+
+    def look(self) -> None:
+        """To be called each TICK."""
+        self._wait -= 1
+        if self.quiet >= 0:
+            self.quiet += 1
+        elif self._wait <= 0:
+            self._held, self._wait, self.quiet = b'', EACH, 0
+            self._link.look()
+
+    def _took(self, octets: bytes) -> None:
+        self._held += octets
+        for line in self._held.split(b'\n')[:-1]:
+            if line.startswith(b'at ') and line[3:].isdigit():
+                self._flows(int(line[3:]))
+                return self._link.close('')
+
+    def _over(self) -> None:
+        self.quiet = -1
+
+
+class Watcher(Managed):
+    """One trunk that is watched."""
+
+    quit_words = 'the watcher ends; the trunk and its calls go on\nquit: done'
+    options: WatchOptions
+    lines: Told
+
+    def __init__(self, loop: Loop, options: WatchOptions, journal: Journal) -> None:
+        restarts = Restarts(self.restart, self.tell)
+        counts = Counts(restarts.counted)
+        lines = Told(read_config(options.config), self.tell, counts, began=self._told_all)
+        super().__init__(loop, options, journal, '', lines, counts, restarts)
+        self._connected: dict[str, bool] = {}
+        self._since = dict.fromkeys(('shadow', 'program'), time.time())
+        self._shadow = Link(loop, options.tell, lines.begin, self._told, self._shadow_gone, REST)
+        self._program = Program(loop, options.program_control, self._stands)
+        lines.commanded = self._program.told
+        self._pulse = Pulse(loop, options.tell, lines.reach)
+        self._silent = 0                        # ticks in which the shadow that is there has told nothing yet
+        self._stalls, self._stood = 0, 0.0      # how often no octets came, and since when none come, or 0
+        lines.lost()
+
+    def _stands(self, what: str, on: bool, why: str = '') -> None:
+        """Whether there is a connection to the shadow or the program."""
+        if self._connected.get(what) is not on:
+            self._connected[what], self._since[what] = on, time.time()
+            self.tell({'event': 'connected', 'to': what} if on else {'event': 'disconnected', 'from': what, 'why': why})
+
+    # ---- the shadow ----
+
+    def _told(self, octets: bytes) -> None:
+        try:
+            self.lines.take(octets)
+        except BadTelling as fault:
+            self._shadow.close(str(fault))
+        self._settle(time.monotonic())
+
+    def _settle(self, now: float) -> None:
+        """Passes answers on. While one waits, what the shadow tells is read at once."""
+        self._program.settle(now, self.lines.live)
+        self._shadow.rests(0.0 if self._program.waits() else REST)
+
+    def _told_all(self) -> None:
+        self._stands('shadow', True)
+        if self.calls:
+            self.calls.begun()
+
+    def _look_at_flow(self, now: float) -> None:
+        """Whether octets of the trunk come. A shadow that is there tells nothing before some do."""
+        if self.lines.live:
+            self._pulse.look()
+        self._silent = self._silent + 1 if self._shadow.is_there() and not self.lines.live else 0
+        stalled = self._silent > EACH or self.lines.live and self._pulse.quiet > EACH
+        if stalled and not self._stood:
+            self._stands('shadow', True)
+            self._stood = now - EACH * TICK
+            self._stalls += 1
+            self.tell({'event': 'stalled', 'seconds': EACH * TICK})
+        elif self._stood and self.lines.live and not stalled:
+            self.tell({'event': 'flows', 'seconds': round(now - self._stood, 3)})
+            self._stood = 0.0
+
+    def _shadow_gone(self, why: str) -> None:
+        self.lines.lost()
+        self._stands('shadow', False, why)
+
+    def _give(self, record: bytes, answered: Answered, failed: Say) -> None:
+        self._program.give(record, answered, failed)
+        self._shadow.rests(0.0)
+
+    def dark_words(self) -> str | None:
+        return 'the trunk is stalled' if self._stood else self.lines.dark_words()
+
+    # ---- the whole ----
+
+    def tick(self) -> None:
+        """Each TICK."""
+        now = time.monotonic()
+        self._shadow.look()
+        self._program.link.look()
+        self._settle(now)
+        self._look_at_flow(now)
+        self.restarts.look(now, self.lines.place, self.lines.open_circuits(), not self.counts.stale())
+        self.look()
+        self._look_at_calls(now)
+
+    def status(self) -> dict[str, Any]:
+        status = super().status() | {
+            'version': self._program.version, 'trunk_up': self._connected.get('program', False),
+            'clock': {'stalled': bool(self._stood), 'stalls': self._stalls}}
+        for what, since in self._since.items():
+            status |= {what: self._connected.get(what, False), f'{what}_since': round(since, 3)}
+        return status
+
+    def run(self) -> int:
+        self.loop.every(TICK, self.tick)
+        self.loop.every(1.0, self.journal.look)
+        self.tick()
+        while self.status_code is None:
+            self.loop.turn()
+        self._close_doors()
+        self._close()
+        return self.status_code

@@ -1,0 +1,58 @@
+"""Watches an E1 trunk that e1gw-keep carries: commands, status, events, pages, metrics, and a line for each call.
+
+Beside the program that carries the trunk runs its shadow, in the same state, which tells how the trunk stands at the
+socket of --tell. The watcher knows what it is told there, and gives commands to the program at the socket of
+--program-control. It may end, stand still and be started again: the trunk and its calls go on. Only what it does with
+calls by itself (--dark, --on-loss, jitter buffers resynchronised) is not done meanwhile.
+
+Statuses: 0 ended as asked; 2 the command line, the configuration, or a control socket that is taken.
+"""
+from __future__ import annotations
+
+import argparse
+from typing import NoReturn
+
+from .explain import config_words
+from .faults import Parser
+from .gateway import ConfigRefused
+from .loop import Loop
+from .managed import serve
+from .options import Usage, add_calls, add_control, add_options, fields_of, run
+from .outlets import Journal
+from .watcher import Watcher, WatchOptions
+
+
+def parser() -> argparse.ArgumentParser:
+    """The options."""
+    about, _, rest = (__doc__ or '').partition('\n\n')
+    words = Parser(prog='e1gw-watch', description=f'{about}\n\n{rest}',
+                   formatter_class=argparse.RawDescriptionHelpFormatter)
+    add_options(words)
+    words.add_argument('--tell', metavar='SOCKET', required=True,
+                       help='where the shadow tells how the trunk stands, that of e1gw-keep --tell')
+    words.add_argument('--program-control', metavar='SOCKET', required=True,
+                       help='where the program takes commands, that of e1gw-keep --control')
+    told = words.add_argument_group('control and what is told')
+    add_control(told)
+    add_calls(told)
+    return words
+
+
+def options_of(words: list[str]) -> WatchOptions:
+    """The options of a command line; Usage where they are none."""
+    asked = parser().parse_args(words)
+    try:
+        return WatchOptions(**fields_of(asked), tell=asked.tell, program_control=asked.program_control)
+    except ValueError as fault:
+        raise Usage(str(fault)) from None
+
+
+def _serve(words: list[str], journal: Journal) -> int:
+    options = options_of(words)
+    if config_words(options.config):
+        raise ConfigRefused('the configuration is refused', options.config)
+    return serve(Loop(1.0), journal, lambda loop: Watcher(loop, options, journal))
+
+
+def main(words: list[str] | None = None) -> NoReturn:
+    run('e1gw-watch', words, _serve)

@@ -1,0 +1,184 @@
+"""Stand-ins of the shadow that tells and of the program that takes commands, and a watcher between them."""
+from __future__ import annotations
+
+import os
+import socket
+import subprocess
+import sys
+import threading
+import time
+from contextlib import suppress
+from typing import Any, Callable
+
+from . import support
+from .world import SECONDS, Served
+from e1gw.running import HELLO
+from e1gw.session import CodecRefusal, Kind, Reader, Record, spell
+
+LAUNCHER = os.path.join(support.TOP, 'driver', 'e1gw-watch')
+IDLE = ['{0:2} outgoing idle        10 10          0          0          0 pcma      8'.format(n) for n in range(1, 31)]
+
+
+class Door(threading.Thread):
+    """A Unix socket at which a stand-in listens."""
+
+    def __init__(self, path: str) -> None:
+        super().__init__(daemon=True)
+        self.clients: list[socket.socket] = []
+        self.lock = threading.RLock()
+        self.path, self._door = path, socket.socket(socket.AF_UNIX)
+        self._door.bind(path)
+        self._door.listen(8)
+        self.start()
+
+    def run(self) -> None:
+        with suppress(OSError):
+            while True:
+                line = self._door.accept()[0]
+                with self.lock:
+                    self.clients.append(line)
+                    self.came(line)
+
+    def came(self, line: socket.socket) -> None:
+        """Somebody has connected."""
+
+    def close(self) -> None:
+        """Nobody listens any more, and all connections end."""
+        with suppress(FileNotFoundError):
+            os.unlink(self.path)
+        self._end(self._door)
+        self.join(SECONDS)
+        for line in self.clients:
+            self._end(line)
+
+    def _end(self, line: socket.socket) -> None:
+        with suppress(OSError):
+            line.shutdown(socket.SHUT_RDWR)
+        line.close()
+
+
+class Shadow(Door):
+    """Tells what a test has it tell: lines of the manual."""
+
+    def __init__(self, path: str, rows: list[str] | None = None, greeting: str = 'e1gw tell 1 A') -> None:
+        self.rows = dict(enumerate(rows or IDLE, 1))
+        self.place, self.alarms, self.greeting, self.flows = 0, '0 0 0 0', greeting, True
+        super().__init__(path)
+
+    def came(self, line: socket.socket) -> None:
+        if self.flows:
+            rows = [f'line {row}' for row in self.rows.values()]
+            text = '\n'.join([self.greeting, f'at {self.place}', f'alarms {self.alarms}', *rows, 'now', ''])
+            with suppress(OSError):
+                line.sendall(text.encode())
+
+    def tell(self, *lines: str) -> None:
+        """Tells changes behind the next record of the trunk."""
+        with self.lock:
+            self.place += 512
+            for line in lines:
+                if line.startswith('line '):
+                    self.rows[int(line[5:7])] = line[5:]
+                elif line.startswith('alarms '):
+                    self.alarms = line[7:]
+            for client in self.clients:
+                with suppress(OSError):
+                    client.sendall(('\n'.join([f'at {self.place}', *lines]) + '\n').encode())
+
+    def row(self, circuit: int, state: str, bits: str = '10 10', counts: tuple[int, int, int] = (0, 0, 0),
+            role: str = 'outgoing', codec: str = 'pcma      8') -> None:
+        """Tells that a circuit stands so."""
+        self.tell(row(circuit, state, bits, counts, role, codec))
+
+
+def row(circuit: int, state: str, bits: str = '10 10', counts: tuple[int, int, int] = (0, 0, 0),
+        role: str = 'outgoing', codec: str = 'pcma      8') -> str:
+    sent, admitted, refused = counts
+    return f'line {circuit:2} {role:8} {state:11} {bits} {sent:10} {admitted:10} {refused:10} {codec}'
+
+
+class Program(Door):
+    """Answers C and K records: by `answers(record)`, with this code, or with nothing if that is None; then the shadow
+    tells of them, if there is one."""
+
+    def __init__(self, path: str, shadow: Shadow | None = None) -> None:
+        self.taken: list[Record] = []
+        self.answers: Callable[[Record], int | None] = lambda record: 0
+        self.shadow = shadow
+        super().__init__(path)
+
+    def came(self, line: socket.socket) -> None:
+        threading.Thread(target=self._serve, args=(line,), daemon=True).start()
+
+    def _serve(self, line: socket.socket) -> None:
+        reader = Reader((Kind.COMMAND, Kind.CODEC))
+        with suppress(OSError):
+            while octets := line.recv(4096):
+                reader.push(octets)
+                for record in reader.whole():
+                    self._act(line, record)
+
+    def _act(self, line: socket.socket, record: Record) -> None:
+        hello = record.spelled() == HELLO
+        if not hello:
+            self.taken.append(record)
+        code = CodecRefusal.PAYLOAD_TYPE if hello else self.answers(record)
+        if code is None:
+            return
+        line.sendall(spell(Kind.ANSWER, record.circuit, bytes([record.kind, code])))
+        if self.shadow:
+            name = 'command' if record.kind is Kind.COMMAND else 'codec'
+            self.shadow.tell(' '.join([name, str(record.circuit), *map(str, record.body), str(int(code))]))
+
+
+class Watched(Served):
+    """A watcher between the two."""
+
+    def __init__(self, config: str, *options: str, rows: list[str] | None = None, **streams: Any) -> None:
+        super().__init__(config)
+        self.shadow = Shadow(self.path('tell'), rows)
+        self.program = Program(self.path('program'), self.shadow)
+        streams = {'stdin': subprocess.DEVNULL, 'stdout': subprocess.DEVNULL, 'stderr': subprocess.PIPE} | streams
+        self.process = subprocess.Popen(
+            [sys.executable, '-B', LAUNCHER, '--config', self.config, '--tell',
+             self.shadow.path, '--program-control', self.program.path, '--control', self.path('ctl'),
+             *(word.replace('@', self.folder) for word in options)], **streams)
+        try:
+            self.connected()
+        except BaseException:
+            self.__exit__()
+            raise
+
+    def __enter__(self) -> Watched:
+        return self
+
+    def close(self) -> None:
+        self.shadow.close()
+        self.program.close()
+
+    def until(self, holds: Callable[[], object]) -> Any:
+        """Waits until something holds, and returns what it is."""
+        until = time.monotonic() + SECONDS
+        while not (found := holds()):
+            if time.monotonic() > until or self.process.poll() is not None:
+                raise AssertionError('it does not come to hold')
+            time.sleep(0.005)
+        return found
+
+    def connected(self) -> None:
+        """Waits until it knows both."""
+        def both() -> bool:
+            try:
+                status = self.told()
+            except (FileNotFoundError, ConnectionRefusedError):
+                return False
+            return bool(status['shadow'] and status['program'])
+        self.until(both)
+
+    def has(self, circuit: int, **values: Any) -> dict[str, Any]:
+        """Waits until the status has these values of a circuit; the row."""
+        def row_of() -> dict[str, Any] | None:
+            row: dict[str, Any] = self.told()['circuits'][circuit - 1]
+            return row if all(row[key] == value for key, value in values.items()) else None
+        found: dict[str, Any] = self.until(row_of)
+        return found

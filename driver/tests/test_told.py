@@ -1,0 +1,185 @@
+"""What a shadow tells, in the words of the manual, and what is known by it."""
+from __future__ import annotations
+
+import unittest
+from typing import Any
+
+from .telling import IDLE, row
+from e1gw.counts import Counts
+from e1gw.told import BadTelling, Told
+
+BEGIN = ['e1gw tell 1 A', 'at 512', 'alarms 0 0 0 0', *(f'line {each}' for each in IDLE)]
+
+
+class Telling(unittest.TestCase):
+    def setUp(self) -> None:
+        self.now, self.events = 100.0, list[dict[str, Any]]()
+        self.counted: list[tuple[int, int, int]] = []
+        self.counts = Counts(lambda *answer: self.counted.append(answer))
+        self.told = Told({'law': 'A', 'circuit': [{'number': 1, 'prefill': 320}]}, self.events.append, self.counts,
+                         lambda: self.now)
+        self.told.begin(1)
+        self.take(*BEGIN, 'now')
+
+    def take(self, *lines: str) -> None:
+        self.told.take(('\n'.join(lines) + '\n').encode())
+
+    def again(self, session: int, *changed: str, place: int = 512) -> None:
+        """Another connection; the whole state has these lines."""
+        self.told.lost()
+        self.told.begin(session)
+        rows = {line[5:7]: line for line in (*BEGIN[3:], *changed) if line.startswith('line')}
+        alarms = [line for line in changed if line.startswith('alarms')] or [BEGIN[2]]
+        self.take(BEGIN[0], f'at {place}', *alarms, *rows.values(), 'now')
+
+    def circuit(self, number: int = 1) -> dict[str, Any]:
+        found: dict[str, Any] = self.told.status()['circuits'][number - 1] | self.counts.status(number)
+        return found
+
+    def names(self) -> list[tuple[Any, ...]]:
+        """What was told: the event, and what, or the state."""
+        return [(event['event'], *(event[key] for key in ('what', 'on', 'was', 'state', 'codec') if key in event))
+                for event in self.events]
+
+    def test_a_whole_state_tells_no_change(self) -> None:
+        self.assertEqual(self.events, [])
+        self.assertEqual((self.told.law, self.told.place, self.told.dark_words()), ('A', 512, None))
+        self.assertEqual({row['state'] for row in self.told.status()['circuits']}, {'idle'})
+        self.assertEqual(self.circuit()['jitter_buffer_ms'], 40)
+
+    def test_a_row_of_the_manual(self) -> None:
+        self.take('line  1 outgoing idle        10 10        101        100          0 pcma      8')
+        found = self.circuit()
+        self.assertEqual([found[key] for key in ('sent', 'recognised', 'codec', 'payload', 'datagrams')],
+                         ['10', '10', 'pcma', 8, {'sent': 101, 'admitted': 100}])
+        self.take('line 16 incoming fault       11 --          0          0          0 g726-32  96')
+        found = self.circuit(16)
+        self.assertEqual([found[key] for key in ('role', 'state', 'recognised', 'codec', 'payload')],
+                         ['incoming', 'fault', '--', 'g726-32', 96])
+        self.assertEqual(self.names(), [('codec', 'g726-32'), ('state', 'idle', 'fault')])
+
+    def test_a_call(self) -> None:
+        self.take('at 1024', 'command 1 1 0', row(1, 'seized', '00 10'))
+        for state in 'acked', 'answered':
+            self.now += 1
+            self.take('at 2048', row(1, state, '00 11'))
+        self.now += 3
+        self.take('command 1 2 0', row(1, 'releasing'))
+        self.take(row(1, 'idle'))
+        found = self.circuit()
+        self.assertEqual([found[key] for key in ('seizures', 'answers', 'unacknowledged', 'open', 'for')],
+                         [1, 1, 0, 4, 0])
+        self.assertEqual(self.names(), [('state', 'idle', 'seized'), ('state', 'seized', 'acked'),
+                                        ('state', 'acked', 'answered'), ('state', 'answered', 'releasing'),
+                                        ('state', 'releasing', 'idle')])
+        self.assertEqual(self.events[-1], {'event': 'state', 'circuit': 1, 'role': 'outgoing', 'was': 'releasing',
+                                           'state': 'idle', 'place': 2048})
+
+    def test_a_seizure_that_nobody_acknowledges(self) -> None:
+        for last in 'releasing', 'idle':
+            self.take('command 1 1 0', row(1, 'seized', '00 10'), row(1, last))
+        self.take(row(1, 'idle'), 'command 1 1 0', row(1, 'seized', '00 10'), 'command 1 2 0', row(1, 'releasing'))
+        self.assertEqual([self.circuit()[key] for key in ('seizures', 'unacknowledged')], [3, 2])
+
+    def test_a_refused_command_counts_nothing(self) -> None:
+        given: list[bytes] = []
+        self.told.commanded = given.append
+        self.take('command 1 1 2', 'command 16 3 1', 'codec 1 2 95 31')
+        self.assertEqual(given, [b'C\1\0\1\1', b'C\x10\0\1\3', b'K\1\0\2\2\x5f'])
+        self.assertEqual((self.circuit()['seizures'], self.circuit(16)['answers'], self.events), (0, 0, []))
+
+    def test_an_incoming_call(self) -> None:
+        self.take('command 2 3 0', row(2, 'acked', '11 00', role='incoming'))
+        self.take('command 2 3 0', row(2, 'answered', '01 00', role='incoming'))
+        self.assertEqual([self.circuit(2)[key] for key in ('seizures', 'answers')], [1, 2])
+
+    def test_alarms(self) -> None:
+        self.take('alarms 1 1 0 0')
+        self.assertEqual(self.told.dark_words(), 'no alignment')
+        self.take('alarms 0 0 1 0')
+        self.assertEqual(self.told.dark_words(), 'the other end has no alignment')
+        self.assertEqual(self.told.status()['losses'], {'frame': 1, 'multiframe': 1})
+        self.assertEqual(self.names(), [
+            ('lost', 'frame'), ('alarm', 'frame', True), ('lost', 'multiframe'), ('alarm', 'multiframe', True),
+            ('aligned', 'frame'), ('alarm', 'frame', False), ('aligned', 'multiframe'), ('alarm', 'multiframe', False),
+            ('remote alarm', 'frame', True)])
+
+    def test_datagrams(self) -> None:
+        for number, code in enumerate((0, 0, 14, 11, 11, 0)):
+            self.take(f'at {1024 + 5120 * number}', f'datagram 1 {code} {number} {number * 160} 7')
+        self.take(row(1, 'idle', counts=(9, 3, 3)))
+        found = self.circuit()
+        self.assertEqual(found['datagrams'], {'sent': 9, 'admitted': 3, 'Late': 1, 'PayloadType': 2})
+        # of sequence numbers 0, 1 and 5 three are lost between; each came when it was due
+        self.assertEqual([found[key] for key in ('lost', 'jitter_ms', 'stale')], [3, 0.0, False])
+        self.assertEqual((len(self.counted), self.counted[2]), (6, (1, 14, 1024 + 5120 * 2)))
+
+    def test_what_was_refused_while_nobody_was_told(self) -> None:
+        self.take('datagram 1 14 0 0 0')
+        self.again(2, row(1, 'idle', counts=(5, 2, 8)))
+        self.assertEqual(self.circuit()['datagrams'], {'sent': 5, 'admitted': 2, 'Late': 1, 'Unwatched': 7})
+        self.again(3, row(1, 'idle', counts=(1, 0, 2)))      # a gateway that began anew
+        self.assertEqual(self.circuit()['datagrams'], {'sent': 1, 'admitted': 0, 'Unwatched': 2})
+
+    def test_numbers_that_nobody_was_told_are_not_lost(self) -> None:
+        self.take('datagram 1 0 10 0 7')
+        self.again(2)
+        self.take('datagram 1 0 500 9999 7', 'datagram 1 0 502 9999 7')
+        self.assertEqual(self.circuit()['lost'], 1)
+
+    def test_changes_that_nobody_was_told(self) -> None:
+        self.take(row(1, 'answered', '00 01'))
+        self.events.clear()
+        self.again(2, 'alarms 1 0 0 0', row(2, 'acked', '11 00', role='incoming'))
+        self.assertEqual(self.names(), [('lost', 'frame'), ('alarm', 'frame', True), ('state', 'answered', 'idle'),
+                                        ('state', 'idle', 'acked')])
+        self.assertEqual([event.get('unwatched') for event in self.events], [None, None, True, True])
+
+    def test_the_place_goes_on(self) -> None:
+        self.take('at 4096')
+        self.again(2, place=512)
+        self.assertEqual(self.told.place, 4096 + 512)
+        self.take('at 1024')
+        self.again(2, place=2048)       # the same shadow as before
+        self.assertEqual(self.told.place, 4096 + 2048)
+        self.told.reach(1024)
+        self.assertEqual(self.told.place, 4096 + 2048)
+
+    def test_counts_are_stale_while_nobody_tells(self) -> None:
+        self.told.lost()
+        self.assertTrue(self.circuit()['stale'])
+        self.told.begin(2)
+        self.take(*BEGIN)
+        self.assertTrue(self.circuit()['stale'])
+        self.take('now')
+        self.assertFalse(self.circuit()['stale'])
+
+    def test_octets_in_pieces(self) -> None:
+        text = '\n'.join([row(1, 'seized', '00 10'), row(1, 'acked', '00 11'), '']).encode()
+        for at in range(len(text)):
+            self.told.take(text[at:at + 1])
+        self.assertEqual(self.names(), [('state', 'idle', 'seized'), ('state', 'seized', 'acked')])
+
+    def test_what_is_not_understood(self) -> None:
+        for line in ('line 1', row(1, 'asleep'), row(31, 'idle'), 'alarms 1 1', 'alarms a b c d', 'at x',
+                     'datagram 1 0', 'datagram 99 0 1 1 1', 'command 1 9 0'):
+            with self.subTest(line), self.assertRaises(BadTelling):
+                self.told.begin(1)
+                self.take(*BEGIN[:1], line)
+        with self.assertRaises(BadTelling) as fault:
+            self.told.begin(1)
+            self.take('e1gw tell 2 A')
+        self.assertEqual(str(fault.exception), 'it speaks version 2, and 1 is known')
+        with self.assertRaises(BadTelling):
+            self.told.begin(1)
+            self.take('at 512')
+        with self.assertRaises(BadTelling):
+            self.told.take(b'x' * 5000)
+
+    def test_words_of_a_later_version(self) -> None:
+        self.take('weather fine', '', 'end')
+        self.assertEqual(self.events, [])
+
+
+if __name__ == '__main__':
+    unittest.main()
