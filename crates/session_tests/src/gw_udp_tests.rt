@@ -10,7 +10,7 @@ use gw_program::serve_through;
 use gw_repeat::Repeating;
 use gw_session::{FromRead, NoTape, Ports, ToWrite};
 use gw_switch::{Gateway, GatewayConfig};
-use gw_udp::{Resting, Senders, Socket, UdpPorts};
+use gw_udp::{Senders, Socket, UdpPorts};
 use q421_line::Role;
 use std::alloc::{AllocError, Global};
 use std::net::UdpSocket;
@@ -120,27 +120,5 @@ fn each_datagram_twice_over_udp(rt: HostRuntime) -> Result<(), Fail> {
         assert_eq!(rt; BigEndian::read_u32(&room[4..8]), timestamp);
     }
     assert!(rt; peer.recv_from(&mut room).is_err());
-    Ok(())
-}
-
-#[test]
-fn asked_at_once_when_a_datagram_comes(rt: HostRuntime) -> Result<(), Fail> {
-    let peer = UdpSocket::bind(&rt, "127.0.0.1:0")?;
-    let mut ports = ports_to::<Resting<UdpSocket>>(&rt, &peer)?;
-    let circuit = CircuitNo::new(1).ok_or("no circuit")?;
-    let mut room = [0u8; 252];
-    assert!(rt; ports.send(circuit, &[1, 2, 3]).is_ok());
-    let (_, here) = peer.recv_from(&mut room)?;
-    // the first receive finds none, and the next 799 rest
-    for _ in 0..240 {
-        assert!(rt; ports.receive(circuit, &mut room) == Ok(None));
-    }
-    assert!(rt; peer.send_to(&[4, 5, 6, 7], here)? == 4);
-    // the system is asked once in 240 receives
-    for _ in 0..239 {
-        assert!(rt; ports.receive(circuit, &mut room) == Ok(None));
-    }
-    assert!(rt; ports.receive(circuit, &mut room) == Ok(Some(4)));
-    assert!(rt; room[..4] == [4, 5, 6, 7]);
     Ok(())
 }
