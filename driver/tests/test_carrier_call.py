@@ -20,7 +20,8 @@ from .test_satop_call import free_ports
 from .world import SECONDS, child_of
 from e1gw.carrier import Carrier
 from e1gw.crc4 import Crc4, with_crc4
-from e1gw.lines import Lines, read_config
+from e1gw.followed import Followed
+from e1gw.lines import read_config
 from e1gw.satop import Circuit, Satop, connected
 from e1gw.session import FRAME, MULTIFRAME, Command, Kind, command_record, records_in
 from e1gw.trunks import Stream
@@ -64,7 +65,7 @@ class End:
         file = ours.detach()
         self.tapped = Tapped(file, file, 'pair')
         self.carrier.join(self.tapped)
-        self.lines = Lines(read_config(config), lambda event: None)
+        self.lines = Followed(read_config(config), lambda event: None)
         self.client = socket.socket(socket.AF_UNIX)
         until = time.monotonic() + SECONDS
         while self.client.connect_ex(control):
