@@ -22,7 +22,7 @@ def expect(what, found, wanted):
 
 def page(name):
     """The lines of a manual page."""
-    with open(os.path.join(TOP, 'man', name), encoding='utf-8') as file:
+    with open(os.path.join(TOP, 'dist', 'man', name), encoding='utf-8') as file:
         return file.read().splitlines()
 
 
@@ -76,7 +76,7 @@ def values(lines):
 def completed(*words):
     """What the completion offers for the last of these words."""
     script = '. "$0"; COMP_WORDS=("$@"); COMP_CWORD=$(($# - 1)); _e1gw; printf "%s\\n" "${COMPREPLY[@]}"'
-    done = subprocess.run(['bash', '-c', script, os.path.join(TOP, 'completions/e1gw.bash'), 'e1gw', *words],
+    done = subprocess.run(['bash', '-c', script, os.path.join(TOP, 'dist/completions/e1gw.bash'), 'e1gw', *words],
                           stdout=subprocess.PIPE, text=True, check=True)
     return {line for line in done.stdout.splitlines() if line}
 
@@ -163,7 +163,7 @@ def examples(lines):
 
 def try_examples(folder):
     """The configuration of the page is one, and the session of the page gives the records of the page."""
-    shipped = os.path.join(TOP, 'system/example.toml')
+    shipped = os.path.join(TOP, 'dist/system/example.toml')
     with open(shipped, encoding='utf-8') as file:
         _, text = file.read().split('\n\n', 1)
     expect('the example of e1gw.toml(5)', examples(page('e1gw.toml.5'))[0] + '\n', text)

@@ -29,7 +29,7 @@ class Made(support.Folder):
             return tomllib.load(file)
 
     def test_the_example_of_the_package(self) -> None:
-        with open(f'{support.TOP}/system/thirty.toml', encoding='utf-8') as file:
+        with open(f'{support.TOP}/dist/system/thirty.toml', encoding='utf-8') as file:
             self.assertEqual(self.made(), (0, file.read(), ''))
 
     def test_thirty_circuits_of_each_codec(self) -> None:

@@ -10,14 +10,14 @@ from e1gw import carrying, control, ctl, keeping, trunk, watching
 
 
 def page(name: str) -> str:
-    with open(f'{support.TOP}/man/{name}', encoding='utf-8') as file:
+    with open(f'{support.TOP}/dist/man/{name}', encoding='utf-8') as file:
         return file.read()
 
 
 def offered(command: str, *words: str) -> set[str]:
     """What the completion offers for the last of these words."""
     script = ('. "$0"; COMP_WORDS=("$@"); COMP_CWORD=$(($# - 1)); _${1//-/_}; printf "%s\\n" "${COMPREPLY[@]}"')
-    done = subprocess.run(['bash', '-c', script, f'{support.TOP}/completions/{command}.bash', command, *words],
+    done = subprocess.run(['bash', '-c', script, f'{support.TOP}/dist/completions/{command}.bash', command, *words],
                           stdout=subprocess.PIPE, text=True, check=True)
     return {line for line in done.stdout.splitlines() if line}
 
@@ -50,19 +50,19 @@ class Pages(unittest.TestCase):
         self.assertEqual(ctl.path_of('trunk1'), '/run/e1gw/trunk1/control')
         self.assertIn(ctl.path_of('NAME'), page('e1gw-ctl.1'))
         for unit in ('e1gw-trunk', 'e1gw-watch'):
-            with open(f'{support.TOP}/system/{unit}@.service', encoding='utf-8') as file:
+            with open(f'{support.TOP}/dist/system/{unit}@.service', encoding='utf-8') as file:
                 self.assertIn(' --control /run/e1gw/%i/control', file.read())
 
     def test_sockets_of_the_watcher_are_those_of_the_keeper(self) -> None:
         def sockets(unit: str, *options: str) -> list[str]:
-            with open(f'{support.TOP}/system/{unit}@.service', encoding='utf-8') as file:
+            with open(f'{support.TOP}/dist/system/{unit}@.service', encoding='utf-8') as file:
                 words = file.read().replace('\\\n', ' ').split()
             return [words[words.index(option) + 1] for option in options]
         self.assertEqual(sockets('e1gw-watch', '--tell', '--program-control'),
                          sockets('e1gw-keep', '--tell', '--control'))
 
     def test_where_the_sockets_of_a_carrier_are(self) -> None:
-        with open(f'{support.TOP}/system/e1gw-carry@.service', encoding='utf-8') as file:
+        with open(f'{support.TOP}/dist/system/e1gw-carry@.service', encoding='utf-8') as file:
             unit = file.read()
         for option, name in (('--listen', 'trunk'), ('--status', 'status')):
             self.assertIn(f'{option} /run/e1gw-carry/%i/{name}', unit)

@@ -171,12 +171,12 @@ class Run(Drawn):
 
     def test_pages_name_the_options(self) -> None:
         options = {word for action in parser()._actions for word in action.option_strings if word.startswith('--')}
-        with open(os.path.join(TOP, 'man', 'e1gw-picture.1'), encoding='utf-8') as file:
+        with open(os.path.join(TOP, 'dist', 'man', 'e1gw-picture.1'), encoding='utf-8') as file:
             described = file.read().split('.Sh OPTIONS')[1]
         items = {f'--{word}' for line in re.findall(r'^\.It Fl .*', described, re.M)
                  for word in re.findall(r'Fl -([a-z-]+)', line)}
         self.assertEqual(items, options)
-        with open(os.path.join(TOP, 'completions', 'e1gw-picture.bash'), encoding='utf-8') as file:
+        with open(os.path.join(TOP, 'dist', 'completions', 'e1gw-picture.bash'), encoding='utf-8') as file:
             offered = re.search(r"local options='([^']*)'", file.read())
         self.assertEqual(set(offered[1].split()) if offered else None, options)
 

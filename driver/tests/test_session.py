@@ -17,7 +17,7 @@ ANSWER = bytes.fromhex('52 01 00 02 43 02')
 
 
 def manual() -> str:
-    with open(f'{support.TOP}/man/e1gw-session.5', encoding='utf-8') as file:
+    with open(f'{support.TOP}/dist/man/e1gw-session.5', encoding='utf-8') as file:
         return file.read()
 
 

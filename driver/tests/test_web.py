@@ -113,7 +113,7 @@ class Pages(unittest.TestCase):
     def test_rules_name_what_there_is(self) -> None:
         named = set[str]()
         for name in ('alerts.yml', 'dashboard.json'):
-            with open(f'{support.TOP}/package/{name}', encoding='utf-8') as file:
+            with open(f'{support.TOP}/dist/package/{name}', encoding='utf-8') as file:
                 named |= set(re.findall(r'\be1gw_\w+', file.read()))
         more = exposition(self.world.status() | {'crc4': Crc4().status(), 'program': True, 'shadow': True})
         declared = set(re.findall(r'^# TYPE (\w+)', self.get('/metrics') + more, re.M)) | {'e1gw_trunk_rate_ppm'}

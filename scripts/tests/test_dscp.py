@@ -7,7 +7,7 @@ import tempfile
 import unittest
 
 TOP = os.path.dirname(os.path.dirname(os.path.dirname(os.path.abspath(__file__))))
-DSCP = os.path.join(TOP, 'system', 'dscp')
+DSCP = os.path.join(TOP, 'dist', 'system', 'dscp')
 UNIT = r'sys.slice/system-e1gw\x2dtrunk.slice/e1gw-trunk@t1.service'
 EF = 46 << 2                # RFC 3246: 101110, before the two bits of ECN
 

@@ -18,7 +18,7 @@ def run(script: str, words: tuple[str, ...], units: str) -> tuple[list[str], str
                 file.write(f'#!/bin/sh\necho {name} "$@" >> {said}\n'
                            f'case "$*" in *list-units*) printf %s "{units}" ;; esac\n')
             os.chmod(file.name, 0o755)
-        with open(os.path.join(TOP, 'package', script), encoding='ascii') as file:
+        with open(os.path.join(TOP, 'dist', 'package', script), encoding='ascii') as file:
             text = file.read()
         if RUNS not in text:
             raise AssertionError(f'{script} does not look whether systemd runs')
@@ -38,7 +38,7 @@ def asked(script: str, *words: str) -> list[str]:
 
 def purged(folder: str) -> str:
     """What a purge says, if this folder is the root of the machine."""
-    with open(os.path.join(TOP, 'package', 'postrm'), encoding='ascii') as file:
+    with open(os.path.join(TOP, 'dist', 'package', 'postrm'), encoding='ascii') as file:
         text = file.read()
     for path in ('/var/lib', '/etc/'):
         text = text.replace(f' {path}', f' {folder}{path}')
@@ -48,7 +48,7 @@ def purged(folder: str) -> str:
 
 class Units(unittest.TestCase):
     def units(self) -> list[str]:
-        return [name.replace('@.', '@*.') for name in sorted(os.listdir(os.path.join(TOP, 'system')))
+        return [name.replace('@.', '@*.') for name in sorted(os.listdir(os.path.join(TOP, 'dist', 'system')))
                 if name.endswith('.service')]
 
     def test_removal_stops_all(self) -> None:
