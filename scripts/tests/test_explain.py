@@ -1,4 +1,4 @@
-"""scripts/explain: the faults of e1gw.toml(5), each at its key and line."""
+"""tools/explain: the faults of e1gw.toml(5), each at its key and line."""
 import os
 import resource
 import socket
@@ -7,7 +7,8 @@ import sys
 import tempfile
 import unittest
 
-EXPLAIN = os.path.join(os.path.dirname(os.path.dirname(os.path.abspath(__file__))), 'explain')
+TOP = os.path.dirname(os.path.dirname(os.path.dirname(os.path.abspath(__file__))))
+EXPLAIN = os.path.join(TOP, 'tools', 'explain')
 ONE = 'law = "A"\n[[circuit]]\nnumber = 1\n'
 
 # what is told of a text: the first line, the line in the file, and words of the explanation

@@ -1,11 +1,12 @@
-"""scripts/pcap over captures whose octets are written out here (the format of libpcap, RFC 768, RFC 791)."""
+"""tools/pcap over captures whose octets are written out here (the format of libpcap, RFC 768, RFC 791)."""
 import os
 import struct
 import subprocess
 import sys
 import unittest
 
-PCAP = os.path.join(os.path.dirname(os.path.dirname(os.path.abspath(__file__))), 'pcap')
+TOP = os.path.dirname(os.path.dirname(os.path.dirname(os.path.abspath(__file__))))
+PCAP = os.path.join(TOP, 'tools', 'pcap')
 HEAD = bytes.fromhex('D4C3B2A1 0200 0400 00000000 00000000 FFFF0000 65000000')
 
 

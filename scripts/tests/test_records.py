@@ -1,4 +1,4 @@
-"""scripts/records over sessions whose octets are written out here."""
+"""tools/records over sessions whose octets are written out here."""
 import os
 import shutil
 import subprocess
@@ -6,7 +6,8 @@ import sys
 import tempfile
 import unittest
 
-RECORDS = os.path.join(os.path.dirname(os.path.dirname(os.path.abspath(__file__))), 'records')
+TOP = os.path.dirname(os.path.dirname(os.path.dirname(os.path.abspath(__file__))))
+RECORDS = os.path.join(TOP, 'tools', 'records')
 IDLE = 0xD5
 FAS, NFAS = 0x9B, 0xDF
 
