@@ -15,8 +15,8 @@ import sys
 import tempfile
 import time
 
-sys.path.insert(0, os.path.join(os.path.dirname(os.path.abspath(__file__)), '..', 'scripts'))
-from exchange import ACKNOWLEDGED, Exchange, Serve  # noqa: E402
+import paths    # noqa: F401 (makes e1gw known)
+from e1gw.exchange import ACKNOWLEDGED, Exchange, Serve
 
 RATE, SECONDS = 10000, 5
 FASTER = 50000                          # from ELSEWHERE, where only the peer is let in

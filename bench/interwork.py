@@ -3,15 +3,14 @@
 For each codec one `e1gw serve` has two calls up: circuit 1 with ffmpeg and circuit 2 with GStreamer, as sender and
 as receiver each. The trunk goes in real time, since these peers do.
 """
-import os
 import re
 import signal
 import subprocess
 import sys
 import time
 
-sys.path.insert(0, os.path.join(os.path.dirname(os.path.abspath(__file__)), '..', 'scripts'))
-from exchange import ACKNOWLEDGED, SEIZED, Exchange, Serve, decibels, delay, samples  # noqa: E402
+import paths    # noqa: F401 (makes e1gw known)
+from e1gw.exchange import ACKNOWLEDGED, SEIZED, Exchange, Serve, decibels, delay, samples
 
 BAR = 20                    # decibels, in G726-32
 STEP = 0.002                # seconds of a multiframe

@@ -4,13 +4,11 @@ from __future__ import annotations
 import os
 import select
 import socket
-import sys
 import time
 from typing import Callable
 
-sys.dont_write_bytecode = True
-sys.path.insert(0, os.path.join(os.path.dirname(os.path.abspath(__file__)), '..', 'scripts'))
-from exchange import ACKNOWLEDGED, ANSWERED, IDLE, SEIZED, Exchange  # noqa: E402
+import paths    # noqa: F401 (makes e1gw known)
+from e1gw.exchange import ACKNOWLEDGED, ANSWERED, IDLE, SEIZED, Exchange
 
 STEP = 0.002                # seconds of a multiframe
 ACKNOWLEDGES = 10           # multiframes after which a seizure is acknowledged

@@ -13,20 +13,17 @@ from collections import Counter
 from dataclasses import dataclass
 from typing import Any, Callable
 
-sys.dont_write_bytecode = True
-HERE = os.path.dirname(os.path.abspath(__file__))
-TOP = os.path.dirname(HERE)
-sys.path[:0] = [HERE, os.path.join(TOP, 'driver'), os.path.join(TOP, 'scripts')]
-from e1gw.clear import Clear  # noqa: E402
-from e1gw.followed import Followed  # noqa: E402
-from e1gw.lines import Alignment  # noqa: E402
-from e1gw.satop import Circuit, Satop, connected  # noqa: E402
-from e1gw.satop_playout import Fill  # noqa: E402
-from e1gw.session import Command  # noqa: E402
-from e1gw.trunks import Trunk  # noqa: E402
-from exchange import ACKNOWLEDGED, ANSWERED, SEIZED, Serve  # noqa: E402
-from satop_far import Multiplexer, Network  # noqa: E402
-from satop_real import real_time  # noqa: E402
+from paths import TOP
+from e1gw.clear import Clear
+from e1gw.exchange import ACKNOWLEDGED, ANSWERED, SEIZED, Serve
+from e1gw.followed import Followed
+from e1gw.lines import Alignment
+from e1gw.satop import Circuit, Satop, connected
+from e1gw.satop_playout import Fill
+from e1gw.session import Command
+from e1gw.trunks import Trunk
+from satop_far import Multiplexer, Network
+from satop_real import real_time
 
 NEAR, FAR = ('127.0.0.1', 27501), ('127.0.0.1', 27502)
 PORTS = 27510, 27512

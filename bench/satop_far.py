@@ -2,16 +2,13 @@
 in packets of SAToP. Nothing of the driver's own SAToP is used here."""
 from __future__ import annotations
 
-import os
 import random
 import socket
 import struct
-import sys
 from dataclasses import dataclass
 
-sys.dont_write_bytecode = True
-sys.path.insert(0, os.path.join(os.path.dirname(os.path.abspath(__file__)), '..', 'scripts'))
-from exchange import Exchange  # noqa: E402
+import paths    # noqa: F401 (makes e1gw known)
+from e1gw.exchange import Exchange
 
 SIZE = 256
 

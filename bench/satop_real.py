@@ -21,7 +21,7 @@ from typing import Any, Callable
 
 from e1gw.events import words_of
 from satop_far import Multiplexer, Network
-from exchange import ACKNOWLEDGED, ANSWERED, IDLE, SEIZED
+from e1gw.exchange import ACKNOWLEDGED, ANSWERED, IDLE, SEIZED
 
 TOP = os.path.dirname(os.path.dirname(os.path.abspath(__file__)))
 NEAR, FAR = ('127.0.0.1', 27503), ('127.0.0.1', 27504)

@@ -16,12 +16,12 @@ import tempfile
 import time
 from typing import Any, Callable, Iterable
 
-sys.dont_write_bytecode = True
+from paths import TOP
+from e1gw.exchange import ACKNOWLEDGED, decibels, delay, samples
+from e1gw.g711 import VALUES
+from players import ANSWERED, CIRCUITS, IDLE, SEIZED, Player, World
+
 HERE = os.path.dirname(os.path.abspath(__file__))
-TOP = os.path.dirname(HERE)
-sys.path.insert(0, HERE)
-from players import ANSWERED, CIRCUITS, IDLE, SEIZED, Player, World  # noqa: E402
-from exchange import ACKNOWLEDGED, VALUES, decibels, delay, samples  # noqa: E402
 
 BLOCKED = CLEARED_BACK = ACKNOWLEDGED       # the same two bits
 SITES = ('west', 'east')

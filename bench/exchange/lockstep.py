@@ -17,13 +17,10 @@ from collections import Counter
 from dataclasses import dataclass
 from typing import Callable, Iterable, Iterator
 
-sys.dont_write_bytecode = True
-HERE = os.path.dirname(os.path.abspath(__file__))
-TOP = os.path.dirname(os.path.dirname(HERE))
-sys.path[:0] = [HERE, os.path.join(TOP, 'driver')]
-from e1gw.session import (HEAD, MULTIFRAME, Codec, Command, Kind, codec_record, command_record,  # noqa: E402
+from paths import TOP
+from e1gw.session import (HEAD, MULTIFRAME, Codec, Command, Kind, codec_record, command_record,
                           datagram_record, trunk_record)
-from openr2 import OpenR2  # noqa: E402
+from e1gw.testing.openr2 import OpenR2
 
 CODECS = ('pcma', 'g726-40', 'g726-32', 'g726-24', 'g726-16')
 CIRCUITS = range(1, 31)

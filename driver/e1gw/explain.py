@@ -13,6 +13,7 @@ from __future__ import annotations
 import argparse
 import errno
 import math
+import os
 import re
 import socket
 import tomllib
@@ -309,7 +310,8 @@ def gateway_words(line: str, path: str) -> str | None:
     return None
 
 
-def main() -> int:
+def explain() -> int:
+    """Explains the configuration that the command line names, and returns the status."""
     asked = argparse.ArgumentParser(prog='e1gw-explain', description=__doc__, usage=argparse.SUPPRESS,
                                     formatter_class=argparse.RawDescriptionHelpFormatter)
     asked.add_argument('--no-sockets', action='store_true')
@@ -333,3 +335,13 @@ def main() -> int:
         return 1
     print(f'{sum("local_port" in circuit for circuit in table.get("circuit", []))} sockets can be opened')
     return 0
+
+
+def main() -> int:
+    try:
+        return explain()
+    except BrokenPipeError:
+        os.dup2(os.open(os.devnull, os.O_WRONLY), 1)
+        return 0
+    except KeyboardInterrupt:
+        return 130

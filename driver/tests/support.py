@@ -7,12 +7,11 @@ import sys
 import tempfile
 import unittest
 
+from e1gw.exchange import Exchange
+from e1gw.testing.service import Service
+
 TOP = os.path.dirname(os.path.dirname(os.path.dirname(os.path.abspath(__file__))))
 sys.dont_write_bytecode = True
-sys.path[:0] = [os.path.join(TOP, 'driver'), os.path.join(TOP, 'scripts')]
-
-from exchange import Exchange       # noqa: E402
-from service import Service         # noqa: E402
 
 __all__ = ['Exchange', 'Folder', 'Service', 'TOP', 'program', 'run', 'without']
 

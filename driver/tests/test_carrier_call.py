@@ -20,12 +20,12 @@ from .test_satop_call import free_ports
 from .world import SECONDS, child_of
 from e1gw.carrier import Carrier
 from e1gw.crc4 import Crc4, with_crc4
+from e1gw.exchange import ACKNOWLEDGED, SEIZED
 from e1gw.followed import Followed
 from e1gw.lines import read_config
 from e1gw.satop import Circuit, Satop, connected
 from e1gw.session import FRAME, MULTIFRAME, Command, Kind, command_record, records_in
 from e1gw.trunks import Stream
-from exchange import ACKNOWLEDGED, SEIZED
 
 STEP = 0.001                # seconds of a packet
 

@@ -10,11 +10,11 @@ from . import support
 from .world import World, config_of
 from e1gw.clear import Clear, Place
 from e1gw.events import words_of
+from e1gw.exchange import ACKNOWLEDGED, Serve
 from e1gw.followed import Followed
 from e1gw.session import Command
+from e1gw.testing import datagrams
 from e1gw.trunks import Trunk
-from exchange import ACKNOWLEDGED, Serve
-import wire
 
 IDLE = 0xD5
 LOST = 33               # frames: two multiframe signals in error, 4 ms, and the frame in which octets were lost
@@ -228,22 +228,23 @@ class Gateway(support.Folder):
         self.program = support.program()
         super().setUp()
 
-    def multiframes(self, call: wire.Call, count: int) -> bytes:
+    def multiframes(self, call: datagrams.Call, count: int) -> bytes:
         """Slots 1 to 31 of multiframes in which each circuit speaks its own octet."""
         out = b''
         for _ in range(count):
             for n in call.circuits:
-                call.exchange.speech[n] = bytearray([wire.spoken(n)] * 16)
+                call.exchange.speech[n] = bytearray([datagrams.spoken(n)] * 16)
             octets = call.exchange.multiframe()
             out += b''.join(octets[at + 1:at + 32] for at in range(0, len(octets), 32))
         return out
 
     def test_calls_through_lost_octets(self) -> None:
         for count in (1, 2, 30, -1):
-            with self.subTest(count), wire.Call(self.program, self.folder, tuple(range(1, 31)), '127.0.0.1') as call:
+            circuits = tuple(range(1, 31))
+            with self.subTest(count), datagrams.Call(self.program, self.folder, circuits, '127.0.0.1') as call:
                 self.calls_through_a_loss(call, count)
 
-    def calls_through_a_loss(self, call: wire.Call, count: int) -> None:
+    def calls_through_a_loss(self, call: datagrams.Call, count: int) -> None:
         events: list[dict[str, Any]] = []
         device, lines = Device(b''), Followed({'law': 'A'}, events.append)
         trunk = Clear(device, Place('A'))
@@ -267,18 +268,18 @@ class Gateway(support.Folder):
         octets = self.multiframes(call, 30)
         carry(octets[:1000] + octets[1000 + count if count > 0 else 999:])
         for n, octets in self.heard(call).items():
-            others = [octet for octet in octets if octet not in (wire.spoken(n), IDLE)]
+            others = [octet for octet in octets if octet not in (datagrams.spoken(n), IDLE)]
             self.assertLessEqual(len(others), LOST)
-            self.assertEqual(octets[-wire.PACKET:], bytes([wire.spoken(n)]) * wire.PACKET)
+            self.assertEqual(octets[-datagrams.PACKET:], bytes([datagrams.spoken(n)]) * datagrams.PACKET)
             self.assertLessEqual(octets.count(IDLE), FOUND)
         told = [(event['event'], event['what']) for event in events if 'alarm' not in event['event']]
         self.assertEqual(told, [('slots', 'lost'), ('lost', 'multiframe'), ('slots', 'moved'),
                                 ('aligned', 'multiframe')])
         self.assertEqual({str(line.state) for line in lines.lines.values()}, {'acked'})
 
-    def heard(self, call: wire.Call) -> dict[int, bytes]:
+    def heard(self, call: datagrams.Call) -> dict[int, bytes]:
         """The speech that each circuit's peer got."""
-        return {n: b''.join(packet[12:] for packet, _ in wire.packets(call.peers[n])) for n in call.circuits}
+        return {n: b''.join(packet[12:] for packet, _ in datagrams.packets(call.peers[n])) for n in call.circuits}
 
     def test_a_device_that_ends_inside_a_frame(self) -> None:
         config = os.path.join(self.folder, 'trunk.toml')

@@ -2,16 +2,12 @@
 from __future__ import annotations
 
 import functools
-import os
-import sys
 import tempfile
 import unittest
 
 from . import support
 from .world import World, config_of
-
-sys.path.insert(0, os.path.join(support.TOP, 'bench', 'exchange'))
-from openr2 import Missing, OpenR2, build       # noqa: E402
+from e1gw.testing.openr2 import Missing, OpenR2, build
 
 FOLDER = tempfile.TemporaryDirectory()
 SECOND = 500            # multiframes

@@ -24,9 +24,9 @@ import unittest
 from . import support
 from .world import free_ports
 from e1gw.beside import DEATHS, MOST_PAUSE, WITHIN, Deaths
+from e1gw.exchange import ACKNOWLEDGED, ANSWERED, SEIZED
 from e1gw.running import HELLO
 from e1gw.session import MULTIFRAME, Command, Kind, command_record, packet_of, records_in, trunk_record
-from exchange import ACKNOWLEDGED, ANSWERED, SEIZED
 
 LAUNCHER = os.path.join(support.TOP, 'driver', 'e1gw-keep')
 SECONDS = 60

@@ -9,8 +9,8 @@ import subprocess
 import unittest
 
 from . import support
+from e1gw.exchange import ACKNOWLEDGED, ANSWERED, IDLE
 from e1gw.session import Command, Kind, Reader, command_record, datagram_record, trunk_record
-from exchange import ACKNOWLEDGED, ANSWERED, IDLE
 
 CONFIG = 'law = "A"\n' + ''.join(f'[[circuit]]\nnumber = {c}\nrole = "outgoing"\n' for c in range(1, 31))
 SECONDS = 20

@@ -18,9 +18,9 @@ from types import TracebackType
 from typing import Iterator, Sequence
 
 from . import support
+from e1gw.exchange import ACKNOWLEDGED, ANSWERED, IDLE, SEIZED
 from e1gw.session import Codec, Command, CommandRefusal, Kind, codec_record, command_record, records_in, spell
 from e1gw.session import trunk_record
-from exchange import ACKNOWLEDGED, ANSWERED, IDLE, SEIZED
 
 CONFIG = 'law = "A"\n' + ''.join(f'[[circuit]]\nnumber = {c}\nrole = "incoming"\n' for c in range(1, 31))
 SLOW = 'output slow: discarding whole multiframes'

@@ -15,13 +15,12 @@ import tempfile
 import time
 from typing import Callable
 
-sys.dont_write_bytecode = True
+import paths    # noqa: F401 (makes e1gw known)
+from e1gw.g711 import VALUES
+from e1gw.session import Packet, packet_of
+from e1gw.testing.service import Service
+
 HERE = os.path.dirname(os.path.abspath(__file__))
-TOP = os.path.dirname(os.path.dirname(HERE))
-sys.path[:0] = [os.path.join(TOP, 'driver'), os.path.join(TOP, 'scripts')]
-from e1gw.session import Packet, packet_of  # noqa: E402
-from exchange import VALUES  # noqa: E402
-from service import Service  # noqa: E402
 
 SECONDS, PACKET = 2, 160            # of speech; samples, 20 ms
 PACKETS = 8000 * SECONDS // PACKET

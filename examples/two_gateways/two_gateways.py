@@ -13,11 +13,10 @@ import os
 import subprocess
 import sys
 
-HERE = os.path.dirname(os.path.abspath(__file__))
-sys.path.insert(0, os.path.join(HERE, '..', '..', 'scripts'))
-from exchange import (ACKNOWLEDGED, ANSWERED, IDLE, SEIZED, Exchange, Serve,  # noqa: E402
+import paths    # noqa: F401 (makes e1gw known)
+from e1gw.exchange import (ACKNOWLEDGED, ANSWERED, IDLE, SEIZED, Exchange, Serve,
                       decibels, delay, samples)
-from e1gw.session import Kind, records_in  # noqa: E402
+from e1gw.session import Kind, records_in
 
 CIRCUIT = 1
 PATIENCE = 500      # multiframes, 1 s

@@ -2,15 +2,13 @@
 import importlib.machinery
 import importlib.util
 import os
-import sys
 import tempfile
 import unittest
 from unittest import mock
 
+import tree
+
 SCRIPTS = os.path.dirname(os.path.dirname(os.path.abspath(__file__)))
-sys.dont_write_bytecode = True
-sys.path.insert(0, SCRIPTS)
-import tree                     # noqa: E402
 LOADER = importlib.machinery.SourceFileLoader('docs', os.path.join(SCRIPTS, 'docs'))
 
 LIB = """//! A small crate.

@@ -1,9 +1,9 @@
 """Tests the built program with datagrams over UDP, for scripts/look.
 
 Each test is a function of the program, a folder and the addresses of this machine, and yields what is wrong. Circuits
-are in calls, and the exchange at the other end of the trunk is that of exchange.py. The manual says what is expected: a
-circuit plays the datagrams of its own port, in order, after `prefill`, and its packets go to its own peer from its own
-port, numbered from `sequence`.
+are in calls, and the exchange at the other end of the trunk is that of e1gw.exchange. The manual says what is expected:
+a circuit plays the datagrams of its own port, in order, after `prefill`, and its packets go to its own peer from its
+own port, numbered from `sequence`.
 """
 import contextlib
 import os
@@ -15,7 +15,7 @@ from collections.abc import Callable, Iterator
 from functools import partial
 from typing import Any
 
-from exchange import ACKNOWLEDGED, Exchange, Serve
+from ..exchange import ACKNOWLEDGED, Exchange, Serve
 
 Wrongs = Iterator[str]      # what is not as it must be
 
@@ -390,7 +390,7 @@ def to_its_end(look: Callable[..., Wrongs], values: list[Any], program: str, roo
         yield f'ended before it: {ended}'
 
 
-def wire_looks() -> Iterator[tuple[str, Callable[[str, str], Wrongs]]]:
+def datagram_looks() -> Iterator[tuple[str, Callable[[str, str], Wrongs]]]:
     """The looks: a name, and what yields what is wrong, given the program and a folder to work in."""
     for name, look, *values in rows():
         yield name, partial(to_its_end, look, values)

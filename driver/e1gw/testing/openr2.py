@@ -1,4 +1,4 @@
-"""The exchange of this folder as a process in lock step: built, given octets of the trunk and commands, and read."""
+"""The exchange of bench/exchange as a process in lock step: built, given octets of the trunk and commands, and read."""
 from __future__ import annotations
 
 import os
@@ -8,7 +8,7 @@ import subprocess
 import sys
 from typing import NamedTuple
 
-HERE = os.path.dirname(os.path.abspath(__file__))
+HERE = os.path.normpath(os.path.join(os.path.realpath(__file__), '..', '..', '..', '..', 'bench', 'exchange'))
 HEAD = struct.Struct('>BBH')
 MULTIFRAME = 512
 

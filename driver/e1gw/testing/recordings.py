@@ -11,9 +11,8 @@ import stat
 import subprocess
 import threading
 
-# (wire's exchange makes the driver's modules known)
-from wire import CIRCUITS, PACKET, SECONDS, Call, bound, packets, speech
-from e1gw.session import Codec, Kind, codec_record, records_in
+from ..session import Codec, Kind, codec_record, records_in
+from .datagrams import CIRCUITS, PACKET, SECONDS, Call, bound, packets, speech
 
 ENDED = 'recording ended: a write failed\n'
 ROUNDS = 12                 # of datagrams and multiframes in a live session

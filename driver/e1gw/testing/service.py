@@ -1,6 +1,4 @@
-"""A trunk in service for scripts: `e1gw-trunk` as a process, and its control.
-
-Python's standard library alone. Used by examples/satop and by tests of the driver."""
+"""A trunk in service: `e1gw-trunk` as a process, and its control."""
 from __future__ import annotations
 
 import json
@@ -10,7 +8,7 @@ import subprocess
 import sys
 from typing import Any
 
-LAUNCHER = os.path.join(os.path.dirname(os.path.dirname(os.path.abspath(__file__))), 'driver', 'e1gw-trunk')
+LAUNCHER = os.path.join(os.path.dirname(os.path.dirname(os.path.dirname(os.path.realpath(__file__)))), 'e1gw-trunk')
 PATIENCE = 30               # seconds
 
 

@@ -1,19 +1,10 @@
-"""Both ends of a trunk for scripts: `e1gw serve` as a process, and the exchange that its trunk leads to.
-
-Python's standard library alone. Used by the examples, bench/interwork and bench/flood.
-"""
+"""Both ends of a trunk for scripts: `e1gw serve` as a process, and the exchange that its trunk leads to."""
 import math
-import os
 import subprocess
-import sys
 from typing import Any, Sequence
 
-sys.dont_write_bytecode = True
-HERE = os.path.dirname(os.path.dirname(os.path.abspath(__file__)))
-# (in the package the modules stand beside the folder of this file)
-sys.path.insert(0, os.path.join(HERE, 'driver') if os.path.isdir(os.path.join(HERE, 'driver')) else HERE)
-from e1gw.g711 import VALUES  # noqa: E402
-from e1gw.session import FRAME, HEAD, MULTIFRAME, Command, command_record, trunk_record  # noqa: E402
+from .g711 import VALUES
+from .session import FRAME, HEAD, MULTIFRAME, Command, command_record, trunk_record
 
 FAS, NFAS = 0x9B, 0xDF      # slot 0: the frame alignment signal, and the octet between two of them
 REMOTE_ALARM = 0x20         # bit A of the octet between two signals

@@ -1,0 +1,1 @@
+../../driver/paths.py

@@ -1,0 +1,60 @@
+"""Starts a command: python3 -m e1gw NAME [WORD..], as the program e1gw-NAME does.
+
+The names are {names}."""
+import importlib
+import os
+import sys
+from typing import NoReturn
+
+# The module that has main(), by the command's name without e1gw-.
+COMMANDS = {
+    'carry': 'carrying', 'config': 'making', 'ctl': 'ctl', 'exchange': 'tools.exchange', 'explain': 'explain',
+    'keep': 'keeping', 'pcap': 'tools.pcap', 'picture': 'picture.main', 'records': 'tools.records', 'tie': 'tie.main',
+    'trunk': 'trunk', 'watch': 'watching'}
+# The commands that a signal ends with status 0, also before their modules are loaded.
+SERVICES = ('carry', 'keep', 'trunk', 'watch')
+
+
+def refuse(what: str) -> NoReturn:
+    """Ends with status 2: there is no such command."""
+    print(f'{what}; there are {", ".join(COMMANDS)}', file=sys.stderr)
+    sys.exit(2)
+
+
+def start(name: str) -> NoReturn:
+    """Runs a command with the words of the command line."""
+    if name in SERVICES:
+        import signal
+        for number in (signal.SIGINT, signal.SIGTERM):
+            signal.signal(number, lambda *_: os._exit(0))
+    sys.exit(importlib.import_module(f'e1gw.{COMMANDS[name]}').main())
+
+
+def named(path: str) -> str:
+    """The command that a program is named by, or else one of the links that the path leads through."""
+    while (name := os.path.basename(path).removeprefix('e1gw-')) not in COMMANDS:
+        if not os.path.islink(path):
+            refuse(f'{path}: no command of e1gw has this name')
+        path = os.path.join(os.path.dirname(path), os.readlink(path))
+    return name
+
+
+def launch() -> NoReturn:
+    """Runs the command by whose name this process was started."""
+    start(named(sys.argv[0]))
+
+
+def main() -> None:
+    """Runs the command that the first word names."""
+    name = sys.argv[1] if sys.argv[1:] else '--help'
+    if name in ('-h', '--help'):
+        print((__doc__ or '').format(names=', '.join(COMMANDS)))
+    elif name in COMMANDS:
+        sys.argv[:2] = [f'e1gw-{name}']
+        start(name)
+    else:
+        refuse(f'e1gw: no command {name}')
+
+
+if __name__ == '__main__':
+    main()

@@ -1,0 +1,1 @@
+"""What tests, examples and measurements share. The Debian package leaves it out."""

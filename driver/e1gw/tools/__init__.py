@@ -1,0 +1,1 @@
+"""Commands for records and captures, and an exchange to try a trunk with."""

@@ -1,0 +1,140 @@
+"""An exchange at a Unix socket, in the place of a card and a trunk, to try e1gw-trunk with. Needs python3 alone.
+
+  examples/exchange [--again] PATH        (in the package e1gw-exchange)
+
+It waits for one who connects, and then sends and receives a trunk of 2048 kbit/s in real time. A circuit that is
+seized it acknowledges after 20 ms and answers after a second; what it hears on a circuit it sends back on it. Typed
+lines: seize N and clear N, for circuits on which the exchange calls. It prints each line signal that it sees, by its
+bits a and b, and ends when the other end does; with --again it then waits for the next one, all circuits idle.
+"""
+import os
+import select
+import signal
+import socket
+import sys
+import time
+
+from ..exchange import ACKNOWLEDGED, ANSWERED, IDLE, MULTIFRAME, SEIZED, Exchange
+
+STEP = 0.002            # seconds of a multiframe
+ACKNOWLEDGES, ANSWERS = 10, 500
+PATIENCE = 0.1          # seconds after which octets that do not come back are lost
+
+
+class Called:
+    """The circuits on which the gateway calls: since how many multiframes each is seized."""
+
+    def __init__(self) -> None:
+        self.since: dict[int, int] = {}
+
+    def step(self, exchange: Exchange) -> None:
+        for circuit, pair in exchange.signals.items():
+            if pair == SEIZED and (circuit in self.since or exchange.pairs[circuit] == IDLE):
+                age = self.since[circuit] = self.since.get(circuit, 0) + 1
+                if age >= ACKNOWLEDGES:
+                    exchange.pairs[circuit] = ANSWERED if age >= ANSWERS else ACKNOWLEDGED
+            elif circuit in self.since:
+                del self.since[circuit]
+                exchange.pairs[circuit] = IDLE
+
+
+class Typed:
+    """Lines that are typed, however many of them one read gives. (A reader of lines would keep those behind the first
+    one, and `select` would not tell of them.)"""
+
+    def __init__(self) -> None:
+        self._rest = b''
+        self._more = True       # can come
+
+    def obey(self, exchange: Exchange) -> None:
+        """Reads what there is and obeys its lines."""
+        if not self._more or not select.select([sys.stdin], [], [], 0)[0]:
+            return
+        try:
+            octets = os.read(sys.stdin.fileno(), 4096)
+        except OSError:     # in the background of a terminal
+            self._more = False
+            return
+        self._more = octets != b''
+        *lines, self._rest = (self._rest + (octets or b'\n')).split(b'\n')
+        for line in lines:
+            obey(line.decode(errors='replace'), exchange)
+
+
+def obey(line: str, exchange: Exchange) -> None:
+    """Obeys a line."""
+    name, _, number = line.strip().partition(' ')
+    if name in ('seize', 'clear') and number.isdecimal() and int(number) in exchange.pairs:
+        exchange.pairs[int(number)] = SEIZED if name == 'seize' else IDLE
+    elif line.strip():
+        print('there are seize N and clear N', flush=True)
+
+
+def receive(line: socket.socket, exchange: Exchange) -> bool:
+    """Receives as many octets as were sent, but for those that are lost; returns whether the other end is there
+    still."""
+    heard = b''
+    while len(heard) < MULTIFRAME and select.select([line], [], [], PATIENCE)[0]:
+        piece = line.recv(MULTIFRAME - len(heard))
+        if not piece:
+            return False
+        heard += piece
+    before = dict(exchange.signals)
+    spoken = {circuit: len(octets) for circuit, octets in exchange.heard.items()}
+    exchange.hear(heard)
+    for circuit, octets in exchange.heard.items():
+        exchange.speech[circuit] = bytearray(octets[spoken.get(circuit, 0):])
+        del octets[:]
+    for circuit, pair in exchange.signals.items():
+        if before and before[circuit] != pair:
+            print(f'{circuit}: {pair:02b}', flush=True)
+    return True
+
+
+def awaited(path: str) -> socket.socket:
+    """Waits for one who connects to a socket at this path, which is removed then."""
+    with socket.socket(socket.AF_UNIX) as door:
+        try:
+            door.bind(path)
+        except OSError as fault:
+            rest = f': another exchange waits there, or one left it (rm {path})' if os.path.exists(path) else ''
+            sys.exit(f'{os.path.basename(sys.argv[0])}: {path}: {fault.strerror}{rest}')
+        door.listen(1)
+        line = door.accept()[0]
+    os.unlink(path)
+    return line
+
+
+def carry(line: socket.socket, typed: Typed) -> None:
+    """Sends and receives the trunk until the other end goes."""
+    exchange, called, due = Exchange(), Called(), time.monotonic()
+    try:
+        while True:
+            line.sendall(exchange.multiframe())
+            if not receive(line, exchange):
+                return
+            called.step(exchange)
+            typed.obey(exchange)
+            due += STEP
+            time.sleep(max(0, due - time.monotonic()))
+    except (BrokenPipeError, ConnectionResetError):
+        pass
+
+
+def main() -> None:
+    words = sys.argv[1:]
+    if words in (['-h'], ['--help']):
+        print(__doc__)
+        return
+    again = words[:1] == ['--again']
+    if len(words) != 1 + again or words[-1].startswith('-'):
+        print(__doc__, file=sys.stderr)
+        sys.exit(2)
+    signal.signal(signal.SIGTTIN, signal.SIG_IGN)
+    typed = Typed()
+    while True:
+        with awaited(words[-1]) as line:
+            carry(line, typed)
+        if not again:
+            return
+

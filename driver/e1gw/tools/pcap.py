@@ -1,0 +1,224 @@
+"""Turns the D records of a session into a capture of UDP packets, for Wireshark and tshark, and back. Needs python3.
+
+  tools/pcap [--circuit N] [--in SESSION] [SESSION] > call.pcap
+  tools/pcap --back [--circuit N] [CAPTURE] > datagrams.rec
+
+SESSION is the gateway's output, by default standard input; its datagrams go from 192.0.2.1 to 192.0.2.2. --in adds the
+datagrams of the gateway's input in the other direction. Circuit N has UDP port 5000 + 2 N at both ends. --circuit N
+selects this circuit only.
+
+A packet with the same SSRC, sequence number and octets as an earlier one is a repetition, as e1gw serve --repeat sends
+it. Standard error counts them; in the capture each has the time of the packet before it.
+
+A packet's time is its RTP timestamp at 8000 Hz. A stream's first packet has the time of its place on the trunk, by the
+trunk octets before it at 256,000 a second.
+
+With --back a packet's destination port gives its circuit, or --circuit names it for all packets. A packet that is not
+UDP over IPv4, is cut or fragmented, or belongs to no circuit is skipped and counted on standard error. CAPTURE is a
+pcap file (editcap -F pcap converts a pcapng file) of Ethernet, Linux cooked, loopback or plain IP packets."""
+
+import argparse
+import heapq
+import os
+import struct
+import sys
+from typing import BinaryIO, Iterable, Iterator
+
+from ..faults import words_of_fault
+from ..repetitions import Repetitions
+from ..session import (
+    CIRCUITS, FRAME, SAMPLES_A_SECOND, BadPacket, BadSession, Kind, datagram_record, packet_of, records)
+
+NAME = os.path.basename(sys.argv[0])    # in the package e1gw-pcap
+GATEWAY, PEER = bytes([192, 0, 2, 1]), bytes([192, 0, 2, 2])  # RFC 5737, addresses for examples
+PORTS = {circuit: 5000 + 2 * circuit for circuit in CIRCUITS}
+MOST = 65507  # the most octets that a UDP packet over IPv4 carries
+PLAIN_IP = 101  # LINKTYPE_RAW
+UDP = 17
+LONGEST = 262144  # octets of a captured packet, by libpcap's own bound (MAXIMUM_SNAPLEN)
+LAST = 2**32 * SAMPLES_A_SECOND - 1  # the last sample whose second a capture can tell
+# What stands before the IP header, by link type, and where in it the word for IPv4 stands, if there is one.
+LINKS = {0: (4, None), 1: (14, 12), 12: (0, None), PLAIN_IP: (0, None), 113: (16, 14), 228: (0, None), 276: (20, 0)}
+VLAN, IPV4 = (0x8100, 0x88A8), 0x0800
+
+
+class Trouble(Exception):
+    """Why a file cannot be read."""
+
+
+# ---- a session to a capture ----
+
+class Again:
+    """The repetitions among datagrams, which are no faults."""
+
+    def __init__(self) -> None:
+        self.seen = {circuit: Repetitions() for circuit in CIRCUITS}
+        self.every = self.count = 0
+
+    def is_one(self, circuit: int, body: bytes) -> bool:
+        """Whether a datagram is a repetition, which is counted."""
+        self.every += 1
+        is_one = self.seen[circuit].is_one(body)
+        self.count += is_one
+        return is_one
+
+    def tell(self) -> None:
+        if self.count:
+            print(f'pcap: {self.count} of {self.every} packets are repetitions', file=sys.stderr)
+
+
+class Clock:
+    """The time of each datagram, in samples, from its stream's RTP timestamps."""
+
+    def __init__(self) -> None:
+        self.octets = 0
+        self.streams: dict[tuple[int, int], tuple[int, int]] = {}
+        self.last: dict[int, int] = {}
+        self.again = Again()
+
+    def time(self, circuit: int, body: bytes) -> int:
+        """The time of a datagram; one that is no RTP, or a repetition, comes with the datagram before it."""
+        trunk = self.octets // FRAME
+        if self.again.is_one(circuit, body):
+            return self.last.get(circuit, trunk)
+        try:
+            packet = packet_of(body)
+        except BadPacket:
+            return self.last.get(circuit, trunk)
+        before, then = self.streams.get((circuit, packet.ssrc), (packet.timestamp, trunk))
+        # timestamps wrap at 2^32, and a late datagram's is below the last
+        now = min(LAST, max(0, then + (packet.timestamp - before + 2**31) % 2**32 - 2**31))
+        self.streams[circuit, packet.ssrc] = packet.timestamp, now
+        self.last[circuit] = now
+        return now
+
+
+def packets_of(source: BinaryIO, asked: int | None, ends: tuple[bytes, bytes]) -> Iterator[tuple[int, bytes]]:
+    """The time and the octets of a packet for each datagram of a session."""
+    clock = Clock()
+    for kind, circuit, body in records(source):
+        if kind is Kind.TRUNK:
+            clock.octets += len(body)
+        elif kind is Kind.DATAGRAM and asked in (None, circuit):
+            if len(body) > MOST:
+                print(f'{NAME}: skipped a datagram of {len(body)} octets, too long for UDP',
+                      file=sys.stderr)
+            else:
+                yield clock.time(circuit, body), packet(*ends, PORTS[circuit], body)
+    clock.again.tell()
+
+
+def packet(source: bytes, target: bytes, port: int, body: bytes) -> bytes:
+    """A UDP packet over IPv4 (RFC 768, RFC 791), with no checksum of UDP."""
+    udp = struct.pack('>HHHH', port, port, 8 + len(body), 0)
+    ip = struct.pack('>BBHHHBBH4s4s', 0x45, 0, 28 + len(body), 0, 0, 64, UDP, 0, source, target)
+    total = sum(struct.unpack('>10H', ip))
+    total = (total & 0xFFFF) + (total >> 16)
+    total = (total & 0xFFFF) + (total >> 16)
+    return ip[:10] + struct.pack('>H', 0xFFFF - total) + ip[12:] + udp + body
+
+
+def write_capture(packets: Iterable[tuple[int, bytes]], sink: BinaryIO) -> None:
+    """Writes a pcap file with times in microseconds."""
+    sink.write(struct.pack('<IHHiIII', 0xA1B2C3D4, 2, 4, 0, 0, 65535, PLAIN_IP))
+    for time, octets in packets:
+        seconds, samples = divmod(time, SAMPLES_A_SECOND)
+        sink.write(struct.pack('<IIII', seconds, samples * 125, len(octets), len(octets)) + octets)
+
+
+# ---- and back ----
+
+def captured(source: BinaryIO) -> Iterator[tuple[int, bytes | None]]:
+    """The link type and the octets of each packet of a pcap file; None for a packet that was cut."""
+    head = source.read(24)
+    order = {b'\xD4\xC3\xB2\xA1': '<', b'\x4D\x3C\xB2\xA1': '<', b'\xA1\xB2\xC3\xD4': '>', b'\xA1\xB2\x3C\x4D': '>'}
+    if len(head) < 24 or head[:4] not in order:
+        raise Trouble('not a pcap file (editcap -F pcap converts a pcapng file)')
+    first = order[head[:4]]
+    link = struct.unpack(first + 'I', head[20:])[0] & 0xFFFF
+    if link not in LINKS:
+        raise Trouble(f'packets of link type {link}')
+    while head := source.read(16):
+        if len(head) < 16:
+            raise Trouble('the capture ends inside a packet')
+        length, whole = struct.unpack(first + 'II', head[8:])
+        if length > LONGEST:
+            raise Trouble(f'a packet of {length} octets, too long for a capture')
+        octets = source.read(length)
+        if len(octets) < length:
+            raise Trouble('the capture ends inside a packet')
+        yield link, octets if length == whole else None
+
+
+def udp_of(link: int, octets: bytes) -> tuple[int, bytes] | None:
+    """The target port and the body of a UDP packet over IPv4, or None."""
+    skip, word = LINKS[link]
+    while word == 12 and len(octets) >= 16 and struct.unpack('>H', octets[12:14])[0] in VLAN:
+        octets = octets[:12] + octets[16:]
+    if word is not None and octets[word:word + 2] != struct.pack('>H', IPV4):
+        return None
+    ip = octets[skip:]
+    if len(ip) < 20 or ip[0] >> 4 != 4 or ip[9] != UDP or struct.unpack('>H', ip[6:8])[0] & 0x3FFF:
+        return None
+    udp = ip[4 * (ip[0] & 15):]
+    if len(udp) < 8:
+        return None
+    port, length = struct.unpack('>HH', udp[2:6])
+    return (port, udp[8:length]) if 8 <= length <= len(udp) else None
+
+
+def write_records(source: BinaryIO, asked: int | None, sink: BinaryIO) -> None:
+    """Writes a D record for each datagram of a capture."""
+    circuits = {port: circuit for circuit, port in PORTS.items()}
+    again = Again()
+    packets = passed = 0
+    for link, octets in captured(source):
+        packets += 1
+        found = udp_of(link, octets) if octets is not None else None
+        circuit = found and (asked or circuits.get(found[0]))
+        if not found or not circuit:
+            passed += 1
+            continue
+        again.is_one(circuit, found[1])
+        sink.write(datagram_record(circuit, found[1]))
+    again.tell()
+    if passed:
+        print(f'{NAME}: skipped {passed} of {packets} packets', file=sys.stderr)
+
+
+def opened(file: str | None) -> BinaryIO:
+    """A file, or standard input."""
+    return open(file, 'rb') if file else sys.stdin.buffer
+
+
+def asked_for() -> argparse.Namespace:
+    """What the command line asks for."""
+    words = argparse.ArgumentParser(description=__doc__, usage=argparse.SUPPRESS,
+                                    formatter_class=argparse.RawDescriptionHelpFormatter)
+    words.add_argument('--back', action='store_true')
+    words.add_argument('--circuit', metavar='N', type=int, choices=CIRCUITS)
+    words.add_argument('--in', metavar='SESSION', dest='given')
+    words.add_argument('file', nargs='?')
+    return words.parse_args()
+
+
+def work(asked: argparse.Namespace) -> None:
+    """Does what was asked for."""
+    sink = sys.stdout.buffer
+    if asked.back:
+        write_records(opened(asked.file), asked.circuit, sink)
+    else:
+        streams = [packets_of(opened(asked.file), asked.circuit, (GATEWAY, PEER))]
+        if asked.given:
+            streams.append(packets_of(opened(asked.given), asked.circuit, (PEER, GATEWAY)))
+        write_capture(heapq.merge(*streams, key=lambda it: it[0]), sink)
+    sink.flush()
+
+
+def main() -> None:
+    try:
+        work(asked_for())
+    except BrokenPipeError:
+        os.dup2(os.open(os.devnull, os.O_WRONLY), 1)
+    except (BadSession, Trouble, OSError) as trouble:
+        sys.exit(f'{NAME}: {words_of_fault(trouble)}')

@@ -1,0 +1,242 @@
+"""Reads and makes the records of a session: e1gw-session(5). Needs python3 alone.
+
+  tools/records [SESSION]                            prints its records, one a line
+  tools/records --from-raw [--size N] [OCTETS]       makes T records of N octets (256, 1 ms) of a trunk's octets;
+                                                     --reverse reverses the bits of each
+  tools/records --to-raw [SESSION]                   the octets of its T records
+  tools/records --until MS | --from MS [SESSION]     its records before, or from, this time of the trunk
+  tools/records --circuit N [--law mu] [SESSION]     the circuit's time slot of the T records as a WAV file;
+                                                     with --from-raw of a trunk's octets
+
+SESSION and OCTETS are files, by default standard input. A line shows for T the places of its octets on the trunk, for D
+the fields of its RTP header (RFC 3550, 5.1), for C the command, for K the codec, for R the request and its answer.
+SESSION may be a file of e1gw-trunk --keep, also a compressed one: then places count from the gateway's start, and
+e1gw replay --load NAME.state answers it as the gateway did.
+
+--circuit searches for the frame in the octets (eight frame alignment signals, 64 octets apart), and again after three
+errored ones in a row, so the session may begin anywhere in a frame. In a gateway's output the WAV file is what the
+trunk sends, in its input what the exchange says.
+
+Status 1 if the session ends inside a record, a record is of no kind, or no frame was found."""
+
+import argparse
+import os
+import struct
+import sys
+from typing import BinaryIO, Iterable, Iterator
+
+from ..faults import words_of_fault
+from ..kept import Source, Trouble, beside, octets_of
+from ..raw import DOUBLE, FAS, REVERSED, SIGNALS, is_frame, raw_words_of
+from ..session import (
+    CIRCUITS, FRAME, OCTETS_A_SECOND, BadPacket, BadSession, Kind, Readable, Record, packet_of, records, trunk_record)
+
+NAME = os.path.basename(sys.argv[0])    # in the package e1gw-records
+MOST_WRONG = 3
+PIECE = 1 << 16
+WAVE_A, WAVE_MU = 6, 7              # the codes of A-law and mu-law in a WAV file
+
+
+# ---- printing ----
+
+def shown_datagram(body: bytes) -> str:
+    """The fields of an RTP header."""
+    try:
+        packet = packet_of(body)
+    except BadPacket as bad:
+        return f'{len(body)} octets, not RTP: {bad.refusal.words}'
+    marks = [name for name, there in (('padding', packet.padding), ('extension', packet.extended),
+                                      (f'{len(packet.sources)} sources', packet.sources),
+                                      ('marker', packet.marker)) if there]
+    return ', '.join([f'{len(body)} octets: payload type {packet.payload_type}', f'sequence {packet.sequence}',
+                      f'timestamp {packet.timestamp}', f'ssrc {packet.ssrc}', *marks])
+
+
+def shown_answer(record: Record) -> str:
+    """What an R record says."""
+    try:
+        refusal = record.refusal
+        asked = Kind(record.body[0]).letter
+    except ValueError:
+        return record.body.hex(' ')
+    return f'{asked} done' if refusal is None else f'{asked} refused: {int(refusal)} {refusal.label}'
+
+
+def shown(record: Record, place: int) -> str:
+    """A record as one line; its octets are at this place of the trunk."""
+    front = f'{record.kind.letter} {record.circuit:2} '
+    if record.kind is Kind.TRUNK:
+        return f'T    {len(record.body)} octets, from place {place} on'
+    if record.kind is Kind.DATAGRAM:
+        return front + shown_datagram(record.body)
+    if record.kind is Kind.COMMAND:
+        return front + record.command.label
+    if record.kind is Kind.CODEC:
+        return f'{front}{record.codec.label}, payload type {record.payload_type}'
+    return front + shown_answer(record)
+
+
+def print_records(source: Readable, place: int) -> None:
+    """Prints records, the first of them at this place of the trunk."""
+    for record in records(source):
+        print(shown(record, place))
+        place += len(record.body) if record.kind is Kind.TRUNK else 0
+
+
+# ---- octets of a trunk to records ----
+
+def make_records(source: BinaryIO, size: int, reverse: bool, sink: BinaryIO) -> None:
+    """Writes T records of so many octets; the last one may be shorter."""
+    while octets := source.read(size):
+        sink.write(trunk_record(octets.translate(REVERSED) if reverse else octets))
+
+
+def write_octets(source: Readable, sink: BinaryIO) -> None:
+    """Writes the octets of T records."""
+    for record in records(source):
+        if record.kind is Kind.TRUNK:
+            sink.write(record.body)
+
+
+def write_records(source: Readable, begin: int, end: int | None, sink: BinaryIO) -> None:
+    """Writes the records before which so many octets of the trunk stand: this number or more, and fewer than that."""
+    place = 0
+    for record in records(source):
+        if begin <= place and (end is None or place < end):
+            sink.write(record.spelled())
+        place += len(record.body) if record.kind is Kind.TRUNK else 0
+
+
+# ---- one circuit ----
+
+def frames(pieces: Iterable[bytes]) -> Iterator[bytes]:
+    """The pairs of frames of a trunk, from the first alignment on."""
+    held, aligned, wrong, place = bytearray(), False, 0, 0
+    for piece in pieces:
+        held += piece
+        while len(held) >= SIGNALS * DOUBLE + DOUBLE:
+            if not aligned:
+                at = next((at for at in range(DOUBLE) if is_frame(held, at)), None)
+                aligned, wrong, skipped = at is not None, 0, DOUBLE if at is None else at
+                place += skipped
+                del held[:skipped]
+                continue
+            wrong = 0 if held[0] & 0x7F == FAS else wrong + 1
+            if wrong == MOST_WRONG:
+                print(f'records: frame alignment lost at octet {place}', file=sys.stderr)
+                aligned = False
+                continue
+            yield bytes(held[:DOUBLE])
+            place += DOUBLE
+            del held[:DOUBLE]
+    while aligned and len(held) >= DOUBLE:
+        yield bytes(held[:DOUBLE])
+        del held[:DOUBLE]
+
+
+def write_wave(octets: bytes, law: str, sink: BinaryIO) -> None:
+    """A WAV file of G.711."""
+    code = WAVE_A if law == 'A' else WAVE_MU
+    form = struct.pack('<HHIIHHH', code, 1, 8000, 8000, 1, 8, 0)
+    fact = struct.pack('<4sII', b'fact', 4, len(octets))
+    padding = bytes(len(octets) % 2)
+    body = (b'WAVE' + struct.pack('<4sI', b'fmt ', len(form)) + form + fact
+            + struct.pack('<4sI', b'data', len(octets)) + octets + padding)
+    sink.write(struct.pack('<4sI', b'RIFF', len(body)) + body)
+
+
+def raw_pieces(source: BinaryIO, reverse: bool) -> Iterator[bytes]:
+    """Octets of a trunk, some at a time."""
+    while octets := source.read(PIECE):
+        yield octets.translate(REVERSED) if reverse else octets
+
+
+def kept_pieces(source: Readable) -> Iterator[bytes]:
+    """The octets of a session's T records."""
+    return (record.body for record in records(source) if record.kind is Kind.TRUNK)
+
+
+def hear(pieces: Iterator[bytes], circuit: int, law: str, sink: BinaryIO) -> None:
+    """Writes what octets of a trunk have in the time slot of a circuit."""
+    slot = circuit if circuit < 16 else circuit + 1
+    heard = b''.join(bytes((pair[slot], pair[FRAME + slot])) for pair in frames(pieces))
+    if not heard:
+        raise Trouble('no frame was found in the octets of the trunk; for reversed bits use --from-raw --reverse, '
+                      'for unaligned octets e1gw align')
+    write_wave(heard, law, sink)
+
+
+def sizes(text: str) -> int:
+    if not text.isdecimal() or not 1 <= int(text) <= 65535:
+        raise argparse.ArgumentTypeError('a record has 1 to 65535 octets')
+    return int(text)
+
+
+def times(text: str) -> int:
+    """The octets of a trunk in so many milliseconds."""
+    if not text.isdecimal():
+        raise argparse.ArgumentTypeError('a time is a whole number of milliseconds')
+    return int(text) * OCTETS_A_SECOND // 1000
+
+
+def asked_for() -> argparse.Namespace:
+    """What the command line asks for."""
+    words = argparse.ArgumentParser(description=__doc__, usage=argparse.SUPPRESS,
+                                    formatter_class=argparse.RawDescriptionHelpFormatter)
+    words.add_argument('--from-raw', action='store_true')
+    what = words.add_mutually_exclusive_group()
+    what.add_argument('--to-raw', action='store_true')
+    what.add_argument('--circuit', metavar='N', type=int, choices=CIRCUITS)
+    what.add_argument('--until', metavar='MS', type=times)
+    what.add_argument('--from', metavar='MS', type=times, dest='begin')
+    words.add_argument('--reverse', action='store_true')
+    words.add_argument('--size', metavar='N', type=sizes, default=256)
+    words.add_argument('--law', choices=('A', 'mu'), default='A')
+    words.add_argument('file', nargs='?')
+    asked = words.parse_args()
+    if asked.reverse and not asked.from_raw:
+        words.error('--reverse needs --from-raw')
+    if asked.from_raw and (asked.to_raw or asked.until is not None or asked.begin is not None):
+        words.error('--from-raw and one of --to-raw, --until and --from: one of the two')
+    return asked
+
+
+def work(asked: argparse.Namespace) -> None:
+    """Does what was asked for."""
+    if asked.file and asked.file.endswith('.zst') and not asked.from_raw:
+        return read_session(asked, Source(octets_of(asked.file)))
+    with open(asked.file, 'rb') if asked.file else sys.stdin.buffer as source:
+        if not asked.from_raw:
+            read_session(asked, source)
+        elif asked.circuit:
+            hear(raw_pieces(source, asked.reverse), asked.circuit, asked.law, sys.stdout.buffer)
+        else:
+            make_records(source, asked.size, asked.reverse, sys.stdout.buffer)
+
+
+def read_session(asked: argparse.Namespace, source: Readable) -> None:
+    """Does it with a session."""
+    if asked.circuit:
+        hear(kept_pieces(source), asked.circuit, asked.law, sys.stdout.buffer)
+    elif asked.to_raw:
+        write_octets(source, sys.stdout.buffer)
+    elif asked.until is not None or asked.begin is not None:
+        write_records(source, asked.begin or 0, asked.until, sys.stdout.buffer)
+    else:
+        print_records(source, beside(asked.file).get('place', 0) if asked.file else 0)
+
+
+def main() -> None:
+    asked = asked_for()
+    try:
+        work(asked)
+        sys.stdout.flush()
+    except BrokenPipeError:
+        os.dup2(os.open(os.devnull, os.O_WRONLY), 1)
+    except BadSession as bad:
+        why = raw_words_of(asked.file) if asked.file else None
+        sys.exit(f'{NAME}: {bad}{f": {why}" if why else ""}')
+    except (Trouble, OSError) as trouble:
+        sys.exit(f'{NAME}: {words_of_fault(trouble)}')
+    except KeyboardInterrupt:
+        sys.exit(130)

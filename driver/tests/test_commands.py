@@ -1,0 +1,60 @@
+"""The commands in Python: one launcher, under each name, in a clone and as a package of Python."""
+from __future__ import annotations
+
+import os
+import subprocess
+import sys
+import tomllib
+import unittest
+
+from . import support
+from e1gw.__main__ import COMMANDS
+
+DRIVER = os.path.join(support.TOP, 'driver')
+
+
+def ran(*words: str, **around: str) -> tuple[int, str, str]:
+    done = subprocess.run(words, capture_output=True, text=True, check=False, stdin=subprocess.DEVNULL,
+                          env=os.environ | around)
+    return done.returncode, done.stdout, done.stderr
+
+
+class Commands(support.Folder):
+    def links(self) -> dict[str, str]:
+        """The paths in the clone that lead to the launcher, by the command's name."""
+        paths = [os.path.join(support.TOP, folder, name) for folder in ('driver', 'tools', 'examples')
+                 for name in os.listdir(os.path.join(support.TOP, folder))]
+        launcher = os.path.join(DRIVER, 'launch')
+        return {os.path.basename(path).removeprefix('e1gw-'): path for path in paths
+                if os.path.islink(path) and os.path.realpath(path) == launcher}
+
+    def test_each_command_has_a_link_and_an_entry_point(self) -> None:
+        with open(os.path.join(support.TOP, 'pyproject.toml'), 'rb') as file:
+            project = tomllib.load(file)
+        self.assertEqual(sorted(self.links()), sorted(COMMANDS))
+        self.assertEqual(project['project']['scripts'], {f'e1gw-{name}': 'e1gw.__main__:launch' for name in COMMANDS})
+        folders = {path[len(DRIVER) + 1:].replace('/', '.') for path, _, names in os.walk(os.path.join(DRIVER, 'e1gw'))
+                   if '__init__.py' in names}
+        self.assertEqual(set(project['tool']['setuptools']['packages']), folders - {'e1gw.testing'})
+
+    def test_each_link_runs_its_command(self) -> None:
+        """The help names the command, and is that of python3 -m e1gw."""
+        for name, path in sorted(self.links().items()):
+            with self.subTest(name):
+                status, said, _ = ran(path, '--help')
+                self.assertEqual((status, name in said), (0, True))
+                self.assertEqual(ran(sys.executable, '-m', 'e1gw', name, '--help', PYTHONPATH=DRIVER), (0, said, ''))
+
+    def test_a_link_of_another_name_to_a_link(self) -> None:
+        os.symlink(os.path.join(DRIVER, 'e1gw-ctl'), self.path('west'))
+        self.assertEqual(ran(self.path('west'), '--help'), ran(os.path.join(DRIVER, 'e1gw-ctl'), '--help'))
+
+    def test_another_name(self) -> None:
+        os.symlink(os.path.join(DRIVER, 'launch'), self.path('e1gw-dance'))
+        for words in ([self.path('e1gw-dance')], [sys.executable, '-m', 'e1gw', 'dance']):
+            status, said, fault = ran(*words, PYTHONPATH=DRIVER)
+            self.assertEqual((status, said, fault.count('\n'), 'records, tie, trunk, watch' in fault), (2, '', 1, True))
+
+
+if __name__ == '__main__':
+    unittest.main()
