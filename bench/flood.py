@@ -14,6 +14,7 @@ import subprocess
 import sys
 import tempfile
 import time
+from typing import Iterator
 
 import paths    # noqa: F401 (makes e1gw known)
 from e1gw.exchange import ACKNOWLEDGED, Exchange, Serve
@@ -42,11 +43,11 @@ peer_port = {NOBODY}
 '''
 
 
-def rtp(payload_type, sequence, stamp, ssrc, payload):
+def rtp(payload_type: int, sequence: int, stamp: int, ssrc: int, payload: bytes) -> bytes:
     return struct.pack('>BBHII', 0x80, payload_type, sequence & 0xFFFF, stamp & 0xFFFFFFFF, ssrc) + payload
 
 
-def strangers(large):
+def strangers(large: bool) -> Iterator[bytes]:
     """Datagrams of strangers, one after another, for ever; with large ones, of the most that IPv4 has, among them."""
     chance = random.Random(2)
     sequence = 0
@@ -72,7 +73,7 @@ def strangers(large):
             yield rtp(8, sequence, sequence * 160, ssrc, bytes(65507 - 12))
 
 
-def flood(port, seconds, rate, address):
+def flood(port: int, seconds: int, rate: int, address: str) -> None:
     """Sends the strangers' datagrams from eight sockets at an address, so many a second; prints how many and in what
     time."""
     sockets = [socket.socket(socket.AF_INET, socket.SOCK_DGRAM) for _ in range(8)]
@@ -90,14 +91,14 @@ def flood(port, seconds, rate, address):
     print(sent, time.monotonic() - begun)
 
 
-def config(folder, text):
+def config(folder: str, text: str) -> str:
     path = os.path.join(folder, 'flood.toml')
     with open(path, 'w', encoding='ascii') as file:
         file.write(text)
     return path
 
 
-def kernel(port):
+def kernel(port: int) -> tuple[int, int]:
     """Octets that wait at a socket of this machine, and datagrams that the kernel had no room for."""
     with open('/proc/net/udp', encoding='ascii') as table:
         for row in table:
@@ -107,7 +108,8 @@ def kernel(port):
     return 0, 0
 
 
-def call(program, path, flooded, what, *options):
+def call(program: str, path: str, flooded: int | None, what: str,
+         *options: str) -> tuple[tuple[bytes, list[bytes], int], int]:
     """Runs the calls for some seconds, with a flood at that port if one is named; returns what circuit 1 sent to the
     trunk and to its peer, with the status, and how many datagrams the kernel dropped at that port. With options the
     flood is the faster one from elsewhere."""
@@ -115,7 +117,8 @@ def call(program, path, flooded, what, *options):
     peer = socket.socket(socket.AF_INET, socket.SOCK_DGRAM)
     peer.bind(('127.0.0.1', PEER))
     peer.setblocking(False)
-    serve, exchange, packets, speech = Serve(program, path, *options), Exchange(), [], random.Random(1)
+    serve, exchange, packets = Serve(program, path, *options), Exchange(), list[bytes]()
+    speech = random.Random(1)
     spoken = random.Random(3)
     due, late, dropped, strangers_at_work = time.monotonic(), 0.0, 0, None
     for step in range(round((SECONDS + 1) / STEP)):
@@ -137,7 +140,7 @@ def call(program, path, flooded, what, *options):
         due += STEP
         late = max(late, time.monotonic() - due)
         time.sleep(max(0, due - time.monotonic()))
-    if strangers_at_work:
+    if strangers_at_work and flooded:
         sent, seconds = strangers_at_work.communicate()[0].split()
         # What came since the last trunk octet is taken with some more.
         serve.trunk(exchange.multiframe() * 16)
@@ -151,8 +154,8 @@ def call(program, path, flooded, what, *options):
     return (bytes(exchange.heard[1]), packets, status), dropped
 
 
-def received(peer):
-    packets = []
+def received(peer: socket.socket) -> list[bytes]:
+    packets: list[bytes] = []
     while True:
         try:
             packets.append(peer.recv(65536))
@@ -160,7 +163,7 @@ def received(peer):
             return packets
 
 
-def refused(program, path, what, line):
+def refused(program: str, path: str, what: str, line: str) -> bool:
     """Starts serve, which is to end at once with this line and status 1."""
     done = subprocess.run([program, 'serve', '--config', path], stdin=subprocess.DEVNULL, capture_output=True,
                           text=True, check=False)
@@ -169,16 +172,18 @@ def refused(program, path, what, line):
     return good
 
 
-def main():
+def main() -> None:
     program = sys.argv[1]
     with tempfile.TemporaryDirectory() as folder:
         path = config(folder, CONFIG.replace('HOST', '127.0.0.1'))
         alone, _ = call(program, path, None, 'no flood')
         good = alone[2] == 0 and len(alone[1]) > 200
         own = "flood at circuit 1's own port"
-        for port, what, *options in ((FLOODED, "flood at circuit 2's port"), (CALL, own),
-                                     (CALL, own + ', --senders host', '--senders', 'host'),
-                                     (CALL, own + ', --senders peer', '--senders', 'peer')):
+        rows: list[tuple[int, str, list[str]]] = [
+            (FLOODED, "flood at circuit 2's port", []), (CALL, own, []),
+            (CALL, own + ', --senders host', ['--senders', 'host']),
+            (CALL, own + ', --senders peer', ['--senders', 'peer'])]
+        for port, what, options in rows:
             flooded, dropped = call(program, path, port, what, *options)
             print(f'{what}: ' + ('the same octets and packets' if flooded == alone else
                                  'not the same, but the kernel may have dropped some of the call' if port == CALL
@@ -194,6 +199,6 @@ def main():
 
 if __name__ == '__main__':
     if sys.argv[1] == 'flood':
-        flood(*map(int, sys.argv[2:5]), sys.argv[5])
+        flood(int(sys.argv[2]), int(sys.argv[3]), int(sys.argv[4]), sys.argv[5])
     else:
         main()

@@ -41,8 +41,12 @@ a=rtpmap:{payload} {name}/8000
 '''
 
 
+Packet = tuple[int, int, int, int, float]      # sequence, timestamp, payload type, octets, when
+
+
 class Codec:
-    def __init__(self, name, config, law, payload, raw, coders):
+    def __init__(self, name: str, config: str, law: str, payload: int, raw: str,
+                 coders: tuple[str, int, str, str]) -> None:
         self.name, self.config, self.law, self.payload, self.raw = name, config, law, payload, raw
         # ffmpeg's coder and the size of its datagrams; GStreamer's elements to code and to read RTP.
         self.ffmpeg, self.size, self.pay, self.depay = coders
@@ -59,7 +63,7 @@ CODECS = (
 )
 
 
-def senders(codec, folder):
+def senders(codec: Codec, folder: str) -> tuple[list[str], list[str]]:
     """The command of each peer that sends the speech to its circuit."""
     bits = ['-b:a', '32k'] if codec.ffmpeg == 'g726le' else []
     return (
@@ -71,7 +75,7 @@ def senders(codec, folder):
     )
 
 
-def receivers(codec, folder):
+def receivers(codec: Codec, folder: str) -> tuple[list[str], list[str]]:
     """The command of each peer that writes the speech of its circuit to out.1 and out.2, in octets of G.711."""
     with open(f'{folder}/sdp', 'w', encoding='ascii') as sdp:
         sdp.write(SDP.format(port=PORTS[1][1], payload=codec.payload, name=codec.name))
@@ -89,12 +93,12 @@ def receivers(codec, folder):
 class Trunk:
     """A gateway and its exchange, a multiframe every 2 ms."""
 
-    def __init__(self, program, config, law):
+    def __init__(self, program: str, config: str, law: str) -> None:
         self.serve = Serve(program, config)
         self.exchange = Exchange(law)
         self.due = time.monotonic()
 
-    def run(self, seconds):
+    def run(self, seconds: float) -> None:
         for _ in range(round(seconds / STEP)):
             self.exchange.hear(self.serve.trunk(self.exchange.multiframe()))
             self.due += STEP
@@ -102,7 +106,7 @@ class Trunk:
             if wait > 0:
                 time.sleep(wait)
 
-    def set_up(self, circuit):
+    def set_up(self, circuit: int) -> None:
         """A call on an outgoing circuit, up to the acknowledgement, with which its path opens."""
         if self.serve.command(circuit, 'seize') != 0:
             raise SystemExit('interwork: a circuit is not idle')
@@ -113,7 +117,7 @@ class Trunk:
         self.run(0.03)
 
 
-def judge(codec, what, speech, heard):
+def judge(codec: Codec, what: str, speech: bytes, heard: bytes | bytearray) -> bool:
     """Prints how speech came through, and returns whether that is enough."""
     if codec.name != 'G726-32':
         at = bytes(heard).find(speech)
@@ -127,13 +131,13 @@ def judge(codec, what, speech, heard):
     return good
 
 
-def captured(folder, codec):
+def captured(folder: str, codec: Codec) -> bool:
     """Prints what tshark reads of each stream; returns whether each is whole and in order."""
     choice = [word for ports in PORTS.values() for port in ports for word in ('-d', f'udp.port=={port},rtp')]
     read = ['tshark', '-n', '-r', f'{folder}/pcap', *choice]
     fields = ('udp.dstport', 'rtp.seq', 'rtp.timestamp', 'rtp.p_type', 'udp.length', 'frame.time_relative')
     packets = output(*read, '-Y', 'rtp && !icmp', '-T', 'fields', *(word for name in fields for word in ('-e', name)))
-    streams = {}
+    streams: dict[int, list[Packet]] = {}
     for row in packets.splitlines():
         port, sequence, stamp, payload, length, seen = row.split('\t')
         # 8 octets of UDP's header and 12 of RTP's.
@@ -144,23 +148,23 @@ def captured(folder, codec):
     lost = {int(port): int(count) for port, count
             in re.findall(r'127\.0\.0\.1 +(\d+) +0x.*? +\d+ +(-?\d+) +\(', analysis)}
     good = True
-    for (circuit, ports), peer in zip(PORTS.items(), PEERS):
-        for port, way in zip(ports, (f'{peer} to e1gw', f'e1gw to {peer}')):
-            good = told(codec, way, streams.get(port, []), lost.get(port)) and good
+    for ports, peer in zip(PORTS.values(), PEERS):
+        for end, way in zip(ports, (f'{peer} to e1gw', f'e1gw to {peer}')):
+            good = told(codec, way, streams.get(end, []), lost.get(end)) and good
     return good
 
 
-def output(*words):
+def output(*words: str) -> str:
     return subprocess.run(words, stdout=subprocess.PIPE, stderr=subprocess.DEVNULL, check=True, text=True).stdout
 
 
-def told(codec, way, packets, lost):
+def told(codec: Codec, way: str, packets: list[Packet], lost: int | None) -> bool:
     """Prints a line for a stream: packets, their sizes, steps of sequence and timestamp, and their times."""
     pairs = list(zip(packets, packets[1:]))
     steps = sorted({(b[0] - a[0]) % 65536 for a, b in pairs})
     stamps = sorted({(b[1] - a[1]) % 2 ** 32 for a, b in pairs})
     octets = sorted({each[3] for each in packets})
-    gaps = [b[4] - a[4] for a, b in pairs] or [0]
+    gaps = [b[4] - a[4] for a, b in pairs] or [0.0]
     good = (len(packets) > 100 and steps == [1] and lost == 0
             and {each[2] for each in packets} == {codec.payload})
     if way.startswith('e1gw'):
@@ -172,16 +176,16 @@ def told(codec, way, packets, lost):
     return good
 
 
-def some(numbers):
+def some(numbers: list[int]) -> str:
     return ' '.join(map(str, numbers[:3])) + (' ..' if len(numbers) > 3 else '')
 
 
-def compare(codec, program, folder):
+def compare(codec: Codec, program: str, folder: str) -> bool:
     with open(f'{folder}/{codec.law}.raw', 'rb') as file:
         speech = file.read()
-    with open(f'{folder}/config', 'w', encoding='ascii') as file:
-        file.write(CONFIG.format(law=codec.law, codec=codec.config, payload=codec.payload))
-    started = []
+    with open(f'{folder}/config', 'w', encoding='ascii') as text:
+        text.write(CONFIG.format(law=codec.law, codec=codec.config, payload=codec.payload))
+    started: list[subprocess.Popen[str] | subprocess.Popen[bytes]] = []
     try:
         heard = calls(codec, program, folder, speech, started)
     finally:
@@ -196,7 +200,8 @@ def compare(codec, program, folder):
     return captured(folder, codec) and good
 
 
-def calls(codec, program, folder, speech, started):
+def calls(codec: Codec, program: str, folder: str, speech: bytes,
+          started: list[subprocess.Popen[str] | subprocess.Popen[bytes]]) -> dict[int, bytearray]:
     """Has the calls, and returns what came to the exchange. The processes are added to those started."""
     ports = ' or '.join(str(port) for pair in PORTS.values() for port in pair)
     capture = subprocess.Popen(['tshark', '-n', '-q', '-i', 'lo', '-w', f'{folder}/pcap', '-f', f'udp port {ports}'],
@@ -204,7 +209,7 @@ def calls(codec, program, folder, speech, started):
     started += [capture, *(subprocess.Popen(words) for words in receivers(codec, folder))]
     time.sleep(2)
     if capture.poll() is not None:
-        sys.stderr.write(capture.stderr.read())
+        sys.stderr.write(capture.communicate()[1])
         print("interwork: tshark can't capture on lo; run as root", file=sys.stderr)
         sys.exit(2)
     trunk = Trunk(program, f'{folder}/config', codec.law)
@@ -228,7 +233,7 @@ def calls(codec, program, folder, speech, started):
     return trunk.exchange.heard
 
 
-def main():
+def main() -> None:
     program, folder = sys.argv[1:]
     good = [compare(codec, program, folder) for codec in CODECS]
     print('speech and packets as they should be' if all(good) else 'NOT as it should be')

@@ -266,7 +266,7 @@ def ones(program: str, folder: str, bars: Bars) -> None:
     lost = lock.network.lost
     print(f'{trial.name}:')
     bars.look('packets lost, and alignment lost', f'{lost}, {lock.lines.losses[Alignment.FRAME]}',
-              0 < lock.lines.losses['frame'] <= lost, 'told, to compare')
+              0 < lock.lines.losses[Alignment.FRAME] <= lost, 'told, to compare')
     lock.end()
 
 

@@ -17,9 +17,9 @@ import time
 from typing import Any, Callable, Iterable
 
 from paths import TOP
-from e1gw.exchange import ACKNOWLEDGED, decibels, delay, samples
+from e1gw.exchange import ACKNOWLEDGED, ANSWERED, IDLE, SEIZED, decibels, delay, samples
 from e1gw.g711 import VALUES
-from players import ANSWERED, CIRCUITS, IDLE, SEIZED, Player, World
+from players import CIRCUITS, Player, World
 
 HERE = os.path.dirname(os.path.abspath(__file__))
 

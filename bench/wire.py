@@ -62,7 +62,7 @@ class Wire:
                     self.obey(line.strip())
                 elif key.fileobj is self.door:
                     self.accept()
-                elif key.fileobj in self.others:
+                elif isinstance(key.fileobj, socket.socket) and key.fileobj in self.others:
                     self.pass_on(key.fileobj)
 
 

@@ -4,45 +4,46 @@ import re
 import subprocess
 import sys
 import tempfile
+from typing import Any
 
 TOP, PROGRAM = sys.argv[1:3]
 SUBCOMMANDS = ['encode', 'decode', 'align', 'crc4', 'replay', 'check', 'serve', 'trunk']
 STREAMS = ['encode', 'decode']
 SPEECH = bytes(range(256)) * 3
 
-failures = []
+failures: list[str] = []
 
 
-def expect(what, found, wanted):
+def expect(what: str, found: object, wanted: object) -> None:
     """Notes a difference between what was found and what was wanted."""
     found, wanted = (sorted(value) if isinstance(value, set) else value for value in (found, wanted))
     if found != wanted:
         failures.append(f'{what}: {found!r} and not {wanted!r}')
 
 
-def page(name):
+def page(name: str) -> list[str]:
     """The lines of a manual page."""
     with open(os.path.join(TOP, 'dist', 'man', name), encoding='utf-8') as file:
         return file.read().splitlines()
 
 
-def run(*words, given=b'', **streams):
+def run(*words: str, given: bytes = b'', **streams: Any) -> tuple[int, bytes, str]:
     """The program with these words and this input: its status, its output and its faults."""
-    streams = {'input': given, 'stdout': subprocess.PIPE} | streams
-    done = subprocess.run([PROGRAM, *words], stderr=subprocess.PIPE, **streams)
+    ends: dict[str, Any] = {'input': given, 'stdout': subprocess.PIPE} | streams
+    done: subprocess.CompletedProcess[bytes] = subprocess.run([PROGRAM, *words], stderr=subprocess.PIPE, **ends)
     return done.returncode, done.stdout, done.stderr.decode()
 
 
-def helped(*words):
+def helped(*words: str) -> set[str]:
     """The options that the help of a subcommand, or of the program, names."""
     status, text, _ = run(*words, '--help')
     expect(f'status of {" ".join(words)} --help', status, 0)
     return set(re.findall(r'^ +(?:-\w, )?--([\w-]+)', text.decode(), re.M))
 
 
-def synopses(lines):
+def synopses(lines: list[str]) -> dict[str, set[str]]:
     """The options of each subcommand in the synopsis; those without one stand at ''."""
-    found, name = {'': set()}, ''
+    found, name = {'': set[str]()}, ''
     for line in lines[lines.index('.Sh SYNOPSIS'):lines.index('.Sh DESCRIPTION')]:
         if line == '.Nm':
             name = ''
@@ -54,9 +55,10 @@ def synopses(lines):
     return found
 
 
-def described(lines):
+def described(lines: list[str]) -> dict[str, list[str]]:
     """The items of the page that describe an option: its name, and the lines under it."""
-    found, name = {}, None
+    found: dict[str, list[str]] = {}
+    name = None
     for line in lines:
         if line.startswith(('.It ', '.El', '.Ss', '.Sh')):
             item = re.match(r'\.It Fl (?:\w , )?-([\w-]+)', line)
@@ -68,12 +70,12 @@ def described(lines):
     return found
 
 
-def values(lines):
+def values(lines: list[str]) -> set[str]:
     """The values that an option's lines mark as such."""
     return {word for line in lines if line.startswith('.Cm ') for word in line[4:].split() if re.match(r'\w', word)}
 
 
-def completed(*words):
+def completed(*words: str) -> set[str]:
     """What the completion offers for the last of these words."""
     script = '. "$0"; COMP_WORDS=("$@"); COMP_CWORD=$(($# - 1)); _e1gw; printf "%s\\n" "${COMPREPLY[@]}"'
     done = subprocess.run(['bash', '-c', script, os.path.join(TOP, 'dist/completions/e1gw.bash'), 'e1gw', *words],
@@ -81,7 +83,7 @@ def completed(*words):
     return {line for line in done.stdout.splitlines() if line}
 
 
-def compare_options(lines):
+def compare_options(lines: list[str]) -> None:
     """Synopsis, descriptions, completion and help name the same options."""
     synopsis, items = synopses(lines), described(lines)
     expect('options of the page without a subcommand', synopsis[''], helped())
@@ -95,7 +97,7 @@ def compare_options(lines):
     expect('completion after help', completed('help', ''), set(SUBCOMMANDS))
 
 
-def compare_values(option, lines):
+def compare_values(option: str, lines: list[str]) -> None:
     """The values of an option of a stream are those that the program takes, and its default is the program's."""
     text = ' '.join(line.removeprefix('.Cm ') for line in lines)
     default = re.search(r'The default is (\S+?) ?\.', text)
@@ -114,7 +116,7 @@ def compare_values(option, lines):
                run('encode', given=SPEECH))
 
 
-def compare_senders(folder):
+def compare_senders(folder: str) -> None:
     """The senders of the page are those that serve and the completion have, and the least and the most wait too."""
     listed = values(described(page('e1gw.1'))['senders'])
     expect('completion of --senders', completed('serve', '--senders', ''), listed)
@@ -127,14 +129,15 @@ def compare_senders(folder):
         expect(f'check --seizure-wait {wait}', run('check', '--config', config, '--seizure-wait', wait)[0], status)
 
 
-def compare_payloads():
+def compare_payloads() -> None:
     """The payload types that the page says are the defaults."""
-    for words, payload in [([], 8), (['--law', 'mu'], 0), (['--codec', 'g726-16'], 96),
-                           (['--codec', 'g726-40', '--law', 'mu'], 96)]:
+    rows: list[tuple[list[str], int]] = [([], 8), (['--law', 'mu'], 0), (['--codec', 'g726-16'], 96),
+                                         (['--codec', 'g726-40', '--law', 'mu'], 96)]
+    for words, payload in rows:
         expect(f'payload type of encode {" ".join(words)}', run('encode', *words, given=SPEECH)[1][5], payload)
 
 
-def compare_options_passed_over(lines):
+def compare_options_passed_over(lines: list[str]) -> None:
     """The options that decode is said to pass over change nothing of its output, and the others stand in the page."""
     start = lines.index('it accepts')
     passed = {option for line in lines[start:lines.index('and passes them over, so that one set of options names a'
@@ -147,21 +150,22 @@ def compare_options_passed_over(lines):
         expect(f'decode --{option} 10', run('decode', f'--{option}', '10', given=records), speech)
 
 
-def examples(lines):
+def examples(lines: list[str]) -> list[str]:
     """The literal blocks of a page."""
-    found, block = [], None
+    found: list[str] = []
+    block: list[str] | None = None
     for line in lines:
         if line.startswith('.Bd -literal'):
             block = []
         elif line == '.Ed':
-            found.append('\n'.join(block))
+            found.append('\n'.join(block or []))
             block = None
         elif block is not None:
             block.append(line.replace('\\e', '\\'))
     return found
 
 
-def try_examples(folder):
+def try_examples(folder: str) -> None:
     """The configuration of the page is one, and the session of the page gives the records of the page."""
     shipped = os.path.join(TOP, 'dist/system/example.toml')
     with open(shipped, encoding='utf-8') as file:
@@ -184,12 +188,12 @@ CONFIG_FAULTS = ['law = A', 'x = 1', '', 'law = 1', 'law = "B"',
                  'law = "mu"\n[[circuit]]\nnumber = 1\ncodec = "pcma"', ' ' * 65537]
 
 
-def diagnosed(name, word):
+def diagnosed(name: str, word: str) -> list[str]:
     """The lines that a page shows for the faults whose lines begin with a word."""
     return [line.removeprefix('.It ') for line in page(name) if line.startswith(f'.It {word} ')]
 
 
-def compare_faults(folder):
+def compare_faults(folder: str) -> None:
     """The lines of faults are those of the pages, one for each number."""
     config = os.path.join(folder, 'fault.toml')
     with open(config, 'w', encoding='utf-8') as file:
@@ -216,7 +220,7 @@ def compare_faults(folder):
            (2, 'cannot read the configuration\n'))
 
 
-def totals(*words, given):
+def totals(*words: str, given: bytes) -> tuple[list[tuple[str, int]], list[str]]:
     """The totals of a session as --totals prints them, and the other lines of its faults."""
     _, _, faults = run(*words, '--totals', given=given)
     lines = [re.fullmatch(r'(\w+) (\d+)', line) or line for line in faults.splitlines()]
@@ -224,7 +228,7 @@ def totals(*words, given):
             [line for line in lines if isinstance(line, str)])
 
 
-def compare_totals(lines, folder):
+def compare_totals(lines: list[str], folder: str) -> None:
     """The totals have the names of the page, and count what it says."""
     names = [line.split()[2] for line in lines[lines.index('.It Fl -totals'):lines.index('.It Fl h , -help')]
              if line.startswith('.It Ql')]
@@ -243,7 +247,7 @@ def compare_totals(lines, folder):
         expect(f'totals of {" ".join(words)}', totals(*words, given=given), (list(zip(names, counts)), others))
 
 
-def main():
+def main() -> None:
     lines = page('e1gw.1')
     compare_options(lines)
     for option, about in described(lines).items():

@@ -1,7 +1,7 @@
 """Both ends of a trunk for scripts: `e1gw serve` as a process, and the exchange that its trunk leads to."""
 import math
 import subprocess
-from typing import Any, Sequence
+from typing import Any, NoReturn, Sequence
 
 from .g711 import VALUES
 from .session import FRAME, HEAD, MULTIFRAME, Command, command_record, trunk_record
@@ -21,28 +21,30 @@ class Serve:
     """A running `e1gw serve`. What it was given and what it answered is kept, record by record."""
 
     def __init__(self, program: str, config: str, *options: str, **streams: Any) -> None:
-        self.process = subprocess.Popen([program, 'serve', '--config', config, *options],
-                                        stdin=subprocess.PIPE, stdout=subprocess.PIPE, **streams)
+        self.process: subprocess.Popen[bytes] = subprocess.Popen(
+            [program, 'serve', '--config', config, *options], stdin=subprocess.PIPE, stdout=subprocess.PIPE, **streams)
+        assert self.process.stdin and self.process.stdout
+        self.input, self.output = self.process.stdin, self.process.stdout
         self.given: list[bytes] = []
         self.answered: list[bytes] = []
 
     def _give(self, given: bytes) -> None:
         self.given.append(given)
         try:
-            self.process.stdin.write(given)
-            self.process.stdin.flush()
+            self.input.write(given)
+            self.input.flush()
         except BrokenPipeError:
             self._gone()
 
     def _answer(self) -> bytes:
-        head = self.process.stdout.read(4)
+        head = self.output.read(4)
         if len(head) < 4:
             self._gone()
-        body = self.process.stdout.read(HEAD.unpack(head)[2])
+        body: bytes = self.output.read(HEAD.unpack(head)[2])
         self.answered.append(head + body)
         return body
 
-    def _gone(self) -> None:
+    def _gone(self) -> NoReturn:
         raise SystemExit(f'e1gw serve has ended with status {self.process.wait()}')
 
     def trunk(self, octets: bytes) -> bytes:
@@ -57,7 +59,7 @@ class Serve:
 
     def end(self) -> int:
         """Ends its input and returns its status."""
-        self.process.stdin.close()
+        self.input.close()
         return self.process.wait()
 
 

@@ -83,7 +83,8 @@ class Readers:
 
     def __init__(self, number: int, door: str, port: int, path: str) -> None:
         kind = multiprocessing.get_context('fork')
-        self.count, self._stop = kind.Value('i', 0), kind.Event()
+        self.count: Any = kind.Value('i', 0)        # rounds, of all
+        self._stop = kind.Event()
         self._processes = [kind.Process(target=_read, args=(door, port, path, self.count, self._stop), daemon=True)
                            for _ in range(number)]
 

@@ -61,9 +61,9 @@ class End:
         ours, theirs = socket.socketpair()
         with theirs:
             self.program = subprocess.Popen([support.program(), 'trunk', '--config', config, '--control', control],
-                                            stdin=theirs, stdout=theirs, stderr=subprocess.DEVNULL)
-        file = ours.detach()
-        self.tapped = Tapped(file, file, 'pair')
+                                            stdin=theirs.fileno(), stdout=theirs.fileno(), stderr=subprocess.DEVNULL)
+        end = ours.detach()
+        self.tapped = Tapped(end, end, 'pair')
         self.carrier.join(self.tapped)
         self.lines = Followed(read_config(config), lambda event: None)
         self.client = socket.socket(socket.AF_UNIX)

@@ -3,6 +3,7 @@ from __future__ import annotations
 
 import unittest
 from types import SimpleNamespace
+from typing import cast
 
 from . import support
 from e1gw.clock import TICK, Clock, Finding
@@ -129,7 +130,10 @@ class Flow(unittest.TestCase):
         trunk = Trunk()
         driver = SimpleNamespace(trunk=trunk, clock=trunk.clock, lines=Followed({}))
         driver.lines.alarms = dict.fromkeys(Alignment, False)
-        words = lambda: Driver.dark_words(driver)       # noqa: E731
+
+        def words() -> str | None:
+            return Driver.dark_words(cast(Driver, driver))
+
         trunk.go(2)
         self.assertIsNone(words())
         trunk.quiet(0.15)
@@ -188,7 +192,7 @@ class Streams(unittest.TestCase):
         self.assertEqual((stream.lost, stream.jitter), (1, 0.0))
 
     def test_answers_are_those_of_the_datagrams_before(self) -> None:
-        answers_of: list[tuple[int, int, int]] = []
+        answers_of: list[tuple[int, ...]] = []
         counts = Taped(lambda *answer: answers_of.append(answer))
         packet = Packet(8, 1, 0, 1, b'\xD5' * 160).spelled()
         tape = (trunk_record(bytes(64)) + datagram_record(3, b'') + codec_record(3, Codec.G711, 8)

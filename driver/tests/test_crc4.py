@@ -14,6 +14,7 @@ import sys
 import tempfile
 import time
 import unittest
+from typing import Any
 from unittest import mock
 
 from . import support
@@ -22,7 +23,8 @@ from .world import LAUNCHER, SECONDS, World, config_of
 from e1gw import crc4, filtered, metrics
 from e1gw.crc4 import Crc4, counts_of, with_crc4
 from e1gw.events import words_of
-from e1gw.trunk import Usage, options_of
+from e1gw.options import Usage
+from e1gw.trunk import options_of
 from e1gw.trunks import Stream
 
 FRAME, HALF, MULTIFRAME = 32, 256, 512      # octets; half a multiframe is a submultiframe
@@ -285,7 +287,8 @@ class Service(unittest.TestCase):
                 config.write(config_of(FOUR))
                 file.write(b''.join(exchange.multiframe() for _ in range(300)) + bytes(33))
             out = []
-            for words in ([], ['--crc4']):
+            rows: list[list[str]] = [[], ['--crc4']]
+            for words in rows:
                 writes = os.path.join(folder, f'out{len(words)}')
                 subprocess.run([sys.executable, '-B', LAUNCHER, '--program', support.program(), '--config', toml,
                                 '--in', reads, '--out', writes, *words], stdin=subprocess.DEVNULL, check=True,
@@ -405,7 +408,7 @@ class Counts(unittest.TestCase):
 
     def test_what_is_told(self) -> None:
         """Each state once, over checks one after another."""
-        rows = (
+        rows: tuple[tuple[tuple[int, ...], int, list[str], tuple[int, int]], ...] = (
             ((0, 0, 0, 0, 0, 0), 256_000, ['no CRC multiframe alignment'], (0, 0)),
             ((0, 0, 0, 0, 0, 0), 256_000, [], (0, 0)),
             ((988, 0, 0, 1, 0, 0), 256_000, ['CRC multiframe alignment found'], (1, 0)),
@@ -430,7 +433,7 @@ class Counts(unittest.TestCase):
         self.assertEqual(known.checked, octets)
 
     def test_metrics(self) -> None:
-        known, status = Crc4(), {'crc4': None}
+        known, status = Crc4(), dict[str, Any](crc4=None)
         self.assertEqual(metrics.crc4_families(status), [])
         status['crc4'] = known.status()
         text = ''.join(metrics.family(*each) for each in metrics.crc4_families(status))

@@ -10,7 +10,7 @@ import sys
 import time
 import unittest
 import unittest.mock
-from typing import Any
+from typing import Any, TypeVar
 
 from . import support
 from .world import IDLE, LAUNCHER, SECONDS, SEIZED, World, config_of, free_ports
@@ -29,7 +29,10 @@ sys.exit(subprocess.run(sys.argv[2:], stdin=terminal, process_group=0).returncod
 """
 
 
-def aligned(world: World) -> World:
+W = TypeVar('W', bound=World)
+
+
+def aligned(world: W) -> W:
     """Steps until the lines are idle."""
     world.until(lambda: world.exchange.aligned and not world.exchange.remote_alarms)
     world.step(15)
@@ -400,11 +403,12 @@ class Refused(support.Folder):
             self.assertEqual(file.read(), 'precious')
 
     def test_words_of_the_command_line(self) -> None:
-        for words in (['--tcp', '127.0.0.1:99999'], ['--tcp', '.x:1'], ['--tcp', 'host'], ['--tcp', ':1'],
-                      ['--in', '/dev/null'], [], ['--unix', 'a', '--tcp', 'b:1'], ['--unix', 'a', '--most', '0'],
-                      ['--unix', 'a', '--keep', '1h'], ['--unix', 'a', '--session', 's', '--keep', '1x'],
-                      ['--unix', 'a', '--on-loss', 'drop'], ['--unix', 'a', '--http', '1'],
-                      ['--unix', 'a', '--gap', 'x']):
+        rows: list[list[str]] = [
+            ['--tcp', '127.0.0.1:99999'], ['--tcp', '.x:1'], ['--tcp', 'host'], ['--tcp', ':1'], ['--in', '/dev/null'],
+            [], ['--unix', 'a', '--tcp', 'b:1'], ['--unix', 'a', '--most', '0'], ['--unix', 'a', '--keep', '1h'],
+            ['--unix', 'a', '--session', 's', '--keep', '1x'], ['--unix', 'a', '--on-loss', 'drop'],
+            ['--unix', 'a', '--http', '1'], ['--unix', 'a', '--gap', 'x']]
+        for words in rows:
             with self.subTest(words):
                 self.assertEqual(self.run_driver('--config', self.good, *words)[0], 2)
 
@@ -467,9 +471,11 @@ class Refused(support.Folder):
         words = ('--in', '/dev/null', '--out', '/dev/null')
         circuit = '[[circuit]]\nnumber = %d\nlocal_port = %d\npeer_port = 9\npeer_host = "%s"\n'
         ports = free_ports(2)
-        for host, option, said in (('127.0.0.1', (), '--senders host'), ('localhost', (), '--senders any'),
-                                   ('127.0.0.1', ('--senders', 'any'), '--senders any'),
-                                   ('127.0.0.1', ('--senders', 'peer'), '--senders peer')):
+        rows: list[tuple[str, tuple[str, ...], str]] = [
+            ('127.0.0.1', (), '--senders host'), ('localhost', (), '--senders any'),
+            ('127.0.0.1', ('--senders', 'any'), '--senders any'),
+            ('127.0.0.1', ('--senders', 'peer'), '--senders peer')]
+        for host, option, said in rows:
             text = circuit % (1, ports[0], '127.0.0.1') + circuit % (2, ports[1], host)
             config = self.write('peers.toml', f'law = "A"\n{text}')
             with self.subTest(host=host, option=option):
@@ -478,12 +484,16 @@ class Refused(support.Folder):
 
     def test_repeat_is_passed_on(self) -> None:
         words = ['--config', self.good, '--in', '/dev/null', '--out', '/dev/null', '--senders', 'any']
-        for option, given in (([], []), (['--repeat', '0'], []), (['--repeat', '2'], ['--repeat', '2'])):
+        rows: list[tuple[list[str], list[str]]] = [
+            ([], []), (['--repeat', '0'], []), (['--repeat', '2'], ['--repeat', '2'])]
+        for option, given in rows:
             self.assertEqual(_serve_words(parser().parse_args(words + option)), given + ['--senders', 'any'])
 
     def test_the_wait_of_a_seizure_is_passed_on(self) -> None:
         words = ['--config', self.good, '--in', '/dev/null', '--out', '/dev/null', '--senders', 'any']
-        for option, given in (([], []), (['--seizure-wait', '2000'], ['--seizure-wait', '2000'])):
+        rows: list[tuple[list[str], list[str]]] = [
+            ([], []), (['--seizure-wait', '2000'], ['--seizure-wait', '2000'])]
+        for option, given in rows:
             self.assertEqual(_serve_words(parser().parse_args(words + option)), given + ['--senders', 'any'])
 
     def test_a_file_goes_through(self) -> None:

@@ -19,7 +19,8 @@ from .world import LAUNCHER, SECONDS, World, aligner_of, config_of
 from e1gw import session
 from e1gw.filtered import Received, align
 from e1gw.filters import MOST_INSIDE
-from e1gw.trunk import Usage, options_of
+from e1gw.options import Usage
+from e1gw.trunk import options_of
 from e1gw.trunks import Stream, Trunk, open_files
 
 

@@ -68,10 +68,12 @@ class Rings(support.Folder):
 
     def test_steps_of_the_clock(self) -> None:
         hour = 3600.0
-        for name, steps in (('none', {}), ('forward', {290: hour}), ('forward before', {200: hour}),
-                            ('to 2038 and back', {250: 10 ** 8, 255: -10.0 ** 8}), ('back', {200: -hour}),
-                            ('a piece back, again and again', dict.fromkeys(range(4, 300, EACH), -EACH)),
-                            ('half a minute back each minute', dict.fromkeys(range(60, 300, 60), -30))):
+        rows: list[tuple[str, dict[int, float]]] = [
+            ('none', {}), ('forward', {290: hour}), ('forward before', {200: hour}),
+            ('to 2038 and back', {250: 10 ** 8, 255: -10.0 ** 8}), ('back', {200: -hour}),
+            ('a piece back, again and again', dict.fromkeys(range(4, 300, EACH), -EACH)),
+            ('half a minute back each minute', dict.fromkeys(range(60, 300, 60), -30))]
+        for name, steps in rows:
             with self.subTest(name):
                 self.ring = os.path.join(self.folder, name)
                 self.play(300, steps)

@@ -252,10 +252,10 @@ class Kept(support.Folder):
         lost = self.heard.count(None)
         self.peers.take()
         for circuit in sorted({*CIRCUITS} - {but}):
-            mine, its = self.peers.packets[circuit], packets[circuit]
-            self.assertLessEqual(len(its) - len(mine), lost)
-            self.assertEqual(mine, [packet for packet in its if packet in set(mine)], f'circuit {circuit}')
-            numbers = [packet_of(packet).sequence for packet in its]
+            got, due = self.peers.packets[circuit], packets[circuit]
+            self.assertLessEqual(len(due) - len(got), lost)
+            self.assertEqual(got, [packet for packet in due if packet in set(got)], f'circuit {circuit}')
+            numbers = [packet_of(packet).sequence for packet in due]
             self.assertEqual(numbers, list(range(numbers[0], numbers[0] + len(numbers))))
         self.assertEqual({**self.device.exchange.signals, but: 0}, {**self.up(), but: 0})
         self.assertFalse(self.device.exchange.remote_alarms)

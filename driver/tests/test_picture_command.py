@@ -295,8 +295,8 @@ class Captured(Drawn):
         # ICMPv6, destination unreachable, port unreachable (RFC 4443, 3.1).
         about = udp6(24006, 24106, b'two')[:48]
         packet = struct.pack('>IHBB', 6 << 28, 8 + len(about), 58, 64) + bytes(32) + bytes([1, 4]) + bytes(6) + about
-        (found,) = datagrams(io.BytesIO(pcap([(BEGIN, packet)])))
-        self.assertEqual((found.source, found.target, found.answer), (24006, 24106, 'nobody listens at that port'))
+        (one,) = datagrams(io.BytesIO(pcap([(BEGIN, packet)])))
+        self.assertEqual((one.source, one.target, one.answer), (24006, 24106, 'nobody listens at that port'))
 
     def test_what_is_no_capture(self) -> None:
         for octets in (b'', b'RIFF', b'\x0A\x0D\x0D\x0A' + struct.pack('<I', 5) + b'\x4D\x3C\x2B\x1A'):

@@ -37,8 +37,8 @@ def tone(law: str, hertz: float, loud: float) -> bytes:
     nearest = {value: octet for octet, value in enumerate(VALUES[law])}
     values = sorted(nearest)
     top = values[-1] * loud
-    return bytes(nearest[min(values, key=lambda value, x=top * math.sin(2 * math.pi * hertz * n / 8000 + 1):
-                             abs(value - x))] for n in range(160))
+    wave = [top * math.sin(2 * math.pi * hertz * n / 8000 + 1) for n in range(160)]
+    return bytes(nearest[min(values, key=lambda value: abs(value - sample))] for sample in wave)
 
 
 def made(name: str) -> tuple[Facts, bytes]:

@@ -180,7 +180,7 @@ class Simulated(unittest.TestCase):
                 call.lose(0.5)
                 call.flow(5)
                 self.assertEqual(len(call.restarts), int(counts))
-                (self.assertLessEqual if counts else self.assertGreater)(call.lost(), 0.5 + LESS + 0.4)
+                self.assertEqual(call.lost() <= 0.5 + LESS + 0.4, counts)
 
     def test_octets_that_stay_late(self) -> None:
         """A loss that is no gap before the first packet: it is of the time that all later ones have."""

@@ -62,7 +62,7 @@ class Reading(unittest.TestCase):
                          (Command.SEIZE, Codec.G726_32, 8, CommandRefusal.NOT_IDLE))
 
     def test_octet_by_octet(self) -> None:
-        reader, read = Reader(), []
+        reader, read = Reader(), list[Record]()
         for octet in SEIZE + DATAGRAM + EMPTY:
             reader.push(bytes([octet]))
             read += reader.whole()

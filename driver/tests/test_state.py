@@ -34,7 +34,7 @@ def coding(law: str, circuit: int) -> Coding:
     return Coding(codec, 96 + circuit % 5, int(codec[-2:]) * 20 // 8)
 
 
-def config_of(law: str, **of_seven: int) -> str:
+def config_of(law: str, **of_seven: object) -> str:
     """Thirty circuits with all codecs, half of them incoming. Circuit 7 has these keys beside."""
     tables = []
     for circuit in range(1, 31):
@@ -205,7 +205,8 @@ class Reconfigured(Pieces):
         raise AssertionError('no call')
 
     def test_all_others_go_on(self) -> None:
-        changes = ({'prefill': 161}, {'role': '"outgoing"'}, {'ssrc': 77}, {'codec': '"g726-40"', 'payload': 99})
+        changes: tuple[dict[str, object], ...] = (
+            {'prefill': 161}, {'role': '"outgoing"'}, {'ssrc': 77}, {'codec': '"g726-40"', 'payload': 99})
         for law, keys in zip(('A', 'mu', 'mu', 'A'), changes):
             config, other = self.write('trunk.toml', config_of(law)), self.write('other.toml', config_of(law, **keys))
             records, place, first = self.in_call(law, config)
@@ -297,11 +298,10 @@ class Refused(support.Folder):
             self.assertEqual(status, 2 if told else 0)
             faults.add(told.split(' at ')[0])
         self.assertIn('state 6 Value', faults)
-        for change, told in ((lambda octets: octets + b'\0', 'state 7 Left at 0\n'),
-                             (lambda octets: octets[:-1], 'state 6 Value at 30\n'),
-                             (lambda octets: octets[:486], 'state 6 Value at 0\n')):
-            octets = change(self.state[:-32])
-            self.assertEqual(self.loaded(octets + hashlib.sha256(octets).digest()), (2, told))
+        body = self.state[:-32]
+        for changed, told in ((body + b'\0', 'state 7 Left at 0\n'), (body[:-1], 'state 6 Value at 30\n'),
+                              (body[:486], 'state 6 Value at 0\n')):
+            self.assertEqual(self.loaded(changed + hashlib.sha256(changed).digest()), (2, told))
 
     def test_cut(self) -> None:
         self.assertEqual(self.loaded(b''), (2, 'state 1 Short at 0\n'))

@@ -20,7 +20,7 @@ from e1gw.tie.circuit import End
 from e1gw.tie.coding import Coding, Codings
 from e1gw.tie.kept import Kept, read
 from e1gw.tie.main import ANYBODY, is_loopback, parser
-from e1gw.tie.messages import All, Alive, BadMessage, Change, Dark, Greeting, message_of, spell
+from e1gw.tie.messages import All, Alive, BadMessage, Change, Dark, Greeting, Message, message_of, spell
 from e1gw.tie.pairs import BadPairs, agreed, pairs_of
 from e1gw.tie.site import Site, context_of, has_name
 from e1gw.tie.strangers import Stage, Stranger, Strangers, address_of
@@ -52,8 +52,10 @@ class Pairs(unittest.TestCase):
 class Messages(unittest.TestCase):
     def test_there_and_back(self) -> None:
         end = End(Role.INCOMING, State.ACKED, 'a.1', True, 'a.0')
-        for message in (Greeting('ab', None), Greeting('ab', {1: 30}), All(True, {30: end}), All(False, {}, 'pcma'),
-                        Change(1, end), Dark(False), Alive(), Change(2, End(Role.OUTGOING, State.FAULT, None))):
+        sent: list[Message] = [
+            Greeting('ab', None), Greeting('ab', {1: 30}), All(True, {30: end}), All(False, {}, 'pcma'),
+            Change(1, end), Dark(False), Alive(), Change(2, End(Role.OUTGOING, State.FAULT, None))]
+        for message in sent:
             self.assertEqual(message_of(spell(message)), message)
 
     def test_no_message(self) -> None:
@@ -75,9 +77,11 @@ class Help(unittest.TestCase):
             self.assertIn(option.encode(), said)
 
     def test_refused(self) -> None:
-        for words in ([], ['--control', 'a'], ['--control', 'a', '--listen', 'x'], ['--control', 'a', '--listen',
-                      '127.0.0.1:1', '--connect', '127.0.0.1:1'], ['--control', 'a', '--listen', '127.0.0.1:1',
-                      '--hold', '-1']):
+        rows: list[list[str]] = [
+            [], ['--control', 'a'], ['--control', 'a', '--listen', 'x'],
+            ['--control', 'a', '--listen', '127.0.0.1:1', '--connect', '127.0.0.1:1'],
+            ['--control', 'a', '--listen', '127.0.0.1:1', '--hold', '-1']]
+        for words in rows:
             with self.subTest(words=words), self.assertRaises(SystemExit) as end, mock.patch('sys.stderr'):
                 parser().parse_args(words)
             self.assertEqual(end.exception.code, 2)
@@ -715,8 +719,9 @@ class Certificates(Sites):
         subprocess.run(['openssl', *words], cwd=self.folder.name, check=True, capture_output=True)
 
     def context(self, name: str, authority: str, listens: bool) -> Any:
-        return context_of(*(os.path.join(self.folder.name, each)
-                            for each in (f'{name}.pem', f'{name}.key', f'{authority}.pem')), listens)
+        certificate, key, ours = (os.path.join(self.folder.name, each)
+                                  for each in (f'{name}.pem', f'{name}.key', f'{authority}.pem'))
+        return context_of(certificate, key, ours, listens)
 
     def tie(self, name: str, waits: bool = False, **more: Any) -> tuple[Tie, Site]:
         more.setdefault('context', self.context(name, 'ours', name == 'west'))
@@ -744,7 +749,8 @@ class Certificates(Sites):
     def test_any_certificate_is_told(self) -> None:
         """Who listens without a name for the other site is told what that means, and who names one is not."""
         files = [os.path.join(self.folder.name, each) for each in ('west.pem', 'west.key', 'ours.pem')]
-        for more, told in (([], [ANYBODY]), (['--peer', 'east'], [])):
+        rows: list[tuple[list[str], list[str]]] = [([], [ANYBODY]), (['--peer', 'east'], [])]
+        for more, told in rows:
             words = ('--listen', f'127.0.0.1:{free_port()}', '--tls', *files, *more)
             events = Doors().said(*words)[2]
             self.assertEqual([each['about'] for each in events if each['event'] == 'warning'], told)

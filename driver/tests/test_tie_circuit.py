@@ -4,7 +4,7 @@ from collections import deque
 from dataclasses import dataclass, replace
 from itertools import product
 from random import Random
-from typing import Iterator
+from typing import Any, Iterator, TypeVar
 
 from e1gw.lines import Role, State
 from e1gw.session import Command
@@ -137,7 +137,10 @@ class World:
         return replace(world, **{('near', 'far')[side]: fresh})
 
 
-def put(pair, side, value):
+T = TypeVar('T')
+
+
+def put(pair: tuple[T, ...], side: int, value: T) -> tuple[T, T]:
     return (value, pair[1]) if side == 0 else (pair[0], value)
 
 
@@ -315,11 +318,11 @@ class Agreement(unittest.TestCase):
             self.assertIn(world.near.state, (BLOCKED, FAULT, CLEAREDBACK))
 
 
-def incoming(state: State, far: End | None, call: str = 'call 2', **fields: bool) -> Circuit:
+def incoming(state: State, far: End | None, call: str = 'call 2', **fields: Any) -> Circuit:
     return Circuit(Role.INCOMING, state, call, far=far, **fields)
 
 
-def outgoing(state: State, far: End | None, call: str | None = 'call 1', **fields: bool) -> Circuit:
+def outgoing(state: State, far: End | None, call: str | None = 'call 1', **fields: Any) -> Circuit:
     return Circuit(Role.OUTGOING, state, call, far=far, **fields)
 
 

@@ -14,7 +14,7 @@ BEGIN = ['e1gw tell 1 A', 'at 512', 'alarms 0 0 0 0', *(f'line {each}' for each 
 class Telling(unittest.TestCase):
     def setUp(self) -> None:
         self.now, self.events = 100.0, list[dict[str, Any]]()
-        self.counted: list[tuple[int, int, int]] = []
+        self.counted: list[tuple[int, ...]] = []
         self.counts = Counts(lambda *answer: self.counted.append(answer))
         self.told = Told({'law': 'A', 'circuit': [{'number': 1, 'prefill': 320}]}, self.events.append, self.counts,
                          lambda: self.now)

@@ -77,7 +77,7 @@ class Served(Configured):
         here, there = socket.socketpair()
         sent = came = b''
         exchange = support.Exchange()
-        with here, subprocess.Popen(self.serves(), stdin=there, stdout=there) as serving:
+        with here, subprocess.Popen(self.serves(), stdin=there.fileno(), stdout=there.fileno()) as serving:
             there.close()
             here.settimeout(SECONDS)
             for turn in range(60):
@@ -109,7 +109,7 @@ class Served(Configured):
                 here, there = socket.socketpair()
                 there.setblocking(waits)
                 words = self.serves('--record', self.recording, '--record-over')
-                with here, subprocess.Popen(words, stdin=there, stdout=there) as serving:
+                with here, subprocess.Popen(words, stdin=there.fileno(), stdout=there.fileno()) as serving:
                     there.close()
                     here.settimeout(SECONDS)
                     back = b''
@@ -195,7 +195,8 @@ class Trunk:
         self.here, there = socket.socketpair()
         self.here.settimeout(SECONDS)
         there.setblocking(waits)
-        self.serving = subprocess.Popen(words, stdin=there, stdout=there, stderr=subprocess.PIPE, pass_fds=passed)
+        self.serving = subprocess.Popen(words, stdin=there.fileno(), stdout=there.fileno(), stderr=subprocess.PIPE,
+                                        pass_fds=passed)
         there.close()
 
     def __enter__(self) -> Trunk:
@@ -432,7 +433,7 @@ class GoesOn(Configured):
     def serve_once(self, load: bool, waiting: int, command: Command | None) -> int:
         """One program, up to its end, which comes while octets wait. Returns how many."""
         words = self.serves('--control', self.control, '--save', self.state, *(['--load', self.state] if load else []))
-        serving = subprocess.Popen(words, stdin=self.there, stdout=self.there)
+        serving = subprocess.Popen(words, stdin=self.there.fileno(), stdout=self.there.fileno())
         self.addCleanup(serving.wait)
         self.addCleanup(serving.kill)
         self.take(waiting)

@@ -48,10 +48,10 @@ class Trunk(Served):
         self.process = self.start(*self.watch, name='watcher')
         self.until(lambda: self.stands(shadow=True, program=True))
 
-    def start(self, *words: str, name: str, **streams: Any) -> subprocess.Popen[bytes]:
+    def start(self, *words: str, name: str, stdin: int = subprocess.DEVNULL) -> subprocess.Popen[bytes]:
         with open(self.path(name), 'ab') as told:
             return subprocess.Popen([sys.executable, '-B', *words], cwd=self.folder, stdout=subprocess.DEVNULL,
-                                    stderr=told, **({'stdin': subprocess.DEVNULL} | streams))
+                                    stderr=told, stdin=stdin)
 
     def close(self) -> None:
         for process in (self.process, self.keeper, self.exchange):

@@ -9,7 +9,7 @@ import subprocess
 import sys
 import tempfile
 import time
-from typing import Any, Callable
+from typing import Any, Callable, Self
 
 from . import support
 
@@ -183,7 +183,7 @@ class World(Served):
         self.line = door.accept()[0]
         self.line.settimeout(SECONDS)
 
-    def __enter__(self) -> World:
+    def __enter__(self) -> Self:
         return self
 
     def close(self) -> None:
@@ -216,7 +216,7 @@ class World(Served):
             if pair == SEIZED and pairs[circuit] in (IDLE, ACKNOWLEDGED):
                 ages[circuit] = ages.get(circuit, 0) + 1
                 pairs[circuit] = ACKNOWLEDGED if ages[circuit] <= ANSWERS_AFTER else ANSWERED
-            elif pair == IDLE and ages.pop(circuit, None):
+            elif pair == IDLE and ages.pop(circuit, 0):
                 pairs[circuit] = IDLE
 
     def until(self, holds: Callable[[], bool], most: int = 2000) -> None:

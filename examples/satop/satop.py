@@ -161,16 +161,16 @@ def has_crc4(end: Gateway) -> bool:
     """Whether an end has found the CRC multiframes of the other one; tells what it has counted."""
     crc4 = end.status()['crc4']
     print(f'{end.name}: CRC-4: {crc4["errored"]} of {crc4["submultiframes"]} submultiframes errored')
-    return crc4['multiframes_found'] > 0
+    return bool(crc4['multiframes_found'] > 0)
 
 
 def main() -> int:
     good = False
     phones = [Phone(PHONES['west'], tone(300, 2500)), Phone(PHONES['east'], tone(2500, 300))]
     with tempfile.TemporaryDirectory() as folder:
-        ends = [Gateway(name, sys.argv[1], folder) for name in ENDS]
+        ends = west, east = [Gateway(name, sys.argv[1], folder) for name in ENDS]
         try:
-            good = call(*ends, phones)
+            good = call(west, east, phones)
         finally:
             statuses = [end.end() for end in ends]
             if not good or any(statuses):

@@ -12,10 +12,10 @@ the machine is. On a real trunk the line's clock does the same.
 import os
 import subprocess
 import sys
+from typing import Callable
 
 import paths    # noqa: F401 (makes e1gw known)
-from e1gw.exchange import (ACKNOWLEDGED, ANSWERED, IDLE, SEIZED, Exchange, Serve,
-                      decibels, delay, samples)
+from e1gw.exchange import ACKNOWLEDGED, ANSWERED, IDLE, SEIZED, Exchange, Serve, decibels, delay, samples
 from e1gw.session import Kind, records_in
 
 CIRCUIT = 1
@@ -26,7 +26,7 @@ BAR = 20            # decibels
 class End:
     """A gateway, its trunk and the exchange there."""
 
-    def __init__(self, name, program, folder, kept, first):
+    def __init__(self, name: str, program: str, folder: str, kept: str, first: int) -> None:
         self.name = name
         self.config = os.path.join(folder, name + '.toml')
         self.program = program
@@ -36,54 +36,54 @@ class End:
         # The trunk does not begin with a frame: the gateway has to look for one.
         self.exchange.hear(self.serve.trunk(self.exchange.multiframe()[first:]))
 
-    def step(self):
+    def step(self) -> None:
         self.exchange.hear(self.serve.trunk(self.exchange.multiframe()))
 
-    def sends(self, pair):
+    def sends(self, pair: int) -> None:
         """The line signal that the exchange sends."""
         self.exchange.pairs[CIRCUIT] = pair
 
-    def sees(self, pair):
+    def sees(self, pair: int) -> bool:
         """Whether the exchange sees this line signal."""
         return self.exchange.signals.get(CIRCUIT) == pair
 
-    def session(self):
+    def session(self) -> bytes:
         """The session so far, but for its datagrams."""
         return b''.join(self.serve.given)
 
-    def run(self, command, session):
+    def run(self, command: str, session: bytes) -> bytes:
         return subprocess.run([self.program, command, '--config', self.config], input=session,
                               stdout=subprocess.PIPE, check=True).stdout
 
-    def listed(self, session):
+    def listed(self, session: bytes) -> str:
         """The circuit's line of the listing that `e1gw check` gives for a session."""
         return self.run('check', session).decode().splitlines()[CIRCUIT - 1]
 
-    def keep(self):
+    def keep(self) -> bytes:
         """Keeps the octets of the trunk that were sent, and returns them."""
         octets = trunk_octets(b''.join(self.serve.answered))
         with open(self.sent, 'wb') as file:
             file.write(octets)
         return octets
 
-    def recorded(self):
+    def recorded(self) -> bytes:
         """What the gateway took."""
         with open(self.recording, 'rb') as file:
             return file.read()
 
 
 class Call:
-    def __init__(self, west, east):
+    def __init__(self, west: End, east: End) -> None:
         self.west, self.east = west, east
         self.steps = 0
 
-    def step(self, count=1):
+    def step(self, count: int = 1) -> None:
         for _ in range(count):
             self.west.step()
             self.east.step()
             self.steps += 1
 
-    def until(self, what, holds):
+    def until(self, what: str, holds: Callable[[], bool]) -> None:
         """Goes on until something holds."""
         for _ in range(PATIENCE):
             if holds():
@@ -91,12 +91,12 @@ class Call:
             self.step()
         raise SystemExit(f'two_gateways: after a second still not: {what}')
 
-    def tell(self, what):
+    def tell(self, what: str) -> None:
         """Prints what happened and both states, by the listing of the sessions so far."""
         states = [end.listed(end.session()).split()[2] for end in (self.west, self.east)]
         print(f'{self.steps * 2:6d} ms  {what:58s} {states[0]:11s} {states[1]}', flush=True)
 
-    def set_up(self):
+    def set_up(self) -> None:
         west, east = self.west, self.east
         self.until('alignment', lambda: all(end.exchange.aligned and not end.exchange.remote_alarms
                                             for end in (west, east)))
@@ -120,7 +120,7 @@ class Call:
         self.until('answered', lambda: west.sees(ANSWERED))
         self.tell('command: answer in the west')
 
-    def speak(self, sentences):
+    def speak(self, sentences: list[bytes]) -> list[bytearray]:
         """Puts both sentences on the trunks; returns for each the octets that come out at the far end."""
         starts = [len(end.exchange.heard[CIRCUIT]) for end in (self.east, self.west)]
         for end, sentence in zip((self.west, self.east), sentences):
@@ -129,7 +129,7 @@ class Call:
         self.tell('both have spoken')
         return [end.exchange.heard[CIRCUIT][start:] for end, start in zip((self.east, self.west), starts)]
 
-    def clear(self):
+    def clear(self) -> None:
         west, east = self.west, self.east
         west.sends(IDLE)
         self.until('idle', lambda: west.sees(IDLE))
@@ -142,13 +142,13 @@ class Call:
         self.tell('the exchange in the east is idle')
 
     @staticmethod
-    def command(end, name):
+    def command(end: End, name: str) -> None:
         answer = end.serve.command(CIRCUIT, name)
         if answer != 0:
             raise SystemExit(f'two_gateways: {name} in the {end.name} is refused with {answer}')
 
 
-def came_through(name, sentence, octets):
+def came_through(name: str, sentence: bytes, octets: bytearray) -> float:
     """Compares a sentence with what came out; prints and returns the signal-to-noise ratio."""
     spoken, heard = samples(sentence), samples(octets)
     lag = delay(spoken, heard, 1600)
@@ -157,12 +157,12 @@ def came_through(name, sentence, octets):
     return ratio
 
 
-def trunk_octets(session):
+def trunk_octets(session: bytes) -> bytes:
     """The octets of the trunk in a session."""
     return b''.join(record.body for record in records_in(session) if record.kind is Kind.TRUNK)
 
 
-def replayed(west, east):
+def replayed(west: End, east: End) -> bool:
     """Gives both recordings to `e1gw replay`; prints the listing of both ends."""
     same = True
     for end in (west, east):
@@ -173,7 +173,7 @@ def replayed(west, east):
     return same
 
 
-def main():
+def main() -> None:
     program, folder, kept, *files = sys.argv[1:]
     sentences = []
     for file in files:

@@ -50,7 +50,7 @@ class Tree(unittest.TestCase):
         LOADER.exec_module(self.docs)
         folder = tempfile.TemporaryDirectory()
         self.addCleanup(folder.cleanup)
-        self.docs.OUTSIDE = 0
+        setattr(self.docs, 'OUTSIDE', 0)
         patched = mock.patch.object(tree, 'TOP', folder.name)
         patched.start()
         self.addCleanup(patched.stop)
@@ -73,7 +73,7 @@ class Tree(unittest.TestCase):
         self.put('crates/small/src/tests.rt', TESTS.replace('4', '5').replace(' 1 ', '1  '))
         self.assertEqual([line.split(': ')[0] for line in self.docs.wrong_examples()],
                          ['crates/small/src/lib.rt:5', 'crates/small/src/lib.rt:12'])
-        self.docs.OUTSIDE = 2
+        setattr(self.docs, 'OUTSIDE', 2)
         self.assertEqual(list(self.docs.wrong_examples()), [])
 
     def test_crate_without_a_section_wrong_bodies_or_a_head(self) -> None:

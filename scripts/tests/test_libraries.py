@@ -14,6 +14,7 @@ import unittest
 from importlib.machinery import SourceFileLoader
 from importlib.util import module_from_spec, spec_from_loader
 from types import ModuleType
+from unittest import mock
 
 SCRIPTS = os.path.dirname(os.path.dirname(os.path.realpath(__file__)))
 ROWS = 'low:\nother:\nmiddle: low arrayvec\ngateway_main: clap middle other\napart: low\n'
@@ -76,7 +77,7 @@ class Tree(unittest.TestCase):
         with open(f'{self.top}/{path}', 'w', encoding='utf-8') as file:
             file.write(text)
 
-    def begin(self, words: list[str], **given: str) -> subprocess.Popen:
+    def begin(self, words: list[str], **given: str) -> subprocess.Popen[str]:
         paths = {'PATH': f'{self.top}/bin:{os.environ["PATH"]}', 'NOTES': self.notes, 'REFUSED': '', 'SLOW': ''}
         return subprocess.Popen([f'{self.top}/tree/scripts/{words[0]}', *words[1:]], stdin=subprocess.DEVNULL,
                                 stdout=subprocess.PIPE, stderr=subprocess.STDOUT, text=True,
@@ -158,16 +159,18 @@ class Ahead(unittest.TestCase):
     def test_longest_chain(self) -> None:
         """The next crate of the longest chain has two jobs, whatever else runs; others one, until they are the last."""
         module = loaded()
-        uses = {'low': [], 'middle': ['low'], 'top': ['middle'], 'other': [], 'more': ['low']}
+        uses: dict[str, list[str]] = {'low': [], 'middle': ['low'], 'top': ['middle'], 'other': [], 'more': ['low']}
         chain = {'low': 30, 'middle': 20, 'top': 10, 'other': 9, 'more': 8}
-        for done, lanes, begun in [([], 2, {'low': 2}), (['low'], 4, {'middle': 2, 'other': 1, 'more': 1}),
-                                   (['low'], 1, {'middle': 2}), (['low', 'middle', 'other', 'more'], 4, {'top': 4})]:
+        rows: list[tuple[list[str], int, dict[str, int]]] = [
+            ([], 2, {'low': 2}), (['low'], 4, {'middle': 2, 'other': 1, 'more': 1}), (['low'], 1, {'middle': 2}),
+            (['low', 'middle', 'other', 'more'], 4, {'top': 4})]
+        for done, lanes, begun in rows:
             with self.subTest(done=done, lanes=lanes):
                 left = [it for it in chain if it not in done]
                 state = module.State(left, lanes, 5, chain, dict.fromkeys(chain, 0), 2, done=set(done))
-                module.start = lambda name, jobs, _uses, _state: _state.running.update(
-                    {name: module.Run(None, jobs, None)})
-                module.start_ready(uses, state)
+                with mock.patch.object(module, 'start', lambda name, jobs, _uses, state: state.running.update(
+                        {name: module.Run(None, jobs, None)})):
+                    module.start_ready(uses, state)
                 self.assertEqual({name: run.jobs for name, run in state.running.items()}, begun)
 
 

@@ -60,6 +60,9 @@ class Call:
                 text.write(CIRCUIT.format(number=c, local=self.locals[c], peer_host=peer_named,
                                           peer=self.peers[c].getsockname()[1]))
         self.serve = Serve(program, path, '--totals', *options, stderr=subprocess.PIPE)
+        assert self.serve.process.stderr
+        self.faults = self.serve.process.stderr
+        self.packets: dict[int, list[bytes]] = {}       # those that each peer got, if a session notes them
         self.guard = threading.Timer(SECONDS, self.serve.process.kill)
         self.guard.start()
         self.exchange, self.octets = Exchange(), 0
@@ -71,7 +74,7 @@ class Call:
         self.guard.cancel()
         self.serve.process.kill()
         self.serve.process.wait()
-        for stream in (self.serve.process.stdin, self.serve.process.stdout, self.serve.process.stderr):
+        for stream in (self.serve.input, self.serve.output, self.faults):
             stream.close()
         self.held.close()
 
@@ -107,8 +110,8 @@ class Call:
         wrong with its end, whose totals stand behind these lines."""
         wanted = (f'{first}records {len(self.serve.given)}\noctets {self.octets}\ndatagrams {sent}\n'
                   f'dropped 0\nport_faults {faults}\n')
-        self.serve.process.stdin.close()
-        said = self.serve.process.stderr.read().decode(errors='replace')
+        self.serve.input.close()
+        said = self.faults.read().decode(errors='replace')
         status = self.serve.process.wait()
         if (status, said) != (0, wanted):
             yield f'status {status}, on standard error {said!r}, wanted {wanted!r}'
@@ -134,7 +137,8 @@ def bound(host: str, port: int = 0) -> socket.socket:
 def free_port(host: str) -> int:
     """A port of UDP at this address that nothing holds."""
     with bound(host) as found:
-        return found.getsockname()[1]
+        port: int = found.getsockname()[1]
+        return port
 
 
 def has_ipv6() -> bool:
@@ -398,7 +402,7 @@ def datagram_looks() -> Iterator[tuple[str, Callable[[str, str], Wrongs]]]:
 
 def rows() -> Iterator[tuple[Any, ...]]:
     """The looks: a name, its function, and what that is given beside the program and the folder."""
-    families = [('IPv4', '127.0.0.1', '127.0.0.9')]
+    families: list[tuple[str, str, str | None]] = [('IPv4', '127.0.0.1', '127.0.0.9')]
     if has_ipv6():
         families.append(('IPv6', '::1', None))
     else:

@@ -10,16 +10,19 @@ import random
 import stat
 import subprocess
 import threading
+from collections.abc import Callable, Iterator
+from typing import Any
 
 from ..session import Codec, Kind, codec_record, records_in
-from .datagrams import CIRCUITS, PACKET, SECONDS, Call, bound, packets, speech
+from .datagrams import CIRCUITS, PACKET, SECONDS, Call, Wrongs, bound, packets, speech
 
 ENDED = 'recording ended: a write failed\n'
 ROUNDS = 12                 # of datagrams and multiframes in a live session
 LIMIT = 20_480              # octets of a file, where there is a limit
+Answer = tuple[int, bytes]  # a circuit, and the body of its R record
 
 
-def path_in(room, name='recording'):
+def path_in(room: str, name: str = 'recording') -> str:
     """The path of a new recording."""
     path = os.path.join(room, name)
     with contextlib.suppress(FileNotFoundError):
@@ -27,7 +30,7 @@ def path_in(room, name='recording'):
     return path
 
 
-def live(call, seed=7):
+def live(call: Call, seed: int = 7) -> Wrongs:
     """A live session: datagrams good and hostile, commands that are done and refused, another codec. Yields what is
     wrong, and leaves in `call.packets` what each peer got."""
     call.packets = {c: [] for c in call.circuits}
@@ -50,17 +53,17 @@ def live(call, seed=7):
         call.packets[c] += [packet for packet, _ in packets(peer)]
 
 
-def hostile(dice):
+def hostile(dice: random.Random) -> bytes:
     """A datagram that is none of a call."""
     return dice.choice((b'', bytes(12), dice.randbytes(172), b'\x80\x08' + bytes(170), dice.randbytes(1400)))
 
 
-def replay(program, room, recording):
+def replay(program: str, room: str, recording: str) -> tuple[bytes, dict[int, list[bytes]], list[Answer], str]:
     """What replay writes of a recording: octets of the trunk, packets by circuit, answers to commands; and its line."""
     with open(recording, 'rb') as given:
         done = subprocess.run([program, 'replay', '--config', os.path.join(room, 'wire.toml')], stdin=given,
                               capture_output=True, timeout=SECONDS, check=False)
-    trunk, sent, answers = bytearray(), {}, []
+    trunk, sent, answers = bytearray(), dict[int, list[bytes]](), list[Answer]()
     for each in records_in(done.stdout):
         if each.kind is Kind.TRUNK:
             trunk += each.body
@@ -71,14 +74,14 @@ def replay(program, room, recording):
     return bytes(trunk), sent, answers, done.stderr.decode()
 
 
-def answered(call):
+def answered(call: Call) -> tuple[bytes, list[Answer]]:
     """What the live session answered: octets of the trunk, and answers to commands."""
     told = list(records_in(b''.join(call.serve.answered)))
     return (b''.join(each.body for each in told if each.kind is Kind.TRUNK),
             [(each.circuit, each.body) for each in told if each.kind is Kind.ANSWER])
 
 
-def compare(call, program, room, recording, whole=True):
+def compare(call: Call, program: str, room: str, recording: str, whole: bool = True) -> Wrongs:
     """Replays a recording of a live session. Yields what differs; of one that is not whole the first part is
     compared."""
     trunk, sent, answers, said = replay(program, room, recording)
@@ -95,17 +98,17 @@ def compare(call, program, room, recording, whole=True):
         yield f'replay: {said!r}'
 
 
-def replayed(program, room):
+def replayed(program: str, room: str) -> Wrongs:
     """A session with five circuits, hostile datagrams among the others: its replay gives the same."""
     recording = path_in(room)
     with Call(program, room, CIRCUITS, '127.0.0.1', '--record', recording) as call:
         yield from live(call)
-        call.serve.process.stdin.close()
+        call.serve.input.close()
         call.serve.process.wait()
         yield from compare(call, program, room, recording)
 
 
-def ends_alone(program, room, recording, read=None):
+def ends_alone(program: str, room: str, recording: str, read: Callable[[], None] | None = None) -> Wrongs:
     """A recording that ends before its session: nothing of the session changes, and a line says it."""
     with Call(program, room, (1,), '127.0.0.1', '--record', recording) as call:
         if read:
@@ -118,12 +121,12 @@ def ends_alone(program, room, recording, read=None):
         yield from call.end(len(list(packets(call.peers[1]))), ENDED)
 
 
-def full_device(program, room):
+def full_device(program: str, room: str) -> Wrongs:
     """A device without room."""
     yield from ends_alone(program, room, '/dev/full')
 
 
-def limited(program, room):
+def limited(program: str, room: str) -> Wrongs:
     """A file at a limit of size, where the signal of the limit is ignored."""
     recording, wrapper = path_in(room), path_in(room, 'limited')
     with open(wrapper, 'w', encoding='ascii') as text:
@@ -134,7 +137,7 @@ def limited(program, room):
         yield f'{os.path.getsize(recording)} octets recorded'
 
 
-def full_file_system(program, room):
+def full_file_system(program: str, room: str) -> Wrongs:
     """A file system that is full. Where none can be mounted there is nothing to look at."""
     folder = os.path.join(room, 'full')
     os.makedirs(folder, exist_ok=True)
@@ -147,12 +150,12 @@ def full_file_system(program, room):
         subprocess.run(['umount', folder], check=False)
 
 
-def reader_goes(program, room):
+def reader_goes(program: str, room: str) -> Wrongs:
     """A FIFO whose reader goes after a thousand octets."""
     fifo = path_in(room, 'fifo')
     os.mkfifo(fifo)
 
-    def read():
+    def read() -> None:
         with open(fifo, 'rb', buffering=0) as pipe:
             pipe.read(1000)
     reader = threading.Thread(target=read)
@@ -163,7 +166,7 @@ def reader_goes(program, room):
         reader.join()
 
 
-def killed(program, room):
+def killed(program: str, room: str) -> Wrongs:
     """The program is killed: the recording has all that was answered."""
     recording = path_in(room)
     with Call(program, room, CIRCUITS, '127.0.0.1', '--record', recording) as call:
@@ -176,7 +179,7 @@ def killed(program, room):
             yield f'{len(trunk)} octets of {len(live_trunk)}, {len(answers)} answers of {len(live_answers)}'
 
 
-def asked(program, room, *options, given=b'', **streams):
+def asked(program: str, room: str, *options: str, given: bytes = b'', **streams: Any) -> tuple[int, str]:
     """Runs serve with these options on a configuration without ports, and returns status and line."""
     path = os.path.join(room, 'plain.toml')
     with open(path, 'w', encoding='ascii') as text:
@@ -189,7 +192,7 @@ def asked(program, room, *options, given=b'', **streams):
 FRAME = bytes([0x54, 0, 0, 32]) + bytes(32)
 
 
-def old_file(program, room):
+def old_file(program: str, room: str) -> Wrongs:
     """An old file is refused and stays as it is, and is written over where that is asked for."""
     recording = path_in(room)
     with open(recording, 'wb') as old:
@@ -205,7 +208,7 @@ def old_file(program, room):
         yield f'recorded {open(recording, "rb").read()[:40].hex(" ")}'
 
 
-def permissions(program, room):
+def permissions(program: str, room: str) -> Wrongs:
     """Others may not read a new recording, whatever the umask is; one that is written over keeps its permissions."""
     for umask, wanted in ((0, 0o640), (0o077, 0o600)):
         recording = path_in(room)
@@ -218,7 +221,7 @@ def permissions(program, room):
         yield f'mode {mode:o} of an old recording'
 
 
-def no_file(program, room):
+def no_file(program: str, room: str) -> Wrongs:
     """A file that can't be opened is told before the sockets are opened."""
     with bound('127.0.0.1') as taken:
         path = os.path.join(room, 'taken.toml')
@@ -231,23 +234,20 @@ def no_file(program, room):
         yield f'status {done.returncode}, {done.stderr!r}'
 
 
-def open_file(program, room):
+def open_file(program: str, room: str) -> Wrongs:
     """An open file of the process, a pipe: the recording goes there."""
     read, write = os.pipe()
     try:
         status = asked(program, room, '--record', f'/dev/fd/{write}', given=FRAME, pass_fds=(write,))
-        os.close(write)
-        write = None
-        got = os.read(read, 65536)
     finally:
-        os.close(read)
-        if write is not None:
-            os.close(write)
+        os.close(write)
+    with open(read, 'rb') as pipe:
+        got = pipe.read()
     if (status, got) != ((0, ''), FRAME):
         yield f'{status}, {got[:40].hex(" ")}'
 
 
-def recording_looks():
+def recording_looks() -> Iterator[tuple[str, Callable[[str, str], Wrongs]]]:
     """The looks: a name, and what yields what is wrong, given the program and a folder to work in."""
     yield 'a recording, replayed', replayed
     yield 'a recording on a full device', full_device

@@ -14,7 +14,8 @@ import socket
 import sys
 import time
 
-from ..exchange import ACKNOWLEDGED, ANSWERED, IDLE, MULTIFRAME, SEIZED, Exchange
+from ..exchange import ACKNOWLEDGED, ANSWERED, IDLE, SEIZED, Exchange
+from ..session import MULTIFRAME
 
 STEP = 0.002            # seconds of a multiframe
 ACKNOWLEDGES, ANSWERS = 10, 500
