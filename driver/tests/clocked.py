@@ -6,6 +6,7 @@ the machine's own clock, as the system does it."""
 from __future__ import annotations
 
 import mmap
+import os
 import runpy
 import struct
 import subprocess       # (as queue and threading it keeps the machine's clock)
@@ -43,4 +44,5 @@ if __name__ == '__main__':
     assert subprocess
     time.monotonic, time.thread_time = read(sys.argv[1]), lambda: 0.0
     sys.argv = sys.argv[4:]
+    sys.path[0] = os.path.dirname(os.path.realpath(sys.argv[0]))        # as Python does for a program
     runpy.run_path(sys.argv[0], run_name='__main__')
