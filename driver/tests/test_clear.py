@@ -228,7 +228,7 @@ class Gateway(support.Folder):
         self.program = support.program()
         super().setUp()
 
-    def multiframes(self, call: datagrams.Call, count: int) -> bytes:
+    def multiframes(self, call: datagrams.UdpCalls, count: int) -> bytes:
         """Slots 1 to 31 of multiframes in which each circuit speaks its own octet."""
         out = b''
         for _ in range(count):
@@ -241,10 +241,10 @@ class Gateway(support.Folder):
     def test_calls_through_lost_octets(self) -> None:
         for count in (1, 2, 30, -1):
             circuits = tuple(range(1, 31))
-            with self.subTest(count), datagrams.Call(self.program, self.folder, circuits, '127.0.0.1') as call:
+            with self.subTest(count), datagrams.UdpCalls(self.program, self.folder, circuits, '127.0.0.1') as call:
                 self.calls_through_a_loss(call, count)
 
-    def calls_through_a_loss(self, call: datagrams.Call, count: int) -> None:
+    def calls_through_a_loss(self, call: datagrams.UdpCalls, count: int) -> None:
         events: list[dict[str, Any]] = []
         device, lines = Device(b''), Followed({'law': 'A'}, events.append)
         trunk = Clear(device, Place('A'))
@@ -277,7 +277,7 @@ class Gateway(support.Folder):
                                 ('aligned', 'multiframe')])
         self.assertEqual({str(line.state) for line in lines.lines.values()}, {'acked'})
 
-    def heard(self, call: datagrams.Call) -> dict[int, bytes]:
+    def heard(self, call: datagrams.UdpCalls) -> dict[int, bytes]:
         """The speech that each circuit's peer got."""
         return {n: b''.join(packet[12:] for packet, _ in datagrams.packets(call.peers[n])) for n in call.circuits}
 

@@ -16,15 +16,15 @@ from unittest import mock
 from e1gw.lines import Role, State
 from e1gw.session import CIRCUITS, Command
 from e1gw.tie import site as site_module
-from e1gw.tie.circuit import End
+from e1gw.tie.circuit import CircuitEnd
 from e1gw.tie.coding import Coding, Codings
-from e1gw.tie.kept import Kept, read
+from e1gw.tie.kept import KeptBlocks, read
 from e1gw.tie.main import ANYBODY, is_loopback, parser
 from e1gw.tie.messages import All, Alive, BadMessage, Change, Dark, Greeting, Message, message_of, spell
 from e1gw.tie.pairs import BadPairs, agreed, pairs_of
 from e1gw.tie.site import Site, context_of, has_name
 from e1gw.tie.strangers import Stage, Stranger, Strangers, address_of
-from e1gw.tie.tie import Options, Tie
+from e1gw.tie.tie import TieOptions, Tie
 from tests.test_tie_circuit import CALLED, COLUMN, DONE, INCOMING, OUTGOING
 
 HERE = os.path.dirname(os.path.dirname(os.path.abspath(__file__)))
@@ -51,10 +51,10 @@ class Pairs(unittest.TestCase):
 
 class Messages(unittest.TestCase):
     def test_there_and_back(self) -> None:
-        end = End(Role.INCOMING, State.ACKED, 'a.1', True, 'a.0')
+        end = CircuitEnd(Role.INCOMING, State.ACKED, 'a.1', True, 'a.0')
         sent: list[Message] = [
             Greeting('ab', None), Greeting('ab', {1: 30}), All(True, {30: end}), All(False, {}, 'pcma'),
-            Change(1, end), Dark(False), Alive(), Change(2, End(Role.OUTGOING, State.FAULT, None))]
+            Change(1, end), Dark(False), Alive(), Change(2, CircuitEnd(Role.OUTGOING, State.FAULT, None))]
         for message in sent:
             self.assertEqual(message_of(spell(message)), message)
 
@@ -188,7 +188,7 @@ class Reasons(unittest.TestCase):
     def test_told(self) -> None:
         """Why nobody was let in is told once a minute for each reason, and for ten of them at most."""
         told: list[str] = []
-        tie = Tie(Options('/none', None, HOLD, False), 'run', Kept(None),
+        tie = Tie(TieOptions('/none', None, HOLD, False), 'run', KeptBlocks(None),
                   lambda event, **fields: told.append(fields['why']))
         with mock.patch('time.monotonic') as clock:
             for clock.return_value in (0.0, 30.0, 59.0):
@@ -204,15 +204,15 @@ class KeptFile(unittest.TestCase):
     def test_file(self) -> None:
         with tempfile.TemporaryDirectory() as folder:
             path = os.path.join(folder, 'kept')
-            kept = Kept(path)
+            kept = KeptBlocks(path)
             kept.put((3, 5))
             kept.close()
             self.assertEqual(read(path), {3, 5})
-            self.assertTrue(Kept(path).has(3))
+            self.assertTrue(KeptBlocks(path).has(3))
             with open(path, 'w', encoding='ascii') as file:
                 file.write('no list')
             self.assertEqual(read(path), frozenset())
-            Kept(os.path.join(folder, 'none', 'kept')).put((1,))        # is not written, and ends nothing
+            KeptBlocks(os.path.join(folder, 'none', 'kept')).put((1,))        # is not written, and ends nothing
 
 
 class Played:
@@ -338,8 +338,9 @@ class Sites(unittest.IsolatedAsyncioTestCase):
     def tie(self, name: str, waits: bool = False, **more: Any) -> tuple[Tie, Site]:
         driver = self.west if name == 'west' else self.east
         told = self.events[name]
-        options = Options(driver.path, more.get('pairs'), HOLD, waits, more.get('until'))
-        made = Tie(options, f'run of {name} {time.monotonic()}', Kept(os.path.join(self.folder.name, f'{name}.kept')),
+        options = TieOptions(driver.path, more.get('pairs'), HOLD, waits, more.get('until'))
+        kept = KeptBlocks(os.path.join(self.folder.name, f'{name}.kept'))
+        made = Tie(options, f'run of {name} {time.monotonic()}', kept,
                    lambda event, **fields: told.append({'event': event, **fields}))
         if not self.port:
             self.port = free_port()
@@ -347,8 +348,8 @@ class Sites(unittest.IsolatedAsyncioTestCase):
         return made, made.site
 
     def run_tie(self, made: Tie, site: Site) -> list[asyncio.Task[Any]]:
-        made.start()
-        tasks = [asyncio.create_task(made.follow_trunk()), asyncio.create_task(site.run())]
+        made.link.start()
+        tasks = [asyncio.create_task(made.control.follow()), asyncio.create_task(site.run())]
         self.tasks += tasks
         return tasks
 

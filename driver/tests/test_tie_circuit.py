@@ -8,9 +8,9 @@ from typing import Any, Iterator, TypeVar
 
 from e1gw.lines import Role, State
 from e1gw.session import Command
-from e1gw.tie.circuit import NO_CALL, Circuit, End, Link
+from e1gw.tie.circuit import NO_CALL, TieCircuit, CircuitEnd, LinkState
 
-S, GOOD, LOST, GIVEN_UP = State, Link.GOOD, Link.LOST, Link.GIVEN_UP
+S, GOOD, LOST, GIVEN_UP = State, LinkState.GOOD, LinkState.LOST, LinkState.GIVEN_UP
 IDLE, SEIZED, ACKED, ANSWERED = S.IDLE, S.SEIZED, S.ACKED, S.ANSWERED
 CLEAREDBACK, RELEASING, BLOCKED, FAULT = S.CLEAREDBACK, S.RELEASING, S.BLOCKED, S.FAULT
 SPEAKING = (ACKED, ANSWERED, CLEAREDBACK)
@@ -53,20 +53,20 @@ class Exchange:
 class World:
     """A circuit with both its ends, both exchanges and what is on the way."""
 
-    near: Circuit                       # the incoming end
-    far: Circuit                        # the outgoing end
+    near: TieCircuit                       # the incoming end
+    far: TieCircuit                        # the outgoing end
     forward: int = 0b10                 # the bits a and b that the caller's exchange sends
     backward: int = 0b10                # and the called one's
     up: bool = True                     # the connection
-    links: tuple[Link, Link] = (GOOD, GOOD)
-    on_way: tuple[End | None, End | None] = (None, None)           # to the outgoing end, to the incoming one
+    links: tuple[LinkState, LinkState] = (GOOD, GOOD)
+    on_way: tuple[CircuitEnd | None, CircuitEnd | None] = (None, None)     # to the outgoing end, to the incoming one
     asked: tuple[tuple[Command, str] | None, ...] = (None, None)   # commands that are not done yet
     calls: int = 0                      # that were begun
 
-    def ends(self) -> tuple[Circuit, Circuit]:
+    def ends(self) -> tuple[TieCircuit, TieCircuit]:
         return self.near, self.far
 
-    def with_end(self, side: int, circuit: Circuit) -> 'World':
+    def with_end(self, side: int, circuit: TieCircuit) -> 'World':
         """With this end as it is now, which is on its way to the other one."""
         if circuit == self.ends()[side]:
             return self
@@ -132,7 +132,7 @@ class World:
     def forgotten(self, side: int) -> 'World':
         """The tie of one end is started anew. The driver knows the calls of its incoming circuits."""
         circuit = self.ends()[side]
-        fresh = Circuit(circuit.role, circuit.state, circuit.call if side == 0 else None)
+        fresh = TieCircuit(circuit.role, circuit.state, circuit.call if side == 0 else None)
         world = replace(self.broken(), asked=put(self.asked, side, None), links=put(self.links, side, LOST))
         return replace(world, **{('near', 'far')[side]: fresh})
 
@@ -241,10 +241,11 @@ def anything() -> Iterator[World]:
     """Both ends in any states and with any memory, as they are when they are connected."""
     backward = {ACKED: 0b11, ANSWERED: 0b01, CLEAREDBACK: 0b11, BLOCKED: 0b11}
     for near, over, passed in product(INCOMING, (False, True), (NO_CALL, 'call 1', 'call 2')):
-        one = Circuit(Role.INCOMING, near, 'call 2', over and near in SPEAKING, passed)
+        one = TieCircuit(Role.INCOMING, near, 'call 2', over and near in SPEAKING, passed)
         for far, call in product(OUTGOING, (None, NO_CALL, 'call 1', 'call 2')):
             forward = 0b00 if near in SPEAKING else 0b10
-            yield World(one, Circuit(Role.OUTGOING, far, call), forward, backward.get(far, 0b10), False, (LOST, LOST))
+            other = TieCircuit(Role.OUTGOING, far, call)
+            yield World(one, other, forward, backward.get(far, 0b10), False, (LOST, LOST))
 
 
 def everything(first: World, most: int) -> set[World]:
@@ -272,7 +273,7 @@ def walk(chance: Random, steps: int) -> World:
     return world
 
 
-START = World(Circuit(Role.INCOMING, IDLE, NO_CALL), Circuit(Role.OUTGOING, IDLE, NO_CALL), up=False,
+START = World(TieCircuit(Role.INCOMING, IDLE, NO_CALL), TieCircuit(Role.OUTGOING, IDLE, NO_CALL), up=False,
               links=(LOST, LOST))
 EXCHANGES = [Exchange(*each) for each in product((True, False), (True, False), (False, True))]
 
@@ -318,20 +319,20 @@ class Agreement(unittest.TestCase):
             self.assertIn(world.near.state, (BLOCKED, FAULT, CLEAREDBACK))
 
 
-def incoming(state: State, far: End | None, call: str = 'call 2', **fields: Any) -> Circuit:
-    return Circuit(Role.INCOMING, state, call, far=far, **fields)
+def incoming(state: State, far: CircuitEnd | None, call: str = 'call 2', **fields: Any) -> TieCircuit:
+    return TieCircuit(Role.INCOMING, state, call, far=far, **fields)
 
 
-def outgoing(state: State, far: End | None, call: str | None = 'call 1', **fields: Any) -> Circuit:
-    return Circuit(Role.OUTGOING, state, call, far=far, **fields)
+def outgoing(state: State, far: CircuitEnd | None, call: str | None = 'call 1', **fields: Any) -> TieCircuit:
+    return TieCircuit(Role.OUTGOING, state, call, far=far, **fields)
 
 
-def caller(state: State, over: bool = False, passed: str = NO_CALL) -> End:
-    return End(Role.INCOMING, state, 'call 2', over, passed)
+def caller(state: State, over: bool = False, passed: str = NO_CALL) -> CircuitEnd:
+    return CircuitEnd(Role.INCOMING, state, 'call 2', over, passed)
 
 
-def called(state: State, call: str | None = 'call 2') -> End:
-    return End(Role.OUTGOING, state, call)
+def called(state: State, call: str | None = 'call 2') -> CircuitEnd:
+    return CircuitEnd(Role.OUTGOING, state, call)
 
 
 class Commands(unittest.TestCase):

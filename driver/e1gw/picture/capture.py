@@ -13,10 +13,10 @@ from ..kept import Source, Trouble
 from ..lines import law_of
 from ..repetitions import mark_of
 from ..session import OCTETS_A_SECOND, BadPacket, Kind, packet_of, spell
-from .facts import BITS, FRAME, HEADER, MOST, WINDOW, Facts, Row, Stream, Wire
+from .facts import BITS, FRAME, HEADER, MOST, WINDOW, Facts, Row, CallStream, Wire
 from .listening import Listener
 from .packets import Datagram, datagrams
-from .reading import Stream as Records
+from .reading import RecordStream
 from .reading import rows_of
 
 NEAR = 101                  # datagrams sent by which the capture's times are mapped to the trunk
@@ -29,7 +29,7 @@ def ports(config: Mapping[str, Any]) -> dict[int, int]:
     return {table['local_port']: table['number'] for table in config.get('circuit', []) if 'local_port' in table}
 
 
-class Clock:
+class CaptureClock:
     """The time of the session's first octet, by the times at which the gateway's datagrams left: the last word of one
     with timestamp s and n words was received in frame s + n, so as many octets of the trunk were before it."""
 
@@ -98,7 +98,7 @@ def is_rtp(body: bytes) -> bool:
 def arrivals(path: str, config: Mapping[str, Any], begin: float | None, facts: Facts,
              before: int = 0) -> Iterator[tuple[int, int, bytes]]:
     """Place on the trunk, circuit and body of each datagram received in a capture."""
-    circuits, clock, ways = ports(config), Clock(config, begin, before), Ways(facts, config)
+    circuits, clock, ways = ports(config), CaptureClock(config, begin, before), Ways(facts, config)
     with open(path, 'rb') as file:
         for datagram in datagrams(file):
             ways.note(datagram, clock.place(datagram.time))
@@ -112,7 +112,7 @@ def arrivals(path: str, config: Mapping[str, Any], begin: float | None, facts: F
 
 def first_begin(path: str, config: Mapping[str, Any], before: int = 0) -> float | None:
     """The time of the session's first octet, by the first datagrams sent; None if the capture has none."""
-    circuits, clock = ports(config), Clock(config, before=before)
+    circuits, clock = ports(config), CaptureClock(config, before=before)
     with open(path, 'rb') as file:
         for datagram in datagrams(file):
             if datagram.source in circuits and not datagram.answer:
@@ -160,7 +160,7 @@ def _merged(source: Source, came: Iterable[tuple[int, int, bytes]]) -> Iterator[
 
 def _records(source: Source) -> Iterator[tuple[int, int, bytes]]:
     """The whole records of a source."""
-    stream = Records(source)
+    stream = RecordStream(source)
     while stream.more():
         at, held = stream.at, stream.held
         while at + 4 <= len(held):
@@ -230,7 +230,7 @@ def _code(row: Row, body: bytes, place: int, seen: dict[int, int]) -> int:
     if second & 127 != row.payload:
         return 11
     if place - seen.get(row.number, place) > SILENCE:
-        row.stream = Stream()
+        row.stream = CallStream()
     seen[row.number], stream = place, row.stream
     if stream.base is not None and ssrc != stream.ssrc:
         return 12

@@ -6,7 +6,7 @@ from dataclasses import dataclass
 from functools import partial
 
 from ..session import DatagramRefusal
-from .facts import NOT_OPEN, OPEN, SECOND, WINDOW, Answer, Cell, Command, Facts, Row
+from .facts import NOT_OPEN, OPEN, SECOND, WINDOW, Answer, Cell, CommandMark, Facts, Row
 from .svg import LEFT, WIDE, Scale, Sheet, apart, duration, runs
 
 ROW = 30                    # of the circuits
@@ -234,7 +234,7 @@ def _astray(sheet: Sheet, row: Row, scale: Scale, y: float) -> None:
                f'circuit {row.number}: {", ".join(row.wire.answers)}')
 
 
-def told_of(answer: Answer, command: Command) -> str:
+def told_of(answer: Answer, command: CommandMark) -> str:
     """The outcome of a command in words."""
     return command.refusal or ('jitter buffer resynchronised' if answer is Answer.AGAIN else 'done')
 
@@ -265,7 +265,7 @@ def _commands(sheet: Sheet, row: Row, scale: Scale, y: float) -> None:
 TOPS = (60, 120, 240, 430)
 
 
-class Playout:
+class PlayoutChart:
     """How long before its turn each datagram of a circuit arrived."""
 
     def __init__(self, row: Row, scale: Scale, seen: Pixels, wide: float) -> None:

@@ -156,7 +156,7 @@ class Answer(enum.Enum):
 
 
 @dataclass
-class Command:
+class CommandMark:
     """Commands to a circuit in a column with the same answer."""
     place: int
     words: str
@@ -165,7 +165,7 @@ class Command:
 
 
 @dataclass
-class Stream:
+class CallStream:
     """The stream of a call's datagrams so far."""
     base: int | None = None             # the sample at which timestamp 0 would be due
     ssrc: int = 0
@@ -212,8 +212,8 @@ class Row:
     states: Spans = field(default_factory=lambda: Spans('fault', RANK))
     cells: dict[int, Cell] = field(default_factory=dict)
     cell: Cell = field(default_factory=Cell)
-    commands: dict[tuple[int, Answer], Command] = field(default_factory=dict)
-    stream: Stream = field(default_factory=Stream)
+    commands: dict[tuple[int, Answer], CommandMark] = field(default_factory=dict)
+    stream: CallStream = field(default_factory=CallStream)
     # Kinds of datagrams received, with the place where each was last seen.
     types: dict[int, int] = field(default_factory=dict)
     sources: dict[int, int] = field(default_factory=dict)
@@ -250,7 +250,7 @@ class Row:
         else:
             stream.sequence, stream.stamp = sequence, stamp
 
-    def _begin(self, stream: Stream, place: int, kind: int, stamp: int, ssrc: int) -> None:
+    def _begin(self, stream: CallStream, place: int, kind: int, stamp: int, ssrc: int) -> None:
         """The first datagram of a call that is admitted."""
         stream.base, stream.ssrc, stream.sequence = place // FRAME + self.prefill - stamp, ssrc, -1
         self.ssrc = ssrc
@@ -258,7 +258,7 @@ class Row:
         self.begun.append(place)
         self.types[kind] = self.sources[ssrc] = place
 
-    def _follow(self, stream: Stream, sequence: int, stamp: int, length: int) -> None:
+    def _follow(self, stream: CallStream, sequence: int, stamp: int, length: int) -> None:
         """Follows the place of a datagram in its stream."""
         ahead = sequence - stream.sequence & 0xFFFF
         if stream.sequence >= 0 and ahead != 1:
@@ -302,7 +302,7 @@ class Row:
             return
         self.states.put(place, state)
         if (state in OPEN) != (was in OPEN):
-            self.stream = Stream()
+            self.stream = CallStream()
         for name, happened in (
                 ('calls', state == 'seized' or (self.role == 'incoming' and was == 'idle' and state == 'acked')),
                 ('answers', state == 'answered' and was == 'acked'),
@@ -407,7 +407,7 @@ class Facts:
                 else:
                     cells[column // 2] = cell
             row.cells = cells
-            commands: dict[tuple[int, Answer], Command] = {}
+            commands: dict[tuple[int, Answer], CommandMark] = {}
             for (column, answer), command in row.commands.items():
                 first = commands.setdefault((column // 2, answer), command)
                 if first is not command:
@@ -427,10 +427,10 @@ class Facts:
         is_codec = words.startswith('codec')
         again = is_codec and words == f'codec {row.codec} {row.payload}'
         answer = Answer.REFUSED if refusal else Answer.AGAIN if again else Answer.DONE
-        first = row.commands.setdefault((place // self.width, answer), Command(place, words, refusal, -1))
+        first = row.commands.setdefault((place // self.width, answer), CommandMark(place, words, refusal, -1))
         first.more += 1
         if not refusal and is_codec:
-            row.stream = Stream()
+            row.stream = CallStream()
 
     def lost(self, what: str, place: int) -> None:
         """Alignment was lost: of frames or of multiframes."""

@@ -15,7 +15,7 @@ SETTLES = 4                 # of them those before the decoder has settled, whic
 WAITING = 240               # stretches queued for decoding
 SECONDS = 30                # seconds for a run of the program
 HEADER = bytes([0x80, 96]) + bytes(10)      # RTP, of the payload type that `e1gw decode` has for G.726
-Told = Callable[[int, int, Heard], None]    # of a circuit, at a place
+OnHeard = Callable[[int, int, Heard], None]    # of a circuit, at a place
 
 
 def reordered(payload: bytes, bits: int) -> bytes:
@@ -33,7 +33,7 @@ class Orders:
     """Stretches of datagrams, decoded both ways when many are queued or when the page is drawn. Without a program, or
     if it fails, there is no result."""
 
-    def __init__(self, program: str | None, law: str, tell: Told) -> None:
+    def __init__(self, program: str | None, law: str, tell: OnHeard) -> None:
         self.program, self.law, self.tell = program, law, tell
         self.waiting: list[tuple[int, int, str, list[bytes]]] = []
 

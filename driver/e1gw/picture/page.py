@@ -9,7 +9,7 @@ from collections.abc import Iterable, Mapping
 
 from . import charts
 from .facts import OPEN, SECOND, Cell, Facts, Row
-from .findings import Finding, findings
+from .findings import Anomaly, findings
 from .sound import Heard
 from .style import CSS, PATTERNS
 from .svg import Scale, duration
@@ -61,9 +61,9 @@ def numbers(circuits: Iterable[int]) -> str:
     return ', '.join(str(a) if a == b else f'{a}, {b}' if b == a + 1 else f'{a} to {b}' for a, b in out)
 
 
-def found_items(found: list[Finding], shown: set[int]) -> list[str]:
+def found_items(found: list[Anomaly], shown: set[int]) -> list[str]:
     """Anomalies, one entry for circuits with the same."""
-    groups: dict[str, list[Finding]] = {}
+    groups: dict[str, list[Anomaly]] = {}
     for each in found:
         key = f'{each.kind} {each.bad}' + (f' {each.seen}' if not each.circuit else '')
         groups.setdefault(key, []).append(each)
@@ -94,7 +94,7 @@ def found_list(items: list[str]) -> str:
     return f'<ul class="found{many}">{"".join(items)}</ul>' if items else '<p>Nothing.</p>'
 
 
-class Page:
+class PicturePage:
     """The drawings of facts."""
 
     def __init__(self, facts: Facts, title: str, circuits: list[int] | None = None,
@@ -135,7 +135,7 @@ class Page:
     def playouts(self, rows: list[Row]) -> str:
         wide = self.facts.width / self.scale.octets
         drawn = (f'<div class="wide" id="c{row.number}">'
-                 f'{charts.Playout(row, self.scale, self.seen[row.number], wide).drawn()}</div>' for row in rows)
+                 f'{charts.PlayoutChart(row, self.scale, self.seen[row.number], wide).drawn()}</div>' for row in rows)
         return f'<div class="two">{"".join(drawn)}</div>'
 
     def datagrams(self) -> str:
@@ -280,7 +280,7 @@ def html_of(title: str, body: str, refresh: int | None = None) -> str:
 def draw(facts: Facts, title: str, circuits: list[int] | None = None, refresh: int | None = None,
          notes: Iterable[str] = ()) -> str:
     """The page of facts, below 2 MB: detail is dropped if it would be longer."""
-    page = Page(facts, title, circuits, notes)
+    page = PicturePage(facts, title, circuits, notes)
     text = html_of(title, page.drawn(), refresh)
     for coarse in (2, 4, 8, 16, 32):
         if len(text.encode()) <= MOST:

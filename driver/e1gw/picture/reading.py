@@ -3,11 +3,11 @@ from __future__ import annotations
 
 import re
 from collections import deque
-from typing import Any, Mapping, Protocol
+from typing import Any, Mapping
 
 from ..lines import SEIZURE_WAIT, WAIT, Event, law_of
 from ..repetitions import mark_of
-from ..session import MULTIFRAME, BadSession, Codec, Command, Fault, Kind, refusal_of
+from ..session import MULTIFRAME, BadSession, Codec, Command, Fault, Kind, Readable, refusal_of
 from .begun import Begun
 from .facts import Facts, Row
 from .following import Follower
@@ -18,13 +18,6 @@ TRUNK, DATAGRAM, ANSWER = int(Kind.TRUNK), int(Kind.DATAGRAM), int(Kind.ANSWER)
 AT_LEAST = 10 * MULTIFRAME  # octets followed at once: as many samples of a time slot as are listened to
 MOST = 1 << 20              # octets
 ONES = re.compile(b'\xff{512,}')
-
-
-class Readable(Protocol):
-    """A source of octets; b'' at its end."""
-
-    def read(self, size: int = -1, /) -> bytes:
-        ...
 
 
 def rows_of(config: Mapping[str, Any]) -> dict[int, Row]:
@@ -43,7 +36,7 @@ def rows_of(config: Mapping[str, Any]) -> dict[int, Row]:
     return rows
 
 
-class Told:
+class EventSink:
     """Passes a follower's events on to facts."""
 
     def __init__(self, facts: Facts) -> None:
@@ -65,7 +58,7 @@ class Told:
             facts.alarms['there', event['what']].put(place, False)
 
 
-class Stream:
+class RecordStream:
     """The records of a stream, in the octets held. Without a source it has what is pushed."""
 
     def __init__(self, source: Readable | None) -> None:
@@ -104,8 +97,8 @@ class Reading:
         self.listener = Listener(facts, program)
         self.told: deque[Event] = deque()
         self.lines = Follower(config, self.told.append)
-        self.tell = Told(facts)
-        self.given, self.answered = Stream(given), Stream(answered)
+        self.tell = EventSink(facts)
+        self.given, self.answered = RecordStream(given), RecordStream(answered)
         self.place = 0
         self.trunk: list[bytes] = []    # octets not yet followed, from `followed`, and those sent
         self.sends: list[bytes] = []

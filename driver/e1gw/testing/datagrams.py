@@ -42,7 +42,7 @@ peer_port = {peer}
 '''
 
 
-class Call:
+class UdpCalls:
     """Circuits of one gateway in calls over UDP, each with its own peer, and the exchange of their trunk."""
 
     def __init__(self, program: str, room: str, circuits: tuple[int, ...], host: str, *options: str,
@@ -67,7 +67,7 @@ class Call:
         self.guard.start()
         self.exchange, self.octets = Exchange(), 0
 
-    def __enter__(self) -> 'Call':
+    def __enter__(self) -> 'UdpCalls':
         return self
 
     def __exit__(self, *_: object) -> None:
@@ -163,7 +163,7 @@ def packets(peer: socket.socket) -> Iterator[tuple[bytes, Any]]:
             yield peer.recvfrom(65536)
 
 
-def wrong_packets(call: Call, circuit: int) -> tuple[list[str], int]:
+def wrong_packets(call: UdpCalls, circuit: int) -> tuple[list[str], int]:
     """What is wrong with what the peer of a circuit got, and how many they were."""
     got = list(packets(call.peers[circuit]))
     wrong = []
@@ -182,7 +182,7 @@ def wrong_packets(call: Call, circuit: int) -> tuple[list[str], int]:
 
 def calls_apart(program: str, room: str, host: str) -> Wrongs:
     """Five calls at once: each circuit plays what came at its own port, and sends to its own peer."""
-    with Call(program, room, CIRCUITS, host) as call:
+    with UdpCalls(program, room, CIRCUITS, host) as call:
         yield from call.up()
         length = {c: MOST if c == WIDE else PACKET for c in CIRCUITS}
         with bound(host) as sender:
@@ -202,7 +202,7 @@ def calls_apart(program: str, room: str, host: str) -> Wrongs:
 
 def only_at_its_host(program: str, room: str) -> Wrongs:
     """A gateway at 127.0.0.2: a datagram to the same port of 127.0.0.1 does not come."""
-    with Call(program, room, (1,), '127.0.0.2', peer_host='127.0.0.1') as call:
+    with UdpCalls(program, room, (1,), '127.0.0.2', peer_host='127.0.0.1') as call:
         yield from call.up()
         with bound('127.0.0.1') as sender:
             sender.sendto(speech(0x61), ('127.0.0.1', call.locals[1]))
@@ -220,7 +220,7 @@ OTHER = {'127.0.0.1': '127.0.0.2', '::1': '127.0.0.1'}
 def only_at_its_name(program: str, room: str) -> Wrongs:
     """A gateway at localhost, and its peer there: datagrams come and go at that address, and not at another one."""
     host = str(socket.getaddrinfo('localhost', None, type=socket.SOCK_DGRAM)[0][4][0])
-    with Call(program, room, (1,), host, names=('localhost', 'localhost')) as call:
+    with UdpCalls(program, room, (1,), host, names=('localhost', 'localhost')) as call:
         yield from call.up()
         for octet, place in ((0x61, OTHER[host]), (0x62, host)):
             call.socket(place).sendto(speech(octet), (place, call.locals[1]))
@@ -236,14 +236,14 @@ def only_at_its_name(program: str, room: str) -> Wrongs:
 def sends_fail(program: str, room: str) -> Wrongs:
     """The system refuses a datagram to all hosts (ip(7), EACCES): a fault for each packet that the same call sends to
     a peer, and none is sent."""
-    with Call(program, room, (1,), '127.0.0.1') as call:
+    with UdpCalls(program, room, (1,), '127.0.0.1') as call:
         yield from call.up()
         call.multiframes(30)
         sent = len(list(packets(call.peers[1])))
         if sent < 480 // PACKET:
             yield f'the peer got {sent} packets'
         yield from call.end(sent)
-    with Call(program, room, (1,), '127.0.0.1', names=('127.0.0.1', '255.255.255.255')) as call:
+    with UdpCalls(program, room, (1,), '127.0.0.1', names=('127.0.0.1', '255.255.255.255')) as call:
         yield from call.up()
         call.multiframes(30)
         yield from call.end(0, faults=sent)
@@ -256,7 +256,7 @@ LET_IN = {None: 'pho', 'any': 'pho', 'host': 'ph', 'peer': 'p'}
 def let_in(program: str, room: str, senders: str | None, host: str, other: str | None) -> Wrongs:
     """A call to whose port the peer, another port of its address and, where there is one, another address send."""
     options = () if senders is None else ('--senders', senders)
-    with Call(program, room, (1,), host, *options) as call:
+    with UdpCalls(program, room, (1,), host, *options) as call:
         yield from call.up()
         froms = {'p': call.peers[1], 'h': call.socket(host), 'o': call.socket(other) if other else None}
         wanted = b''
@@ -273,7 +273,7 @@ def let_in(program: str, room: str, senders: str | None, host: str, other: str |
 
 def strangers_first(program: str, room: str, senders: str) -> Wrongs:
     """Forty datagrams of a stranger wait before the peer's: it is played, and none of theirs is counted."""
-    with Call(program, room, (1,), '127.0.0.1', '--senders', senders) as call:
+    with UdpCalls(program, room, (1,), '127.0.0.1', '--senders', senders) as call:
         yield from call.up()
         stranger = call.socket('127.0.0.9')
         for _ in range(40):
@@ -287,7 +287,7 @@ def strangers_first(program: str, room: str, senders: str) -> Wrongs:
 
 def absent_peer(program: str, room: str, senders: str) -> Wrongs:
     """A peer that is not there is no fault of a socket; once it is there, its datagrams are played."""
-    with Call(program, room, (1,), '127.0.0.1', '--senders', senders) as call:
+    with UdpCalls(program, room, (1,), '127.0.0.1', '--senders', senders) as call:
         port = call.peers[1].getsockname()[1]
         call.peers[1].close()
         yield from call.up()

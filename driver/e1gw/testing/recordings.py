@@ -14,7 +14,7 @@ from collections.abc import Callable, Iterator
 from typing import Any
 
 from ..session import Codec, Kind, codec_record, records_in
-from .datagrams import CIRCUITS, PACKET, SECONDS, Call, Wrongs, bound, packets, speech
+from .datagrams import CIRCUITS, PACKET, SECONDS, UdpCalls, Wrongs, bound, packets, speech
 
 ENDED = 'recording ended: a write failed\n'
 ROUNDS = 12                 # of datagrams and multiframes in a live session
@@ -30,7 +30,7 @@ def path_in(room: str, name: str = 'recording') -> str:
     return path
 
 
-def live(call: Call, seed: int = 7) -> Wrongs:
+def live(call: UdpCalls, seed: int = 7) -> Wrongs:
     """A live session: datagrams good and hostile, commands that are done and refused, another codec. Yields what is
     wrong, and leaves in `call.packets` what each peer got."""
     call.packets = {c: [] for c in call.circuits}
@@ -74,14 +74,14 @@ def replay(program: str, room: str, recording: str) -> tuple[bytes, dict[int, li
     return bytes(trunk), sent, answers, done.stderr.decode()
 
 
-def answered(call: Call) -> tuple[bytes, list[Answer]]:
+def answered(call: UdpCalls) -> tuple[bytes, list[Answer]]:
     """What the live session answered: octets of the trunk, and answers to commands."""
     told = list(records_in(b''.join(call.serve.answered)))
     return (b''.join(each.body for each in told if each.kind is Kind.TRUNK),
             [(each.circuit, each.body) for each in told if each.kind is Kind.ANSWER])
 
 
-def compare(call: Call, program: str, room: str, recording: str, whole: bool = True) -> Wrongs:
+def compare(call: UdpCalls, program: str, room: str, recording: str, whole: bool = True) -> Wrongs:
     """Replays a recording of a live session. Yields what differs; of one that is not whole the first part is
     compared."""
     trunk, sent, answers, said = replay(program, room, recording)
@@ -101,7 +101,7 @@ def compare(call: Call, program: str, room: str, recording: str, whole: bool = T
 def replayed(program: str, room: str) -> Wrongs:
     """A session with five circuits, hostile datagrams among the others: its replay gives the same."""
     recording = path_in(room)
-    with Call(program, room, CIRCUITS, '127.0.0.1', '--record', recording) as call:
+    with UdpCalls(program, room, CIRCUITS, '127.0.0.1', '--record', recording) as call:
         yield from live(call)
         call.serve.input.close()
         call.serve.process.wait()
@@ -110,7 +110,7 @@ def replayed(program: str, room: str) -> Wrongs:
 
 def ends_alone(program: str, room: str, recording: str, read: Callable[[], None] | None = None) -> Wrongs:
     """A recording that ends before its session: nothing of the session changes, and a line says it."""
-    with Call(program, room, (1,), '127.0.0.1', '--record', recording) as call:
+    with UdpCalls(program, room, (1,), '127.0.0.1', '--record', recording) as call:
         if read:
             read()
         yield from call.up()
@@ -169,7 +169,7 @@ def reader_goes(program: str, room: str) -> Wrongs:
 def killed(program: str, room: str) -> Wrongs:
     """The program is killed: the recording has all that was answered."""
     recording = path_in(room)
-    with Call(program, room, CIRCUITS, '127.0.0.1', '--record', recording) as call:
+    with UdpCalls(program, room, CIRCUITS, '127.0.0.1', '--record', recording) as call:
         yield from live(call)
         call.serve.process.kill()
         call.serve.process.wait()

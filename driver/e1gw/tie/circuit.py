@@ -17,7 +17,7 @@ from ..session import Command
 NO_CALL = ''        # the name of no call
 
 
-class Link(Enum):
+class LinkState(Enum):
     """The state of the connection to the other end."""
 
     GOOD = 'good'               # connected, and both trunks are in service
@@ -26,7 +26,7 @@ class Link(Enum):
 
 
 @dataclass(frozen=True, slots=True)
-class End:
+class CircuitEnd:
     """The state of one end, as sent to the other."""
 
     role: Role
@@ -37,7 +37,7 @@ class End:
 
 
 @dataclass(frozen=True, slots=True)
-class Circuit:
+class TieCircuit:
     """One end of a circuit, and what is known of the other."""
 
     role: Role
@@ -47,57 +47,57 @@ class Circuit:
     passed: str = NO_CALL
     kept: bool = False          # blocked by the operator, who alone lifts it
     stuck: bool = False         # a release that the exchange does not follow
-    far: End | None = None      # None: not yet received, or not joined with this end
+    far: CircuitEnd | None = None      # None: not yet received, or not joined with this end
 
-    def end(self) -> End:
+    def end(self) -> CircuitEnd:
         """The state to send to the other end. A release that is stuck is a fault to it."""
-        return End(self.role, State.FAULT if self.stuck else self.state, self.call, self.over, self.passed)
+        return CircuitEnd(self.role, State.FAULT if self.stuck else self.state, self.call, self.over, self.passed)
 
-    def moved(self, state: State, call: str | None = None) -> Circuit:
+    def moved(self, state: State, call: str | None = None) -> TieCircuit:
         """Takes a new state of the line here, with the name of the call that begins in it, if any."""
         begun = call is not None
         return replace(self, state=state, call=call if begun else self.call, over=self.over and not begun, stuck=False,
                        kept=self.kept and state is State.BLOCKED)
 
-    def heard(self, far: End) -> Circuit:
+    def heard(self, far: CircuitEnd) -> TieCircuit:
         """Takes the state of the other end."""
         if self.role is Role.INCOMING:
             return replace(self, far=far, passed=self.passed if far.call is None else far.call)
         # An end that has forgotten its call learns it from the other one.
         return replace(self, far=far, call=far.passed if self.call is None else self.call)
 
-    def tried(self, call: str) -> Circuit:
+    def tried(self, call: str) -> TieCircuit:
         """The call was passed on to this outgoing end, done or refused."""
         return replace(self, call=call)
 
-    def settled(self, link: Link) -> Circuit:
+    def settled(self, link: LinkState) -> TieCircuit:
         """Marks a call that cannot be set up as given up until it ends."""
         return replace(self, over=True) if not self.over and self.ends(link) else self
 
-    def ends(self, link: Link) -> bool:
+    def ends(self, link: LinkState) -> bool:
         """The call at this incoming end has no other end, or none any more."""
         if self.role is not Role.INCOMING or self.state not in OPEN:
             return False
-        if self.over or link is Link.GIVEN_UP:
+        if self.over or link is LinkState.GIVEN_UP:
             return True
-        if link is Link.LOST or self.far is None or self.far.call is None:
+        if link is LinkState.LOST or self.far is None or self.far.call is None:
             return False
         if self.far.call == self.call:
             return self.far.state not in IN_CALL
         # Not yet passed on: possible unless that end is blocked or in fault, or another call was answered here.
         return self.state is not State.ACKED or self.far.state in (State.BLOCKED, State.FAULT)
 
-    def wants(self, link: Link, waits: bool = False) -> Command | None:
+    def wants(self, link: LinkState, waits: bool = False) -> Command | None:
         """The command that this end needs now. A call that cannot be set up is reported to its caller, or `waits`."""
         if self.role is Role.OUTGOING:
             return self._outgoing(link)
         return None if waits and self.state is State.ACKED and self.ends(link) else self._incoming(link)
 
-    def _outgoing(self, link: Link) -> Command | None:
+    def _outgoing(self, link: LinkState) -> Command | None:
         called = self.state in IN_CALL
-        if link is Link.GIVEN_UP:
+        if link is LinkState.GIVEN_UP:
             return Command.CLEAR if called else None
-        if link is Link.LOST or self.far is None:
+        if link is LinkState.LOST or self.far is None:
             return None
         far = self.far
         stands = far.state in OPEN and not far.over
@@ -106,10 +106,10 @@ class Circuit:
         begins = stands and far.state is State.ACKED and far.call != self.call
         return Command.SEIZE if begins and self.state is State.IDLE else None
 
-    def _incoming(self, link: Link) -> Command | None:
-        far = self.far if link is Link.GOOD else None
+    def _incoming(self, link: LinkState) -> Command | None:
+        far = self.far if link is LinkState.GOOD else None
         if self.state is State.IDLE:
-            out = link is not Link.GOOD or far is not None and far.state in (State.BLOCKED, State.FAULT)
+            out = link is not LinkState.GOOD or far is not None and far.state in (State.BLOCKED, State.FAULT)
             return Command.BLOCK if out else None
         if self.state is State.BLOCKED:
             free = far is not None and far.state is State.IDLE and not self.kept
@@ -125,3 +125,22 @@ class Circuit:
         if answered and self.state in (State.ACKED, State.CLEAREDBACK):
             return Command.ANSWER
         return Command.CLEAR_BACK if far is State.CLEAREDBACK and self.state is State.ANSWERED else None
+
+
+def begun(known: TieCircuit | None, fresh: TieCircuit, is_kept: bool) -> TieCircuit:
+    """A circuit as the driver has it, with what is known of the same call; `is_kept`: the operator has blocked it."""
+    if known is not None and known.role is fresh.role and known.call == fresh.call:
+        fresh = replace(known, state=fresh.state, stuck=False)
+    blocked = fresh.state is State.BLOCKED and fresh.role is Role.INCOMING
+    return replace(fresh, kept=blocked and (fresh.kept or is_kept))
+
+
+class CallNames:
+    """Names the calls of incoming circuits: by the life of the driver, and how often each was seized in it."""
+
+    def __init__(self) -> None:
+        self.life, self.seizures = '', dict[int, int]()
+
+    def latest(self, n: int) -> str:
+        """The name of the latest call of a circuit."""
+        return f'{self.life}.{self.seizures[n]}' if self.seizures[n] else NO_CALL

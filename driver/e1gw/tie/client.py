@@ -13,7 +13,7 @@ Event = dict[str, Any]
 Seen = Callable[[str], None]
 
 
-class Client:
+class ControlClient:
     """A connection. Answers and events come on one stream, so in their order."""
 
     def __init__(self, reader: asyncio.StreamReader, writer: asyncio.StreamWriter,
@@ -77,9 +77,9 @@ def event_of(line: str) -> Event | None:
     return fields if isinstance(fields, dict) and isinstance(fields.get('event'), str) else None
 
 
-async def connect(path: str, told: Callable[[Event], None]) -> Client:
+async def connect(path: str, told: Callable[[Event], None]) -> ControlClient:
     """Connects to a control socket."""
-    return Client(*await asyncio.open_unix_connection(path, limit=MOST), told)
+    return ControlClient(*await asyncio.open_unix_connection(path, limit=MOST), told)
 
 
 def life_of(path: str) -> str:

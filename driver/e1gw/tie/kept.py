@@ -10,7 +10,7 @@ from ..outlets import Outlet
 from ..session import CIRCUITS
 
 
-class Kept:
+class KeptBlocks:
     """A set of circuits. Without a path it is forgotten at the end; a file that cannot be written ends nothing."""
 
     def __init__(self, path: str | None) -> None:

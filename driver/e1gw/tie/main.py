@@ -19,10 +19,11 @@ from ..faults import Parser, named, words_of_fault
 from ..outlets import hold_descriptors, to_descriptor
 from ..trunks import host_and_port
 from .coding import SIGNALLING
-from .kept import Kept
+from .control import Tell
+from .kept import KeptBlocks
 from .pairs import BadPairs, Pairs, pairs_of
 from .site import Site, context_of
-from .tie import Options, Tell, Tie
+from .tie import Tie, TieOptions
 
 ABOUT = '''Joins the circuits of two gateways at two sites: a seizure at one end seizes the circuit at the other, and
 answers, clear-backs, clearings, blocks, faults and alarms are passed on.'''
@@ -112,8 +113,8 @@ async def work(tie: Tie, site: Site) -> int:
         asyncio.get_running_loop().add_signal_handler(number, asked.set)
     asyncio.get_running_loop().set_exception_handler(
         lambda _, about: tie.turned_away(str(about.get('exception') or about.get('message'))))
-    tie.start()
-    tasks = [asyncio.create_task(each) for each in (tie.follow_trunk(), site.run(), asked.wait())]
+    tie.link.start()
+    tasks = [asyncio.create_task(each) for each in (tie.control.follow(), site.run(), asked.wait())]
     done, _ = await asyncio.wait(tasks, return_when=asyncio.FIRST_COMPLETED)
     with suppress(TimeoutError):
         async with asyncio.timeout(LEAVES):
@@ -153,10 +154,10 @@ def main() -> None:
                       'and clear circuits: give --tls, or --insecure within a tunnel')
     outlet = to_descriptor('standard output', 1)
     tell = told_on(outlet)
-    kept = Kept(options.state)
+    kept = KeptBlocks(options.state)
     try:
         pairs = read_map(options.map) if options.map else None
-        wanted = Options(options.control, pairs, options.hold, options.congestion == 'wait', options.until_answer)
+        wanted = TieOptions(options.control, pairs, options.hold, options.congestion == 'wait', options.until_answer)
         tie = Tie(wanted, secrets.token_hex(8), kept, tell)
         site = tie.site = site_of(options, tie)
     except (OSError, BadPairs, ValueError) as fault:

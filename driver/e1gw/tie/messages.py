@@ -10,7 +10,7 @@ from typing import Any
 
 from ..lines import Role, State
 from ..session import CIRCUITS
-from .circuit import End
+from .circuit import CircuitEnd
 from .pairs import Pairs
 
 VERSION = 1
@@ -35,7 +35,7 @@ class All:
     """The state of a site."""
 
     dark: bool
-    ends: dict[int, End]
+    ends: dict[int, CircuitEnd]
     until_answer: str | None = None     # the codec that it can give its circuits until the answer
 
 
@@ -44,7 +44,7 @@ class Change:
     """The new state of a circuit."""
 
     circuit: int
-    end: End
+    end: CircuitEnd
 
 
 @dataclass(frozen=True)
@@ -107,12 +107,13 @@ def _pairs(value: Any) -> Pairs | None:
     return pairs
 
 
-def _end(value: Any) -> End:
+def _end(value: Any) -> CircuitEnd:
     fields = _is(value, dict, 'end')
     call = fields.get('call')
     try:
-        return End(Role(fields.get('role')), State(fields.get('state')), None if call is None else _name(call, 'call'),
-                   _is(fields.get('over'), bool, 'over'), _name(fields.get('passed'), 'call'))
+        return CircuitEnd(Role(fields.get('role')), State(fields.get('state')),
+                          None if call is None else _name(call, 'call'),
+                          _is(fields.get('over'), bool, 'over'), _name(fields.get('passed'), 'call'))
     except ValueError:
         raise BadMessage('not an end of a circuit') from None
 

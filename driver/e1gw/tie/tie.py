@@ -2,32 +2,29 @@
 from __future__ import annotations
 
 import asyncio
-import json
 import time
+from collections import Counter
 from dataclasses import dataclass, replace
-from typing import Any, Callable, Coroutine
+from typing import Any, Callable
 
-from ..faults import words_of_fault
 from ..lines import IN_CALL, Role, State
 from ..session import Command
-from .circuit import NO_CALL, Circuit, End, Link
-from .client import Client, Event, connect, life_of
-from .coding import Coding, Codings
-from .kept import Kept
+from .changes import CodecChanges
+from .circuit import NO_CALL, CallNames, CircuitEnd, LinkState, TieCircuit, begun
+from .client import ControlClient, Event
+from .control import AGAIN, ControlLink, Tasks, Tell
+from .kept import KeptBlocks
 from .messages import All, Change, Dark, Greeting, Message
 from .pairs import Pairs, agreed
 from .site import Site
 
-LOOK = 0.5                  # seconds between two looks at the trunk
-AGAIN = 0.5                 # seconds until the driver, or a refused command, is retried
 STUCK = 2.0                 # seconds of a release that the exchange ignores
 ANSWER_LASTS = 0.1          # seconds of an answer at least, so that the exchange recognises it
 MOST_REASONS = 10           # reports a minute of why nobody is connected
-Tell = Callable[..., None]
 
 
 @dataclass(frozen=True)
-class Options:
+class TieOptions:
     """The options of the tie."""
 
     control: str
@@ -37,128 +34,135 @@ class Options:
     until_answer: str | None = None     # the codec of each call until it is answered
 
 
-class Tie:
-    """Joins the circuits of the trunk here with those of the other site."""
+class Refusals:
+    """Why nobody is connected: each reason is reported once a minute, ten of them at most."""
 
-    def __init__(self, options: Options, run: str, kept: Kept, tell: Tell) -> None:
-        self.options, self.kept, self.tell = options, kept, tell
-        self.own_greeting = Greeting(run, options.pairs)
-        self.site: Site | None = None
-        self.circuits: dict[int, Circuit] = {}
-        self.there = agreed(options.pairs, None)        # by a circuit here, the one there
-        self.link = Link.LOST
-        self.codings = Codings(options.until_answer)
-        self._client: Client | None = None
-        self._life = self._why = ''                     # the driver's connection; why it is lost
-        self._seizures: dict[int, int] = {}
-        self._octets = -1
-        self._dark = self._far_dark = True
-        self._far: dict[int, End] | None = None         # the other site's states, by its numbers; None: unknown
-        self._busy: dict[int, Command] = {}
-        self._tasks: set[asyncio.Task[None]] = set()
-        self._moves: dict[int, int] = {}                # of each circuit, how often its state has changed
-        self._lost_at = time.monotonic()
-        self._turned: dict[str, float] = {}             # why nobody is connected, and when that was reported
+    def __init__(self, tell: Tell) -> None:
+        self._tell, self._told = tell, dict[str, float]()       # when each was reported
+
+    def add(self, why: str) -> None:
+        now = time.monotonic()
+        self._told = {each: at for each, at in self._told.items() if now < at + 60}
+        if why not in self._told and len(self._told) < MOST_REASONS:
+            self._told[why] = now
+            self._tell('no connection', why=why)
+
+    def clear(self) -> None:
+        self._told = {}
+
+
+class LinkWatch:
+    """The state of the connection between the two trunks, which is given up after some seconds without it."""
+
+    def __init__(self, hold: float, again: Callable[[], None]) -> None:
+        """`again` looks at it once more, when it may have to be given up."""
+        self.state = LinkState.LOST
+        self.hold, self._again, self._lost_at = hold, again, time.monotonic()
 
     def start(self) -> None:
         """Starts the time."""
         self._lost_at = time.monotonic()
-        self._when(self.options.hold, self._look_at_link)
+        asyncio.get_running_loop().call_later(self.hold, self._again)
 
-    def _when(self, seconds: float, call: Callable[..., None], *arguments: Any) -> None:
-        asyncio.get_running_loop().call_later(seconds, call, *arguments)
+    def look(self, good: bool) -> bool:
+        """Takes whether both trunks carry calls and know of each other; returns whether the state has changed."""
+        now, before = time.monotonic(), self.state
+        if not good and before is LinkState.GOOD:
+            self._lost_at = now
+            asyncio.get_running_loop().call_later(self.hold + 0.001, self._again)
+        is_over = now >= self._lost_at + self.hold
+        self.state = LinkState.GOOD if good else LinkState.GIVEN_UP if is_over else LinkState.LOST
+        return self.state is not before
+
+
+class Releases:
+    """Finds releases that the exchange does not follow."""
+
+    def __init__(self, stuck: Callable[[int], None]) -> None:
+        self._stuck, self._moves = stuck, Counter[int]()        # of each circuit, how often its state has changed
+
+    def moved(self, n: int, state: State) -> None:
+        """Takes a new state of a circuit."""
+        self._moves[n] += 1
+        if state is State.RELEASING:
+            asyncio.get_running_loop().call_later(STUCK, self._look, n, self._moves[n])
+
+    def _look(self, n: int, move: int) -> None:
+        if self._moves[n] == move:
+            self._stuck(n)
+
+
+def is_dark(status: dict[str, Any]) -> bool:
+    """Whether a trunk whose octets come carries no calls: it is stalled, or there is an alarm."""
+    clock = status.get('clock') or {}
+    return (not status.get('trunk_up', True) or bool(clock.get('stalled'))
+            or any(status['alarm'].values()) or any(status['remote_alarm'].values()))
+
+
+class Tie:
+    """Joins the circuits of the trunk here with those of the other site."""
+
+    def __init__(self, options: TieOptions, run: str, kept: KeptBlocks, tell: Tell) -> None:
+        self.options, self.kept, self.tell = options, kept, tell
+        self.own_greeting = Greeting(run, options.pairs)
+        self.site: Site | None = None
+        self.circuits: dict[int, TieCircuit] = {}
+        self.there = agreed(options.pairs, None)        # by a circuit here, the one there
+        self.link = LinkWatch(options.hold, self._look_at_link)
+        self.releases = Releases(self._stuck)
+        self.tasks = Tasks()
+        self.control = ControlLink(options.control, options.hold, self, tell)
+        self.codecs = CodecChanges(options.until_answer, self.control, self.tasks, tell, self._look_at_codec)
+        self.refusals = Refusals(tell)
+        self.calls = CallNames()
+        self._octets = -1
+        self._dark = self._far_dark = True
+        self._far: dict[int, CircuitEnd] | None = None         # the other site's states, by its numbers; None: unknown
+        self._busy: dict[int, Command] = {}
 
     # ---- the trunk here ----
 
-    async def follow_trunk(self) -> None:
-        """Keeps the connection with the driver up for ever."""
-        while True:
-            try:
-                await self._follow()
-            except (OSError, EOFError, ValueError, KeyError, TypeError) as fault:
-                why = words_of_fault(fault, self.options.control) or type(fault).__name__
-                if why != self._why:
-                    self.tell('trunk gone', why=why)
-                self._why = why
-            self._set_dark(True)
-            await asyncio.sleep(AGAIN)
+    def lost(self) -> None:
+        self._set_dark(True)
 
-    async def _follow(self) -> None:
-        client = await connect(self.options.control, self._told)
-        reading = asyncio.create_task(client.read())
-        reading.add_done_callback(lambda task: task.cancelled() or task.exception())
-        try:
-            await client.ask('events')
-            await self._ask_on_loss(client)
-            life = life_of(self.options.control)
-            await client.ask('status json', lambda text: self._begin(client, json.loads(text), life))
-            while True:
-                await asyncio.wait((reading,), timeout=LOOK)
-                if reading.done():
-                    reading.result()
-                await client.ask('status json', lambda text: self._stands(json.loads(text)))
-        finally:
-            self._client = None
-            reading.cancel()
-            client.close()
-
-    async def _ask_on_loss(self, client: Client) -> None:
-        """Asks the driver to end calls and block circuits if this program dies."""
-        for what in ('block', 'clear'):
-            answer = await client.ask(f'on-loss {what} {self.options.hold:g}')
-            if answer.endswith('done'):
-                return
-        self.tell('warning', about='the driver clears no calls if this program dies', answer=answer)
-
-    def _begin(self, client: Client, status: dict[str, Any], life: str) -> None:
+    def begin(self, status: dict[str, Any], life: str) -> None:
         """Takes all circuits from the driver, with what is remembered of their calls."""
-        self._client, self._life, self._why = client, life, ''
+        self.calls.life = life
         for row in status['circuits']:
             n, role, state = int(row['circuit']), Role(row['role']), State(row['state'])
-            self._seizures[n] = int(row['seizures'])
+            self.calls.seizures[n] = int(row['seizures'])
             known = self.circuits.get(n)
-            call = self._call(n) if role is Role.INCOMING else known.call if known else None
-            same = known is not None and known.role is role and known.call == call
-            fresh = replace(known, state=state, stuck=False) if known and same else Circuit(role, state, call)
-            blocked = state is State.BLOCKED and role is Role.INCOMING
-            self.circuits[n] = replace(fresh, kept=blocked and (fresh.kept or self.kept.has(n)))
-            self._moved(n)
-        states = [str(circuit.state) for circuit in self.circuits.values()]
-        self.tell('trunk', states={state: states.count(state) for state in sorted(set(states))})
-        self._warn_of_codecs(self.codings.begin(status))
+            call = self.calls.latest(n) if role is Role.INCOMING else known.call if known else None
+            self.circuits[n] = begun(known, TieCircuit(role, state, call), self.kept.has(n))
+            self.releases.moved(n, self.circuits[n].state)
+        states = Counter(str(circuit.state) for circuit in self.circuits.values())
+        self.tell('trunk', states=dict(sorted(states.items())))
+        self.codecs.begin(status)
         self._join()
-        self._stands(status)
+        self.stands(status)
         self._send_all()
         self._look_at_all()
 
-    def _call(self, n: int) -> str:
-        """The name of the latest call of an incoming circuit."""
-        return f'{self._life}.{self._seizures[n]}' if self._seizures[n] else NO_CALL
-
-    def _stands(self, status: dict[str, Any]) -> None:
+    def stands(self, status: dict[str, Any]) -> None:
         """Takes the status of the trunk, and makes up for missed events."""
         octets = int(status['octets'])
         # (a watcher knows by its shadow whether octets come)
         lives = bool(status['shadow']) if 'shadow' in status else octets != self._octets
         self._octets = octets
-        clock = status.get('clock') or {}
-        self._set_dark(not lives or not status.get('trunk_up', True) or bool(clock.get('stalled'))
-                       or any(status['alarm'].values()) or any(status['remote_alarm'].values()))
+        self._set_dark(not lives or is_dark(status))
         for row in status['circuits']:
             n = int(row['circuit'])
             circuit = self.circuits[n]
-            self.codings.stands(n, row)
+            self.codecs.codings.stands(n, row)
             if row['state'] != circuit.state and n not in self._busy:
-                self._seizures[n] = int(row['seizures'])
-                call = self._call(n) if circuit.role is Role.INCOMING else circuit.call
+                self.calls.seizures[n] = int(row['seizures'])
+                call = self.calls.latest(n) if circuit.role is Role.INCOMING else circuit.call
                 self._put(n, circuit.moved(State(row['state']), None if call == circuit.call else call))
-                self._moved(n)
+                self.releases.moved(n, self.circuits[n].state)
             self._look_at_codec(n)
 
-    def _told(self, event: Event) -> None:
+    def told(self, event: Event) -> None:
         """Takes an event of the driver."""
-        if not self._client:
-            return
         name = event['event']
         if name == 'state':
             self._state(int(event['circuit']), State(event['was']), State(event['state']))
@@ -172,33 +176,26 @@ class Tie:
     def _state(self, n: int, was: State, state: State) -> None:
         circuit, call = self.circuits[n], None
         if circuit.role is Role.INCOMING and state is State.ACKED and was is State.IDLE:
-            self._seizures[n] += 1
-            call = self._call(n)
+            self.calls.seizures[n] += 1
+            call = self.calls.latest(n)
         if self._busy.get(n) is Command.SEIZE and state is State.SEIZED and circuit.far:
             circuit = circuit.tried(circuit.far.call or NO_CALL)
         circuit = circuit.moved(state, call)
         if state is State.BLOCKED and circuit.role is Role.INCOMING:
             circuit = replace(circuit, kept=self._busy.get(n) is not Command.BLOCK)
         self._put(n, circuit)
-        self._moved(n)
+        self.releases.moved(n, self.circuits[n].state)
 
-    def _moved(self, n: int) -> None:
-        """Takes a new state of a circuit."""
-        self._moves[n] = self._moves.get(n, 0) + 1
-        if self.circuits[n].state is State.RELEASING:
-            self._when(STUCK, self._stuck, n, self._moves[n])
-
-    def _stuck(self, n: int, move: int) -> None:
-        if self._moves[n] == move:
-            self.tell('stuck', circuit=n)
-            self._put(n, replace(self.circuits[n], stuck=True))
+    def _stuck(self, n: int) -> None:
+        self.tell('stuck', circuit=n)
+        self._put(n, replace(self.circuits[n], stuck=True))
 
     def _keep(self, n: int) -> None:
         """Keeps that the operator has blocked a circuit."""
         if self.circuits[n].state is State.BLOCKED:
             self._put(n, replace(self.circuits[n], kept=True))
 
-    def _put(self, n: int, circuit: Circuit) -> None:
+    def _put(self, n: int, circuit: TieCircuit) -> None:
         """Takes a circuit's new values: sends them to the other site and acts on them."""
         before, self.circuits[n] = self.circuits[n], circuit
         if before.kept is not circuit.kept:
@@ -209,17 +206,17 @@ class Tie:
 
     # ---- commands ----
 
-    def _link_of(self, n: int) -> Link:
+    def _link_of(self, n: int) -> LinkState:
         """The connection to a circuit's other end. One that cannot be joined has none."""
         far = self.circuits[n].far
-        if self.link is Link.GOOD and (far is None or far.role is self.circuits[n].role):
-            return Link.GIVEN_UP
-        return self.link
+        if self.link.state is LinkState.GOOD and (far is None or far.role is self.circuits[n].role):
+            return LinkState.GIVEN_UP
+        return self.link.state
 
     def _look(self, n: int) -> None:
         """Gives a circuit the command that it needs."""
         self._look_at_codec(n)
-        if not self._client or n in self._busy or n not in self.there:
+        if not self.control.client or n in self._busy or n not in self.there:
             return
         link = self._link_of(n)
         settled = self.circuits[n].settled(link)
@@ -230,18 +227,13 @@ class Tie:
         command = settled.wants(link, self.options.waits)
         if command is not None:
             self._busy[n] = command
-            self._begin_task(self._do(self._client, n, command))
-
-    def _begin_task(self, work: Coroutine[Any, Any, None]) -> None:
-        task = asyncio.create_task(work)
-        self._tasks.add(task)
-        task.add_done_callback(self._tasks.discard)
+            self.tasks.begin(self._do(self.control.client, n, command))
 
     def _look_at_all(self) -> None:
         for n in list(self.circuits):
             self._look(n)
 
-    async def _do(self, client: Client, n: int, command: Command) -> None:
+    async def _do(self, client: ControlClient, n: int, command: Command) -> None:
         far, began = self.circuits[n].far, time.monotonic()
         try:
             answer = await client.ask(f'{command.word} {n}')
@@ -264,31 +256,12 @@ class Tie:
 
     def _look_at_codec(self, n: int) -> None:
         """Gives a circuit the codec that it needs."""
-        coding = self.codings.wants(n, self.circuits[n].state) if n in self.there else None
-        if self._client and coding is not None:
-            self.codings.changing.add(n)
-            self._begin_task(self._change(self._client, n, coding))
-
-    async def _change(self, client: Client, n: int, coding: Coding) -> None:
-        try:
-            answer = (await client.ask(f'codec {n} {coding.codec} {coding.payload}')).rpartition(': ')[2]
-        except (OSError, EOFError):
-            return
-        finally:
-            self.codings.changing.discard(n)
-        self.tell('codec', circuit=n, codec=coding.codec, payload=coding.payload, answer=answer)
-        self.codings.answered(n, coding, answer == 'done')
-        self._look_at_codec(n)
-
-    def _warn_of_codecs(self, why: str | None) -> None:
-        if why:
-            self.tell('warning', about=f'calls use their configured codec from the start: {why}')
+        if n in self.there:
+            self.codecs.give(n, self.circuits[n].state)
 
     async def leave(self) -> None:
         """Restores the configured codec of circuits without a call, before the end."""
-        for n, coding in self.codings.end().items():
-            if self._client and self.circuits[n].state not in IN_CALL:
-                await self._change(self._client, n, coding)
+        await self.codecs.leave(n for n, circuit in self.circuits.items() if circuit.state not in IN_CALL)
 
     # ---- the link ----
 
@@ -303,16 +276,12 @@ class Tie:
 
     def _look_at_link(self) -> None:
         """Follows the state of the connection to the other end."""
-        now = time.monotonic()
-        good = self._client is not None and self._far is not None and not self._dark and not self._far_dark
-        if not good and self.link is Link.GOOD:
-            self._lost_at = now
-            self._when(self.options.hold + 0.001, self._look_at_link)
-        link = Link.GOOD if good else Link.GIVEN_UP if now >= self._lost_at + self.options.hold else Link.LOST
-        if link is not self.link:
-            self.link = link
-            self.tell('link', state=link.value, site=self._far is not None, dark=self._dark, far_dark=self._far_dark)
-            self._look_at_all()
+        known = self.control.client is not None and self._far is not None
+        if not self.link.look(known and not self._dark and not self._far_dark):
+            return
+        self.tell('link', state=self.link.state.value, site=self._far is not None, dark=self._dark,
+                  far_dark=self._far_dark)
+        self._look_at_all()
 
     # ---- the other site ----
 
@@ -320,7 +289,7 @@ class Tie:
         return self.own_greeting
 
     def came(self, greeting: Greeting) -> None:
-        self._turned = {}
+        self.refusals.clear()
         self.there = agreed(self.options.pairs, greeting.pairs)
         left = sorted(set(agreed(self.options.pairs, None)) - set(self.there)) if greeting.pairs else []
         self.tell('site', circuits=len(self.there), left=left)
@@ -329,7 +298,7 @@ class Tie:
     def heard(self, message: Message) -> None:
         if isinstance(message, All):
             self._far, self._far_dark = dict(message.ends), message.dark
-            self._warn_of_codecs(self.codings.heard(message.until_answer))
+            self.codecs.heard(message.until_answer)
             self._join()
             self._look_at_link()
             self._look_at_all()
@@ -348,12 +317,7 @@ class Tie:
         self._look_at_link()
 
     def turned_away(self, why: str) -> None:
-        """Reports each reason once a minute, ten of them at most."""
-        now = time.monotonic()
-        self._turned = {each: at for each, at in self._turned.items() if now < at + 60}
-        if why not in self._turned and len(self._turned) < MOST_REASONS:
-            self._turned[why] = now
-            self.tell('no connection', why=why)
+        self.refusals.add(why)
 
     def _join(self) -> None:
         """Gives each circuit the other site's state of its other end."""
@@ -378,7 +342,7 @@ class Tie:
         """Sends the state of all circuits, once it is known."""
         if self.site and self.circuits:
             ends = {n: self.circuits[n].end() for n in self.there if n in self.circuits}
-            self.site.send(All(self._dark, ends, self.codings.own))
+            self.site.send(All(self._dark, ends, self.codecs.codings.own))
         if self._far is not None:
             self._join()
             self._look_at_link()

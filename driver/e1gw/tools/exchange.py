@@ -39,7 +39,7 @@ class Called:
                 exchange.pairs[circuit] = IDLE
 
 
-class Typed:
+class TypedCommands:
     """Lines that are typed, however many of them one read gives. (A reader of lines would keep those behind the first
     one, and `select` would not tell of them.)"""
 
@@ -106,7 +106,7 @@ def awaited(path: str) -> socket.socket:
     return line
 
 
-def carry(line: socket.socket, typed: Typed) -> None:
+def carry(line: socket.socket, typed: TypedCommands) -> None:
     """Sends and receives the trunk until the other end goes."""
     exchange, called, due = Exchange(), Called(), time.monotonic()
     try:
@@ -132,7 +132,7 @@ def main() -> None:
         print(__doc__, file=sys.stderr)
         sys.exit(2)
     signal.signal(signal.SIGTTIN, signal.SIG_IGN)
-    typed = Typed()
+    typed = TypedCommands()
     while True:
         with awaited(words[-1]) as line:
             carry(line, typed)

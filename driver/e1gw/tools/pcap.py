@@ -42,7 +42,7 @@ LINKS = {0: (4, None), 1: (14, 12), 12: (0, None), PLAIN_IP: (0, None), 113: (16
 VLAN, IPV4 = (0x8100, 0x88A8), 0x0800
 
 
-class Trouble(Exception):
+class BadCapture(Exception):
     """Why a file cannot be read."""
 
 
@@ -67,7 +67,7 @@ class Again:
             print(f'pcap: {self.count} of {self.every} packets are repetitions', file=sys.stderr)
 
 
-class Clock:
+class StreamClock:
     """The time of each datagram, in samples, from its stream's RTP timestamps."""
 
     def __init__(self) -> None:
@@ -95,7 +95,7 @@ class Clock:
 
 def packets_of(source: BinaryIO, asked: int | None, ends: tuple[bytes, bytes]) -> Iterator[tuple[int, bytes]]:
     """The time and the octets of a packet for each datagram of a session."""
-    clock = Clock()
+    clock = StreamClock()
     for kind, circuit, body in records(source):
         if kind is Kind.TRUNK:
             clock.octets += len(body)
@@ -133,20 +133,20 @@ def captured(source: BinaryIO) -> Iterator[tuple[int, bytes | None]]:
     head = source.read(24)
     order = {b'\xD4\xC3\xB2\xA1': '<', b'\x4D\x3C\xB2\xA1': '<', b'\xA1\xB2\xC3\xD4': '>', b'\xA1\xB2\x3C\x4D': '>'}
     if len(head) < 24 or head[:4] not in order:
-        raise Trouble('not a pcap file (editcap -F pcap converts a pcapng file)')
+        raise BadCapture('not a pcap file (editcap -F pcap converts a pcapng file)')
     first = order[head[:4]]
     link = struct.unpack(first + 'I', head[20:])[0] & 0xFFFF
     if link not in LINKS:
-        raise Trouble(f'packets of link type {link}')
+        raise BadCapture(f'packets of link type {link}')
     while head := source.read(16):
         if len(head) < 16:
-            raise Trouble('the capture ends inside a packet')
+            raise BadCapture('the capture ends inside a packet')
         length, whole = struct.unpack(first + 'II', head[8:])
         if length > LONGEST:
-            raise Trouble(f'a packet of {length} octets, too long for a capture')
+            raise BadCapture(f'a packet of {length} octets, too long for a capture')
         octets = source.read(length)
         if len(octets) < length:
-            raise Trouble('the capture ends inside a packet')
+            raise BadCapture('the capture ends inside a packet')
         yield link, octets if length == whole else None
 
 
@@ -220,5 +220,5 @@ def main() -> None:
         work(asked_for())
     except BrokenPipeError:
         os.dup2(os.open(os.devnull, os.O_WRONLY), 1)
-    except (BadSession, Trouble, OSError) as trouble:
+    except (BadSession, BadCapture, OSError) as trouble:
         sys.exit(f'{NAME}: {words_of_fault(trouble)}')
