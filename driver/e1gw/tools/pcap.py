@@ -42,7 +42,7 @@ LINKS = {0: (4, None), 1: (14, 12), 12: (0, None), PLAIN_IP: (0, None), 113: (16
 VLAN, IPV4 = (0x8100, 0x88A8), 0x0800
 
 
-class BadCapture(Exception):
+class BadPcap(Exception):
     """Why a file cannot be read."""
 
 
@@ -133,20 +133,20 @@ def captured(source: BinaryIO) -> Iterator[tuple[int, bytes | None]]:
     head = source.read(24)
     order = {b'\xD4\xC3\xB2\xA1': '<', b'\x4D\x3C\xB2\xA1': '<', b'\xA1\xB2\xC3\xD4': '>', b'\xA1\xB2\x3C\x4D': '>'}
     if len(head) < 24 or head[:4] not in order:
-        raise BadCapture('not a pcap file (editcap -F pcap converts a pcapng file)')
+        raise BadPcap('not a pcap file (editcap -F pcap converts a pcapng file)')
     first = order[head[:4]]
     link = struct.unpack(first + 'I', head[20:])[0] & 0xFFFF
     if link not in LINKS:
-        raise BadCapture(f'packets of link type {link}')
+        raise BadPcap(f'packets of link type {link}')
     while head := source.read(16):
         if len(head) < 16:
-            raise BadCapture('the capture ends inside a packet')
+            raise BadPcap('the capture ends inside a packet')
         length, whole = struct.unpack(first + 'II', head[8:])
         if length > LONGEST:
-            raise BadCapture(f'a packet of {length} octets, too long for a capture')
+            raise BadPcap(f'a packet of {length} octets, too long for a capture')
         octets = source.read(length)
         if len(octets) < length:
-            raise BadCapture('the capture ends inside a packet')
+            raise BadPcap('the capture ends inside a packet')
         yield link, octets if length == whole else None
 
 
@@ -220,5 +220,5 @@ def main() -> None:
         work(asked_for())
     except BrokenPipeError:
         os.dup2(os.open(os.devnull, os.O_WRONLY), 1)
-    except (BadSession, BadCapture, OSError) as trouble:
+    except (BadSession, BadPcap, OSError) as trouble:
         sys.exit(f'{NAME}: {words_of_fault(trouble)}')
