@@ -28,7 +28,7 @@ CODECS = ('pcma', 'pcmu', 'g726-16', 'g726-24', 'g726-32', 'g726-40')
 
 
 @dataclass
-class Fault(Exception):
+class ConfigFault(Exception):
     """The first fault of a configuration: its kind, its table's place or 0, the key, and the reason."""
 
     kind: str
@@ -84,11 +84,11 @@ def check_depth(text: str) -> None:
     depth = 0
     for number, line in enumerate(bare.split('\n'), 1):
         if any(piece.count('.') >= DEEPEST for piece in NO_KEY.split(line)):
-            raise Fault('Syntax', 0, '', f'a key has more than {DEEPEST} parts', number)
+            raise ConfigFault('Syntax', 0, '', f'a key has more than {DEEPEST} parts', number)
         for each in line:
             depth += BRACKETS.get(each, 0)
             if depth > DEEPEST:
-                raise Fault('Syntax', 0, '', f'values are nested more than {DEEPEST} deep', number)
+                raise ConfigFault('Syntax', 0, '', f'values are nested more than {DEEPEST} deep', number)
 
 
 def check_numbers(table: dict[str, Any]) -> None:
@@ -97,8 +97,8 @@ def check_numbers(table: dict[str, Any]) -> None:
     while left:
         value = left.pop()
         if type(value) is int and not -2**63 <= value < 2**63:
-            raise Fault('Syntax', 0, '', f'a whole number{f" ({value})" if abs(value) < 10**40 else ""} has more than '
-                        '64 bits')
+            shown = f' ({value})' if abs(value) < 10**40 else ''
+            raise ConfigFault('Syntax', 0, '', f'a whole number{shown} has more than 64 bits')
         left += value.values() if isinstance(value, dict) else value if isinstance(value, list) else ()
 
 
@@ -106,7 +106,7 @@ def float_of(text: str) -> float:
     """A number with a point or an exponent, at most what e1gw accepts in 64 bits."""
     value = float(text)
     if math.isinf(value) and 'inf' not in text:
-        raise Fault('Syntax', 0, '', f'the number {cut(text)} is too large')
+        raise ConfigFault('Syntax', 0, '', f'the number {cut(text)} is too large')
     return value
 
 
@@ -119,21 +119,21 @@ def cut(text: str) -> str:
 def parsed(octets: bytes) -> dict[str, Any]:
     """The table of a file."""
     if len(octets) > LONGEST:
-        raise Fault('TooLong', 0, '', f'the file has more than the {LONGEST} octets allowed')
+        raise ConfigFault('TooLong', 0, '', f'the file has more than the {LONGEST} octets allowed')
     try:
         text = octets.decode('utf-8').removeprefix('\N{ZERO WIDTH NO-BREAK SPACE}')
         check_depth(text)
         table = tomllib.loads(text, parse_float=float_of)
     except UnicodeDecodeError as error:
         line = octets[:error.start].count(b'\n') + 1
-        raise Fault('Syntax', 0, '', 'an octet is not UTF-8', line) from error
+        raise ConfigFault('Syntax', 0, '', 'an octet is not UTF-8', line) from error
     except tomllib.TOMLDecodeError as error:
         found = re.search(r'\(at line (\d+)', str(error))
         line = int(found[1]) if found else octets.rstrip().count(b'\n') + 1
-        raise Fault('Syntax', 0, '', f'not TOML: {cut(str(error))}', line) from error
+        raise ConfigFault('Syntax', 0, '', f'not TOML: {cut(str(error))}', line) from error
     except (ValueError, RecursionError) as error:
         # (int() takes no more than 4,300 digits.)
-        raise Fault('Syntax', 0, '', f'not TOML: {cut(str(error))}') from error
+        raise ConfigFault('Syntax', 0, '', f'not TOML: {cut(str(error))}') from error
     check_numbers(table)
     return table
 
@@ -158,20 +158,20 @@ def check_key(table: dict[str, Any], place: int, name: str, key: Key, needed: st
     """A key's value: Missing, then WrongType, then OutOfRange."""
     if name not in table:
         if needed:
-            raise Fault('Missing', place, name, f'{name} is missing: {needed}; it has to be {key.values}')
+            raise ConfigFault('Missing', place, name, f'{name} is missing: {needed}; it has to be {key.values}')
         return
     value = table[name]
     if type(value) is not key.type:
-        raise Fault('WrongType', place, name, f'{name} has to be {TYPES[key.type]}: {key.values}')
+        raise ConfigFault('WrongType', place, name, f'{name} has to be {TYPES[key.type]}: {key.values}')
     if not key.holds(value):
-        raise Fault('OutOfRange', place, name, f'{name} is {cut(repr(value))}, and has to be {key.values}')
+        raise ConfigFault('OutOfRange', place, name, f'{name} is {cut(repr(value))}, and has to be {key.values}')
 
 
 def check_names(table: dict[str, Any], place: int, known: dict[str, Key]) -> None:
     unknown = [name for name in table if name not in known]
     if unknown:
-        raise Fault('UnknownKey', place, unknown[0],
-                    f'{cut(unknown[0])} is not a key here; the keys are {", ".join(known)}')
+        raise ConfigFault('UnknownKey', place, unknown[0],
+                          f'{cut(unknown[0])} is not a key here; the keys are {", ".join(known)}')
 
 
 def payload_key(codec: str) -> Key:
@@ -201,22 +201,22 @@ def check_circuit(table: dict[str, Any], place: int, law: str, before: list[dict
         check_key(table, place, name, key, needs(table, name, codec))
         codec = table.get('codec', codec) if name == 'codec' else codec
     if codec == ('pcmu' if law == 'A' else 'pcma'):
-        raise Fault('LawCodec', place, 'codec', f'{codec} is not G.711 in the law of the trunk, "{law}"')
+        raise ConfigFault('LawCodec', place, 'codec', f'{codec} is not G.711 in the law of the trunk, "{law}"')
     for name in ('number', 'local_port'):
         for at, other in enumerate(before, 1):
             if name in table and other.get(name) == table[name]:
-                raise Fault('Twice', place, name, f'{name} {table[name]} is also that of table {at}')
+                raise ConfigFault('Twice', place, name, f'{name} {table[name]} is also that of table {at}')
 
 
 def check(octets: bytes) -> dict[str, Any]:
-    """The table of a configuration, or Fault."""
+    """The table of a configuration, or ConfigFault."""
     table = parsed(octets)
     check_names(table, 0, TOP_KEYS)
     for name, key in TOP_KEYS.items():
         check_key(table, 0, name, key, 'a trunk has one' if name == 'law' else None)
     circuits = table.get('circuit', [])
     if not all(isinstance(circuit, dict) for circuit in circuits):
-        raise Fault('WrongType', 0, 'circuit', 'circuit has to be a list of tables that begin with [[circuit]]')
+        raise ConfigFault('WrongType', 0, 'circuit', 'circuit has to be a list of tables that begin with [[circuit]]')
     for place, circuit in enumerate(circuits, 1):
         check_circuit(circuit, place, table['law'], circuits[:place - 1])
     return table
@@ -270,7 +270,7 @@ def read_octets(path: str) -> bytes:
         return file.read(LONGEST + 1)
 
 
-def words_of(fault: Fault, path: str, octets: bytes) -> str:
+def words_of(fault: ConfigFault, path: str, octets: bytes) -> str:
     """The file, the line and the reason."""
     line = fault.line or line_of(octets.decode('utf-8', 'replace'), fault.place, fault.key)
     return f'{path}:{line}: {fault.text}' if line else f'{path}: {fault.text}'
@@ -282,7 +282,7 @@ def config_words(path: str) -> str | None:
     try:
         octets = read_octets(path)
         check(octets)
-    except Fault as fault:
+    except ConfigFault as fault:
         return words_of(fault, path, octets)
     except OSError as fault:
         return f'{path}: {fault.strerror or fault}'
@@ -293,7 +293,7 @@ def socket_words(path: str, number: int) -> str | None:
     """Why the socket of a circuit cannot be opened, in words; None if it can now."""
     try:
         table = check(read_octets(path))
-    except (Fault, OSError):
+    except (ConfigFault, OSError):
         return None
     for circuit in table.get('circuit', []):
         if circuit['number'] == number and 'local_port' in circuit:
@@ -324,7 +324,7 @@ def explain() -> int:
     except OSError as error:
         print(f'cannot read the configuration\n  {given.file}: {error.strerror or error}')
         return 2
-    except Fault as fault:
+    except ConfigFault as fault:
         print(f'config {KINDS[fault.kind]} {fault.kind} at {fault.place}\n  {words_of(fault, given.file, octets)}')
         return 2
     print('the configuration has no fault')

@@ -16,7 +16,7 @@ import sys
 from dataclasses import dataclass, replace
 from typing import Any
 
-from .explain import CODECS, Fault, check, config_words, read_octets
+from .explain import CODECS, ConfigFault, check, config_words, read_octets
 from .faults import number, words_of_fault
 from .session import CIRCUITS
 
@@ -78,7 +78,7 @@ def text_of(plan: Plan) -> str:
     text = head + ''.join(table_of(plan, circuit) for circuit in CIRCUITS)
     try:
         check(text.encode())
-    except Fault as fault:
+    except ConfigFault as fault:
         raise Usage(fault.text) from None
     return text
 
