@@ -15,7 +15,7 @@ from .counts import Taped
 from .explain import gateway_words
 from .faults import words_of_fault
 from .followed import Followed
-from .gateway import Gateway, Shadow, version_of
+from .gateway import Gateway, Shadow
 from .keep import Ring
 from .lines import read_config, wait_words, with_wait
 from .loop import READ, WRITE, Loop
@@ -24,6 +24,7 @@ from .options import DriverOptions
 from .outlets import Journal, Outlet, to_file
 from .pace import Pace
 from .pictures import Pictures
+from .programs import version_of
 from .restarts import Restarts
 from .session import Codec, Command, Kind, Record, trunk_record
 from .trunks import Trunk

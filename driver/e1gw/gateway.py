@@ -23,33 +23,6 @@ Answered = Callable[[Record], None]
 Ended = Callable[[str], None]
 
 
-class ConfigRefused(Exception):
-    """The program refuses a configuration, in these words."""
-
-    def __init__(self, words: str, config: str) -> None:
-        super().__init__(words)
-        self.config = config
-
-
-def check_config(program: str, config: str) -> None:
-    """Asks the program whether the configuration is one."""
-    done = subprocess.run([program, 'check', '--config', config], stdin=subprocess.DEVNULL,
-                          stdout=subprocess.DEVNULL, stderr=subprocess.PIPE, check=False)
-    if done.returncode:
-        raise ConfigRefused(done.stderr.decode(errors='replace').strip() or f'status {done.returncode}', config)
-
-
-def version_of(program: str) -> str:
-    """The version that the program says, as 0.1.0; nothing if it says none."""
-    try:
-        done = subprocess.run([program, '--version'], stdin=subprocess.DEVNULL, stdout=subprocess.PIPE,
-                              stderr=subprocess.DEVNULL, check=False, timeout=GRACE)
-    except (OSError, subprocess.TimeoutExpired):
-        return ''
-    name, _, version = done.stdout.decode(errors='replace').strip().partition(' ')
-    return version if name == 'e1gw' else ''
-
-
 def _widen(file: int) -> None:
     """Gives a pipe room, as far as the kernel lets it."""
     try:

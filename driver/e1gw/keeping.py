@@ -16,20 +16,25 @@ import os
 import shutil
 import subprocess
 import sys
+import time
 from typing import Callable, NoReturn
 
 from .faults import Parser, number, options_words, words_of_fault
-from .gateway import ConfigRefused, check_config
-from .keeper import KEPT, Asked, Keeper
+from .keeper import KEPT, MOST_REOPEN, REOPEN, Asked, Keeper
+from .lines import SEIZURE_WAIT, wait_words
 from .outlets import Journal, hold_descriptors
 from .places import folder_of, is_taken
-from .programs import SENDERS, program_of, senders_of
+from .programs import SENDERS, ConfigRefused, check_config, program_of, senders_of
 from .systemd import Notify
 from .trunks import Stream, host_and_port, open_files, open_tcp, open_unix
 
 
 class Usage(Exception):
     """What is wrong with the command line."""
+
+
+class NoTrunk(Exception):
+    """Why the trunk can't be opened."""
 
 
 def parser() -> argparse.ArgumentParser:
@@ -54,6 +59,11 @@ def parser() -> argparse.ArgumentParser:
                        '[default: host if each peer_host is an address, else any]')
     words.add_argument('--repeat', type=number(0, 8), default=0, metavar='N',
                        help='sends each datagram again behind the N-th after it, 0 to 8 [default: 0, never]')
+    words.add_argument('--seizure-wait', type=number(200, 8000), default=SEIZURE_WAIT, metavar='MS',
+                       help='a seizure that is not acknowledged is released after so many milliseconds, 200 to 8000 '
+                       '[default: 200]')
+    words.add_argument('--reopen', action='store_true', help='opens a trunk that ends or fails again, within 30 s')
+    words.add_argument('--totals', action='store_true', help='tells at the end what the programs have counted')
     return words
 
 
@@ -77,20 +87,36 @@ def program_words(asked: argparse.Namespace, config: str) -> list[str]:
 
 def _asked_of(words: argparse.Namespace, folder: str) -> Asked:
     program = shutil.which(program_of(words.program)) or program_of(words.program)
-    return Asked(os.path.abspath(program), words.config, lambda config: program_words(words, config), words.control,
-                 words.state, folder, words.tell)
+    return Asked(os.path.abspath(program), words.config, lambda config: program_words(words, config),
+                 wait_words(words.seizure_wait), words.control, words.state, folder, words.tell, words.totals,
+                 trunk_of(words) if words.reopen else None)
+
+
+def _first(opens: Callable[[], Stream], again: bool, journal: Journal) -> Stream:
+    """The trunk, opened; if it can't be, `again` says whether it is tried until it can."""
+    wait = REOPEN
+    while True:
+        try:
+            return opens()
+        except OSError as fault:
+            why = f'the trunk cannot be opened: {words_of_fault(fault)}'
+            if not again:
+                raise NoTrunk(why) from None
+            if wait == REOPEN:
+                journal.line(Journal.WARNING, f'{why}; it is tried again')
+        time.sleep(wait)
+        wait = min(MOST_REOPEN, 2 * wait)
 
 
 def _start(words: argparse.Namespace, journal: Journal) -> Keeper:
     """A keeper that has opened its trunk and begun."""
-    opens = trunk_of(words)
-    asked = _asked_of(words, '')
+    opens, asked = trunk_of(words), _asked_of(words, '')
     check_config(asked.program, words.config)
     for option, path in (('--control', words.control), ('--tell', words.tell)):
         if path and is_taken(path):
             raise Usage(f'{option} {path}: somebody listens there, or something else has this name')
     journal.line(Journal.INFO, SENDERS[program_words(words, words.config)[1]])
-    trunk = opens()
+    trunk = _first(opens, words.reopen, journal)
     asked.folder = folder_of(words.folder)
     keeper = Keeper(asked, journal, Notify(), (trunk.reads, trunk.writes))
     state = None
@@ -130,6 +156,9 @@ def main(words: list[str] | None = None) -> NoReturn:
         status = _keep(sys.argv[1:] if words is None else words, journal)
     except Usage as fault:
         journal.line(Journal.ERROR, f'{fault}; see e1gw-keep --help{options_words()}')
+    except NoTrunk as fault:
+        journal.line(Journal.ERROR, str(fault))
+        status = 1
     except ConfigRefused as fault:
         from .explain import config_words
         journal.line(Journal.ERROR, str(fault))

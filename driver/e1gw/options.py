@@ -11,10 +11,10 @@ from typing import Any, Callable, NoReturn
 from .crc4 import Crc4
 from .explain import config_words
 from .faults import number, options_words, words_of_fault
-from .gateway import ConfigRefused
 from .guards import OnLoss, on_loss_of
 from .lines import SEIZURE_WAIT
 from .outlets import Journal, hold_descriptors
+from .programs import ConfigRefused
 from .trunks import Trunk, host_and_port
 
 

@@ -11,7 +11,7 @@ import signal
 import socket
 import sys
 import termios
-from dataclasses import asdict, dataclass
+from dataclasses import asdict, dataclass, field
 from typing import Any, Mapping, Sequence
 
 from .session import Kind, spell
@@ -22,6 +22,7 @@ END = spell(0x45, 0, b'')   # asks for the end of the session
 # Another codec whose payload type none may have: it is refused, changes nothing, and its answer says that all runs.
 HELLO = spell(Kind.CODEC, 1, b'\1\1')
 TOTALS = ('records', 'octets', 'datagrams', 'dropped', 'port_faults')
+NONE = 'discarded_multiframes 0'
 RENEWED = ' begins as new'  # so ends what is said of a circuit that was configured otherwise: nothing failed
 STATE_FILE = 3              # the descriptor at which a program that waits is given its state
 
@@ -74,6 +75,7 @@ class Version:
     file: int               # a descriptor of the program
     config: str             # a copy
     words: list[str]        # further options of e1gw trunk
+    both: list[str] = field(default_factory=list)       # and of e1gw replay, too
 
     def path(self) -> str:
         """What is executed: the file, as long as it is the same one."""
@@ -99,13 +101,14 @@ def spawn(path: str, words: Sequence[str], files: Mapping[int, int]) -> Process:
     return Process(os.posix_spawn(path, list(words), os.environ, file_actions=moves, setsid=True, setsigmask=[]))
 
 
-def open_version(program: str, config: str, words: Sequence[str], copy: str) -> Version:
+def open_version(program: str, config: str, words: Sequence[str], both: Sequence[str], copy: str) -> Version:
     """The program and the configuration of now; the configuration is copied."""
     file = os.open(program, os.O_RDONLY)
     try:
         shutil.copyfile(config, copy)
         # (above the descriptors that a program is given)
-        return Version(program, fcntl.fcntl(file, fcntl.F_DUPFD_CLOEXEC, STATE_FILE + 1), copy, list(words))
+        held = fcntl.fcntl(file, fcntl.F_DUPFD_CLOEXEC, STATE_FILE + 1)
+        return Version(program, held, copy, list(words), list(both))
     finally:
         os.close(file)
 
@@ -135,7 +138,7 @@ class Run:
         self._open_tape()
         files = dict(enumerate(trunk))
         words = ['trunk', '--config', version.config, '--control', control, '--record', self.path('tape'),
-                 '--save', self.path('saved'), '--totals', *version.words]
+                 '--save', self.path('saved'), '--totals', *version.words, *version.both]
         if waits:
             files[STATE_FILE], self._state = os.pipe()
             _widen(self._state, STATE_ROOM)
@@ -215,7 +218,8 @@ class Run:
     def follow(self, tell: str | None = None) -> Process:
         """Starts the shadow, which tells how the trunk stands at a socket, if one is named."""
         self.tell = tell
-        words = ['replay', '--config', self.version.config, '--save', self.path('followed'), '--totals']
+        words = ['replay', '--config', self.version.config, '--save', self.path('followed'), '--totals',
+                 *self.version.both]
         words += (['--load', self.state] if self.state else []) + (['--tell', tell] if tell else [])
         nowhere = os.open(os.devnull, os.O_WRONLY)
         try:
@@ -258,7 +262,8 @@ class Run:
         return new
 
     def _told(self, name: str) -> list[str]:
-        return [f'{word} {rest}' for word, rest in self._lines(name) if word not in TOTALS]
+        lines = [(word, f'{word} {rest}') for word, rest in self._lines(name)]
+        return [line for word, line in lines if word not in TOTALS and line != NONE]
 
     def last_words(self) -> str:
         """How the program ended: what it has said, or its status."""
@@ -269,9 +274,9 @@ class Run:
         assert self.shadow
         return told_of(self._told('shadow'), self.shadow)
 
-    def octets(self, name: str) -> int:
-        """How many octets of the trunk the program or the shadow took, once it has ended."""
-        return sum(int(rest) for word, rest in self._lines(name) if word == 'octets')
+    def totals(self, name: str) -> dict[str, int]:
+        """What the program or the shadow has counted, once it has ended in order."""
+        return {word: int(rest) for word, rest in self._lines(name) if word in TOTALS and rest.isdigit()}
 
     def close(self) -> None:
         """Gives back what the keeper holds of it, but for processes that go on."""

@@ -5,7 +5,8 @@ socket of --tell. The watcher knows what it is told there, and gives commands to
 --program-control. It may end, stand still and be started again: the trunk and its calls go on. Only what it does with
 calls by itself (--dark, --on-loss, jitter buffers resynchronised) is not done meanwhile.
 
-Statuses: 0 ended as asked; 2 the command line, the configuration, or a control socket that is taken.
+Statuses: 0 ended as asked; 2 the command line, the configuration, or a control socket that is taken; 3 ended by quit,
+with --quit-all.
 """
 from __future__ import annotations
 
@@ -14,11 +15,11 @@ from typing import NoReturn
 
 from .explain import config_words
 from .faults import Parser
-from .gateway import ConfigRefused
 from .loop import Loop
 from .managed import serve
 from .options import Usage, add_calls, add_control, add_options, fields_of, run
 from .outlets import Journal
+from .programs import ConfigRefused
 from .watcher import Watcher, WatchOptions
 
 
@@ -32,6 +33,10 @@ def parser() -> argparse.ArgumentParser:
                        help='where the shadow tells how the trunk stands, that of e1gw-keep --tell')
     words.add_argument('--program-control', metavar='SOCKET', required=True,
                        help='where the program takes commands, that of e1gw-keep --control')
+    words.add_argument('--carrier', metavar='SOCKET', help='where the carrier of the trunk tells, that of e1gw-carry '
+                       '--tell')
+    words.add_argument('--quit-all', action='store_true',
+                       help='quit ends this with status 3, by which e1gw-trunk ends the trunk')
     told = words.add_argument_group('control and what is told')
     add_control(told)
     add_calls(told)
@@ -42,7 +47,8 @@ def options_of(words: list[str]) -> WatchOptions:
     """The options of a command line; Usage where they are none."""
     asked = parser().parse_args(words)
     try:
-        return WatchOptions(**fields_of(asked), tell=asked.tell, program_control=asked.program_control)
+        return WatchOptions(**fields_of(asked), tell=asked.tell, program_control=asked.program_control,
+                            carrier=asked.carrier, quit_all=asked.quit_all)
     except ValueError as fault:
         raise Usage(str(fault)) from None
 

@@ -9,7 +9,7 @@ import unittest
 from typing import Any
 
 from . import support
-from .test_driver import FOUR, aligned, call
+from .test_trunk import FOUR, aligned, call
 from .world import SECONDS, World, config_of
 from e1gw.calls import FIELDS, KEPT, Calls, Rotated
 from e1gw.counts import Taped
