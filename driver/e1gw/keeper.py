@@ -20,12 +20,14 @@ from .faults import words_of_fault
 from .outlets import Journal
 from .parent import parent
 from .places import point, store
+from .recorder import FLUSH, Recording
 from .running import Process, Run, Version, open_version, spawn, unlink
 from .systemd import Notify
 from .trunks import Stream
 
 KEPT = 'E1GW_KEPT'          # the variable that leads through an exec
 LOST = ', what it had in hand is lost: 2048 octets (8 ms) at most'
+MOST_LOST = 0.008           # seconds of the trunk
 ANEW = '; all calls begin anew'
 APART, MOST_APART = 1.0, 60.0       # seconds between two handovers for a shadow that has ended
 QUICK = 5.0                 # seconds within which a shadow that ends has the next one wait longer
@@ -49,6 +51,7 @@ class Asked:
     tell: str | None = None
     totals: bool = False
     reopens: Callable[[], Stream] | None = None
+    recording: Recording | None = None
 
 
 class Phase(Enum):
@@ -107,8 +110,8 @@ class Keeper:
 
     def _processes(self) -> list[Process]:
         waits = self.standby.run
-        found = [self.run.program, self.run.shadow, waits and waits.program, self.trial.process,
-                 *(run.shadow for run in self.retired.runs)]
+        found = [self.run.program, *self.run.beside(), waits and waits.program, self.trial.process,
+                 *(process for run in self.retired.runs for process in run.beside())]
         return [process for process in found if process and process.status is None and process.file >= 0]
 
     def _wait(self) -> None:
@@ -160,7 +163,7 @@ class Keeper:
         self.notify.tell('STOPPING=1')
         self.standby.drop(0.0)
         until = time.monotonic() + GRACE
-        while self.retired.runs and time.monotonic() < until + GRACE:
+        while self.retired.runs and time.monotonic() < until + FLUSH:
             time.sleep(0.002)
             self.retired.look(time.monotonic())
         for path in (self.asked.control, self.asked.tell):
@@ -208,7 +211,7 @@ class Keeper:
 
     def _is_up(self) -> None:
         run, now, path, tell = self.run, time.monotonic(), self.asked.control, self.asked.tell
-        shadow = run.follow(f'{tell}.{os.path.basename(run.folder)}' if tell else None)
+        shadow = self._follow(run, f'{tell}.{os.path.basename(run.folder)}' if tell else None)
         for name, its in ((path, run.control), (tell, run.tell)):
             if name and its:
                 point(name, its)
@@ -218,8 +221,9 @@ class Keeper:
         after = f' goes on after {(now - self.silent) * 1000:.0f} ms' if self.was_up else ' carries the trunk'
         octets = self.counted['octets']
         behind = f' behind octet {octets}' if octets else ''
-        self._say(Journal.WARNING if self.lost else Journal.NOTICE,
-                  f'{self.why}: program {run.program.pid}{after}{behind}{self.lost}; shadow {shadow.pid}{again}')
+        recorder = f', recorder {run.recorder.pid}' if run.recorder else ''
+        self._say(Journal.WARNING if self.lost else Journal.NOTICE, f'{self.why}: program {run.program.pid}{after}'
+                  f'{behind}{self.lost}; shadow {shadow.pid}{recorder}{again}')
         self._pass_on(run)
         self.notify.ready(f'program {run.program.pid}, shadow {shadow.pid}')
         if self.before and run.version is self.version:
@@ -227,6 +231,13 @@ class Keeper:
             self.before = None
         self.phase, self.was_up, self.up = Phase.UP, True, now
         self.standby.due = now + SOON
+
+    def _follow(self, run: Run, tell: str | None) -> Process:
+        """Starts the shadow, and what keeps recordings before it."""
+        if not self.asked.recording:
+            return run.follow(tell)
+        before = self.retired.runs[-1].recorder if self.retired.runs else None
+        return run.record(tell, self.asked.recording, before, self.counted['octets'], MOST_LOST if self.lost else 0.0)
 
     def _pass_on(self, run: Run) -> None:
         """Tells what the program says."""
@@ -301,9 +312,14 @@ class Keeper:
                 self._try_exec()
 
     def _look_at_shadow(self, run: Run, now: float) -> None:
-        shadow = run.shadow
+        shadow, recorder = run.shadow, run.recorder
         assert shadow
-        if shadow.ended():
+        if recorder and recorder.ended():
+            self.wanted = f'the recorder {recorder.words()}'
+        elif recorder and recorder.stopped():
+            self.wanted = 'the recorder stood still'
+            recorder.signal(signal.SIGKILL)
+        elif shadow.ended():
             self.wanted = f'the shadow {run.shadow_words()}'
         elif shadow.stopped() or run.is_behind():
             self.wanted = 'the shadow stood still'
@@ -347,6 +363,8 @@ class Keeper:
         else:
             self.why = f'the program {words}'
         (run.shadow or run.follow()).signal(signal.SIGCONT)
+        if run.recorder:
+            run.recorder.signal(signal.SIGCONT)
         self.phase, self.deadline = Phase.SAVES, now + GRACE
         self._saves(now)
 

@@ -20,11 +20,13 @@ import time
 from typing import Callable, NoReturn
 
 from .faults import Parser, number, options_words, words_of_fault
+from .keep import seconds_of
 from .keeper import KEPT, MOST_REOPEN, REOPEN, Asked, Keeper
 from .lines import SEIZURE_WAIT, wait_words
 from .outlets import Journal, hold_descriptors
 from .places import folder_of, is_taken
 from .programs import SENDERS, ConfigRefused, check_config, program_of, senders_of
+from .recorder import Recording
 from .systemd import Notify
 from .trunks import Stream, host_and_port, open_files, open_tcp, open_unix
 
@@ -57,6 +59,10 @@ def parser() -> argparse.ArgumentParser:
                        'RUNTIME_DIRECTORY, or /dev/shm]')
     words.add_argument('--senders', choices=('any', 'host', 'peer'), help='whose datagrams are received, e1gw(1) '
                        '[default: host if each peer_host is an address, else any]')
+    words.add_argument('--session', metavar='FILE', help='keeps all that the program takes, for e1gw replay and check')
+    words.add_argument('--keep', metavar='TIME', help='--session is a folder for the last 30m, 1h, 2d, in twelve files')
+    words.add_argument('--name', metavar='NAME', help='of the trunk, in the names of those files [default: that of '
+                       'the configuration\'s file]')
     words.add_argument('--repeat', type=number(0, 8), default=0, metavar='N',
                        help='sends each datagram again behind the N-th after it, 0 to 8 [default: 0, never]')
     words.add_argument('--seizure-wait', type=number(200, 8000), default=SEIZURE_WAIT, metavar='MS',
@@ -85,11 +91,25 @@ def program_words(asked: argparse.Namespace, config: str) -> list[str]:
     return ['--senders', asked.senders or senders_of(config)] + ['--repeat', str(asked.repeat)] * (asked.repeat > 0)
 
 
+def recording_of(asked: argparse.Namespace) -> Recording | None:
+    """What is kept of the trunk."""
+    if asked.keep and not asked.session:
+        raise Usage('--keep wants --session')
+    if not asked.session:
+        return None
+    try:
+        keep = seconds_of(asked.keep) if asked.keep else None
+    except ValueError as fault:
+        raise Usage(str(fault)) from None
+    name = asked.name or os.path.splitext(os.path.basename(asked.config))[0]
+    return Recording(os.path.abspath(asked.session), keep, name, os.path.abspath(asked.config), asked.seizure_wait)
+
+
 def _asked_of(words: argparse.Namespace, folder: str) -> Asked:
     program = shutil.which(program_of(words.program)) or program_of(words.program)
     return Asked(os.path.abspath(program), words.config, lambda config: program_words(words, config),
                  wait_words(words.seizure_wait), words.control, words.state, folder, words.tell, words.totals,
-                 trunk_of(words) if words.reopen else None)
+                 trunk_of(words) if words.reopen else None, recording_of(words))
 
 
 def _first(opens: Callable[[], Stream], again: bool, journal: Journal) -> Stream:

@@ -14,6 +14,7 @@ import termios
 from dataclasses import asdict, dataclass, field
 from typing import Any, Mapping, Sequence
 
+from .recorder import AROUND, BEFORE_FILE, CONFIG_FILE, STATE_FROM, Part, Recording, words_of
 from .session import Kind, spell
 
 TAPE_ROOM = 1 << 20         # octets: two seconds of thirty calls
@@ -95,10 +96,12 @@ class Version:
         unlink(self.config)
 
 
-def spawn(path: str, words: Sequence[str], files: Mapping[int, int]) -> Process:
-    """Starts a process. `files` says which descriptor of the keeper becomes which of it; it has no others."""
+def spawn(path: str, words: Sequence[str], files: Mapping[int, int], around: Mapping[str, str] = {}) -> Process:
+    """Starts a process. `files` says which descriptor of the keeper becomes which of it; it has no others. `around` is
+    added to its environment."""
     moves = [(os.POSIX_SPAWN_DUP2, ours, theirs) for theirs, ours in sorted(files.items())]
-    return Process(os.posix_spawn(path, list(words), os.environ, file_actions=moves, setsid=True, setsigmask=[]))
+    return Process(os.posix_spawn(path, list(words), {**os.environ, **around}, file_actions=moves, setsid=True,
+                                  setsigmask=[]))
 
 
 def open_version(program: str, config: str, words: Sequence[str], both: Sequence[str], copy: str) -> Version:
@@ -132,6 +135,7 @@ class Run:
         self.is_up = False
         self._said = 0                      # lines of the program that were told
         self.shadow: Process | None = None
+        self.recorder: Process | None = None    # between the program and the shadow, if recordings are kept
         self.tell: str | None = None        # where the shadow tells how the trunk stands
         os.mkdir(folder, 0o700)
         self.state = self._own(state)       # the file of the state that it begins with
@@ -217,13 +221,44 @@ class Run:
 
     def follow(self, tell: str | None = None) -> Process:
         """Starts the shadow, which tells how the trunk stands at a socket, if one is named."""
+        return self._follow(self.tape, tell)
+
+    def record(self, tell: str | None, recording: Recording, before: Process | None, place: int,
+               lost: float) -> Process:
+        """As `follow`, with what keeps the recording in between, behind another that did so `before`. The program began
+        at this place of the trunk, and so many seconds of the trunk are lost before it."""
+        before = before if before and before.file >= 0 else None
+        part = Part(place, lost, self.version.program, self.path('passed'), before is not None)
+        source, sink = os.pipe()
+        try:
+            _widen(sink, TAPE_ROOM)
+            self.recorder = self._record(words_of(recording, part), sink, before)
+            return self._follow(source, tell)
+        finally:
+            os.close(source)
+            os.close(sink)
+
+    def _record(self, words: list[str], sink: int, before: Process | None) -> Process:
+        """Starts what passes the recording on and keeps it."""
+        files = {0: self.tape, 1: sink, 2: 2}
+        opened = {number: os.open(path, os.O_RDONLY)
+                  for number, path in ((CONFIG_FILE, self.version.config), (STATE_FROM, self.state)) if path}
+        if before:
+            files[BEFORE_FILE] = before.file
+        try:
+            return spawn(sys.executable, words, {**files, **opened}, AROUND)
+        finally:
+            for file in opened.values():
+                os.close(file)
+
+    def _follow(self, source: int, tell: str | None) -> Process:
         self.tell = tell
         words = ['replay', '--config', self.version.config, '--save', self.path('followed'), '--totals',
                  *self.version.both]
         words += (['--load', self.state] if self.state else []) + (['--tell', tell] if tell else [])
         nowhere = os.open(os.devnull, os.O_WRONLY)
         try:
-            self.shadow = self._spawn(words, {0: self.tape, 1: nowhere}, 'shadow')
+            self.shadow = self._spawn(words, {0: source, 1: nowhere}, 'shadow')
             return self.shadow
         finally:
             os.close(nowhere)
@@ -233,9 +268,13 @@ class Run:
         return self.path('saved') if os.path.exists(self.path('saved')) else None
 
     def followed(self) -> str | None:
-        """The file of the state that the shadow saved at its end, if it did."""
-        path = self.path('followed')
-        return path if self.shadow and self.shadow.status == 0 and os.path.exists(path) else None
+        """The file of the state that the shadow saved at its end, if it did, and if it was given all."""
+        path, given = self.path('followed'), not self.recorder or os.path.exists(self.path('passed'))
+        return path if given and self.shadow and self.shadow.status == 0 and os.path.exists(path) else None
+
+    def beside(self) -> list[Process]:
+        """The shadow, and what keeps recordings."""
+        return [process for process in (self.recorder, self.shadow) if process]
 
     def ask_end(self) -> None:
         """Asks the program to end behind what it has read."""
@@ -290,8 +329,8 @@ class Run:
 
     def remove(self) -> None:
         """Takes its files away."""
-        if self.shadow:
-            self.shadow.close()
+        for process in self.beside():
+            process.close()
         shutil.rmtree(self.folder, ignore_errors=True)
         unlink(self.control)
         if self.tell:
@@ -307,7 +346,7 @@ class Run:
             os.set_inheritable(file, True)
         return {'folder': self.folder, 'control': self.control, 'version': asdict(self.version), 'tape': self.tape,
                 'hello': hello, 'state': self.state, 'program': self.program.pid, 'shadow': self.shadow.pid,
-                'said': self._said, 'tell': self.tell}
+                'recorder': self.recorder and self.recorder.pid, 'said': self._said, 'tell': self.tell}
 
     @classmethod
     def taken_up(cls, kept: Mapping[str, Any]) -> Run:
@@ -316,6 +355,7 @@ class Run:
         run.folder, run.control, run.version = kept['folder'], kept['control'], Version(**kept['version'])
         run.tape, run.state, run._state, run.is_up, run._said = kept['tape'], kept['state'], -1, True, kept['said']
         run.program, run.shadow, run.tell = Process(kept['program']), Process(kept['shadow']), kept.get('tell')
+        run.recorder = Process(kept['recorder']) if kept.get('recorder') else None
         for file in (run.tape, kept['hello'], run.version.file):
             os.set_inheritable(file, False)
         run._hello = socket.socket(fileno=kept['hello'])

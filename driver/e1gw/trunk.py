@@ -31,7 +31,7 @@ from .trunk_options import add_trunk, opening_of
 
 NO_MORE = 'without effect, as the program reads the trunk when octets come'
 # What the keeper is given, the carrier, and the watcher, as these options are asked for.
-KEPT = ('senders', 'repeat', 'seizure_wait', 'totals', 'state', 'session', 'keep')
+KEPT = ('name', 'senders', 'repeat', 'seizure_wait', 'totals', 'state', 'session', 'keep')
 OPENED = ('input', 'out', 'unix', 'tcp', 'reopen')
 CARRIED = ('satop', 'clear', 'align', 'crc4')
 WATCHED = ('name', 'control', 'control_mode', 'control_group', 'on_loss', 'http', 'metrics', 'json', 'watch', 'top',
