@@ -57,7 +57,8 @@ class Carrier:
         self._earlier = self.owed + len(self._rest)
 
     def may_read(self) -> bool:
-        """Whether the trunk is read now: all that was given and answered before has gone. A file waits for a program."""
+        """Whether the trunk is read now: all that was given and answered before has gone. A file waits for a
+        program."""
         if not self.trunk or self.trunk.waiting() or not (self.trunk.paced or self.program):
             return False
         return not (self.program and self.program.waiting())

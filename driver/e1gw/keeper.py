@@ -201,6 +201,8 @@ class Keeper:
     def _begins(self, now: float) -> None:
         if self.run.program.ended():
             if self.run.program.status == 0 and not self.ending:
+                if self.asked.recording:
+                    self._follow(self.run, None)
                 self._died(now)             # all of a short trunk went through
             else:
                 self._never_up(self.run)

@@ -59,7 +59,6 @@ class Managed:
         self._calls_out = to_calls(options.calls, self.note) if options.calls else None
         self.calls = Calls(options.name, lines.lines, counts, self._calls_out.put) if self._calls_out else None
         self.pages: Pages | None = None
-        self._drawn: socket.socket | None = None        # the end at which pictures are asked for
 
     # ---- what carries the trunk has to have ----
 
@@ -109,9 +108,10 @@ class Managed:
 
     def _open_pages(self, door: socket.socket | None) -> None:
         options = self.options
-        words = {'config': options.config, 'name': options.name, 'top': options.top, 'metrics': options.metrics}
+        words = {'config': options.config, 'name': options.name, 'top': options.top, 'metrics': options.metrics,
+                 **options.drawn}
         try:
-            self.pages = Pages(self.loop, words, door, self._drawn, self._snapshot_wanted, self.end_beside)
+            self.pages = Pages(self.loop, words, door, self._snapshot_wanted, self.end_beside)
         except OSError as fault:
             self.end_beside('pages', fault.strerror or str(fault))
 

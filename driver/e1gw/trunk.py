@@ -130,6 +130,8 @@ def parts_of(asked: argparse.Namespace, program: str, folder: str) -> Parts:
              *words_of(asked, [*OPENED, *CARRIED, *satop_options])]
     watch = [*common, '--tell', path('tell'), '--program-control', path('program'), '--quit-all',
              *(['--carrier', path('carrier')] if carried else []), *words_of(asked, WATCHED)]
+    if asked.picture:
+        watch += ['--picture', str(asked.picture), '--session', asked.session, '--program', program]
     return Parts(Part('e1gw-keep', keep, folder), Part('e1gw-watch', watch, folder, has_terminal=True),
                  Part('e1gw-carry', carry, folder) if carried else None, asked.reopen)
 

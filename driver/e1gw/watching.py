@@ -14,7 +14,7 @@ import argparse
 from typing import NoReturn
 
 from .explain import config_words
-from .faults import Parser
+from .faults import Parser, number
 from .loop import Loop
 from .managed import serve
 from .options import Usage, add_calls, add_control, add_options, fields_of, run
@@ -39,6 +39,11 @@ def parser() -> argparse.ArgumentParser:
                        help='quit ends this with status 3, by which e1gw-trunk ends the trunk')
     told = words.add_argument_group('control and what is told')
     add_control(told)
+    told.add_argument('--picture', type=number(10, 3600, float), metavar='SECONDS',
+                      help='/ is a picture of the last seconds, 10 to 3600, of what is kept in --session')
+    told.add_argument('--session', metavar='DIR', help='where e1gw-keep --keep has its recordings, for --picture')
+    told.add_argument('--program', metavar='E1GW', help='the program that replays them [default: that of this '
+                      'repository, or e1gw]')
     add_calls(told)
     return words
 
@@ -46,8 +51,11 @@ def parser() -> argparse.ArgumentParser:
 def options_of(words: list[str]) -> WatchOptions:
     """The options of a command line; Usage where they are none."""
     asked = parser().parse_args(words)
+    if asked.picture and not (asked.http and asked.session):
+        raise Usage('--picture wants --http and --session')
+    drawn = {'picture': asked.picture, 'session': asked.session, 'program': asked.program} if asked.picture else {}
     try:
-        return WatchOptions(**fields_of(asked), tell=asked.tell, program_control=asked.program_control,
+        return WatchOptions(**fields_of(asked), drawn=drawn, tell=asked.tell, program_control=asked.program_control,
                             carrier=asked.carrier, quit_all=asked.quit_all)
     except ValueError as fault:
         raise Usage(str(fault)) from None

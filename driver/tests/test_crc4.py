@@ -227,6 +227,7 @@ class Service(unittest.TestCase):
         with world.new_door() as door:
             world.line.close()
             world.take(door)
+        world.exchange = support.Exchange()
         begun = len(world.heard) + 77
         world.give(b'\xD5' * (MULTIFRAME - 77))
         world.step(100)

@@ -28,6 +28,9 @@ def carried(bits: int, start: int, end: int) -> bytes:
     return bytes(late(bits, place) for place in range(start, end))
 
 
+ENDED = 'the trunk cannot be read or written: e1gw align ended by signal 9'
+
+
 class Broken(Stream):
     """A device that fails where another ends."""
 
@@ -239,7 +242,7 @@ class Service(unittest.TestCase):
             aligned(world)
             os.kill(descendant(world.process.pid, 'align'), signal.SIGKILL)
             status, said = world.wait()
-            self.assertEqual((status, said.count('the trunk cannot be read or written: e1gw align ended by signal 9')), (1, 1))
+            self.assertEqual((status, said.count(ENDED)), (1, 1))
 
     def test_it_comes_again(self) -> None:
         with Late(config_of(FOUR), '--align', '--reopen') as world:
@@ -256,7 +259,7 @@ class Service(unittest.TestCase):
             world.connected()
             self.assertEqual((world.status()['trunk_up'], world.state(1)), (True, 'answered'))
             status, said = world.quit()
-            self.assertEqual((status, said.count('trunk lost: the trunk cannot be read or written: e1gw align ended by signal 9')),
+            self.assertEqual((status, said.count(f'trunk lost: {ENDED}')),
                              (0, 1))
 
 

@@ -57,7 +57,8 @@ class Openings(support.Folder):
     def test_a_trunk_whose_files_do_not_open(self) -> None:
         support.program()
         none = os.path.join(self.fifo, 'none')
-        for options, what in ((('--json', self.fifo), 'json'), (('--json', none), 'json'), (('--calls', none), 'calls')):
+        for options, what in ((('--json', self.fifo), 'json'), (('--json', none), 'json'),
+                              (('--calls', none), 'calls')):
             with self.subTest(options), World(config_of(FOUR), *options) as world:
                 aligned(world)
                 call(world, 1)

@@ -235,7 +235,7 @@ class ProcessOfPages(unittest.TestCase):
         self.port = free_port()
         with open('/dev/null', encoding='ascii') as file:
             words = {'config': file.name, 'name': 'west', 'top': False, 'metrics': None}
-        self.pages = Pages(self.loop, words, socket.create_server(('127.0.0.1', self.port)), None, self.want,
+        self.pages = Pages(self.loop, words, socket.create_server(('127.0.0.1', self.port)), self.want,
                            lambda what, why: self.ended.append((what, why)))
         self.addCleanup(self.pages.finish)
         self.loop.every(0.01, lambda: None)

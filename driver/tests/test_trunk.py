@@ -11,7 +11,7 @@ import tempfile
 import time
 import unittest
 import unittest.mock
-from typing import Any
+from typing import Any, Sequence
 
 from . import support
 from .world import IDLE, LAUNCHER, SECONDS, SEIZED, World, config_of, descendant, free_ports
@@ -137,9 +137,33 @@ class Commands(unittest.TestCase):
                       [{key: each for key, each in event.items() if key != 'time'} for event in told])
 
 
-class Datagrams(unittest.TestCase):
+class Sessions(unittest.TestCase):
     def setUp(self) -> None:
         support.program()
+
+    def test_a_session_replays_alike(self) -> None:
+        with World(config_of(range(1, 31), prefill=320), '--session', '@/kept') as world:
+            aligned(world)
+            for n in range(1, 31):
+                self.assertEqual(world.ask(f'seize {n}'), f'seize {n}: done')
+            world.step(80)
+            world.ask('codec 5 g726-32 97')
+            world.step(40)
+            status = world.status()
+            self.assertEqual(world.quit()[0], 0)
+            with open(world.path('kept'), 'rb') as file:
+                kept = file.read()
+            answered = support.run('replay', '--config', world.config, given=kept)
+            listed = support.run('check', '--config', world.config, given=kept).decode().splitlines()
+        given = b''.join(r.body for r in session.records_in(kept) if r.kind is session.Kind.TRUNK)
+        heard = b''.join(r.body for r in session.records_in(answered) if r.kind is session.Kind.TRUNK)
+        self.assertEqual(given, bytes(world.sent))
+        self.assertEqual(heard, bytes(world.heard))
+        for row, line in zip(status['circuits'], listed, strict=True):
+            words = line.split()
+            self.assertEqual([row['state'], row['sent'], row['recognised'], row['codec'], str(row['payload'])],
+                             [*words[2:5], *words[8:]])
+        self.assertGreater(sum(int(line.split()[6]) for line in listed), 30)
 
     def test_causes_are_counted(self) -> None:
         config = config_of(FOUR)
@@ -307,6 +331,16 @@ class Beside(unittest.TestCase):
             self.assertFalse(os.path.exists(world.path('ctl')))
 
 
+def cut(options: Sequence[str]) -> list[list[str]]:
+    """Each option with its values."""
+    found: list[list[str]] = []
+    for word in options:
+        if word.startswith('--'):
+            found.append([])
+        found[-1].append(word)
+    return found
+
+
 class Refused(support.Folder):
     """Command lines that are refused with status 2, before anything is emptied."""
 
@@ -433,10 +467,10 @@ class Refused(support.Folder):
                               ('e1gw-watch', (*trunk, '--on-loss', 'clear', '5', '--http', '[::1]:80', '--top')),
                               ('e1gw-watch', (*trunk, '--json', '-', '--calls', 'csv', '--dark', '2.5', '--watch'))):
             with self.subTest(options):
-                given, common = self.words(name, *options), self.words(name, *options[:4 if options[0] == '--in' else 2])
-                mine = options[4:] if name == 'e1gw-watch' else options
-                self.assertLessEqual(set(mine), set(given))
-                self.assertLessEqual(set(given) - set(common), set(mine))
+                given = self.words(name, *options)
+                for words in cut(options[4:] if name == 'e1gw-watch' else options):
+                    at = given.index(words[0])
+                    self.assertEqual(given[at:at + len(words)], words)
 
     def test_a_trunk_that_is_carried(self) -> None:
         """The keeper opens the socket of the carrier, and opens it again if the carrier was begun again."""

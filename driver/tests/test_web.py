@@ -45,6 +45,26 @@ class Text(unittest.TestCase):
         self.assertEqual(text, '# HELP a b\n# TYPE a gauge\na{h="i",c="d\\"e\\\\f\\ng"} 1\n')
 
 
+class Picture(unittest.TestCase):
+    def test_the_last_seconds(self) -> None:
+        """Drawn of what is kept; the calls go on meanwhile."""
+        support.program()
+        port = free_port()
+        options = ('--http', f'127.0.0.1:{port}', '--picture', '60', '--session', '@/ring', '--keep', '1m')
+        with World(config_of(FOUR), *options, '--name', 'west') as world:
+            aligned(world)
+            call(world, 1)
+
+            def get(path: str) -> tuple[str, str]:
+                with urllib.request.urlopen(f'http://127.0.0.1:{port}{path}', timeout=SECONDS) as page:
+                    return page.headers['Content-Type'], page.read().decode()
+            kind, page = get('/')
+            self.assertEqual((kind, '</html>' in page, 'west' in page), ('text/html; charset=utf-8', True, True))
+            self.assertIn('1 answered', page)
+            self.assertEqual(get('/table')[0], 'text/plain; charset=utf-8')
+            call(world, 2)
+
+
 class Pages(unittest.TestCase):
     def setUp(self) -> None:
         support.program()
