@@ -94,6 +94,7 @@ class Call(unittest.TestCase):
         """It is killed, and stopped for some time and for good; the call stays, and so does alignment."""
         west, east = self.west, self.east
         self.answered()
+        time.sleep(1)       # what the carrier tells is half a second old
         begun = {name: east.transport(name) for name in ('searches', 'alignment_lost')}
         process = descendant(east.driver.pid, 'align')
         os.kill(process, signal.SIGKILL)

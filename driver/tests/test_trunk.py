@@ -298,10 +298,20 @@ class Beside(unittest.TestCase):
         os.close(terminal)
 
     def test_signals(self) -> None:
-        with World(config_of(FOUR)) as world:
+        """They end nothing. One takes the program and the configuration of now, with all calls up."""
+        with tempfile.NamedTemporaryFile() as told, World(config_of(FOUR), stderr=told) as world:
+            aligned(world)
+            call(world, 2)
             for number in (signal.SIGHUP, signal.SIGPIPE, signal.SIGXFSZ, signal.SIGWINCH, signal.SIGCHLD,
-                           signal.SIGUSR1, signal.SIGUSR2):
+                           signal.SIGUSR1):
                 world.process.send_signal(number)
+
+            def reloaded() -> bool:
+                with open(told.name, encoding='utf-8') as file:
+                    return 'e1gw-keep: reload: program' in file.read()
+            world.until(reloaded, 1_000_000)
+            world.connected()
+            self.assertEqual(world.state(2), 'answered')
             self.goes_on(world)
 
     def test_the_end_at_any_moment(self) -> None:
