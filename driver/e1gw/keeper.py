@@ -8,18 +8,20 @@ import select
 import signal
 import sys
 import time
-from dataclasses import dataclass
+from dataclasses import dataclass, field
 from enum import Enum, auto
 from typing import Any, Callable
 
 from .beside import DEATHS, GRACE, Deaths, Retired, Standby, Trial
+from .left import note
 from .outlets import Journal
 from .places import point, store
 from .recorder import FLUSH, Recording
-from .running import Process, Run, Version, open_version, spawn, unlink
+from .running import Process, Run, Version, open_version, spawn, started, unlink
 from .systemd import Notify
 
 KEPT = 'E1GW_KEPT'          # the variable that leads through an exec
+TRUNK_NAMES = 'trunk-in', 'trunk-out'       # of what systemd keeps
 LOST = ', what it had in hand is lost: 2048 octets (8 ms) at most'
 MOST_LOST = 0.008           # seconds of the trunk
 ANEW = '; all calls begin anew'
@@ -41,6 +43,7 @@ class Asked:
     folder: str
     tell: str | None = None
     recording: Recording | None = None
+    opens: list[str | None] = field(default_factory=list)      # which trunk it is, for a keeper that comes after
 
 
 class Phase(Enum):
@@ -71,6 +74,7 @@ class Keeper:
         self._phases: dict[Phase, Callable[[float], None]] = {
             Phase.BEGINS: self._begins, Phase.UP: self._is_there, Phase.ENDS: self._ends, Phase.SAVES: self._saves,
             Phase.PAUSED: self._paused}
+        self._noted, self._held = '', frozenset[str]()     # what is noted, and what systemd keeps
         self._wake = self._catch_signals()
 
     # ---- what is waited for ----
@@ -128,6 +132,8 @@ class Keeper:
         self.trial.look()
         if self.phase in self._phases:
             self._phases[self.phase](now)
+        if self.phase is not Phase.OVER:
+            self.note()
 
     def work(self) -> int:
         """Carries the trunk until its end; returns the status."""
@@ -169,6 +175,7 @@ class Keeper:
         """Begins with the program and the configuration of now, from a state if there is one."""
         self.version = self._version_of_now()
         self.begin(state, f'begins{state and " with what was saved" or ""}', '')
+        self.note()
 
     def begin(self, state: str | None, why: str, lost: str) -> None:
         """Begins a program from a state."""
@@ -297,6 +304,7 @@ class Keeper:
 
     def _hand_over(self, now: float) -> None:
         self.phase, self.silent, self.deadline = Phase.ENDS, now, now + GRACE
+        self.note()             # (before it ends: what ends unasked is the trunk's end)
         self.run.ask_end()
 
     def _ends(self, now: float) -> None:
@@ -402,20 +410,54 @@ class Keeper:
         self.standby.drop(0.0)
         signal.pthread_sigmask(signal.SIG_BLOCK, SIGNALS)
         self.journal.close()
-        for file in self.trunk:
+        files = self.run.files()
+        for file in (*self.trunk, *files.values()):
             os.set_inheritable(file, True)
-        os.environ[KEPT] = json.dumps({'trunk': self.trunk, 'folder': self.asked.folder, 'number': self.number,
-                                       'octets': self.octets, 'run': self.run.kept()})
+        os.environ[KEPT] = json.dumps({**self._kept(), 'trunk': self.trunk, 'files': files})
         os.execv(sys.executable, [sys.executable, *sys.orig_argv[1:]])
 
-    def take_up(self, kept: dict[str, Any]) -> None:
+    def _kept(self) -> dict[str, Any]:
+        """What another keeper has to know, as plain values."""
+        waits, tried = self.standby.run, self.trial.process
+        others = ([waits.program] if waits else []) + ([tried] if tried else [])
+        return {'keeper': [os.getpid(), started(os.getpid())], 'opens': self.asked.opens, 'folder': self.asked.folder,
+                'number': self.number, 'octets': self.octets, 'up': self.phase is Phase.UP, 'run': self.run.kept(),
+                'others': [[process.pid, process.started] for process in others]}
+
+    def note(self) -> None:
+        """Notes what another keeper has to know if this one is killed, and has systemd keep the descriptors."""
+        kept = json.dumps(self._kept())
+        if kept != self._noted:
+            self._noted = kept
+            note(self.asked.folder, kept)
+        files = dict(zip(TRUNK_NAMES, self.trunk))
+        if self.phase is Phase.UP:
+            number = os.path.basename(self.run.folder)
+            files |= {f'{name}-{number}': file for name, file in self.run.files().items()}
+        for name, file in files.items():
+            if name not in self._held:
+                self.notify.keep(name, file)
+        for name in self._held - {*files}:
+            self.notify.forget(name)
+        self._held = frozenset(files)
+
+    def take_up(self, kept: dict[str, Any], files: dict[str, int], why: str) -> None:
         """Goes on where the keeper before left."""
         self.number, self.octets = kept['number'], kept['octets']
-        self.run = Run.taken_up(kept['run'])
+        self.run = Run.taken_up(kept['run'], files)
         self.version = self.run.version
         self.phase, self.was_up, self.up = Phase.UP, True, time.monotonic()
-        self._say(Journal.NOTICE, f'the keeper was replaced; program {self.run.program.pid} goes on')
+        self._say(Journal.NOTICE, f'the keeper was {why}; program {self.run.program.pid} goes on')
+        self.note()
         self.notify.ready(f'program {self.run.program.pid}')
+
+    def go_on(self, kept: dict[str, Any], state: str | None) -> None:
+        """Begins where a keeper that was killed has left no program, from the state that was found."""
+        self.number, self.octets = kept['number'], kept['octets']
+        self.version = self._version_of_now()
+        lost = ANEW if not state else LOST if os.path.basename(state) == 'followed' else ''
+        self.begin(state, 'the keeper was killed', lost)
+        self.note()
 
     # ---- the end ----
 
