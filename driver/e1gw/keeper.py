@@ -10,22 +10,24 @@ import sys
 import threading
 import time
 from collections import Counter
-from dataclasses import dataclass
+from dataclasses import dataclass, field
 from enum import Enum, auto
 from math import inf
 from typing import Any, Callable
 
 from .beside import DEATHS, GRACE, Deaths, Retired, Standby, Trial
 from .faults import words_of_fault
+from .left import note
 from .outlets import Journal
 from .parent import parent
 from .places import point, store
 from .recorder import FLUSH, Recording
-from .running import Process, Run, Version, open_version, spawn, unlink
+from .running import Process, Run, Version, open_version, spawn, started, unlink
 from .systemd import Notify
 from .trunks import Stream
 
 KEPT = 'E1GW_KEPT'          # the variable that leads through an exec
+TRUNK_NAMES = 'trunk-in', 'trunk-out'       # of what systemd keeps
 LOST = ', what it had in hand is lost: 2048 octets (8 ms) at most'
 MOST_LOST = 0.008           # seconds of the trunk
 ANEW = '; all calls begin anew'
@@ -52,6 +54,7 @@ class Asked:
     totals: bool = False
     reopens: Callable[[], Stream] | None = None
     recording: Recording | None = None
+    opens: list[str | None] = field(default_factory=list)      # which trunk it is, for a keeper that comes after
 
 
 class Phase(Enum):
@@ -87,6 +90,7 @@ class Keeper:
         self._phases: dict[Phase, Callable[[float], None]] = {
             Phase.BEGINS: self._begins, Phase.UP: self._is_there, Phase.ENDS: self._ends, Phase.SAVES: self._saves,
             Phase.PAUSED: self._paused, Phase.OPENS: self._opens}
+        self._noted, self._held = '', frozenset[str]()     # what is noted, and what systemd keeps
         self._wake, self._parent = self._catch_signals(), parent()
 
     # ---- what is waited for ----
@@ -151,6 +155,8 @@ class Keeper:
         self.trial.look()
         if self.phase in self._phases:
             self._phases[self.phase](now)
+        if self.phase is not Phase.OVER:
+            self.note()
 
     def work(self) -> int:
         """Carries the trunk until its end; returns the status."""
@@ -192,6 +198,7 @@ class Keeper:
         """Begins with the program and the configuration of now, from a state if there is one."""
         self.version = self._version_of_now()
         self.begin(state, f'begins{state and " with what was saved" or ""}', '')
+        self.note()
 
     def begin(self, state: str | None, why: str, lost: str) -> None:
         """Begins a program from a state."""
@@ -334,6 +341,7 @@ class Keeper:
 
     def _hand_over(self, now: float) -> None:
         self.phase, self.silent, self.deadline = Phase.ENDS, now, now + GRACE
+        self.note()             # (before it ends: what ends unasked is the trunk's end)
         self.run.ask_end()
 
     def _ends(self, now: float) -> None:
@@ -398,6 +406,7 @@ class Keeper:
         self.standby.drop(0.0)
         for file in {*self.trunk}:
             os.close(file)
+        self.trunk = -1, -1
         self.held = os.path.join(self.asked.folder, 'held') if state else None
         if state and self.held:
             os.replace(state, self.held)
@@ -483,20 +492,54 @@ class Keeper:
         self.standby.drop(0.0)
         signal.pthread_sigmask(signal.SIG_BLOCK, SIGNALS)
         self.journal.close()
-        for file in self.trunk:
+        files = self.run.files()
+        for file in (*self.trunk, *files.values()):
             os.set_inheritable(file, True)
-        os.environ[KEPT] = json.dumps({'trunk': self.trunk, 'folder': self.asked.folder, 'number': self.number,
-                                       'counted': self.counted, 'run': self.run.kept()})
+        os.environ[KEPT] = json.dumps({**self._kept(), 'trunk': self.trunk, 'files': files})
         os.execv(sys.executable, [sys.executable, *sys.orig_argv[1:]])
 
-    def take_up(self, kept: dict[str, Any]) -> None:
+    def _kept(self) -> dict[str, Any]:
+        """What another keeper has to know, as plain values."""
+        waits, tried = self.standby.run, self.trial.process
+        others = ([waits.program] if waits else []) + ([tried] if tried else [])
+        return {'keeper': [os.getpid(), started(os.getpid())], 'opens': self.asked.opens, 'folder': self.asked.folder,
+                'number': self.number, 'counted': self.counted, 'up': self.phase is Phase.UP, 'run': self.run.kept(),
+                'others': [[process.pid, process.started] for process in others]}
+
+    def note(self) -> None:
+        """Notes what another keeper has to know if this one is killed, and has systemd keep the descriptors."""
+        kept = json.dumps(self._kept())
+        if kept != self._noted:
+            self._noted = kept
+            note(self.asked.folder, kept)
+        files = {name: file for name, file in zip(TRUNK_NAMES, self.trunk) if file >= 0}
+        if self.phase is Phase.UP:
+            number = os.path.basename(self.run.folder)
+            files |= {f'{name}-{number}': file for name, file in self.run.files().items()}
+        for name, file in files.items():
+            if name not in self._held:
+                self.notify.keep(name, file)
+        for name in self._held - {*files}:
+            self.notify.forget(name)
+        self._held = frozenset(files)
+
+    def take_up(self, kept: dict[str, Any], files: dict[str, int], why: str) -> None:
         """Goes on where the keeper before left."""
         self.number, self.counted = kept['number'], Counter(kept['counted'])
-        self.run = Run.taken_up(kept['run'])
+        self.run = Run.taken_up(kept['run'], files)
         self.version = self.run.version
         self.phase, self.was_up, self.up = Phase.UP, True, time.monotonic()
-        self._say(Journal.NOTICE, f'the keeper was replaced; program {self.run.program.pid} goes on')
+        self._say(Journal.NOTICE, f'the keeper was {why}; program {self.run.program.pid} goes on')
+        self.note()
         self.notify.ready(f'program {self.run.program.pid}')
+
+    def go_on(self, kept: dict[str, Any], state: str | None) -> None:
+        """Begins where a keeper that was killed has left no program, from the state that was found."""
+        self.number, self.counted = kept['number'], Counter(kept['counted'])
+        self.version = self._version_of_now()
+        lost = ANEW if not state else LOST if os.path.basename(state) == 'followed' else ''
+        self.begin(state, 'the keeper was killed', lost)
+        self.note()
 
     # ---- the end ----
 

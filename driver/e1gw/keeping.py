@@ -17,18 +17,22 @@ import shutil
 import subprocess
 import sys
 import time
-from typing import Callable, NoReturn
+from typing import Any, Callable, NoReturn
 
 from .faults import Parser, number, options_words, words_of_fault
 from .keep import seconds_of
-from .keeper import KEPT, MOST_REOPEN, REOPEN, Asked, Keeper
+from .keeper import KEPT, MOST_REOPEN, REOPEN, TRUNK_NAMES, Asked, Keeper
+from .left import end_left_overs, end_others, left_in, state_of
 from .lines import SEIZURE_WAIT, wait_words
 from .outlets import Journal, hold_descriptors
 from .places import folder_of, is_taken
 from .programs import SENDERS, ConfigRefused, check_config, program_of, senders_of
 from .recorder import Recording
-from .systemd import Notify
+from .systemd import Notify, given
 from .trunks import Stream, host_and_port, open_files, open_tcp, open_unix
+
+
+RUN_NAMES = 'tape', 'hello', 'program'          # of the descriptors of a run
 
 
 class Usage(Exception):
@@ -91,6 +95,12 @@ def program_words(asked: argparse.Namespace, config: str) -> list[str]:
     return ['--senders', asked.senders or senders_of(config)] + ['--repeat', str(asked.repeat)] * (asked.repeat > 0)
 
 
+def opens_of(asked: argparse.Namespace) -> list[str | None]:
+    """Which trunk it is: the same for a keeper that is started again."""
+    paths = asked.input, asked.out, asked.unix, asked.control
+    return [*(path and os.path.abspath(path) for path in paths), asked.tcp]
+
+
 def recording_of(asked: argparse.Namespace) -> Recording | None:
     """What is kept of the trunk."""
     if asked.keep and not asked.session:
@@ -109,7 +119,7 @@ def _asked_of(words: argparse.Namespace, folder: str) -> Asked:
     program = shutil.which(program_of(words.program)) or program_of(words.program)
     return Asked(os.path.abspath(program), words.config, lambda config: program_words(words, config),
                  wait_words(words.seizure_wait), words.control, words.state, folder, words.tell, words.totals,
-                 trunk_of(words) if words.reopen else None, recording_of(words))
+                 trunk_of(words) if words.reopen else None, recording_of(words), opens_of(words))
 
 
 def _first(opens: Callable[[], Stream], again: bool, journal: Journal) -> Stream:
@@ -153,14 +163,52 @@ def _take_up(words: argparse.Namespace, journal: Journal, kept: str) -> Keeper:
     for file in found['trunk']:
         os.set_inheritable(file, False)
     keeper = Keeper(_asked_of(words, found['folder']), journal, Notify(), (found['trunk'][0], found['trunk'][1]))
-    keeper.take_up(found)
+    keeper.take_up(found, found['files'], 'replaced')
     return keeper
 
 
+def _left(words: argparse.Namespace) -> dict[str, Any] | None:
+    """What a keeper of this trunk that was killed has left, in a folder that is known."""
+    within = words.folder or os.environ.get('RUNTIME_DIRECTORY', '').partition(':')[0]
+    return left_in(within, opens_of(words)) if within and os.path.isdir(within) else None
+
+
+def _go_on(words: argparse.Namespace, journal: Journal, kept: dict[str, Any], files: dict[str, int]) -> Keeper:
+    """The keeper that goes on where one was killed: with the program that is there if it has all its descriptors, else
+    with the state of that program, which ends, on the trunk of that keeper, or on the trunk opened again."""
+    end_others(kept)
+    asked, number = _asked_of(words, kept['folder']), os.path.basename(kept['run']['folder'])
+    its = {name: file for name in RUN_NAMES if (file := files.get(f'{name}-{number}')) is not None}
+    trunk = _held_trunk(files)
+    if trunk and kept['up'] and len(its) == len(RUN_NAMES):
+        keeper = Keeper(asked, journal, Notify(), trunk)
+        keeper.take_up(kept, its, 'killed')
+        return keeper
+    state = state_of(kept)
+    if not trunk:
+        opened = trunk_of(words)()
+        trunk = opened.reads, opened.writes
+    keeper = Keeper(asked, journal, Notify(), trunk)
+    keeper.go_on(kept, state)
+    return keeper
+
+
+def _held_trunk(files: dict[str, int]) -> tuple[int, int] | None:
+    """The trunk's descriptors that systemd has kept. Of two that are one it has kept the first."""
+    reads = files.get(TRUNK_NAMES[0])
+    return None if reads is None else (reads, files.get(TRUNK_NAMES[1], reads))
+
+
 def _keep(words: list[str], journal: Journal) -> int:
-    kept = os.environ.pop(KEPT, None)
+    kept, files = os.environ.pop(KEPT, None), given()
     asked = parser().parse_args(words)
-    keeper = _take_up(asked, journal, kept) if kept else _start(asked, journal)
+    if kept:
+        keeper = _take_up(asked, journal, kept)
+    elif left := _left(asked):
+        keeper = _go_on(asked, journal, left, files)
+    else:
+        end_left_overs()
+        keeper = _start(asked, journal)
     try:
         return keeper.work()
     finally:

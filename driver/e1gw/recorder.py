@@ -199,7 +199,7 @@ class Recorder:
 
     def _end(self) -> None:
         """All was passed on, which a file says before the shadow's input ends."""
-        if self._has_shadow:
+        if self._has_shadow and os.path.isdir(os.path.dirname(self._part.passed)):
             os.close(os.open(self._part.passed, os.O_WRONLY | os.O_CREAT, 0o600))
         nowhere = os.open(os.devnull, os.O_WRONLY)
         os.dup2(nowhere, 1)

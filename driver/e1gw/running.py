@@ -6,6 +6,7 @@ from __future__ import annotations
 
 import fcntl
 import os
+import select
 import shutil
 import signal
 import socket
@@ -26,6 +27,7 @@ TOTALS = ('records', 'octets', 'datagrams', 'dropped', 'port_faults')
 NONE = 'discarded_multiframes 0'
 RENEWED = ' begins as new'  # so ends what is said of a circuit that was configured otherwise: nothing failed
 STATE_FILE = 3              # the descriptor at which a program that waits is given its state
+APART = 64                  # descriptors from here on are none that a process is given
 
 
 class Process:
@@ -33,6 +35,7 @@ class Process:
 
     def __init__(self, pid: int) -> None:
         self.pid, self.file = pid, os.pidfd_open(pid)
+        self.started = started(pid)
         self.status: int | None = None      # negative for a signal
 
     def ended(self) -> bool:
@@ -68,6 +71,71 @@ class Process:
             self.file = -1
 
 
+def started(pid: int) -> int:
+    """When a process was started, in ticks since the machine was (proc(5)); 0 if there is none."""
+    return int(_stat(pid)[19]) if _stat(pid) else 0
+
+
+def _stat(pid: int) -> list[str]:
+    """What proc(5) says of a process behind its name: first its state."""
+    try:
+        with open(f'/proc/{pid}/stat', encoding='ascii', errors='replace') as file:
+            return file.read().rpartition(')')[2].split()
+    except OSError:
+        return []
+
+
+class Adopted(Process):
+    """A process that another keeper started, by its number and when it was started. It is no child of this one, so how
+    it has ended is known by the file `done` alone, which it leaves where it ended in order."""
+
+    UNKNOWN = 255
+
+    def __init__(self, its: Sequence[int], done: str = '') -> None:     # pylint: disable=super-init-not-called
+        self.pid, self.started = its
+        self.file, self.status, self._done = -1, None, done
+        try:
+            self.file = os.pidfd_open(self.pid)
+            signal.pidfd_send_signal(self.file, 0)
+        except OSError:
+            self.close()
+        # (one that may be sent signals, and that proc(5) hides, is of the same user in another name space: a service)
+        if started(self.pid) not in (self.started, 0):      # another one has its number
+            self.close()
+
+    def ended(self) -> bool:
+        if self.status is None and (self.file < 0 or self._is_over()):
+            self.status = 0 if self._done and os.path.exists(self._done) else self.UNKNOWN
+        return self.status is not None
+
+    def _is_over(self) -> bool:
+        return bool(select.select([self.file], [], [], 0)[0])
+
+    def stopped(self) -> bool:
+        return self.status is None and _stat(self.pid)[:1] == ['T']
+
+    def signal(self, number: int) -> None:
+        if not self.ended():
+            signal.pidfd_send_signal(self.file, number)
+
+    def words(self) -> str:
+        return 'ended while no keeper was there' if self.status == self.UNKNOWN else super().words()
+
+    def kill(self) -> None:
+        self.signal(signal.SIGKILL)
+        while not self.ended():
+            select.select([self.file], [], [])
+
+
+def taken_up(its: Sequence[int], done: str) -> Process:
+    """A process that was started before: a child still, or not."""
+    try:
+        os.waitid(os.P_PID, its[0], os.WEXITED | os.WNOHANG | os.WNOWAIT)
+    except ChildProcessError:
+        return Adopted(its, done)
+    return Process(its[0])
+
+
 @dataclass(frozen=True)
 class Version:
     """A program and a configuration as they were at one moment: later changes of their files change neither."""
@@ -99,9 +167,17 @@ class Version:
 def spawn(path: str, words: Sequence[str], files: Mapping[int, int], around: Mapping[str, str] = {}) -> Process:
     """Starts a process. `files` says which descriptor of the keeper becomes which of it; it has no others. `around` is
     added to its environment."""
-    moves = [(os.POSIX_SPAWN_DUP2, ours, theirs) for theirs, ours in sorted(files.items())]
-    return Process(os.posix_spawn(path, list(words), {**os.environ, **around}, file_actions=moves, setsid=True,
-                                  setsigmask=[]))
+    # (what would be written over before it is copied is copied out of the way first)
+    apart = {ours: fcntl.fcntl(ours, fcntl.F_DUPFD_CLOEXEC, APART) for theirs, ours in files.items()
+             if ours != theirs and ours in files}
+    moves = [(os.POSIX_SPAWN_DUP2, apart.get(ours, ours) if ours != theirs else ours, theirs)
+             for theirs, ours in sorted(files.items())]
+    try:
+        return Process(os.posix_spawn(path, list(words), {**os.environ, **around}, file_actions=moves, setsid=True,
+                                      setsigmask=[]))
+    finally:
+        for file in apart.values():
+            os.close(file)
 
 
 def open_version(program: str, config: str, words: Sequence[str], both: Sequence[str], copy: str) -> Version:
@@ -336,30 +412,39 @@ class Run:
         if self.tell:
             unlink(self.tell)
 
-    # ---- through an exec of the keeper ----
+    # ---- for another keeper ----
+
+    def files(self) -> dict[str, int]:
+        """The descriptors that the keeper has of a run that is up."""
+        assert self._hello
+        return {'tape': self.tape, 'hello': self._hello.fileno(), 'program': self.version.file}
 
     def kept(self) -> dict[str, Any]:
-        """A run that is up, as plain values. Its descriptors outlive an exec from now on."""
-        assert self._hello and self.shadow
-        hello = self._hello.fileno()
-        for file in (self.tape, hello, self.version.file):
-            os.set_inheritable(file, True)
-        return {'folder': self.folder, 'control': self.control, 'version': asdict(self.version), 'tape': self.tape,
-                'hello': hello, 'state': self.state, 'program': self.program.pid, 'shadow': self.shadow.pid,
-                'recorder': self.recorder and self.recorder.pid, 'said': self._said, 'tell': self.tell}
+        """The run as plain values, but for its descriptors."""
+        processes = {'program': self.program, 'shadow': self.shadow, 'recorder': self.recorder}
+        return {'folder': self.folder, 'control': self.control, 'version': asdict(self.version), 'state': self.state,
+                'said': self._said, 'tell': self.tell,
+                **{name: [process.pid, process.started] if process else None for name, process in processes.items()}}
 
     @classmethod
-    def taken_up(cls, kept: Mapping[str, Any]) -> Run:
-        """The run that was kept through an exec."""
+    def taken_up(cls, kept: Mapping[str, Any], files: Mapping[str, int]) -> Run:
+        """The run that another keeper has kept, with its descriptors."""
         run = cls.__new__(cls)
-        run.folder, run.control, run.version = kept['folder'], kept['control'], Version(**kept['version'])
-        run.tape, run.state, run._state, run.is_up, run._said = kept['tape'], kept['state'], -1, True, kept['said']
-        run.program, run.shadow, run.tell = Process(kept['program']), Process(kept['shadow']), kept.get('tell')
-        run.recorder = Process(kept['recorder']) if kept.get('recorder') else None
-        for file in (run.tape, kept['hello'], run.version.file):
+        run.folder, run.control, run.tell = kept['folder'], kept['control'], kept['tell']
+        run.version = Version(**kept['version'] | {'file': files['program']})
+        run.tape, run.state, run._state, run.is_up, run._said = files['tape'], kept['state'], -1, True, kept['said']
+        run.program = taken_up(kept['program'], folder_path(kept, 'saved'))
+        run.shadow = taken_up(kept['shadow'], folder_path(kept, 'followed'))
+        run.recorder = taken_up(kept['recorder'], folder_path(kept, 'passed')) if kept['recorder'] else None
+        for file in files.values():
             os.set_inheritable(file, False)
-        run._hello = socket.socket(fileno=kept['hello'])
+        run._hello = socket.socket(fileno=files['hello'])
         return run
+
+
+def folder_path(kept: Mapping[str, Any], name: str) -> str:
+    """A file of a run that was kept."""
+    return os.path.join(kept['folder'], name)
 
 
 def _widen(file: int, room: int) -> None:

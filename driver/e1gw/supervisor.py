@@ -207,8 +207,8 @@ class Supervisor:
     def _keeper_ended(self, _: Part, process: Process, now: float) -> None:
         status = process.status or 0
         if status < 0 and self.status is None:
-            self.journal.line(Journal.ERROR, f'e1gw-keep {process.words()}')
-        self.end(status if status >= 0 else 1)
+            return self._again(self.parts.keep, process, now)      # it goes on with what is left of the one before
+        self.end(max(0, status))
         self.status = self.status or max(0, status)
 
     def _carrier_ended(self, part: Part, process: Process, now: float) -> None:
