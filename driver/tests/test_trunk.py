@@ -14,7 +14,7 @@ import unittest.mock
 from typing import Any, Sequence
 
 from . import support
-from .world import IDLE, LAUNCHER, SECONDS, SEIZED, World, config_of, descendant, free_ports
+from .world import ANSWERED, IDLE, LAUNCHER, SECONDS, SEIZED, World, config_of, descendant, free_ports
 from e1gw import session
 from e1gw.trunk import options_of, parts_of
 
@@ -40,6 +40,15 @@ def aligned(world: World) -> World:
 def records_of(octets: bytes) -> bytes:
     """Octets of the trunk as records."""
     return b''.join(session.trunk_record(octets[at:at + 2048]) for at in range(0, len(octets), 2048))
+
+
+def is_there(pid: int) -> bool:
+    """Whether a process has not ended."""
+    try:
+        with open(f'/proc/{pid}/stat', encoding='utf-8') as stat:
+            return stat.read().rpartition(')')[2].split()[0] != 'Z'
+    except OSError:
+        return False
 
 
 def call(world: World, circuit: int) -> None:
@@ -240,6 +249,35 @@ class Beside(unittest.TestCase):
                 uncut = b''.join(r.body for r in session.records_in(answered) if r.kind is session.Kind.TRUNK)
                 self.assertEqual(bytes(world.heard), uncut)
                 self.assertEqual(world.quit()[0], 0)
+
+    def test_a_keeper_or_a_carrier_that_is_killed(self) -> None:
+        """Another one opens the trunk again, and the call is up."""
+        for name, options in (('e1gw-keep', ()), ('e1gw-carry', ('--align', '--reopen'))):
+            with self.subTest(name), World(config_of(FOUR), *options) as world:
+                aligned(world)
+                call(world, 1)
+                with world.new_door() as door:
+                    os.kill(descendant(world.process.pid, name), signal.SIGKILL)
+                    world.line.close()
+                    world.take(door)
+                world.exchange = support.Exchange()
+                world.exchange.pairs[1] = ANSWERED
+                world.connected()
+                world.step(60)
+                self.assertEqual(world.state(1), 'answered')
+                status, said = world.quit()
+                self.assertEqual((status, said.count(f'{name} ended by signal 9 (SIGKILL), the calls go on')), (0, 1))
+
+    def test_what_ends_with_e1gw_trunk(self) -> None:
+        """All that it has started ends once it is killed."""
+        with World(config_of(FOUR), '--align') as world:
+            aligned(world)
+            left = [descendant(world.process.pid, name) for name in ('e1gw-keep', 'e1gw-carry', 'e1gw-watch', 'trunk')]
+            os.kill(world.process.pid, signal.SIGKILL)
+            until = time.monotonic() + SECONDS
+            while any(map(is_there, left)) and time.monotonic() < until:
+                time.sleep(0.02)
+            self.assertEqual([pid for pid in left if is_there(pid)], [])
 
     def test_readers_that_go_and_readers_that_stand_still(self) -> None:
         reads, writes = os.pipe()
