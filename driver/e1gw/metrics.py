@@ -57,7 +57,21 @@ def _of_trunk(status: Status) -> list[Family]:
     if 'shadow' in status:
         found.append(('e1gw_connected', 'gauge', '1 where the watcher has a connection.',
                       [({'to': other}, int(status[other])) for other in OTHERS]))
-    return found + (_of_octets(status, clock) if 'transport' in status else [])
+    return found + (_of_octets(status, clock) if 'transport' in status else _of_gaps(clock))
+
+
+def _of_gaps(clock: Status) -> list[Family]:
+    """Slips and the rate, if they are known."""
+    found: list[Family] = []
+    if 'gaps' in clock:
+        found += [('e1gw_trunk_gaps_total', 'counter', 'Slips, at which octets of the trunk were lost.',
+                   [({}, clock['gaps'])]),
+                  ('e1gw_trunk_gap_seconds_total', 'counter', 'Seconds of the trunk that slips have lost.',
+                   [({}, clock['gap_seconds'])])]
+    if clock.get('ppm') is not None:
+        found.append(('e1gw_trunk_rate_ppm', 'gauge', 'The rate relative to this machine\'s clock, over a minute.',
+                      [({}, clock['ppm'])]))
+    return found
 
 
 def _of_octets(status: Status, clock: Status) -> list[Family]:
@@ -65,13 +79,7 @@ def _of_octets(status: Status, clock: Status) -> list[Family]:
     found: list[Family] = [
         ('e1gw_trunk_octets_total', 'counter', 'Octets of the trunk.', [({}, status['octets'])]),
         ('e1gw_wrong_signals_total', 'counter', 'Frame alignment signals in error.',
-         [({}, status['wrong_signals'])]),
-        ('e1gw_trunk_gaps_total', 'counter', 'Slips, at which octets of the trunk were lost.', [({}, clock['gaps'])]),
-        ('e1gw_trunk_gap_seconds_total', 'counter', 'Seconds of the trunk that slips have lost.',
-         [({}, clock['gap_seconds'])])]
-    if clock['ppm'] is not None:
-        found.append(('e1gw_trunk_rate_ppm', 'gauge', 'The rate relative to this machine\'s clock, over a minute.',
-                      [({}, clock['ppm'])]))
+         [({}, status['wrong_signals'])]), *_of_gaps(clock)]
     numbers = [({'what': what}, n) for what, n in status['transport'].items()
                if isinstance(n, (int, float)) and not isinstance(n, bool)]
     found.append(('e1gw_slowest_turn_seconds', 'gauge', 'The longest time from octets of the trunk to their answer in '
@@ -202,12 +210,12 @@ def _head(status: Status) -> list[str]:
 
 
 def _slips(status: Status, clock: Status) -> str:
-    """Slips, the rate and the slowest turn, which only a driver knows."""
+    """Slips and the rate, if they are known, and the slowest turn, which only a driver knows."""
     if 'gaps' not in clock:
         return ''
     rate = '' if clock['ppm'] is None else f', rate {clock["ppm"]:+.0f} ppm'
-    return (f', slips {clock["gaps"]} ({clock["gap_seconds"]:.1f} s){rate}; slowest turn '
-            f'{status["slowest_turn"] * 1000:.1f} ms')
+    slowest = f'; slowest turn {status["slowest_turn"] * 1000:.1f} ms' if 'slowest_turn' in status else ''
+    return f', slips {clock["gaps"]} ({clock["gap_seconds"]:.1f} s){rate}{slowest}'
 
 
 def _crc4_line(status: Status) -> list[str]:

@@ -13,7 +13,7 @@ import argparse
 from typing import NoReturn
 
 from .explain import config_words
-from .faults import Parser
+from .faults import Parser, number
 from .gateway import ConfigRefused
 from .loop import Loop
 from .managed import serve
@@ -32,6 +32,10 @@ def parser() -> argparse.ArgumentParser:
                        help='where the shadow tells how the trunk stands, that of e1gw-keep --tell')
     words.add_argument('--program-control', metavar='SOCKET', required=True,
                        help='where the program takes commands, that of e1gw-keep --control')
+    words.add_argument('--flow', metavar='FILE', help='where it is noted how octets flow, that of e1gw-keep --flow: '
+                       'gaps and the rate of the trunk')
+    words.add_argument('--gap', type=number(20, 10_000), default=100, metavar='MS',
+                       help='a displacement of octets that is a gap, 20 to 10000 [default: 100]')
     told = words.add_argument_group('control and what is told')
     add_control(told)
     add_calls(told)
@@ -42,7 +46,8 @@ def options_of(words: list[str]) -> WatchOptions:
     """The options of a command line; Usage where they are none."""
     asked = parser().parse_args(words)
     try:
-        return WatchOptions(**fields_of(asked), tell=asked.tell, program_control=asked.program_control)
+        return WatchOptions(**fields_of(asked), tell=asked.tell, program_control=asked.program_control, flow=asked.flow,
+                            gap=asked.gap / 1000)
     except ValueError as fault:
         raise Usage(str(fault)) from None
 
