@@ -65,6 +65,7 @@ def parser() -> argparse.ArgumentParser:
                        '[default: host if each peer_host is an address, else any]')
     words.add_argument('--session', metavar='FILE', help='keeps all that the program takes, for e1gw replay and check')
     words.add_argument('--keep', metavar='TIME', help='--session is a folder for the last 30m, 1h, 2d, in twelve files')
+    words.add_argument('--flow', metavar='FILE', help='notes how octets flow, for e1gw-watch --flow; in memory')
     words.add_argument('--name', metavar='NAME', help='of the trunk, in the names of those files [default: that of '
                        'the configuration\'s file]')
     words.add_argument('--repeat', type=number(0, 8), default=0, metavar='N',
@@ -102,17 +103,18 @@ def opens_of(asked: argparse.Namespace) -> list[str | None]:
 
 
 def recording_of(asked: argparse.Namespace) -> Recording | None:
-    """What is kept of the trunk."""
+    """What is kept of the trunk, and whether it is noted how its octets flow; None if neither is."""
     if asked.keep and not asked.session:
         raise Usage('--keep wants --session')
-    if not asked.session:
+    if not asked.session and not asked.flow:
         return None
     try:
         keep = seconds_of(asked.keep) if asked.keep else None
     except ValueError as fault:
         raise Usage(str(fault)) from None
     name = asked.name or os.path.splitext(os.path.basename(asked.config))[0]
-    return Recording(os.path.abspath(asked.session), keep, name, os.path.abspath(asked.config), asked.seizure_wait)
+    session, flow = (path and os.path.abspath(path) for path in (asked.session, asked.flow))
+    return Recording(session, keep, name, os.path.abspath(asked.config), asked.seizure_wait, flow)
 
 
 def _asked_of(words: argparse.Namespace, folder: str) -> Asked:

@@ -15,9 +15,12 @@ import sys
 import threading
 import time
 from dataclasses import asdict, dataclass
-from typing import Callable, Mapping
+from typing import Mapping
 
 from .behind import Behind
+from .clock import TICK, Clock, Finding
+from .faults import words_of_fault
+from .flow import Flow
 from .keep import Ring
 from .lines import SEIZURE_WAIT
 from .outlets import Journal, OneFile, Outlet, write_all
@@ -25,7 +28,6 @@ from .pipes import put_behind
 from .session import HEAD, Kind
 
 PIECE = 1 << 16
-TICK = 0.02                 # seconds between two pieces that are kept
 FLUSH = 5.0                 # seconds at the end for what is not written yet
 NICE = 10                   # of the thread that writes
 # Descriptors of its configuration, of the state that the program began with, and of the recorder before it (a pidfd).
@@ -41,6 +43,7 @@ class Recording:
     name: str
     config: str                     # its path, for those who read what is kept
     wait: int = SEIZURE_WAIT        # of a seizure, in milliseconds
+    flow: str | None = None         # the file in which it is noted how octets flow
 
 
 @dataclass(frozen=True)
@@ -163,15 +166,41 @@ def _read_state() -> bytes:
         return b''
 
 
+class Flows:
+    """Notes how octets flow, if that is asked, and measures it for what is kept."""
+
+    def __init__(self, recording: Recording, part: Part, journal: Journal) -> None:
+        self._first, self._clock = part.place, Clock(time.monotonic())
+        self._flow: Flow | None = None
+        if recording.flow:
+            try:
+                self._flow = Flow(recording.flow)
+            except OSError as fault:
+                journal.line(Journal.WARNING, f'flow ended, the calls go on: {words_of_fault(fault)}')
+
+    def came(self, now: float, place: int) -> None:
+        """All that the program has written by now is read, up to this place of the trunk."""
+        if place > self._first + self._clock.octets:
+            self._clock.took(place - self._first - self._clock.octets, now)
+            if self._flow:
+                self._flow.came(now, place)
+
+    def look(self, now: float) -> list[Finding]:
+        """To be called each TICK: what was found."""
+        if self._flow:
+            self._flow.look(now)
+        return self._clock.look(now)
+
+
 class Recorder:
-    """Passes the recording on and keeps it. `looked` is called each TICK with whether octets of the trunk have come."""
+    """Passes the recording on, keeps it, and notes how it flows."""
 
     def __init__(self, recording: Recording, part: Part, journal: Journal) -> None:
         self._part = part
         self._records, self._kept = Records(part.place), Kept(recording, part, journal)
+        self._flows = Flows(recording, part, journal)
         self._has_shadow = True
         self._due = time.monotonic() + TICK
-        self.looked: Callable[[float], None] = lambda now: None
 
     def run(self) -> None:
         """Until the recording ends."""
@@ -180,22 +209,31 @@ class Recorder:
         while True:
             now = time.monotonic()
             if now >= self._due:
-                self._due = now + TICK
-                self._kept.put(self._records.place)
+                self._look(now)
             if poll.poll(max(0.0, self._due - now) * 1000):
                 octets = os.read(0, PIECE)
                 if not octets:
                     break
-                self._pass(octets)
+                self._pass(octets, time.monotonic())
         self._end()
 
-    def _pass(self, octets: bytes) -> None:
+    def _look(self, now: float) -> None:
+        self._due = now + TICK
+        for finding in self._flows.look(now):
+            if finding.what == 'gap':
+                self._kept.slipped(self._records.place, round(finding.value, 3))
+        self._kept.put(self._records.place)
+
+    def _pass(self, octets: bytes, now: float) -> None:
+        """Octets that were read just now. If they were all that there was, it is known how late they are."""
         if self._has_shadow:
             try:
                 write_all(1, octets)
             except OSError:
                 self._has_shadow = False
         self._kept.add(self._records.whole(octets))
+        if len(octets) < PIECE:
+            self._flows.came(now, self._records.place)
 
     def _end(self) -> None:
         """All was passed on, which a file says before the shadow's input ends."""

@@ -35,7 +35,7 @@ KEPT = ('name', 'senders', 'repeat', 'seizure_wait', 'totals', 'state', 'session
 OPENED = ('input', 'out', 'unix', 'tcp', 'reopen')
 CARRIED = ('satop', 'clear', 'align', 'crc4')
 WATCHED = ('name', 'control', 'control_mode', 'control_group', 'on_loss', 'http', 'metrics', 'json', 'watch', 'top',
-           'calls', 'dark')
+           'calls', 'dark', 'gap')
 
 
 def parser() -> argparse.ArgumentParser:
@@ -125,11 +125,11 @@ def parts_of(asked: argparse.Namespace, program: str, folder: str) -> Parts:
     satop_options = [name for name in vars(asked) if name.startswith('satop_')]
     trunk = ['--unix', path('carried'), '--reopen'] if carried else words_of(asked, OPENED)
     keep = [*common, '--program', program, *trunk, '--control', path('program'), '--tell', path('tell'), '--folder',
-            folder, *words_of(asked, KEPT)]
+            folder, '--flow', path('flow'), *words_of(asked, KEPT)]
     carry = [*common, '--program', program, '--listen', path('carried'), '--tell', path('carrier'),
              *words_of(asked, [*OPENED, *CARRIED, *satop_options])]
-    watch = [*common, '--tell', path('tell'), '--program-control', path('program'), '--quit-all',
-             *(['--carrier', path('carrier')] if carried else []), *words_of(asked, WATCHED)]
+    watch = [*common, '--tell', path('tell'), '--program-control', path('program'), '--flow', path('flow'),
+             '--quit-all', *(['--carrier', path('carrier')] if carried else []), *words_of(asked, WATCHED)]
     if asked.picture:
         watch += ['--picture', str(asked.picture), '--session', asked.session, '--program', program]
     return Parts(Part('e1gw-keep', keep, folder), Part('e1gw-watch', watch, folder, has_terminal=True),

@@ -11,6 +11,7 @@ from typing import Any, Callable
 
 from .control import Say
 from .counts import Counts
+from .flow import Flowing
 from .lines import Event, read_config
 from .links import Link
 from .loop import Loop
@@ -39,6 +40,8 @@ class WatchOptions(Options):
     program_control: str    # that at which the program takes commands
     carrier: str | None = None      # that at which the carrier of the trunk tells, if there is one
     quit_all: bool = False  # whether `quit` ends the trunk, and not the watcher alone
+    flow: str | None = None     # the file in which the recorder notes how octets flow
+    gap: float = 0.1            # seconds by which octets are displaced that are a gap
 
 
 @dataclass(eq=False)
@@ -191,6 +194,7 @@ class Watcher(Managed):
         self._pulse = Pulse(loop, options.tell, lines.reach)
         self._silent = 0                        # ticks in which the shadow that is there has told nothing yet
         self._stalls, self._stood = 0, 0.0      # how often no octets came, and since when none come, or 0
+        self._flowing = Flowing(options.flow, options.gap) if options.flow else None
         lines.lost()
 
     def _stands(self, what: str, on: bool, why: str = '') -> None:
@@ -235,6 +239,16 @@ class Watcher(Managed):
             self.tell({'event': 'flows', 'seconds': round(now - self._stood, 3)})
             self._stood = 0.0
 
+    def _look_at_gaps(self) -> None:
+        """What the recorder's notes show of octets that were lost, came too early, or come at another rate."""
+        for finding in self._flowing.look() if self._flowing else []:
+            if finding.what == 'rate':
+                self.tell({'event': 'rate', 'ppm': round(finding.value, 1)})
+            else:
+                seconds = round(finding.value, 3)
+                self.tell({'event': finding.what, 'seconds': seconds})
+                self.restarts.want(self.lines.open_circuits(), f'{finding.what} of {seconds} s')
+
     def _shadow_gone(self, why: str) -> None:
         self.lines.lost()
         self._stands('shadow', False, why)
@@ -259,14 +273,20 @@ class Watcher(Managed):
             self._carried.link.look()
         self._settle(now)
         self._look_at_flow(now)
+        self._look_at_gaps()
         self.restarts.look(now, self.lines.place, self.lines.open_circuits(), not self.counts.stale())
         self.look()
         self._look_at_calls(now)
 
+    def _flow_status(self) -> dict[str, Any]:
+        """Gaps and the rate, once the recorder has noted how octets flow."""
+        clock = self._flowing.clock if self._flowing else None
+        return clock.status() if clock else {}
+
     def status(self) -> dict[str, Any]:
         status = super().status() | {
             'version': self._program.version, 'trunk_up': self._connected.get('program', False),
-            'clock': {'stalled': bool(self._stood), 'stalls': self._stalls}}
+            'clock': {**self._flow_status(), 'stalled': bool(self._stood), 'stalls': self._stalls}}
         if self._carried:
             told = self._carried.status
             status |= {'trunk_up': status['trunk_up'] and self._carried.is_open(), 'crc4': told.get('crc4'),

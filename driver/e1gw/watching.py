@@ -37,6 +37,10 @@ def parser() -> argparse.ArgumentParser:
                        '--tell')
     words.add_argument('--quit-all', action='store_true',
                        help='quit ends this with status 3, by which e1gw-trunk ends the trunk')
+    words.add_argument('--flow', metavar='FILE', help='where it is noted how octets flow, that of e1gw-keep --flow: '
+                       'gaps and the rate of the trunk')
+    words.add_argument('--gap', type=number(20, 10_000), default=100, metavar='MS',
+                       help='a displacement of octets that is a gap, 20 to 10000 [default: 100]')
     told = words.add_argument_group('control and what is told')
     add_control(told)
     told.add_argument('--picture', type=number(10, 3600, float), metavar='SECONDS',
@@ -56,7 +60,7 @@ def options_of(words: list[str]) -> WatchOptions:
     drawn = {'picture': asked.picture, 'session': asked.session, 'program': asked.program} if asked.picture else {}
     try:
         return WatchOptions(**fields_of(asked), drawn=drawn, tell=asked.tell, program_control=asked.program_control,
-                            carrier=asked.carrier, quit_all=asked.quit_all)
+                            carrier=asked.carrier, quit_all=asked.quit_all, flow=asked.flow, gap=asked.gap / 1000)
     except ValueError as fault:
         raise Usage(str(fault)) from None
 

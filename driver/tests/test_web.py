@@ -112,7 +112,7 @@ class Pages(unittest.TestCase):
                 named |= set(re.findall(r'\be1gw_\w+', file.read()))
         more = exposition(self.world.status() | {'crc4': Crc4().status()})
         declared = set(re.findall(r'^# TYPE (\w+)', self.get('/metrics') + more, re.M)) | {
-            'e1gw_trunk_rate_ppm', 'e1gw_trunk_gaps_total'}
+            'e1gw_trunk_rate_ppm'}
         self.assertLessEqual(named, declared)
 
     def test_a_file_of_metrics(self) -> None:

@@ -170,7 +170,7 @@ SETTLED = 'codec 30: no payload type of the codec'
 class World(Served):
     """An e1gw-trunk at a Unix socket, with a folder of its own. The exchange acknowledges and answers what is seized.
 
-    It gives octets when a test does, and not by a clock. What it is asked it knows all of that was given before: each
+    It gives octets when a test does, and not by a clock; so but for an option --gap no pause is one. What it is asked it knows all of that was given before: each
     question comes behind a command that the gateway refuses, whose answer comes behind all of that."""
 
     def __init__(self, config: str, *options: str, answers: bool = True, front: tuple[str, ...] = (),
@@ -181,6 +181,8 @@ class World(Served):
         self.ones = b'\xff' * (496 if '--clear' in options else 512)     # a carrier gives whole multiframes
         self.sent, self.heard = bytearray(), bytearray()
         self._ages: dict[int, int] = {}
+        if '--gap' not in options:
+            options += ('--gap', '10000')
         os.mkdir(self.path('run'))
         with self._door() as door:
             streams = {'stdin': subprocess.DEVNULL, 'stdout': subprocess.DEVNULL, 'stderr': subprocess.PIPE} | streams
