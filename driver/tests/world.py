@@ -49,8 +49,9 @@ def child_of(parent: int, word: str) -> int:
     raise AssertionError(f'no e1gw {word}')
 
 
-def descendant(parent: int, word: str) -> int:
-    """A process that another one has started, or one of those has, with this word in its command line."""
+def descendant(parent: int, word: str, without: str | None = None) -> int:
+    """A process that another one has started, or one of those has, with this word in its command line, and not that
+    end of one."""
     parents: dict[int, list[int]] = {}
     for name in filter(str.isdecimal, os.listdir('/proc')):
         with contextlib.suppress(OSError), open(f'/proc/{name}/stat', encoding='utf-8') as stat:
@@ -60,8 +61,10 @@ def descendant(parent: int, word: str) -> int:
         pid = left.pop()
         left += parents.get(pid, [])
         with contextlib.suppress(OSError), open(f'/proc/{pid}/cmdline', 'rb') as file:
-            words = [os.path.basename(each.decode()) for each in file.read().split(b'\0')]
-            if pid != parent and word in words:
+            words = file.read().decode().split('\0')
+            if without and any(each.endswith(without) for each in words):
+                continue
+            if pid != parent and word in map(os.path.basename, words):
                 return pid
     raise AssertionError(f'no process {word}')
 
