@@ -13,9 +13,11 @@ from __future__ import annotations
 import argparse
 import json
 import os
+import select
 import shutil
 import subprocess
 import sys
+import threading
 import time
 from typing import Any, Callable, NoReturn
 
@@ -25,6 +27,7 @@ from .keeper import KEPT, MOST_REOPEN, REOPEN, TRUNK_NAMES, Asked, Keeper
 from .left import end_left_overs, end_others, left_in, state_of
 from .lines import SEIZURE_WAIT, wait_words
 from .outlets import Journal, hold_descriptors
+from .parent import parent
 from .places import folder_of, is_taken
 from .programs import SENDERS, ConfigRefused, check_config, program_of, senders_of
 from .recorder import Recording
@@ -125,11 +128,16 @@ def _asked_of(words: argparse.Namespace, folder: str) -> Asked:
 
 
 def _first(opens: Callable[[], Stream], again: bool, journal: Journal) -> Stream:
-    """The trunk, opened; if it can't be, `again` says whether it is tried until it can."""
-    wait = REOPEN
+    """The trunk, opened; if it can't be, `again` says whether it is tried until it can. Opening may wait for ever: if
+    who started this ends meanwhile, so does this."""
+    wait, is_open = REOPEN, threading.Event()
+    if (file := parent()) >= 0:
+        threading.Thread(target=_end_with, args=(file, is_open), daemon=True).start()
     while True:
         try:
-            return opens()
+            trunk = opens()
+            is_open.set()
+            return trunk
         except OSError as fault:
             why = f'the trunk cannot be opened: {words_of_fault(fault)}'
             if not again:
@@ -138,6 +146,12 @@ def _first(opens: Callable[[], Stream], again: bool, journal: Journal) -> Stream
                 journal.line(Journal.WARNING, f'{why}; it is tried again')
         time.sleep(wait)
         wait = min(MOST_REOPEN, 2 * wait)
+
+
+def _end_with(file: int, is_open: threading.Event) -> None:
+    select.select([file], [], [])
+    if not is_open.is_set():
+        os._exit(0)
 
 
 def _start(words: argparse.Namespace, journal: Journal) -> Keeper:

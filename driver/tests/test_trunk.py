@@ -279,6 +279,20 @@ class Beside(unittest.TestCase):
                 time.sleep(0.02)
             self.assertEqual([pid for pid in left if is_there(pid)], [])
 
+    def test_what_ends_with_e1gw_trunk_while_it_opens(self) -> None:
+        with tempfile.TemporaryDirectory() as folder:
+            fifo, config = os.path.join(folder, 'fifo'), os.path.join(folder, 'trunk.toml')
+            os.mkfifo(fifo)
+            with open(config, 'w', encoding='ascii') as file:
+                file.write('law = "A"\n')
+            with subprocess.Popen([sys.executable, '-B', LAUNCHER, '--program', support.program(), '--config', config,
+                                   '--in', fifo, '--out', '/dev/null'], stdin=subprocess.DEVNULL,
+                                  stderr=subprocess.PIPE) as process:
+                assert process.stderr
+                process.stderr.readline()       # whose datagrams are received; then the FIFO is waited for
+                os.kill(process.pid, signal.SIGKILL)
+                self.assertNotIn(b'Traceback', process.stderr.read())       # up to the end of all
+
     def test_readers_that_go_and_readers_that_stand_still(self) -> None:
         reads, writes = os.pipe()
         with World(config_of(FOUR), '--watch', stdout=writes) as world:
