@@ -2,8 +2,8 @@
 
 _e1gw_carry() {
   local cur=${COMP_WORDS[COMP_CWORD]} prev=${COMP_WORDS[COMP_CWORD - 1]}
-  local options='--listen --config --program --status --tell --json --in --out --unix --tcp --satop --clear --align --crc4
-    --reopen --satop-size --satop-jitter --satop-rtp --satop-fill --satop-clock --help'
+  local options='--listen --config --program --status --tell --json --in --out --unix --tcp --satop --clear --align
+    --crc4 --reopen --satop-size --satop-jitter --satop-rtp --satop-fill --satop-clock --help'
   COMPREPLY=()
   case $prev in
     --listen | --config | --program | --status | --tell | --json | --in | --out | --unix)

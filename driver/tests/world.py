@@ -173,8 +173,9 @@ SETTLED = 'codec 30: no payload type of the codec'
 class World(Served):
     """An e1gw-trunk at a Unix socket, with a folder of its own. The exchange acknowledges and answers what is seized.
 
-    It gives octets when a test does, and not by a clock; so but for an option --gap no pause is one. What it is asked it knows all of that was given before: each
-    question comes behind a command that the gateway refuses, whose answer comes behind all of that."""
+    It gives octets when a test does, and not by a clock; so but for an option --gap no pause is one. What it is asked
+    it knows all of that was given before: each question comes behind a command that the gateway refuses, whose answer
+    comes behind all of that."""
 
     def __init__(self, config: str, *options: str, answers: bool = True, front: tuple[str, ...] = (),
                  **streams: Any) -> None:
