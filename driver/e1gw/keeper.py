@@ -10,7 +10,7 @@ import sys
 import time
 from dataclasses import dataclass, field
 from enum import Enum, auto
-from typing import Any, Callable
+from typing import Any, Callable, Iterable
 
 from .beside import DEATHS, GRACE, Deaths, Retired, Standby, Trial
 from .left import note
@@ -58,7 +58,9 @@ class Phase(Enum):
 class Keeper:
     """One trunk. Each turn looks at all that may have happened, and does what follows from it."""
 
-    def __init__(self, asked: Asked, journal: Journal, notify: Notify, trunk: tuple[int, int]) -> None:
+    def __init__(self, asked: Asked, journal: Journal, notify: Notify, trunk: tuple[int, int],
+                 held: Iterable[str] = ()) -> None:
+        """`held` are the names of the descriptors that systemd has kept from a keeper before."""
         self.asked, self.journal, self.notify, self.trunk = asked, journal, notify, trunk
         self.number = self.octets = 0           # of what was begun; octets of the trunk that programs have taken
         self.version: Version
@@ -74,7 +76,7 @@ class Keeper:
         self._phases: dict[Phase, Callable[[float], None]] = {
             Phase.BEGINS: self._begins, Phase.UP: self._is_there, Phase.ENDS: self._ends, Phase.SAVES: self._saves,
             Phase.PAUSED: self._paused}
-        self._noted, self._held = '', frozenset[str]()     # what is noted, and what systemd keeps
+        self._noted, self._held = '', frozenset(held)       # what is noted, and what systemd keeps
         self._wake = self._catch_signals()
 
     # ---- what is waited for ----
@@ -144,12 +146,15 @@ class Keeper:
                 self._say(Journal.ERROR, f'the keeper goes on: {fault}')
                 time.sleep(0.1)
         self.notify.tell('STOPPING=1')
+        for name in self._held:
+            self.notify.forget(name)
         self.standby.drop(0.0)
         until = time.monotonic() + GRACE
         while self.retired.runs and time.monotonic() < until + FLUSH:
             time.sleep(0.002)
             self.retired.look(time.monotonic())
-        for path in (self.asked.control, self.asked.tell):
+        recording = self.asked.recording
+        for path in (self.asked.control, self.asked.tell, recording and recording.flow):
             if path:
                 unlink(path)
         return self.status
