@@ -76,6 +76,7 @@ class Keeper:
         self._phases: dict[Phase, Callable[[float], None]] = {
             Phase.BEGINS: self._begins, Phase.UP: self._is_there, Phase.ENDS: self._ends, Phase.SAVES: self._saves,
             Phase.PAUSED: self._paused}
+        self._own = [os.getpid(), started(os.getpid())]
         self._noted, self._held = '', frozenset(held)       # what is noted, and what systemd keeps
         self._wake = self._catch_signals()
 
@@ -425,7 +426,7 @@ class Keeper:
         """What another keeper has to know, as plain values."""
         waits, tried = self.standby.run, self.trial.process
         others = ([waits.program] if waits else []) + ([tried] if tried else [])
-        return {'keeper': [os.getpid(), started(os.getpid())], 'opens': self.asked.opens, 'folder': self.asked.folder,
+        return {'keeper': self._own, 'opens': self.asked.opens, 'folder': self.asked.folder,
                 'number': self.number, 'octets': self.octets, 'up': self.phase is Phase.UP, 'run': self.run.kept(),
                 'others': [[process.pid, process.started] for process in others]}
 
@@ -434,7 +435,7 @@ class Keeper:
         kept = json.dumps(self._kept())
         if kept != self._noted:
             self._noted = kept
-            note(self.asked.folder, kept)
+            self._write_note(kept)
         files = dict(zip(TRUNK_NAMES, self.trunk))
         if self.phase is Phase.UP:
             number = os.path.basename(self.run.folder)
@@ -445,6 +446,12 @@ class Keeper:
         for name in self._held - {*files}:
             self.notify.forget(name)
         self._held = frozenset(files)
+
+    def _write_note(self, kept: str) -> None:
+        try:
+            note(self.asked.folder, kept)
+        except OSError as fault:
+            self._say(Journal.WARNING, f'it is not noted what another keeper would need: {fault}')
 
     def take_up(self, kept: dict[str, Any], files: dict[str, int], why: str) -> None:
         """Goes on where the keeper before left."""
