@@ -13,7 +13,7 @@ from collections import Counter
 from dataclasses import dataclass, field
 from enum import Enum, auto
 from math import inf
-from typing import Any, Callable
+from typing import Any, Callable, Iterable
 
 from .beside import DEATHS, GRACE, Deaths, Retired, Standby, Trial
 from .faults import words_of_fault
@@ -70,7 +70,9 @@ class Phase(Enum):
 class Keeper:
     """One trunk. Each turn looks at all that may have happened, and does what follows from it."""
 
-    def __init__(self, asked: Asked, journal: Journal, notify: Notify, trunk: tuple[int, int]) -> None:
+    def __init__(self, asked: Asked, journal: Journal, notify: Notify, trunk: tuple[int, int],
+                 held: Iterable[str] = ()) -> None:
+        """`held` are the names of the descriptors that systemd has kept from a keeper before."""
         self.asked, self.journal, self.notify, self.trunk = asked, journal, notify, trunk
         self.number = 0                         # of what was begun
         self.counted = Counter[str]()           # by programs that have ended; `octets` are those of the trunk
@@ -90,7 +92,8 @@ class Keeper:
         self._phases: dict[Phase, Callable[[float], None]] = {
             Phase.BEGINS: self._begins, Phase.UP: self._is_there, Phase.ENDS: self._ends, Phase.SAVES: self._saves,
             Phase.PAUSED: self._paused, Phase.OPENS: self._opens}
-        self._noted, self._held = '', frozenset[str]()     # what is noted, and what systemd keeps
+        self._own = [os.getpid(), started(os.getpid())]
+        self._noted, self._held = '', frozenset(held)       # what is noted, and what systemd keeps
         self._wake, self._parent = self._catch_signals(), parent()
 
     # ---- what is waited for ----
@@ -167,12 +170,15 @@ class Keeper:
                 self._say(Journal.ERROR, f'the keeper goes on: {fault}')
                 time.sleep(0.1)
         self.notify.tell('STOPPING=1')
+        for name in self._held:
+            self.notify.forget(name)
         self.standby.drop(0.0)
         until = time.monotonic() + GRACE
         while self.retired.runs and time.monotonic() < until + FLUSH:
             time.sleep(0.002)
             self.retired.look(time.monotonic())
-        for path in (self.asked.control, self.asked.tell):
+        recording = self.asked.recording
+        for path in (self.asked.control, self.asked.tell, recording and recording.flow):
             if path:
                 unlink(path)
         return self.status
@@ -502,7 +508,7 @@ class Keeper:
         """What another keeper has to know, as plain values."""
         waits, tried = self.standby.run, self.trial.process
         others = ([waits.program] if waits else []) + ([tried] if tried else [])
-        return {'keeper': [os.getpid(), started(os.getpid())], 'opens': self.asked.opens, 'folder': self.asked.folder,
+        return {'keeper': self._own, 'opens': self.asked.opens, 'folder': self.asked.folder,
                 'number': self.number, 'counted': self.counted, 'up': self.phase is Phase.UP, 'run': self.run.kept(),
                 'others': [[process.pid, process.started] for process in others]}
 
@@ -511,7 +517,7 @@ class Keeper:
         kept = json.dumps(self._kept())
         if kept != self._noted:
             self._noted = kept
-            note(self.asked.folder, kept)
+            self._write_note(kept)
         files = {name: file for name, file in zip(TRUNK_NAMES, self.trunk) if file >= 0}
         if self.phase is Phase.UP:
             number = os.path.basename(self.run.folder)
@@ -522,6 +528,12 @@ class Keeper:
         for name in self._held - {*files}:
             self.notify.forget(name)
         self._held = frozenset(files)
+
+    def _write_note(self, kept: str) -> None:
+        try:
+            note(self.asked.folder, kept)
+        except OSError as fault:
+            self._say(Journal.WARNING, f'it is not noted what another keeper would need: {fault}')
 
     def take_up(self, kept: dict[str, Any], files: dict[str, int], why: str) -> None:
         """Goes on where the keeper before left."""
