@@ -217,7 +217,7 @@ class Supervisor:
 
     def _carrier_ended(self, part: Part, process: Process, now: float) -> None:
         status = process.status or 0
-        if status == USAGE or 0 <= status <= 1 and not self.parts.reopens:
+        if status == USAGE and not part.was_ready or 0 <= status <= 1 and not self.parts.reopens:
             return self.end(status)         # with its trunk; it has told why
         self._again(part, process, now)
 
