@@ -17,7 +17,7 @@ from .left import note
 from .outlets import Journal
 from .places import point, store
 from .recorder import FLUSH, Recording
-from .running import Process, Run, Version, open_version, spawn, started, unlink
+from .running import Process, Run, Version, lines_in, open_version, spawn, started, unlink
 from .systemd import Notify
 
 KEPT = 'E1GW_KEPT'          # the variable that leads through an exec
@@ -28,6 +28,7 @@ ANEW = '; all calls begin anew'
 APART, MOST_APART = 1.0, 60.0       # seconds between two handovers for a shadow that has ended
 QUICK = 5.0                 # seconds within which a shadow that ends has the next one wait longer
 SOON = 0.2                  # seconds after which the next program is started, to wait
+TOOK = {'saved': 'program', 'followed': 'shadow'}      # who has said how much it took, by the state that it left
 SIGNALS = (signal.SIGTERM, signal.SIGINT, signal.SIGHUP, signal.SIGUSR2, signal.SIGCHLD)
 
 
@@ -467,7 +468,11 @@ class Keeper:
         """Begins where a keeper that was killed has left no program, from the state that was found."""
         self.number, self.octets = kept['number'], kept['octets']
         self.version = self._version_of_now()
-        lost = ANEW if not state else LOST if os.path.basename(state) == 'followed' else ''
+        folder, name = os.path.split(state or '')
+        lost = ANEW if not state else LOST if name == 'followed' else ''
+        if name in TOOK:
+            said = lines_in(os.path.join(folder, TOOK[name]))
+            self.octets += sum(int(rest) for word, rest in said if word == 'octets')
         self.begin(state, 'the keeper was killed', lost)
         self.note()
 
