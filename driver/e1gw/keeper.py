@@ -22,7 +22,7 @@ from .outlets import Journal
 from .parent import parent
 from .places import point, store
 from .recorder import FLUSH, Recording
-from .running import Process, Run, Version, open_version, spawn, started, unlink
+from .running import Process, Run, Version, lines_in, open_version, spawn, started, unlink
 from .systemd import Notify
 from .trunks import Stream
 
@@ -35,6 +35,7 @@ APART, MOST_APART = 1.0, 60.0       # seconds between two handovers for a shadow
 QUICK = 5.0                 # seconds within which a shadow that ends has the next one wait longer
 SOON = 0.2                  # seconds after which the next program is started, to wait
 REOPEN, MOST_REOPEN = 0.25, 30.0    # seconds before a trunk is opened again
+TOOK = {'saved': 'program', 'followed': 'shadow'}      # who has said how much it took, by the state that it left
 SIGNALS = (signal.SIGTERM, signal.SIGINT, signal.SIGHUP, signal.SIGUSR2, signal.SIGCHLD)
 
 
@@ -549,7 +550,11 @@ class Keeper:
         """Begins where a keeper that was killed has left no program, from the state that was found."""
         self.number, self.counted = kept['number'], Counter(kept['counted'])
         self.version = self._version_of_now()
-        lost = ANEW if not state else LOST if os.path.basename(state) == 'followed' else ''
+        folder, name = os.path.split(state or '')
+        lost = ANEW if not state else LOST if name == 'followed' else ''
+        if name in TOOK:
+            said = lines_in(os.path.join(folder, TOOK[name]))
+            self.counted['octets'] += sum(int(rest) for word, rest in said if word == 'octets')
         self.begin(state, 'the keeper was killed', lost)
         self.note()
 

@@ -234,10 +234,10 @@ def _keep(words: list[str], journal: Journal) -> int:
     else:
         end_left_overs()
         keeper = _start(asked, journal, _forget(files))
-    try:
-        return keeper.work()
-    finally:
-        shutil.rmtree(keeper.asked.folder, ignore_errors=True)
+    status = keeper.work()
+    # (a keeper that fails leaves it to the next one)
+    shutil.rmtree(keeper.asked.folder, ignore_errors=True)
+    return status
 
 
 def main(words: list[str] | None = None) -> NoReturn:
