@@ -1,5 +1,5 @@
-"""Calls on a trunk whose octets come by the machine's clock, for measurements: a driver whose trunk stands still
-refuses to seize a circuit."""
+"""Calls on a trunk whose octets come by the machine's clock, for measurements: a trunk that stands still refuses
+a seizure."""
 from __future__ import annotations
 
 from functools import partial
@@ -8,7 +8,7 @@ from .world import World
 
 
 def flows(world: World) -> bool:
-    """Carries 40 ms of the trunk, so that the driver sees it flow when it is asked."""
+    """Carries 40 ms of the trunk, so that the watcher sees it flow when it is asked."""
     world.step(20)
     return True
 

@@ -10,7 +10,7 @@ import unittest
 from typing import Callable
 
 from . import support
-from .world import aligner_of
+from .world import descendant
 
 PATIENCE = 30
 
@@ -94,19 +94,20 @@ class Call(unittest.TestCase):
         """It is killed, and stopped for some time and for good; the call stays, and so does alignment."""
         west, east = self.west, self.east
         self.answered()
+        time.sleep(1)       # what the carrier tells is half a second old
         begun = {name: east.transport(name) for name in ('searches', 'alignment_lost')}
-        process = aligner_of(east.driver.pid)
+        process = descendant(east.driver.pid, 'align')
         os.kill(process, signal.SIGKILL)
         self.until('begun anew', lambda: east.transport('align_renewed') == 1)
         self.until('in step', lambda: 'own alignment over' in east.said())
-        process = aligner_of(east.driver.pid)
+        process = descendant(east.driver.pid, 'align')
         before = east.transport('align_stood_in')
         os.kill(process, signal.SIGSTOP)
         time.sleep(.2)
         os.kill(process, signal.SIGCONT)
         self.until('stood in', lambda: east.transport('align_stood_in') > before)
         self.until('in step', lambda: east.transport('aligning') == 0)
-        os.kill(aligner_of(east.driver.pid), signal.SIGSTOP)
+        os.kill(descendant(east.driver.pid, 'align'), signal.SIGSTOP)
         self.until('begun anew', lambda: east.said().count('own alignment over') == 2)
         self.assertEqual((west.state(), east.state()), ('answered', 'answered'))
         self.assertEqual(begun, {name: east.transport(name) for name in begun})

@@ -13,7 +13,7 @@ PATIENCE = 30               # seconds
 
 
 class Service:
-    """A driver with its gateway; what they print is kept in the folder, where the control is too."""
+    """A trunk; what its programs print is kept in the folder, where the control is too."""
 
     def __init__(self, folder: str, name: str, program: str, config: str, *options: str) -> None:
         self.name, self.control = name, os.path.join(folder, f'{name}.control')
@@ -31,7 +31,7 @@ class Service:
             return line.makefile('rb').readline().decode().strip()
 
     def status(self) -> dict[str, Any]:
-        """All that is known; nothing where the driver does not answer."""
+        """All that is known; nothing where nobody answers."""
         try:
             found: dict[str, Any] = json.loads(self.ask('status json'))
             return found
