@@ -1,7 +1,8 @@
 -- What a watch of a session is shown.
-use Rattle.gw_session.proofs.Common.{◌≡◌, ◌++◌, ◌∷◌, ◌∙◌, ℕ, List, [], map, refl, sym, append_assoc, append-nil, map_push}
-use Rattle.gw_session.proofs.Common.{GatewayConfig, Gateway, Event, Stands, Record, State, TapeState, Act, told, events_in}
-use Rattle.gw_session.proofs.Common.{events_through, ActsOn, Follows, Shows, Look, shown_in, IsCalled, code_after}
+use Rattle.gw_session.proofs.Common.{◌≡◌, ◌++◌, ◌∷◌, ℕ, List, [], map, refl, append_assoc, append-nil}
+use Rattle.gw_session.proofs.Common.{map_push, GatewayConfig, Gateway, Event, Stands, Record, State, TapeState, Act}
+use Rattle.gw_session.proofs.Common.{told, events_in, events_through, ActsOn, Follows, Shows, Look, shown_in, IsCalled}
+use Rattle.gw_session.proofs.Common.{code_after}
 use Rattle.gw_session.proofs.Common.{IsCodeAfter, AreTrue, ActsShown}
 
 -- before the first record

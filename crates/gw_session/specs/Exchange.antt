@@ -230,8 +230,8 @@ WatchedTrace put s s' tape tape' Took Seen records =
 abbrev pub OfFirstActs : (List Act → Type 0) → List Act → Type 0
 OfFirstActs Seen acts = Seen acts ⊎ Seen (but_last acts)
 
--- a session up to a write that failed, when this many octets waited at most, and this is known of its acts: of
--- all, or of all but the last one, in which the write failed
+-- a session up to a write that failed, when this many octets waited at most, and this is known of its acts:
+-- of all, or of all but the last one
 abbrev pub TraceToWriteError : ℕ → Spells → (List Act → Type 0) → World → (Totals → World) → List Record
     → Type 0
 TraceToWriteError late spells Seen w end records = (totals : Totals) × (((0 < length records)

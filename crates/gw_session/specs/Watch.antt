@@ -1,5 +1,6 @@
 -- What a watch of a session is shown (modules `watch` and `runs`).
-use Rattle.std.specs.Prelude.{◌≡◌, ◌⊎◌, ◌++◌, ◌∷◌, ⊤, ℕ, List, [], map, Option, Some, None, Result, MatchResult}
+use Rattle.std.specs.Prelude.{◌≡◌, ◌⊎◌, ◌++◌, ◌∷◌, ⊤, ℕ, List, [], map, Option, Some, None, Result}
+use Rattle.std.specs.Prelude.{MatchResult}
 use Rattle.gw_records.specs.Octets.{command_of, codec_of}
 use Rattle.gw_session.specs.Prelude.{GatewayConfig, Gateway, Event, Stands, Record, Totals, RunFault}
 use Rattle.gw_session.specs.Prelude.{EndsAll, EndsUntil, OrNoMemory}
@@ -75,9 +76,9 @@ abbrev pub OfFirst : (List Record → Type 0) → List Record → Type 0
 OfFirst Seen records = Seen records
     ⊎ ((first : List Record) × (last : Record) × (records ≡ first ++ last ∷ []) × Seen first)
 
--- A session over records alone ended as `run` promises, and this is known of its records: of all that it acted
--- on. Where a write failed, it is known of all, or of all but the last one, in which the write failed. For want
--- of memory the watch stayed.
+-- A session over records alone ended as `run` promises, and this is known of its records: of all that it
+-- acted on. Where a write failed, it is known of all, or of all but the last one. For want of memory this was
+-- kept.
 abbrev pub RunsWatched : Around → Around → Gateway → Gateway → (List Record → Type 0) → Type 0
     → Result Totals RunFault → Type 0
 RunsWatched a a' gateway gateway' Seen Kept result = MatchResult result

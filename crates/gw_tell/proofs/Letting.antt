@@ -1,5 +1,6 @@
 -- Clients that are let in one after another.
 use Rattle.std.proofs.Common.{◌≡◌, ◌⊎◌, inl, inr, ◌∙◌, ℕ, List, Option, Some, None, refl, sym, append-nil, []}
+use Rattle.std.proofs.Common.{◌∷◌, zero, suc}
 use Rattle.e1_g711.specs.declared.Law.{Law}
 use Rattle.gw_switch.specs.declared.gateway.Gateway.{Gateway}
 use Rattle.gw_tell.specs.declared.client.Client.{Client}
@@ -49,7 +50,10 @@ one_let_in law place gateway told told' told'' places places' places'' before (i
     inr (free.1, λ k. none_here law place told'' (at places' k) (at places'' k) (free.0 k) (then k))
 one_let_in law place gateway told told' told'' places places' places'' (inl before) (inl same) then =
     let all = rw (same, before.0) at then in
-    inl (same ∙ before.0, λ k. still_here law place told (at places k) (at places' k) (at places'' k) (before.1 k) (all k))
+    inl (
+      same ∙ before.0,
+      λ k. still_here law place told (at places k) (at places' k) (at places'' k) (before.1 k) (all k),
+    )
 one_let_in law place gateway told told' told'' places places' places'' (inr before) (inl same) then =
     let all = rw same at then in
     inr (rw same before.0, λ k. rw same (still_new law place told' (at places' k) (at places'' k) (before.1 k) (all k)))
@@ -58,3 +62,20 @@ one_let_in law place gateway told told' told'' places places' places'' (inr befo
 pub none_sent : (client : Option Client) → Gets client client []
 none_sent None = tt
 none_sent (Some client) = (sym (append-nil (sent client)), refl)
+
+-- Eight places without a client are all free.
+pub all_free : (a b c d e f g h : Place) → a.client ≡ None → b.client ≡ None → c.client ≡ None → d.client ≡ None
+    → e.client ≡ None → f.client ≡ None → g.client ≡ None → h.client ≡ None
+    → AllFree (a ∷ b ∷ c ∷ d ∷ e ∷ f ∷ g ∷ h ∷ [])
+all_free a b c d e f g h a' b' c' d' e' f' g' h' = one
+  where
+    one : (k : ℕ) → at (a ∷ b ∷ c ∷ d ∷ e ∷ f ∷ g ∷ h ∷ []) k ≡ None
+    one zero = a'
+    one (suc zero) = b'
+    one (suc (suc zero)) = c'
+    one (suc (suc (suc zero))) = d'
+    one (suc (suc (suc (suc zero)))) = e'
+    one (suc (suc (suc (suc (suc zero))))) = f'
+    one (suc (suc (suc (suc (suc (suc zero)))))) = g'
+    one (suc (suc (suc (suc (suc (suc (suc zero))))))) = h'
+    one (suc (suc (suc (suc (suc (suc (suc (suc k)))))))) = refl

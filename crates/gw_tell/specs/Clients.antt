@@ -10,8 +10,8 @@ use Rattle.gw_tell.specs.declared.picture.Picture.{Picture}
 use Rattle.gw_tell.specs.Lines.{at_line}
 use Rattle.gw_tell.specs.Reports.{Shows, Changes, IsPictureOf, place_after, whole_state, sent_to, last_after}
 
--- All that was sent to a client: what it took, and behind it what waits for it. So what it took is a prefix of
--- what was sent.
+-- All that was sent to a client: what it took, and behind it what waits for it. So what it took is a prefix
+-- of what was sent.
 abbrev pub sent : Client → List ℕ
 sent client = client.got.octets ++ waiting client.waits
 

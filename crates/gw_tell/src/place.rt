@@ -1,6 +1,6 @@
 //! A place of a client, with the room that it has while it is free.
 
-ghost use Rattle.std.specs.Prelude.{◌≡◌, ◌≤◌, ◌++◌, [], length, take, drop, None};
+ghost use Rattle.std.specs.Prelude.{◌≡◌, ◌≤◌, ◌++◌, [], length, take, drop, IfOk, None};
 ghost use Rattle.gw_tell.specs.Clients.{Gets, IsTold};
 ghost use Rattle.gw_tell.specs.Lines.{at_line};
 
@@ -18,7 +18,9 @@ pub struct Place {
 
 impl Place {
     /// A free place, with its room. The error is that memory was refused.
-    pub fn open(alloc: Global) -> io::Result<Place> {
+    pub fn open(alloc: Global) -> io::Result<Place>
+        ensures { IfOk result (λ p. p.client ≡ None) }
+    {
         match Backlog::new(alloc) {
             Ok(room) => Ok(Place {
                 client: None,

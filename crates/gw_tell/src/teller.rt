@@ -1,11 +1,11 @@
 //! A watch of a session that tells clients how the trunk stands.
 
 ghost use Rattle.std.specs.Prelude.{◌≡◌, ◌⊎◌, ◌<◌, ◌≤◌, ◌++◌, ℕ, [], length, take, drop, IfSome, None};
-ghost use Rattle.std.specs.Prelude.{IsTrue};
+ghost use Rattle.std.specs.Prelude.{IsTrue, IfOk};
 ghost use Rattle.gw_records.specs.Records.{named};
 ghost use Rattle.gw_tell.specs.Lines.{at_line, end_line};
 ghost use Rattle.gw_tell.specs.Clients.{AllAreTold, AllFree, Gets, at};
-ghost use Rattle.gw_tell.specs.Telling.{TellsRecord};
+ghost use Rattle.gw_tell.specs.Telling.{HasBegun, TellsRecord};
 
 use crate::backlog::Backlog;
 use crate::client::Client;
@@ -27,8 +27,8 @@ use std::io;
 const MOST_CLIENTS: usize = 8;
 
 /// Tells the clients of a Unix socket how a trunk stands and what changes, as lines of text (e1gw-tell(5)).
-/// What a client does not take at once waits for it: 64 KiB at most, in room that is taken at the beginning. A
-/// client that goes, or for whom there is no room, loses its connection, and nothing else happens.
+/// What a client does not take at once waits for it: 64 KiB at most, in room that is taken at the beginning.
+/// A client that goes, or for whom there is no room, loses its connection, and nothing else happens.
 #[derive(Drop)]
 pub struct Teller {
     door: UnixListener,
@@ -84,7 +84,10 @@ fn take_room(place: &mut Place) -> Option<Backlog>
 }
 
 // Eight free places, with the room of each. The error is that memory was refused.
-fn open_places(alloc: Global) -> io::Result<[Place; 8]> {
+#[tactic(auto, using(crate::proofs::Letting::all_free))]
+fn open_places(alloc: Global) -> io::Result<[Place; 8]>
+    ensures { IfOk result (λ places. AllFree places) }
+{
     Ok([
         Place::open(alloc)?,
         Place::open(alloc)?,
@@ -102,8 +105,11 @@ impl Teller {
     ghost use Rattle.gw_tell.specs.Clients.{TellsChanges, StaysOrNew};
     ghost use Rattle.gw_tell.specs.Telling.{TellsAny, LetsIn};
 
-    /// Listens at a path, with no client yet. The error is the system's.
-    pub fn open(rt: &HostRuntime, path: &str, law: Law, gateway: &Gateway) -> io::Result<Teller> {
+    /// Listens at a path, with no client yet, and takes the memory of all places. The error is the system's, or
+    /// that memory was refused.
+    pub fn open(rt: &HostRuntime, path: &str, law: Law, gateway: &Gateway) -> io::Result<Teller>
+        ensures { IfOk result (λ t. HasBegun t law gateway.now) }
+    {
         let door = open_door(rt, path)?;
         Ok(Teller {
             door,

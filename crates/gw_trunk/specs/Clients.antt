@@ -24,8 +24,8 @@ abbrev pub HasNoRecord : List ℕ → Type 0
 HasNoRecord octets = (ending : Ending) × (end_of client_kinds octets ≡ Some ending)
 
 -- what a client did that was asked: it gave a record, which stands at the front of a room; or it gave none
--- and has nothing that is whole; or it asks for the end; or it is to be let go, and what is held of it begins with
--- no whole record, or the room is shorter than what is held of a client at most
+-- and has nothing that is whole; or it asks for the end; or it is to be let go, and what is held of it begins
+-- with no whole record, or the room is shorter than what is held of a client at most
 abbrev pub Replies : Asked → Client → Client → List ℕ → Type 0
 Replies (Command n) client client' room = (n ≤ length room) × GaveOne client client' (take n room)
 Replies Nothing client client' room = Stays client client' × (client'.ready ≡ false)

@@ -7,7 +7,8 @@ pub returns : goal.returns
 unfolding most_waiting
 returns g c = record {
   ok = all_as _ _ _ _ _ (λ t records p. runs t records p.0) c.attend.result c.attend.ensures.ok;
-  fault = until_as _ _ _ _ _ (λ t records p. runs t records p.0) _ c.attend.result (λ records p. (runs_until records p).0)
+  fault = until_as _ _ _ _ _ (λ t records p. runs t records p.0) _ c.attend.result
+      (λ records p. (runs_until records p).0)
       (rw c.new-session.ensures.at_once at c.attend.ensures.fault);
   watched = either_way _ _ c.attend.result
       (all_as _ _ _ _ _ (λ t records p. (runs t records p.0, seen_plain p)) c.attend.result c.attend.ensures.ok)
