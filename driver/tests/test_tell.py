@@ -174,7 +174,7 @@ class Told(support.Folder):
         never.socket.setsockopt(socket.SOL_SOCKET, socket.SO_RCVBUF, 4096)
         self.multiframes(60)
         one.lines()
-        for _ in range(2000):
+        for _ in range(4000):
             self.replay.passes(datagram_record(2, RTP))
             self.assertEqual(one.lines()[-1:], [f'datagram 2 {NOT_OPEN} 17 2720 3735928559'])
         self.assertNotIn('end', never.lines())
@@ -185,6 +185,18 @@ class Told(support.Folder):
         self.assertEqual(self.replay.ends(), 0)
         plain = support.run('replay', '--config', self.config, given=self.replay.given)
         self.assertEqual(self.replay.written, plain)
+
+    def test_one_that_reads_late(self) -> None:
+        late, one = self.client(), self.client()
+        self.multiframes(60)
+        told = one.lines()
+        for number in range(1000):
+            self.replay.passes(datagram_record(2, RTP[:2] + number.to_bytes(2) + RTP[4:]))
+            told += one.lines()
+        got = late.lines()
+        self.assertLess(len(got), len(told))
+        self.multiframes(1)
+        self.assertEqual(got + late.lines(), told + one.lines())
 
     def test_more_clients_than_there_are_places(self) -> None:
         clients = [self.client() for _ in range(9)]

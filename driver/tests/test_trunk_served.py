@@ -315,6 +315,20 @@ class Clients(Configured):
             good.sendall(blocks([3]))
             self.assertEqual(answers_of(good, 1), self.refused([3]))
 
+    def test_commands_right_before_a_hang_up(self) -> None:
+        trunk = self.trunk('--record', self.recording)
+        trunk.serving.send_signal(signal.SIGSTOP)
+        os.waitid(os.P_PID, trunk.serving.pid, os.WSTOPPED)
+        with trunk.client() as client:
+            client.sendall(blocks(range(1, 31)) + blocks([9])[:3])
+        trunk.serving.send_signal(signal.SIGCONT)
+        for _ in range(40):
+            self.assertEqual(len(trunk.passes(bytes(32))), 32)
+        self.assertEqual(trunk.ends()[0], 0)
+        with open(self.recording, 'rb') as file:
+            given = [record.circuit for record in records_in(file.read()) if record.kind == Kind.COMMAND]
+        self.assertEqual(given, list(range(1, 31)))
+
     def test_one_that_never_reads(self) -> None:
         trunk = self.trunk()
         with trunk.client() as good, trunk.client() as bad:

@@ -77,6 +77,19 @@ class Words(unittest.TestCase):
         places = 'crates/low/specs/Sums.antt:1, crates/other/specs/Sums.antt:1'
         self.assertIn(f'total: {places}; read in third', self.found())
 
+    def test_more_than_eight_parameters(self) -> None:
+        names = ' '.join('abcdefgh')
+        arrows = ' → '.join(['ℕ'] * 8)
+        write(self.top, 'crates/low/specs/Wide.antt',
+              f'pub record Fits {{S : Type 0}} ({names[:13]} : ℕ) : Type 0 where\n  pub is : (x y z : ℕ) → a ≡ x\n\n'
+              f'pub record Wide {{S : Type 0}}\n    ({names} : ℕ) : Type 0 where\n  pub is : a ≡ b\n\n'
+              f'abbrev pub fits : {arrows} → Type 0\nfits a b c d e f g h = ℕ\n\n'
+              f'abbrev pub wide : {{S : Type 0}} → {arrows}\n    → Type 0\nwide a b c d e f g h = ℕ\n\n'
+              f'abbrev pub taken : (ℕ → {arrows}) → (a b : ℕ) → Type 0\ntaken f a b = ℕ\n')
+        place = 'crates/low/specs/Wide.antt'
+        self.assertEqual([line for line in self.found() if line.startswith(place)],
+                         [f'{place}:4: Wide has 9 parameters', f'{place}:11: wide has 9 parameters'])
+
 
 if __name__ == '__main__':
     unittest.main()

@@ -18,6 +18,7 @@ use Rattle.gw_program.specs.declared.trouble.Trouble.{Trouble}
 use Rattle.gw_program.specs.Performing.{EndedSaved, NotBegun, HasServed, HasConfig, by_session}
 use Rattle.gw_program.specs.Sessions.{HasGateway, Runs, Serves, Checks}
 use Rattle.gw_program.specs.State.{HasBegun, BeginsWaiting, IsSaved}
+use Rattle.gw_trunk.specs.Serving.{Traffic}
 use Rattle.gw_program.specs.Trunks.{CarriesTrunk}
 use Rattle.gw_program.specs.Requests.{OnNewStreams, ByGateway, DoesSession, ServesTrunk}
 use Rattle.gw_trunk.specs.Multiframes.{GoesInTime}
@@ -171,18 +172,18 @@ module _ (s s' : SourceState) (k k' : SinkState) {P T : Type 0} (reads : Config 
             with_gateway session config h.gateway h.gateway' h.begun h.done a b c d
 
     -- a trunk that was served on new streams, and what was sent went in time
-    pub trunk_served : {S K : Type 0} {x x' : S} {y y' : K} (came asked sent answered went : List ℕ) (discarded : ℕ)
-        (was_slow : Bool) → ∥ GoesInTime sent went discarded was_slow ∥₁
+    pub trunk_served : {S K : Type 0} {x x' : S} {y y' : K} (passed : Traffic) (went : List ℕ) (discarded : ℕ)
+        (was_slow : Bool) → ∥ GoesInTime passed.went went discarded was_slow ∥₁
         → NotBegun x x' y y' lacks told ⊎ HasConfig reads (λ config. NotBegun x x' y y' (lacks_gateway config) told
         ⊎ HasGateway (starts config) (λ gateway gateway'. NotBegun x x' y y' (lacks_more config) told
         ⊎ HasServed (opens config) begins (λ ports ports' tape tape'. EndedSaved (λ end. CarriesTrunk
         (around s k (ports_tell ports) (tape_tells tape)) (around s' k' (ports_tell ports') (tape_tells tape'))
-        came asked sent answered end gateway gateway') (saves config gateway') told)))
+        passed end gateway gateway') (saves config gateway') told)))
         → (x' ≡ x → s' ≡ s) → (y' ≡ y → k' ≡ k)
         → s.reads ≡ 0 → s.given ≡ Some [] → s.failures ≡ 0 → k.failures ≡ 0 → ServesTrunk load save asks told
-    trunk_served came asked sent answered went discarded was_slow goes (inl n) f g a b c d =
+    trunk_served passed went discarded was_slow goes (inl n) f g a b c d =
         on_new s s' k k' (inl (told_untouched f g n)) a b c d
-    trunk_served came asked sent answered went discarded was_slow goes (inr h) f g a b c d = elim h.done [
+    trunk_served passed went discarded was_slow goes (inr h) f g a b c d = elim h.done [
       | inl n ↦ on_new s s' k k' (inl (told_untouched f g n)) a b c d
       | inr w ↦ elim w.done [
         | inl n ↦ on_new s s' k k' (inl (told_untouched f g n)) a b c d
@@ -198,10 +199,7 @@ module _ (s s' : SourceState) (k k' : SinkState) {P T : Type 0} (reads : Config 
               gateway' = w.gateway';
               begun = begun h.config w.gateway w.begun;
               done = record {
-                came = came;
-                asked = asked;
-                sent = sent;
-                answered = answered;
+                passed = passed;
                 done = saved_told h.config w.gateway' v.done;
                 went = went;
                 discarded = discarded;

@@ -19,6 +19,7 @@ use Rattle.gw_program.specs.Jobs.{Does, DoesUntil}
 use Rattle.gw_program.specs.Performing.{Ended, EndedSaved, NotBegun, HasConfig, by_session}
 use Rattle.gw_program.specs.Sessions.{HasGateway, Runs, Serves, Checks}
 use Rattle.gw_program.specs.State.{BeginsWaiting, IsSaved}
+use Rattle.gw_trunk.specs.Serving.{Traffic}
 use Rattle.gw_program.specs.Trunks.{CarriesTrunk}
 use Rattle.gw_trunk.specs.Multiframes.{GoesInTime}
 
@@ -100,24 +101,21 @@ DoesSession load save asks session told = OnNewStreams (λ a a'. ByGateway a a' 
 
 -- Octets came from a trunk and were sent to it, clients asked and were answered, and this was done of it.
 -- What was sent went to the device in time: all of it, except for whole multiframes if the device was slow.
-pub record HasTrunk (does : List ℕ → List ℕ → List ℕ → List ℕ → Type 0) : Type 0 where
-  pub came : List ℕ
-  pub asked : List ℕ
-  pub sent : List ℕ
-  pub answered : List ℕ
-  pub done : does came asked sent answered
+pub record HasTrunk (does : Traffic → Type 0) : Type 0 where
+  pub passed : Traffic
+  pub done : does passed
   pub went : List ℕ
   pub discarded : ℕ
   pub was_slow : Bool
-  pub goes : ∥ GoesInTime sent went discarded was_slow ∥₁
+  pub goes : ∥ GoesInTime passed.went went discarded was_slow ∥₁
 
 -- what was told when the trunk had been served, by the states to load and to save if they are named, and the
 -- wait that is asked for
 abbrev pub ServesTrunk : Option (List ℕ) → Option (List ℕ) → (Option ℕ → Type 0) → Result Totals Trouble
     → Type 0
 ServesTrunk load save asks told = OnNewStreams (λ a a'. ByGateway a a' told load asks (λ gateway gateway'.
-    HasTrunk (λ came asked sent answered. EndedSaved
-    (λ end. CarriesTrunk a a' came asked sent answered end gateway gateway') (IsSaved save) told)))
+    HasTrunk (λ passed. EndedSaved (λ end. CarriesTrunk a a' passed end gateway gateway')
+    (IsSaved save) told)))
 
 -- the state to load and the state to save that the command names
 abbrev pub load_in : Command → Option (List ℕ)

@@ -1,5 +1,5 @@
 -- What it means that a trunk is served by a configuration (module `trunks`).
-use Rattle.std.specs.Prelude.{ℕ, List, Result}
+use Rattle.std.specs.Prelude.{List, Result}
 use Rattle.gw_switch.specs.declared.GatewayConfig.{GatewayConfig}
 use Rattle.gw_switch.specs.declared.gateway.Gateway.{Gateway}
 use Rattle.gw_records.specs.declared.outcome.Totals.{Totals}
@@ -7,13 +7,13 @@ use Rattle.gw_records.specs.declared.outcome.RunFault.{RunFault}
 use Rattle.gw_switch.specs.Events.{Event}
 use Rattle.gw_switch.specs.Standing.{Stands}
 use Rattle.gw_session.specs.Serve.{Around}
-use Rattle.gw_trunk.specs.Serving.{Carried}
+use Rattle.gw_trunk.specs.Serving.{Carried, Traffic}
 use Rattle.gw_program.specs.Sessions.{Serves}
 
--- A gateway served a trunk on which these octets came and went, and clients, by whom this was asked and to
--- whom this was answered. What went is what the definitions give after all that had happened to the gateway.
-pub record CarriesTrunk (a a' : Around) (came asked went told : List ℕ) (end : Result Totals RunFault)
+-- A gateway served a trunk and its clients, between whom this passed. What went is what the definitions give
+-- after all that had happened to the gateway.
+pub record CarriesTrunk (a a' : Around) (t : Traffic) (end : Result Totals RunFault)
     (gateway gateway' : Gateway) : Type 0 where
   pub served : Serves a a' end gateway gateway'
   pub carried : (config : GatewayConfig) (before : List Event) → Stands config gateway before
-      → ∥ Carried config before gateway' a.tape a'.tape came asked went told end ∥₁
+      → ∥ Carried config before gateway' a.tape a'.tape t end ∥₁

@@ -5,6 +5,7 @@ ghost use Rattle.gw_session.specs.Serve.{around};
 ghost use Rattle.gw_program.specs.Performing.{EndedSaved, NotBegun, LacksTapeOrPorts, HasServed, HasConfig};
 ghost use Rattle.gw_program.specs.Sessions.{HasGateway};
 ghost use Rattle.gw_program.specs.Trunks.{CarriesTrunk};
+ghost use Rattle.gw_trunk.specs.Serving.{traffic};
 
 use crate::performing::{System, end_session};
 use crate::trouble::Trouble;
@@ -32,8 +33,8 @@ fn carry_trunk<I: Incoming, O: Outgoing, A: Outgoing, P: Ports, T: Tape>(
         (P.tells ports.old) (T.tells tape.old))
         (around (⟦<TrunkSource<I> as Source>⟧.tells source.new) (⟦<TrunkSink<O, A> as Sink>⟧.tells sink.new)
         (P.tells ports.new) (T.tells tape.new))
-        (I.came source.new.incoming) (I.asked source.new.incoming)
-        (O.went sink.new.outgoing) (A.went sink.new.answers) result gateway.old gateway.new }
+        (traffic (I.came source.new.incoming) (I.asked source.new.incoming)
+        (O.went sink.new.outgoing) (A.went sink.new.answers)) result gateway.old gateway.new }
 {
     serve_trunk(alloc, gateway, ports, source, sink, tape)
 }
@@ -58,8 +59,8 @@ fn perform_carry<Y: System, I: Incoming, O: Outgoing, A: Outgoing>(
         (Y.Ports.tells ports) (Y.Tape.tells tape))
         (around (⟦<TrunkSource<I> as Source>⟧.tells source.new) (⟦<TrunkSink<O, A> as Sink>⟧.tells sink.new)
         (Y.Ports.tells ports') (Y.Tape.tells tape'))
-        (I.came source.new.incoming) (I.asked source.new.incoming)
-        (O.went sink.new.outgoing) (A.went sink.new.answers) end gateway.old gateway.new)
+        (traffic (I.came source.new.incoming) (I.asked source.new.incoming)
+        (O.went sink.new.outgoing) (A.went sink.new.answers)) end gateway.old gateway.new)
         (Y.saves system.now config.now gateway.new) result) }
 {
     let mut tape = system.begin_tape()?;
@@ -91,8 +92,8 @@ pub fn perform_trunk<Y: System, I: Incoming, O: Outgoing, A: Outgoing>(
         (Y.Ports.tells ports) (Y.Tape.tells tape))
         (around (⟦<TrunkSource<I> as Source>⟧.tells source.new) (⟦<TrunkSink<O, A> as Sink>⟧.tells sink.new)
         (Y.Ports.tells ports') (Y.Tape.tells tape'))
-        (I.came source.new.incoming) (I.asked source.new.incoming)
-        (O.went sink.new.outgoing) (A.went sink.new.answers) end gateway gateway')
+        (traffic (I.came source.new.incoming) (I.asked source.new.incoming)
+        (O.went sink.new.outgoing) (A.went sink.new.answers)) end gateway gateway')
         (Y.saves system.now config gateway') result))) }
 {
     let config = system.read_config()?;

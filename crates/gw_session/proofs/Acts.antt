@@ -6,7 +6,7 @@ use Rattle.gw_session.proofs.Common.{Appends-none, Passes-join, AppendsPrefix-be
 use Rattle.gw_session.proofs.Common.{written_out, code_of, Act, told, turns_of, events_in, events_of_turns, octet_of}
 use Rattle.gw_session.proofs.Common.{answer_to, packets_for, dropped_for, Takes, spelled_for, written_for, Exchanges}
 use Rattle.gw_session.proofs.Common.{ActsOn, TapeState, Recorded, Output, World, state_of, Puts, Passes-same}
-use Rattle.gw_session.proofs.Common.{AppendsPrefix-same, sent_with_octets, Acts}
+use Rattle.gw_session.proofs.Common.{AppendsPrefix-same, sent_with_octets, Acts, OnOk}
 use Rattle.gw_session.specs.declared.tape.OnTape.{OnTape}
 use Rattle.gw_session.proofs.Turns.{PortTrace-none, counted_is}
 
@@ -121,3 +121,8 @@ one_acts act event u spells w g t tape o result none one packets places answer t
       record { written = []; whole = refl; appended = Appends-none _ },
       rw (one, packets config before, answer config before, (takes config before h).1),
     )) refl (rw taped at puts)
+
+-- what always holds holds where a result is Ok
+pub on_ok_always : {P : Type 0} (result : Result (Unit {0}) RunFault) → P → OnOk result P
+on_ok_always (Ok x) p = p
+on_ok_always (Err e) p = tt

@@ -5,7 +5,7 @@ use Rattle.gw_session.proofs.Common.{Appends, map_push, flat_map_more, GatewayCo
 use Rattle.gw_session.proofs.Common.{Record, IsGood, record_at, SinkState, Passes, Breaks, AppendsBut, AppendsPrefix}
 use Rattle.gw_session.proofs.Common.{Passes-appended, Passes-empty, Passes-join, Appends-join, AppendsBut-behind}
 use Rattle.gw_session.proofs.Common.{all_kinds, Spells, Act, told, turns_of, turns, events_in, events_through, Follows}
-use Rattle.gw_session.proofs.Common.{but_last, SessionTrace, written_for, written_by, ActsOn, StopsAt, CutTrace}
+use Rattle.gw_session.proofs.Common.{but_last, WatchedTrace, OfFirstActs, written_for, written_by, ActsOn, StopsAt, CutTrace}
 use Rattle.gw_session.proofs.Common.{TapeState, State, Output, drop-take, named, Passes-start, ActTrace}
 use Rattle.gw_records.specs.declared.records.First.{First}
 use Rattle.gw_session.proofs.Turns.{TurnTrace-none, TurnTrace-join, counted-more, octets-append, turns_have_octets}
@@ -91,109 +91,134 @@ waiting_cut late o s s' w first xs few less took breaks = record {
 }
 
 -- before the first record
-pub through_none : (spells : Spells) {s : State} {tape : TapeState} {o : Option (List ℕ)} {w : List ℕ}
-    → w ≡ [] → SessionTrace (written_by spells) s s tape tape (λ first xs. Passes o o w xs) []
-through_none spells none = record {
-  acts = [];
-  told_are = refl;
-  follows = record { goes = TurnTrace-none _; records = refl; trunk_octets = refl; recorded = recorded_none _ };
-  took = λ config before at. Passes-start _ _ none;
-}
+pub through_none : (spells : Spells) (Seen : List Act → Type 0) {s : State} {tape : TapeState} {o : Option (List ℕ)}
+    {w : List ℕ} → Seen [] → w ≡ []
+    → WatchedTrace (written_by spells) s s tape tape (λ first xs. Passes o o w xs) Seen []
+through_none spells Seen seen none = (
+  record {
+    acts = [];
+    told_are = refl;
+    follows = record { goes = TurnTrace-none _; records = refl; trunk_octets = refl; recorded = recorded_none _ };
+    took = λ config before at. Passes-start _ _ none;
+  },
+  seen,
+)
 
 -- records that were gone through
-module _ (spells : Spells) {s s' : State} {x y : TapeState} {records : List Record}
+module _ (spells : Spells) (Seen : List Act → Type 0) {s s' : State} {x y : TapeState} {records : List Record}
   where
-    -- what is known of what was put
-    through_as : {Took More : List ℕ → List ℕ → Type 0}
+    -- what is known of what was put, and of the acts
+    through_as : {Took More : List ℕ → List ℕ → Type 0} (Known : List Act → Type 0)
         → ((first xs : List ℕ) → length first ≤ length xs → Took first xs → More first xs)
-        → SessionTrace (written_by spells) s s' x y Took records
-        → SessionTrace (written_by spells) s s' x y More records
-    through_as f p = record {
-      acts = p.acts;
-      told_are = p.told_are;
-      follows = p.follows;
-      took = λ config before at. f (written_by spells config before (but_last p.acts))
-          (written_by spells config before p.acts) (less_written spells config before p.acts)
-          (p.took config before at);
-    }
+        → ((acts : List Act) → Seen acts → Known acts)
+        → WatchedTrace (written_by spells) s s' x y Took Seen records
+        → WatchedTrace (written_by spells) s s' x y More Known records
+    through_as Known f g p = (
+      record {
+        acts = p.0.acts;
+        told_are = p.0.told_are;
+        follows = p.0.follows;
+        took = λ config before at. f (written_by spells config before (but_last p.0.acts))
+            (written_by spells config before p.0.acts) (less_written spells config before p.0.acts)
+            (p.0.took config before at);
+      },
+      g p.0.acts p.1,
+    )
 
     -- all of it was taken
     pub through_all : {o p : Option (List ℕ)} {w : List ℕ} (q : Option (List ℕ))
-        → SessionTrace (written_by spells) s s' x y (λ first xs. Passes o p w xs) records → Appends p q w
-        → SessionTrace (written_by spells) s s' x y (λ first. Appends o q) records
-    through_all q h wrote = through_as (λ first xs less took. Passes-appended _ _ _ _ _ took wrote) h
+        → WatchedTrace (written_by spells) s s' x y (λ first xs. Passes o p w xs) Seen records → Appends p q w
+        → WatchedTrace (written_by spells) s s' x y (λ first. Appends o q) Seen records
+    through_all q h wrote =
+        through_as Seen (λ first xs less took. Passes-appended _ _ _ _ _ took wrote) (λ acts seen. seen) h
 
     -- when what waits is written nothing waits, and the rest is as it was
     pub through_on : {o p q : Option (List ℕ)} {w w' : List ℕ}
-        → SessionTrace (written_by spells) s s' x y (λ first xs. Passes o p w xs) records → Appends p q w → w' ≡ []
-        → SessionTrace (written_by spells) s s' x y (λ first xs. Passes o q w' xs) records
-    through_on h wrote none =
-        through_as (λ first xs less took. Passes-empty _ _ _ none (Passes-appended _ _ _ _ _ took wrote)) h
+        → WatchedTrace (written_by spells) s s' x y (λ first xs. Passes o p w xs) Seen records → Appends p q w
+        → w' ≡ [] → WatchedTrace (written_by spells) s s' x y (λ first xs. Passes o q w' xs) Seen records
+    through_on h wrote none = through_as Seen
+        (λ first xs less took. Passes-empty _ _ _ none (Passes-appended _ _ _ _ _ took wrote)) (λ acts seen. seen) h
 
     -- .. or a write of what waits failed
     pub waiting_failed : (late : ℕ) {o : Option (List ℕ)} {b c : SinkState} {w : List ℕ} → length w ≤ late
-        → SessionTrace (written_by spells) s s' x y (λ first xs. Passes o b.taken w xs) records
-        → 0 < length records → Breaks b c w
-        → (0 < length records) × SessionTrace (written_by spells) s s' x y (AppendsBut late o c.taken) records
-    waiting_failed late {o} {b} {c} {w} few p some breaks =
-        (some, through_as (λ first xs less took. waiting_cut late o b c w first xs few less took breaks) p)
+        → WatchedTrace (written_by spells) s s' x y (λ first xs. Passes o b.taken w xs) Seen records
+        → 0 < length records → Breaks b c w → (0 < length records)
+        × WatchedTrace (written_by spells) s s' x y (AppendsBut late o c.taken) (OfFirstActs Seen) records
+    waiting_failed late {o} {b} {c} {w} few p some breaks = (
+      some,
+      through_as (OfFirstActs Seen) (λ first xs less took. waiting_cut late o b c w first xs few less took breaks)
+          (λ acts seen. inl seen) p,
+    )
 
     -- .. and then one more
     module _ {s'' : State} {z : TapeState} {r : Record} where
       -- one record more, for which this is put
-      through_more : {Took More : List ℕ → List ℕ → Type 0} → SessionTrace (written_by spells) s s' x y Took records
+      through_more : {Took More : List ℕ → List ℕ → Type 0} (Known : List Act → Type 0)
+          → WatchedTrace (written_by spells) s s' x y Took Seen records
           → (q : ActsOn s' s'' y z r)
           → ((config : GatewayConfig) (now : List Event) → Stands config s'.gateway now → (first xs : List ℕ)
           → Took first xs → More xs (xs ++ written_for spells config now q.act))
-          → SessionTrace (written_by spells) s s'' x z More (records ++ r ∷ [])
-      through_more p q more = record {
-        acts = p.acts ++ q.act ∷ [];
-        told_are = rw (map_push told p.acts q.act, p.told_are, q.told_is);
-        follows = follows_more p.follows q;
-        took = λ config before at. rw (
-          but_last_more p.acts q.act,
-          through-append (written_for spells) config before p.acts (q.act ∷ []),
-          append-nil,
-        )
-            (more config (before ++ events_through p.acts) ((p.follows.goes.hears config before at).stands)
-            (written_by spells config before (but_last p.acts)) (written_by spells config before p.acts)
-            (p.took config before at));
-      }
+          → ((acts : List Act) → Follows s s' x y acts → Seen acts → Known (acts ++ q.act ∷ []))
+          → WatchedTrace (written_by spells) s s'' x z More Known (records ++ r ∷ [])
+      through_more Known p q more known = (
+        record {
+          acts = p.0.acts ++ q.act ∷ [];
+          told_are = rw (map_push told p.0.acts q.act, p.0.told_are, q.told_is);
+          follows = follows_more p.0.follows q;
+          took = λ config before at. rw (
+            but_last_more p.0.acts q.act,
+            through-append (written_for spells) config before p.0.acts (q.act ∷ []),
+            append-nil,
+          )
+              (more config (before ++ events_through p.0.acts) ((p.0.follows.goes.hears config before at).stands)
+              (written_by spells config before (but_last p.0.acts)) (written_by spells config before p.0.acts)
+              (p.0.took config before at));
+        },
+        known p.0.acts p.0.follows p.1,
+      )
 
       -- records that were gone through, and then one more whose answer passes
-      pub through_done : {o : Option (List ℕ)} {a b : Output}
-          → SessionTrace (written_by spells) s s' x y (λ first xs. Passes o a.sink.taken a.waiting xs) records
-          → ActTrace spells (record { state = s'; tape = y; output = a })
-          (record { state = s''; tape = z; output = b }) r (Passes a.sink.taken b.sink.taken b.waiting)
-          → SessionTrace (written_by spells) s s'' x z (λ first xs. Passes o b.sink.taken b.waiting xs)
+      pub through_done : {o : Option (List ℕ)} {a b : Output} (Known : List Act → Type 0)
+          → WatchedTrace (written_by spells) s s' x y (λ first xs. Passes o a.sink.taken a.waiting xs) Seen records
+          → (q : ActTrace spells (record { state = s'; tape = y; output = a })
+          (record { state = s''; tape = z; output = b }) r (Passes a.sink.taken b.sink.taken b.waiting))
+          → ((acts : List Act) → Follows s s' x y acts → Seen acts → Known (acts ++ q.acts.act ∷ []))
+          → WatchedTrace (written_by spells) s s'' x z (λ first xs. Passes o b.sink.taken b.waiting xs) Known
           (records ++ r ∷ [])
-      through_done p q = through_more p q.acts
-          (λ config now at first xs took. Passes-join _ _ _ _ _ _ _ took (q.took config now at))
+      through_done Known p q known = through_more Known p q.acts
+          (λ config now at first xs took. Passes-join _ _ _ _ _ _ _ took (q.took config now at)) known
 
       -- a write failed in it, when it was done or when its first octets were heard
       pub act_failed : (late : ℕ) {o : SinkState} {a b : Output} → length a.waiting ≤ late
-          → SessionTrace (written_by spells) s s' x y (λ first xs. Passes o.taken a.sink.taken a.waiting xs) records
+          → WatchedTrace (written_by spells) s s' x y (λ first xs. Passes o.taken a.sink.taken a.waiting xs) Seen
+          records
           → ActTrace spells (record { state = s'; tape = y; output = a })
           (record { state = s''; tape = z; output = b }) r (AppendsPrefix a.sink.taken b.sink.taken)
           ⊎ ((octets : List ℕ) × (r ≡ Record.Trunk octets) × StopsAt spells s' s'' a b.sink octets)
           → {w w' : List ℕ} → ((0 < length (records ++ r ∷ []))
-          × SessionTrace (written_by spells) s s'' x z (AppendsBut late o.taken b.sink.taken) (records ++ r ∷ []))
-          ⊎ CutTrace late spells (record { state = s; tape = x; output = record { sink = o; waiting = w } })
-          (record { state = s''; tape = z; output = record { sink = b.sink; waiting = w' } }) (records ++ r ∷ [])
+          × WatchedTrace (written_by spells) s s'' x z (AppendsBut late o.taken b.sink.taken) (OfFirstActs Seen)
+          (records ++ r ∷ []))
+          ⊎ ((c : CutTrace late spells (record { state = s; tape = x; output = record { sink = o; waiting = w } })
+          (record { state = s''; tape = z; output = record { sink = b.sink; waiting = w' } }) (records ++ r ∷ []))
+          × Seen c.trace.acts)
       act_failed late few p (inl q) = inl (
         omega (arith, length-append records (r ∷ [])),
-        through_more p q.acts
-            (λ config now at first xs took. AppendsBut-behind late _ _ _ _ _ _ few took (q.took config now at)),
+        through_more (OfFirstActs Seen) p q.acts
+            (λ config now at first xs took. AppendsBut-behind late _ _ _ _ _ _ few took (q.took config now at))
+            (λ acts follows seen. inr (rw (but_last_more acts q.acts.act) seen)),
       )
-      act_failed late {a = a} few p (inr q) = inr (record {
-        records = records;
-        octets = q.0;
-        all = rw (q.1);
-        between = record { state = s'; tape = y; output = a };
-        trace = p;
-        few = few;
-        stops = q.2;
-      })
+      act_failed late {a = a} few p (inr q) = inr (
+        record {
+          records = records;
+          octets = q.0;
+          all = rw (q.1);
+          between = record { state = s'; tape = y; output = a };
+          trace = p.0;
+          few = few;
+          stops = q.2;
+        },
+        p.1,
+      )
 
 -- where some octets wait there are some records
 pub some_records : (records waiting : ℕ) → (records ≡ 0 → waiting ≡ 0) → 0 < waiting → 0 < records

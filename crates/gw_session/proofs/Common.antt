@@ -23,6 +23,7 @@ pub use Rattle.gw_session.specs.Answers.{Written, written_out, code_of, answers,
 pub use Rattle.gw_session.specs.Answers.{packets_in, events_of, events, answered, as_record, render, packet_in}
 pub use Rattle.gw_session.specs.Answers.{sent_with}
 pub use Rattle.gw_session.specs.Exchange.{Takes, Exchanges, ActsOn, Acts, written_by, StopsAt, CutTrace, ActTrace}
+pub use Rattle.gw_session.specs.Exchange.{WatchedTrace, OfFirstActs}
 pub use Rattle.gw_session.specs.Exchange.{ComesInTurn, SendsPacket, OctetTrace, PacketWriteError, TraceToWriteError}
 pub use Rattle.gw_session.specs.Exchange.{Receiving, RecordsBehind, IsGiven, FourCome}
 unfoldable pub use Rattle.gw_session.specs.Exchange.{spelled_for, written_for, most_waiting}
@@ -43,6 +44,8 @@ pub use Rattle.gw_session.specs.ServeLaws.{DatagramsAreInTurn}
 pub use Rattle.gw_session.specs.Tape.{TapeState, Recorded, RecordedBut, HasEnded, HasLong, AreSpelled, WritesRecords}
 pub use Rattle.gw_session.specs.Tape.{Taping, taping, Batched, Batches, RecordsAll}
 unfoldable pub use Rattle.gw_session.specs.Tape.{kind_and_circuit}
+pub use Rattle.gw_session.specs.Watch.{Shows, Look, shown_in, IsCalled, code_after, IsCodeAfter, AreTrue, Watched}
+pub use Rattle.gw_session.specs.Watch.{ActsShown, OfFirst, RunsWatched}
 pub use Rattle.gw_session.specs.World.{Output, World, state_of, State, world_of, output_of}
 pub use Rattle.gw_switch.specs.Events.{Event, octets}
 unfoldable pub use Rattle.gw_switch.specs.Standing.{Stands}

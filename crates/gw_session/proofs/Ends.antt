@@ -1,6 +1,7 @@
 -- Ends of sessions, by what is known of them.
 use Rattle.gw_session.proofs.Common.{List, Result, IfErr, Totals, RunFault, Kinds, Record, SinkState, IfOk, IfOk-weaker}
 use Rattle.gw_session.proofs.Common.{IfErr-weaker, SourceState, SessionTo, EndsAll, EndsUntil, OrNoMemory}
+use Rattle.gw_session.proofs.Common.{MatchResult, Ok, Err}
 use Rattle.gw_records.specs.declared.outcome.RunFault.TheVariants as faults
 use Rattle.gw_records.specs.declared.records.Ending.{Ending}
 
@@ -49,3 +50,9 @@ module _ (kinds : Kinds) (a b : SourceState) (c d : SinkState) {P Q : Totals →
         → ((rs : List Record) → B rs → C rs) → IfErr result (EndsUntil kinds a b c d P B)
         → IfErr result (OrNoMemory kept (EndsUntil kinds a b c d Q C))
     until_as kept result begun = IfErr-weaker result _ _ (λ e. fault_as kept e begun)
+
+-- a session ended well, or before the end of its source
+pub either_way : (P : Totals → Type 0) (Q : RunFault → Type 0) (result : Result Totals RunFault) → IfOk result P
+    → IfErr result Q → MatchResult result P Q
+either_way P Q (Ok totals) well until = well
+either_way P Q (Err fault) well until = until

@@ -12,7 +12,7 @@ use Rattle.gw_session.proofs.Common.{dropped_for, answer_to, but_last, SessionTr
 use Rattle.gw_session.proofs.Common.{world_of, spelled_for, written_for, written_by, CutTrace, TraceToWriteError}
 use Rattle.gw_session.proofs.Common.{count_by, take_all, take_at, record_of, AppendsBut-same, AppendsBut-more, five}
 use Rattle.gw_session.proofs.Common.{trunk_octets, run_totals, RunsThrough, AreFirst, RunsUntilWrite, in_record}
-use Rattle.gw_session.proofs.Common.{no_ports, first_four}
+use Rattle.gw_session.proofs.Common.{no_ports, first_four, Shows, Watched, ActsShown, OfFirst, WatchedTrace}
 use Rattle.gw_session.proofs.Turns.{PortTrace-join, LeavesOut-all, counted_is}
 use Rattle.gw_session.proofs.Attending.{but_last_more}
 use Rattle.gw_session.proofs.Cutting.{answered_first}
@@ -264,8 +264,71 @@ cut_until begun p =
           (AppendsBut-same (all_written config before k.acts plain.0) w.1 (AppendsBut-more w.0 cut));
     }
 
--- where a write failed, the records begun ran up to that write
-pub runs_until : {g g' : Gateway} {x y : TapeState} {s s' : SinkState} (records : List Record)
-    → TraceToWriteError 65536 in_record (world_of no_ports g nothing_counted x s [])
-    (λ totals. world_of no_ports g' totals y s' []) records → RunsUntilWrite g g' s s' records
-runs_until records w = elim w.1 [ inl p ↦ whole_until records p.0 p.1 | inr p ↦ cut_until records p ]
+-- where nothing came before their octets, the events of acts are those of their records, one by one
+each_events : (acts : List Act) → Plain (turns acts) → map events_in acts ≡ map events_of (map told acts)
+each_events [] p = refl
+each_events (act ∷ acts) p =
+    let q = plain_parts (turns_of act) (turns acts) p in
+    rw (act_events act q.0, each_events acts q.1)
+
+-- what a watch is shown of acts is what it is shown of their records
+shown_plain : {W : Type 0} {shows : Shows W} {g : Gateway} {w w' : W} (acts : List Act) → Plain (turns acts)
+    → ActsShown shows g w w' acts
+    → Watched shows g w w' (map told acts) (map events_of (map told acts))
+shown_plain acts p seen = rw (each_events acts p) at seen
+
+-- a session that was watched
+pub seen_plain : {W : Type 0} {shows : Shows W} {w w' : W} {g g' : Gateway} {t : Totals} {x y : TapeState}
+    {Took : List ℕ → List ℕ → Type 0} {records : List Record}
+    → WatchedTrace (written_by in_record) (at_records g nothing_counted) (at_records g' t) x y Took
+    (ActsShown shows g w w') records
+    → Watched shows g w w' records (map events_of records)
+seen_plain p = rw (p.0.told_are) at (shown_plain p.0.acts (plain_trades (turns p.0.acts) p.0.follows.goes.trades) p.1)
+
+-- the first records of those that were begun, which a watch was shown
+seen_first : {W : Type 0} {shows : Shows W} {w w' : W} {g g' : Gateway} {x y : TapeState} {t : Totals}
+    {Took : List ℕ → List ℕ → Type 0} (records : List Record) → 0 < length records
+    → (p : SessionTrace (written_by in_record) (at_records g nothing_counted) (at_records g' t) x y Took records)
+    → ActsShown shows g w w' (but_last p.acts)
+    → OfFirst (λ rs. Watched shows g w w' rs (map events_of rs)) records
+seen_first records some p seen =
+    let l = last_of p.acts (omega (arith, some, ap length p.told_are, length-map p.acts told)) in
+    let plain = plain_trades (turns p.acts) p.follows.goes.trades in
+    let early = (plain_parts (turns l.0) (turns_of l.1) (rw (l.2, ← flat_map_more turns_of [] l.0 l.1) at plain)).0 in
+    inr (
+      map told l.0,
+      told l.1,
+      sym p.told_are ∙ ap (map told) l.2 ∙ map_push told l.0 l.1,
+      shown_plain l.0 early (rw (l.2, but_last_more l.0 l.1) at seen),
+    )
+
+-- where a write failed in the first octets of a record, a watch was shown the records before it
+seen_before : {W : Type 0} {shows : Shows W} {w w' : W} {g g' : Gateway} {x y : TapeState} {t : Totals}
+    {s s' : SinkState} (begun : List Record)
+    → (p : CutTrace 65536 in_record (world_of no_ports g nothing_counted x s []) (world_of no_ports g' t y s' []) begun)
+    → ActsShown shows g w w' p.trace.acts
+    → OfFirst (λ rs. Watched shows g w w' rs (map events_of rs)) begun
+seen_before begun p seen =
+    let k = p.trace in
+    let z = p.stops in
+    let joined = PortTrace-join no_ports p.between.state.ports no_ports (turns k.acts) z.turns k.follows.goes.trades
+    z.trades in
+    let plain = plain_parts (turns k.acts) z.turns (plain_trades (turns k.acts ++ z.turns) joined) in
+    inr (p.records, Record.Trunk p.octets, p.all, rw (k.told_are) at (shown_plain k.acts plain.0 seen))
+
+-- where a write failed, the records begun ran up to that write, and a watch was shown all, or all but the last
+pub runs_until : {W : Type 0} {shows : Shows W} {w w' : W} {g g' : Gateway} {x y : TapeState} {s s' : SinkState}
+    (records : List Record)
+    → TraceToWriteError 65536 in_record (ActsShown shows g w w') (world_of no_ports g nothing_counted x s [])
+    (λ totals. world_of no_ports g' totals y s' []) records
+    → RunsUntilWrite g g' s s' records × OfFirst (λ rs. Watched shows g w w' rs (map events_of rs)) records
+runs_until records v = elim v.1 [
+  | inl p ↦ (
+    whole_until records p.0 p.1.0,
+    elim p.1.1 [
+      | inl all ↦ inl (seen_plain (p.1.0, all))
+      | inr first ↦ seen_first records p.0 p.1.0 first
+    ],
+  )
+  | inr p ↦ (cut_until records p.0, seen_before records p.0 p.1)
+]

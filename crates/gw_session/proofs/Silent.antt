@@ -30,14 +30,15 @@ serves records p = record {
 }
 
 -- .. up to the one in which a write failed
-pub serves_until : {s : State} {end : Totals → State} {x y : TapeState} {a b : SinkState} (records : List Record)
-    → TraceToWriteError 0 silent (record { state = s; tape = x; output = output_of a [] })
+pub serves_until : {s : State} {end : Totals → State} {x y : TapeState} {a b : SinkState}
+    (Seen : List Act → Type 0) (records : List Record)
+    → TraceToWriteError 0 silent Seen (record { state = s; tape = x; output = output_of a [] })
     (λ totals. record { state = end totals; tape = y; output = output_of b [] }) records
     → (totals : Totals) × SessionTrace written s (end totals) x y (AppendsBut 0 a.taken b.taken) records
-serves_until records p = (
+serves_until Seen records p = (
   p.0,
   elim p.1 [
-    | inl done ↦ serves records done.1
-    | inr cut ↦ absurd (omega (arith, cut.stops.some))
+    | inl done ↦ serves records done.1.0
+    | inr cut ↦ absurd (omega (arith, cut.0.stops.some))
   ],
 )

@@ -13,7 +13,7 @@ use Rattle.gw_records.specs.Ports.{TakesOut, KeepsSends, KeepsReceives}
 use Rattle.gw_session.specs.Serve.{Act, Turn, told, octet_of, turns_of, events_in, events_of_turns, answer_to}
 use Rattle.gw_session.specs.Serve.{TurnTrace, SessionTrace, PortTrace, Stop, StopsSo, as_call, receives_of}
 use Rattle.gw_session.specs.Serve.{send_of, of_circuit, coming, first_four, behind_four, LeavesOut}
-use Rattle.gw_session.specs.Serve.{packets_for, octets_for, dropped_for, through}
+use Rattle.gw_session.specs.Serve.{packets_for, octets_for, dropped_for, through, but_last}
 use Rattle.gw_session.specs.Tape.{TapeState, Recorded, Taping, RecordedBut}
 use Rattle.gw_session.specs.World.{State, Output, World}
 
@@ -220,9 +220,21 @@ pub record CutTrace (late : ℕ) (spells : Spells) (w w' : World) (begun : List 
   pub few : length between.output.waiting ≤ late
   pub stops : StopsAt spells between.state w'.state between.output w'.output.sink octets
 
--- a session up to a write that failed, when this many octets waited at most
-abbrev pub TraceToWriteError : ℕ → Spells → World → (Totals → World) → List Record → Type 0
-TraceToWriteError late spells w end records = (totals : Totals) × (((0 < length records)
-    × SessionTrace (written_by spells) w.state (end totals).state w.tape (end totals).tape
-    (AppendsBut late w.output.sink.taken (end totals).output.sink.taken) records)
-    ⊎ CutTrace late spells w (end totals) records)
+-- a session, and this is known of its acts
+abbrev pub WatchedTrace : (GatewayConfig → List Event → List Act → List ℕ) → State → State → TapeState
+    → TapeState → (List ℕ → List ℕ → Type 0) → (List Act → Type 0) → List Record → Type 0
+WatchedTrace put s s' tape tape' Took Seen records =
+    (t : SessionTrace put s s' tape tape' Took records) × Seen t.acts
+
+-- this is known of acts, or of all but the last one
+abbrev pub OfFirstActs : (List Act → Type 0) → List Act → Type 0
+OfFirstActs Seen acts = Seen acts ⊎ Seen (but_last acts)
+
+-- a session up to a write that failed, when this many octets waited at most, and this is known of its acts:
+-- of all, or of all but the last one
+abbrev pub TraceToWriteError : ℕ → Spells → (List Act → Type 0) → World → (Totals → World) → List Record
+    → Type 0
+TraceToWriteError late spells Seen w end records = (totals : Totals) × (((0 < length records)
+    × WatchedTrace (written_by spells) w.state (end totals).state w.tape (end totals).tape
+    (AppendsBut late w.output.sink.taken (end totals).output.sink.taken) (OfFirstActs Seen) records)
+    ⊎ ((c : CutTrace late spells w (end totals) records) × Seen c.trace.acts))

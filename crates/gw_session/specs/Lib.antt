@@ -12,6 +12,7 @@ pub mod Outlet
 pub mod Tape
 pub mod World
 pub mod Serve
+pub mod Watch
 pub mod Exchange
 pub mod ServeLaws
 pub mod RecordingLaws

@@ -96,6 +96,7 @@ impl Session {
     ghost use Rattle.gw_session.specs.Answers.Written.{Answered};
     ghost use Rattle.gw_session.specs.Running.{all_kinds};
     ghost use Rattle.gw_session.specs.Exchange.{Acts, most_waiting};
+    ghost use Rattle.gw_session.specs.Watch.{IsCodeAfter};
     ghost use Rattle.gw_session.specs.World.{world_of};
 
     // Gives the octets of a trunk record to the gateway, and puts the record that answers it.
@@ -116,16 +117,17 @@ impl Session {
             (world_of (O.tells outlet.new) gateway.new self.new.totals (T.tells tape.new)
             (K.tells sink.new) self.new.waiting.items)
             (Record.Trunk body.now) result }
+        ensures code { OnOk result (self.new.code ≡ 0) }
         ensures few { OnOk result (length self.new.waiting.items ≤ most_waiting self.old.at_once) }
         ensures at_once { self.new.at_once ≡ self.old.at_once }
         ensures room { vec_len self.new.room ≡ vec_len self.old.room }
     {
         self.totals.records = self.totals.records.saturating_add(1);
         self.totals.octets = self.totals.octets.saturating_add(body.len() as u64);
-        self.code = 0;
         self.answer.clear();
         let _ = self.answer.try_extend_from_slice(&trunk_front(body.len()));
         let recorded = self.exchange_all(gateway, outlet, body, sink, tape)?;
+        self.code = 0;
         put_out(
             recorded,
             self.answer.as_slice(),
@@ -177,6 +179,7 @@ impl Session {
             (world_of (O.tells outlet.new) gateway.new self.new.totals (T.tells tape.new)
             (K.tells sink.new) self.new.waiting.items)
             (named head body.now) result }
+        ensures code { OnOk result (IsCodeAfter gateway.old (named head body.now) self.new.code) }
         ensures few { OnOk result (length self.new.waiting.items ≤ most_waiting self.old.at_once) }
         ensures at_once { self.new.at_once ≡ self.old.at_once }
         ensures room { vec_len self.new.room ≡ vec_len self.old.room }

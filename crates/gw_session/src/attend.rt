@@ -4,8 +4,9 @@ ghost use Rattle.std.specs.Io.KnownBytes.{Appends};
 ghost use Rattle.gw_records.specs.Streams.{CanBegin};
 ghost use Rattle.gw_records.specs.Reader.{held};
 ghost use Rattle.gw_records.specs.Outcome.{nothing_counted, EndsAll, EndsUntil};
-ghost use Rattle.gw_session.specs.Exchange.{written_by, TraceToWriteError, most_waiting};
-ghost use Rattle.gw_session.specs.Serve.{SessionTrace};
+ghost use Rattle.gw_session.specs.Exchange.{written_by, WatchedTrace, TraceToWriteError};
+ghost use Rattle.gw_session.specs.Exchange.{most_waiting};
+ghost use Rattle.gw_session.specs.Watch.{ActsShown};
 ghost use Rattle.gw_session.specs.World.{state_of, world_of};
 
 use crate::exchange::Session;
@@ -40,17 +41,20 @@ pub fn attend<O: Outlet, S: Source, K: Sink, T: Tape, W: Watch>(
     requires room { O.place ≤ vec_len session.old.room }
     ensures ok { IfOk result (EndsAll kinds.now
         (S.tells source.old) (S.tells source.new) (K.tells sink.old) (K.tells sink.new)
-        (λ totals. SessionTrace (written_by O.spells)
+        (λ totals. WatchedTrace (written_by O.spells)
         (state_of (O.tells outlet.old) gateway.old nothing_counted)
         (state_of (O.tells outlet.new) gateway.new totals) (T.tells tape.old) (T.tells tape.new)
-        (λ first. Appends (K.tells sink.old).taken (K.tells sink.new).taken))) }
+        (λ first. Appends (K.tells sink.old).taken (K.tells sink.new).taken)
+        (ActsShown W.shows gateway.old watch.old watch.new))) }
     ensures fault { IfErr result (EndsUntil kinds.now
         (S.tells source.old) (S.tells source.new) (K.tells sink.old) (K.tells sink.new)
-        (λ totals. SessionTrace (written_by O.spells)
+        (λ totals. WatchedTrace (written_by O.spells)
         (state_of (O.tells outlet.old) gateway.old nothing_counted)
         (state_of (O.tells outlet.new) gateway.new totals) (T.tells tape.old) (T.tells tape.new)
-        (λ first. Appends (K.tells sink.old).taken (K.tells sink.new).taken))
+        (λ first. Appends (K.tells sink.old).taken (K.tells sink.new).taken)
+        (ActsShown W.shows gateway.old watch.old watch.new))
         (TraceToWriteError (most_waiting session.old.at_once) O.spells
+        (ActsShown W.shows gateway.old watch.old watch.new)
         (world_of (O.tells outlet.old) gateway.old nothing_counted (T.tells tape.old) (K.tells sink.old) [])
         (λ totals. world_of (O.tells outlet.new) gateway.new totals (T.tells tape.new)
         (K.tells sink.new) []))) }

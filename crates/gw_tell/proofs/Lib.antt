@@ -1,3 +1,4 @@
 pub mod Alike
 pub mod Reporting
 pub mod Sending
+pub mod Letting

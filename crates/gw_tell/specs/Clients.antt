@@ -4,36 +4,51 @@ use Rattle.e1_g711.specs.declared.Law.{Law}
 use Rattle.gw_switch.specs.declared.gateway.Gateway.{Gateway}
 use Rattle.gw_records.specs.Records.{Record}
 use Rattle.gw_tell.specs.declared.client.Client.{Client}
+use Rattle.gw_tell.specs.declared.place.Place.{Place}
+use Rattle.gw_tell.specs.Backlog.{waiting}
 use Rattle.gw_tell.specs.declared.picture.Picture.{Picture}
 use Rattle.gw_tell.specs.Lines.{at_line}
 use Rattle.gw_tell.specs.Reports.{Shows, Changes, IsPictureOf, place_after, whole_state, sent_to, last_after}
 
--- the client at a place got these octets, or is let go
+-- All that was sent to a client: what it took, and behind it what waits for it. So what it took is a prefix
+-- of what was sent.
+abbrev pub sent : Client → List ℕ
+sent client = client.got.octets ++ waiting client.waits
+
+-- the client at a place was sent these octets, or is let go
 abbrev pub Gets : Option Client → Option Client → List ℕ → Type 0
 Gets place None octets = ⊤
 Gets None (Some client') octets = ⊥
 Gets (Some client) (Some client') octets =
-    (client'.got.octets ≡ client.got.octets ++ octets) × (client'.last ≡ client.last)
+    (sent client' ≡ sent client ++ octets) × (client'.last ≡ client.last)
 
--- the client at a place got what it is sent of these lines, or is let go
+-- the client at a place was sent its part of these lines, or is let go
 abbrev pub IsTold : Option Client → Option Client → ℕ → List ℕ → Type 0
 IsTold place None at lines = ⊤
 IsTold None (Some client') at lines = ⊥
 IsTold (Some client) (Some client') at lines =
-    (client'.got.octets ≡ client.got.octets ++ sent_to client.last at lines)
+    (sent client' ≡ sent client ++ sent_to client.last at lines)
     × (client'.last ≡ last_after client.last at lines)
 
--- the client at a place
-abbrev pub at : List (Option Client) → ℕ → Option Client
-at places k = slice_index_or places k None
+-- a place without a client and without room for one
+abbrev pub no_place : Place
+no_place = record { client = None; room = None }
 
--- all clients got what they are sent of these lines, or are let go
-abbrev pub AllAreTold : List (Option Client) → List (Option Client) → ℕ → List ℕ → Type 0
+-- the client at a place
+abbrev pub at : List Place → ℕ → Option Client
+at places k = (slice_index_or places k no_place).client
+
+-- no place has a client
+abbrev pub AllFree : List Place → Type 0
+AllFree places = (k : ℕ) → at places k ≡ None
+
+-- all clients were sent their part of these lines, or are let go
+abbrev pub AllAreTold : List Place → List Place → ℕ → List ℕ → Type 0
 AllAreTold places places' place lines = (k : ℕ) → IsTold (at places k) (at places' k) place lines
 
 -- the clients were told what changed with a record, behind which the gateway stands
 pub record TellsChanges (place : ℕ) (r : Record) (code : ℕ) (gateway : Gateway) (was told : Picture)
-    (places places' : List (Option Client)) : Type 0 where
+    (places places' : List Place) : Type 0 where
   pub is : Picture
   pub shows : Shows is gateway
   pub lines : List ℕ
@@ -42,8 +57,8 @@ pub record TellsChanges (place : ℕ) (r : Record) (code : ℕ) (gateway : Gatew
   pub true_picture : IsPictureOf is told
   pub told_all : AllAreTold places places' (place_after place r) lines
 
--- the client at a place stays as it was, or is let go, or is a new one that got the whole state
+-- the client at a place stays as it was, or is let go, or is a new one that was sent the whole state
 abbrev pub StaysOrNew : Law → ℕ → Picture → Option Client → Option Client → Type 0
 StaysOrNew law place told old None = ⊤
 StaysOrNew law place told old (Some client') = (old ≡ Some client')
-    ⊎ ((client'.got.octets ≡ whole_state law place told) × (client'.last ≡ place))
+    ⊎ ((sent client' ≡ whole_state law place told) × (client'.last ≡ place))

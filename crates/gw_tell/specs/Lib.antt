@@ -1,3 +1,5 @@
 pub mod Lines
 pub mod Reports
+pub mod Backlog
 pub mod Clients
+pub mod Telling

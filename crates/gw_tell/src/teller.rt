@@ -1,13 +1,17 @@
 //! A watch of a session that tells clients how the trunk stands.
 
 ghost use Rattle.std.specs.Prelude.{◌≡◌, ◌⊎◌, ◌<◌, ◌≤◌, ◌++◌, ℕ, [], length, take, drop, IfSome, None};
+ghost use Rattle.std.specs.Prelude.{IsTrue, IfOk};
 ghost use Rattle.gw_records.specs.Records.{named};
 ghost use Rattle.gw_tell.specs.Lines.{at_line, end_line};
-ghost use Rattle.gw_tell.specs.Clients.{AllAreTold, Gets, IsTold, at};
+ghost use Rattle.gw_tell.specs.Clients.{AllAreTold, AllFree, Gets, at};
+ghost use Rattle.gw_tell.specs.Telling.{HasBegun, TellsRecord};
 
+use crate::backlog::Backlog;
 use crate::client::Client;
 use crate::lines::push_at;
 use crate::picture::Picture;
+use crate::place::Place;
 use crate::report::{place_after, report, whole_state};
 use crate::text::Text;
 use e1_g711::Law;
@@ -16,17 +20,19 @@ use gw_session::Watch;
 use gw_switch::Gateway;
 use gw_trunk::open_door;
 use mio::net::{UnixListener, UnixStream};
+use std::alloc::Global;
 use std::io;
 
 // How many clients there may be at once.
 const MOST_CLIENTS: usize = 8;
 
-/// Tells the clients of a Unix socket how a trunk stands and what changes, as lines of text (e1gw-tell(5)). A
-/// client that goes or does not take at once what it is sent loses its connection, and nothing else happens.
+/// Tells the clients of a Unix socket how a trunk stands and what changes, as lines of text (e1gw-tell(5)).
+/// What a client does not take at once waits for it: 64 KiB at most, in room that is taken at the beginning.
+/// A client that goes, or for whom there is no room, loses its connection, and nothing else happens.
 #[derive(Drop)]
 pub struct Teller {
     door: UnixListener,
-    places: [Option<Client>; 8],
+    places: [Place; 8],
     law: Law,
     // The octets of the trunk that the session has acted on.
     place: u64,
@@ -35,82 +41,79 @@ pub struct Teller {
     text: Text,
 }
 
-// Sends the client at a place the lines of a text, and lets it go if it does not take them.
-fn tell_one(place: &mut Option<Client>, text: &[u8], front: usize, at: u64)
-    requires front { front ≤ length text.now }
-    requires line { take front text.now ≡ at_line at }
-    ensures { IsTold place.old place.new at (drop front text.now) }
-{
-    let Some(client) = place else {
-        return;
-    };
-    if client.report(text, front, at).is_err() {
-        *place = None;
-    }
-}
-
 // Sends all clients the lines of a text.
-fn tell_all(places: &mut [Option<Client>; 8], text: &[u8], front: usize, at: u64)
+fn tell_all(places: &mut [Place; 8], text: &[u8], front: usize, at: u64)
     requires front { front ≤ length text.now }
     requires line { take front text.now ≡ at_line at }
     ensures { AllAreTold places.old places.new at (drop front text.now) }
 {
     for place in 0..MOST_CLIENTS {
-        tell_one(&mut places[place], text, front, at);
-    }
-}
-
-// Sends the client at a place these octets, and lets it go if it does not take them.
-fn give_one(place: &mut Option<Client>, octets: &[u8])
-    ensures { Gets place.old place.new octets.now }
-{
-    let Some(client) = place else {
-        return;
-    };
-    if client.give(octets).is_err() {
-        *place = None;
-    }
-}
-
-// Reads what the client at a place sent, and lets it go if it has gone.
-fn listen_one(place: &mut Option<Client>)
-    ensures { Gets place.old place.new [] }
-{
-    let Some(client) = place else {
-        return;
-    };
-    if client.listen().is_err() {
-        *place = None;
+        places[place].tell(text, front, at);
     }
 }
 
 // Whether there is no client.
-fn are_free(places: &[Option<Client>; 8]) -> bool {
-    places.iter().all(|place| place.is_none())
+fn are_free(places: &[Place; 8]) -> bool
+    ensures { IsTrue result → AllFree places.now }
+{
+    for place in 0..MOST_CLIENTS {
+        if places[place].client.is_some() {
+            return false;
+        }
+    }
+    true
 }
 
 // The first place without a client, if there is one.
-fn free_place(places: &[Option<Client>; 8]) -> Option<usize>
+fn free_place(places: &[Place; 8]) -> Option<usize>
     ensures { IfSome result (λ place. (place < 8) × (at places.now place ≡ None)) }
 {
     for place in 0..MOST_CLIENTS {
-        if places[place].is_none() {
+        if places[place].client.is_none() {
             return Some(place);
         }
     }
     None
 }
 
+// Takes the room of a place.
+fn take_room(place: &mut Place) -> Option<Backlog>
+    ensures { place.new.client ≡ place.old.client }
+{
+    place.room.take()
+}
+
+// Eight free places, with the room of each. The error is that memory was refused.
+#[tactic(auto, using(crate::proofs::Letting::all_free))]
+fn open_places(alloc: Global) -> io::Result<[Place; 8]>
+    ensures { IfOk result (λ places. AllFree places) }
+{
+    Ok([
+        Place::open(alloc)?,
+        Place::open(alloc)?,
+        Place::open(alloc)?,
+        Place::open(alloc)?,
+        Place::open(alloc)?,
+        Place::open(alloc)?,
+        Place::open(alloc)?,
+        Place::open(alloc)?,
+    ])
+}
+
 impl Teller {
     ghost use Rattle.gw_tell.specs.Reports.{Shows};
     ghost use Rattle.gw_tell.specs.Clients.{TellsChanges, StaysOrNew};
+    ghost use Rattle.gw_tell.specs.Telling.{TellsAny, LetsIn};
 
-    /// Listens at a path, with no client yet. The error is the system's.
-    pub fn open(rt: &HostRuntime, path: &str, law: Law, gateway: &Gateway) -> io::Result<Teller> {
+    /// Listens at a path, with no client yet, and takes the memory of all places. The error is the system's, or
+    /// that memory was refused.
+    pub fn open(rt: &HostRuntime, path: &str, law: Law, gateway: &Gateway) -> io::Result<Teller>
+        ensures { IfOk result (λ t. HasBegun t law gateway.now) }
+    {
         let door = open_door(rt, path)?;
         Ok(Teller {
             door,
-            places: [None, None, None, None, None, None, None, None],
+            places: open_places(rt.alloc())?,
             law,
             place: 0,
             told: Picture::of(gateway),
@@ -121,8 +124,10 @@ impl Teller {
     // Tells all clients what changed with a record.
     #[inline(never)]
     fn tell(&mut self, head: &Head, body: &[u8], code: u8, gateway: &Gateway)
-        ensures { TellsChanges self.old.place (named head.now body.now) code gateway.now
+        ensures changes { TellsChanges self.old.place (named head.now body.now) code gateway.now
             self.old.told self.new.told self.old.places self.new.places }
+        ensures law { self.new.law ≡ self.old.law }
+        ensures place { self.new.place ≡ self.old.place }
     {
         let is = Picture::of(gateway);
         let at = place_after(self.place, head, body);
@@ -141,10 +146,25 @@ impl Teller {
         tell_all(&mut self.places, self.text.as_slice(), front, at);
     }
 
+    // Tells the clients, if there is one, what changed with a record.
+    fn tell_any(&mut self, head: &Head, body: &[u8], code: u8, gateway: &Gateway)
+        ensures tells { TellsAny self.old.place (named head.now body.now) code gateway.now
+            self.old.told self.new.told self.old.places self.new.places }
+        ensures law { self.new.law ≡ self.old.law }
+        ensures place { self.new.place ≡ self.old.place }
+    {
+        if are_free(&self.places) {
+            return;
+        }
+        self.tell(head, body, code, gateway);
+    }
+
     // Gives a new client the whole state, if there is a place for it.
     #[inline(never)]
     fn welcome(&mut self, stream: UnixStream, gateway: &Gateway)
-        ensures told { (self.new.told ≡ self.old.told) ⊎ Shows self.new.told gateway.now }
+        ensures told { (self.new.told ≡ self.old.told)
+            ⊎ (AllFree self.old.places × Shows self.new.told gateway.now) }
+        ensures law { self.new.law ≡ self.old.law }
         ensures place { self.new.place ≡ self.old.place }
         ensures clients { (k : ℕ) → StaysOrNew self.old.law self.old.place self.new.told
             (at self.old.places k) (at self.new.places k) }
@@ -157,23 +177,34 @@ impl Teller {
         }
         self.text.clear();
         whole_state(self.law, self.place, &self.told, &mut self.text);
-        let mut client = Client::new(stream, self.place);
+        let Some(room) = take_room(&mut self.places[free]) else {
+            return;
+        };
+        let mut client = Client::new(stream, self.place, room);
         if client.give(self.text.as_slice()).is_ok() {
-            self.places[free] = Some(client);
+            self.places[free].client = Some(client);
         }
     }
 
     // Lets go who has gone.
     fn listen(&mut self)
-        ensures { (k : ℕ) → Gets (at self.old.places k) (at self.new.places k) [] }
+        ensures clients { (k : ℕ) → Gets (at self.old.places k) (at self.new.places k) [] }
+        ensures law { self.new.law ≡ self.old.law }
+        ensures place { self.new.place ≡ self.old.place }
+        ensures told { self.new.told ≡ self.old.told }
     {
         for place in 0..MOST_CLIENTS {
-            listen_one(&mut self.places[place]);
+            self.places[place].listen();
         }
     }
 
     // Lets in who knocks, as many as there are places at most.
-    fn let_in(&mut self, gateway: &Gateway) {
+    fn let_in(&mut self, gateway: &Gateway)
+        ensures lets_in { LetsIn self.old.law self.old.place gateway.now self.old.told self.new.told
+            self.old.places self.new.places }
+        ensures law { self.new.law ≡ self.old.law }
+        ensures place { self.new.place ≡ self.old.place }
+    {
         for _turn in 0..MOST_CLIENTS {
             let Ok((stream, _)) = self.door.accept() else {
                 return;
@@ -187,16 +218,16 @@ impl Teller {
         ensures { (k : ℕ) → Gets (at self.old.places k) (at self.new.places k) end_line }
     {
         for place in 0..MOST_CLIENTS {
-            give_one(&mut self.places[place], b"end\n");
+            self.places[place].give(b"end\n");
         }
     }
 }
 
 impl Watch for Teller {
+    ghost shows = { λ old new r code gateway. TellsRecord old new r code gateway };
+
     fn after(&mut self, head: &Head, body: &[u8], code: u8, gateway: &Gateway) {
-        if !are_free(&self.places) {
-            self.tell(head, body, code, gateway);
-        }
+        self.tell_any(head, body, code, gateway);
         self.place = place_after(self.place, head, body);
         if let Head::Trunk = head {
             self.listen();

@@ -28,7 +28,7 @@ use Rattle.gw_session.proofs.ServeLaws.{events_are_told}
 use Rattle.gw_trunk.specs.declared.sink.Place.TheVariants.{Kind}
 use Rattle.gw_trunk.specs.Bodies.{bodies, others, passed, answered, place_after}
 use Rattle.gw_trunk.specs.Pieces.{Woven, GivesWoven, IsGiven, trunk_part, client_part, from_clients}
-use Rattle.gw_trunk.specs.Serving.{Carries, CarriesUntilWrite, CarriesUntil, Carried, commands_in}
+use Rattle.gw_trunk.specs.Serving.{Carries, CarriesUntilWrite, CarriesUntil, Carried, commands_in, traffic}
 use Rattle.gw_trunk.proofs.Passing.{passed-append, answered-append}
 use Rattle.gw_trunk.proofs.Written.{acts-pass}
 
@@ -120,7 +120,7 @@ carried-records : {s s' : State} {tape tape' : TapeState} {Took : List ℕ → L
     → (p : SessionTrace written s s' tape tape' Took records) → Stands config s.gateway before
     → Woven heard asked records → AllByRecursion (IsGood served_kinds) records
     → sent ≡ bodies (written config before p.acts) → told ≡ others (written config before p.acts)
-    → Carries config before s'.gateway tape tape' heard asked sent told
+    → Carries config before s'.gateway tape tape' (traffic heard asked sent told)
 carried-records {records = records} config before heard asked sent told p new woven good is tells =
     let all : AllByRecursion (IsGood served_kinds) (map session.told p.acts) = rw (p.told_are) good in
     let weave : without_datagrams (events_through p.acts) ≡ events records
@@ -159,7 +159,7 @@ pub whole-session : {a a' : Around} {gateway gateway' : Gateway} {ending : Endin
     → Trunked came asked went told given taken → Stands config gateway before
     → SessionTo served_kinds a.source a'.source a.sink a'.sink
     (Served a a' gateway gateway' (λ first. Appends a.sink.taken a'.sink.taken)) ending
-    → (ending ≡ endings.End) × Carries config before gateway' a.tape a'.tape came asked went told
+    → (ending ≡ endings.End) × Carries config before gateway' a.tape a'.tape (traffic came asked went told)
 whole-session {ending = ending} config before came asked went told given taken around t new s =
     let w = t.gives in
     let octets-are : s.octets ≡ flat_map spelled w.records
@@ -181,7 +181,7 @@ pub cut-session : {a a' : Around} {gateway gateway' : Gateway} (config : Gateway
     → Trunked came asked went told given taken → Stands config gateway before
     → FailsToWrite served_kinds a.source a'.source a.sink a'.sink (λ records. (totals : Totals)
     × Served a a' gateway gateway' (AppendsBut 0 a.sink.taken a'.sink.taken) totals records)
-    → CarriesUntilWrite config before gateway' a.tape a'.tape came asked went told
+    → CarriesUntilWrite config before gateway' a.tape a'.tape (traffic came asked went told)
 cut-session config before came asked went told given taken around t new f =
     let w = t.gives in
     let octets-are : f.octets ≡ flat_map spelled w.records
@@ -234,7 +234,7 @@ none-given came asked given w none =
 until : {a a' : Around} (gateway gateway' : Gateway) (config : GatewayConfig) (before : List Event) (fault : RunFault)
     (came asked went told given taken : List ℕ) → Around-trunk a a' given taken
     → Trunked came asked went told given taken → Stands config gateway before → ServesUntil a a' gateway gateway' fault
-    → CarriesUntil config before gateway' a.tape a'.tape came asked went told fault
+    → CarriesUntil config before gateway' a.tape a'.tape (traffic came asked went told) fault
 unfolding passed answered place_after
 until gateway gateway' config before faults.BadKind came asked went told given taken around t new s =
     let e = (whole-session config before came asked went told given taken around t new s.0).0 in cc
@@ -255,7 +255,7 @@ until {a = a} {a' = a'} gateway gateway' config before faults.OutOfMemory came a
     let none : given ≡ [] = let e = around.read in cc in
     let nothing : taken ≡ [] = let e = around.took in cc in
     let n = none-given came asked given t.gives none in
-    (n.0, n.1, t.went_are ∙ ap bodies nothing, t.told_are ∙ ap others nothing)
+    rw (n.0, n.1, t.went_are ∙ ap bodies nothing, t.told_are ∙ ap others nothing) refl
 
 -- A session of a trunk, however it ended.
 pub carried : {a a' : Around} (gateway gateway' : Gateway) (config : GatewayConfig) (before : List Event)
@@ -263,7 +263,7 @@ pub carried : {a a' : Around} (gateway gateway' : Gateway) (config : GatewayConf
     → Trunked came asked went told given taken → Stands config gateway before
     → IfOk end (ServesAll a a' gateway gateway')
     → IfErr end (ServesUntil a a' gateway gateway')
-    → Carried config before gateway' a.tape a'.tape came asked went told end
+    → Carried config before gateway' a.tape a'.tape (traffic came asked went told) end
 carried gateway gateway' config before (Ok totals) came asked went told given taken around t new ok err =
     (whole-session config before came asked went told given taken around t new ok.ends.0).1
 carried gateway gateway' config before (Err fault) came asked went told given taken around t new ok err =

@@ -3,6 +3,9 @@ use Rattle.std.proofs.Common.{◌≡◌, ◌+◌, ◌-◌, ◌%◌, ◌<◌, ◌
 use Rattle.std.proofs.Common.{◌⊎◌, Option, Some, None, length, refl, arith, inl, inr}
 use Rattle.std.specs.List.{list_all}
 use Rattle.std.proofs.lemmas.Bool.{cases_eq}
+use Rattle.gw_records.specs.declared.records.Ending.TheVariants as endings
+use Rattle.gw_records.specs.Records.{end_of}
+use Rattle.gw_trunk.specs.Clients.{HasNoRecord}
 use Rattle.gw_trunk.specs.declared.client.Asked.{Asked}
 use Rattle.gw_trunk.specs.declared.client.Asked.TheVariants.{Command, Nothing, End, Gone}
 use Rattle.gw_trunk.specs.declared.client.Client.{Client}
@@ -62,3 +65,12 @@ pub quiet-round : (n : ℕ) (places : List (Option Client)) → length places �
 quiet-round n places eight turns = quiet-all places (λ k b.
     let e = reached (n % 8) k (omega arith) (omega arith) in
     rw e at (turns ((k + 8 - n % 8) % 8) (omega arith)))
+
+-- Fewer than four octets begin with no whole record.
+pub short-is-none : (octets : List ℕ) → length octets < 4 → HasNoRecord octets
+unfolding end_of
+short-is-none [] short = (endings.End, refl)
+short-is-none (x ∷ []) short = (endings.Truncated, refl)
+short-is-none (x ∷ y ∷ []) short = (endings.Truncated, refl)
+short-is-none (x ∷ y ∷ z ∷ []) short = (endings.Truncated, refl)
+short-is-none (x ∷ y ∷ z ∷ w ∷ octets) short = absurd (omega arith)

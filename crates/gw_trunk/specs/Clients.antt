@@ -1,11 +1,13 @@
 -- The clients of a trunk: what they give and what they get (modules `client` and `clients`).
-use Rattle.std.specs.Prelude.{◌≡◌, ◌≢◌, ◌≤◌, ◌++◌, ⊤, ℕ, Bool, true, false, not, List, length, take}
+use Rattle.std.specs.Prelude.{◌≡◌, ◌≢◌, ◌⊎◌, ◌<◌, ◌≤◌, ◌++◌, ⊤, ℕ, Bool, true, false, not, List, length, take}
 use Rattle.std.specs.Prelude.{Option, Some, None, IfSome, IfNone, [], slice_index_or}
 use Rattle.std.specs.List.{list_all}
 use Rattle.gw_trunk.specs.declared.client.Asked.{Asked}
 use Rattle.gw_trunk.specs.declared.client.Asked.TheVariants.{Command, Nothing, End, Gone}
 use Rattle.gw_trunk.specs.declared.client.Client.{Client}
-use Rattle.gw_trunk.specs.Pieces.{AsksRecord}
+use Rattle.gw_trunk.specs.Pieces.{AsksRecord, client_kinds}
+use Rattle.gw_records.specs.declared.records.Ending.{Ending}
+use Rattle.gw_records.specs.Records.{end_of}
 
 -- a client gave nothing more and got nothing more
 pub record Stays (client client' : Client) : Type 0 where
@@ -17,13 +19,19 @@ pub record GaveOne (client client' : Client) (octets : List ℕ) : Type 0 where
   pub gave_is : AsksRecord client.gave.octets client'.gave.octets octets
   pub got_is : client'.got.octets ≡ client.got.octets
 
+-- octets begin with no whole record of a client
+abbrev pub HasNoRecord : List ℕ → Type 0
+HasNoRecord octets = (ending : Ending) × (end_of client_kinds octets ≡ Some ending)
+
 -- what a client did that was asked: it gave a record, which stands at the front of a room; or it gave none
--- and has nothing that is whole; or it asks for the end, or is to be let go
+-- and has nothing that is whole; or it asks for the end; or it is to be let go, and what is held of it begins
+-- with no whole record, or the room is shorter than what is held of a client at most
 abbrev pub Replies : Asked → Client → Client → List ℕ → Type 0
 Replies (Command n) client client' room = (n ≤ length room) × GaveOne client client' (take n room)
 Replies Nothing client client' room = Stays client client' × (client'.ready ≡ false)
 Replies End client client' room = Stays client client'
-Replies Gone client client' room = Stays client client'
+Replies Gone client client' room =
+    Stays client client' × (HasNoRecord client'.held.items ⊎ (length room < 64))
 
 -- the client at a place stays, with what it gave and got, or is let go
 abbrev pub Keeps : Option Client → Option Client → Type 0
@@ -36,12 +44,17 @@ abbrev pub GaveAt : Option Client → Option Client → List ℕ → Type 0
 GaveAt (Some client) (Some client') octets = GaveOne client client' octets
 GaveAt _ _ octets = ⊥
 
--- the client at a place got these octets, or is let go
+-- a client got an answer, or it is known that it has hung up and got nothing more
+abbrev pub IsAnswered : Client → Client → List ℕ → Type 0
+IsAnswered client client' octets = (client'.got.octets ≡ client.got.octets ++ octets)
+    ⊎ ((client'.got.octets ≡ client.got.octets) × (client'.left ≡ true))
+
+-- the client at a place got these octets, has hung up and got nothing, or is let go
 abbrev pub Gets : Option Client → Option Client → List ℕ → Type 0
 Gets place None octets = ⊤
 Gets None (Some client') octets = ⊥
 Gets (Some client) (Some client') octets =
-    (client'.gave.octets ≡ client.gave.octets) × (client'.got.octets ≡ client.got.octets ++ octets)
+    (client'.gave.octets ≡ client.gave.octets) × IsAnswered client client' octets
 
 -- a place has no client, or one from whom nothing has come since a read found nothing
 abbrev pub is_quiet : Option Client → Bool

@@ -37,52 +37,61 @@ answers_for config before [] = []
 answers_for config before (event ∷ es) =
     answer_in event (reply_to config before event) ++ answers_for config (before ++ event ∷ []) es
 
+-- What passed between a trunk and its clients and the gateway: the octets that came from the trunk and what
+-- clients asked, the octets that went to the trunk and the answers that clients were told.
+pub record Traffic : Type 0 where
+  pub came : List ℕ
+  pub asked : List ℕ
+  pub went : List ℕ
+  pub told : List ℕ
+
+-- the same of its four parts
+abbrev pub traffic : List ℕ → List ℕ → List ℕ → List ℕ → Traffic
+traffic came asked went told = record { came = came; asked = asked; went = went; told = told }
+
 -- Octets and records of clients, woven, and nothing but datagrams between them happened to the gateway after
 -- what had happened before, and it stands after them. Its octets are those in their order, its commands those
 -- of the records in theirs. The octets that are sent, one for each octet, and the answers to clients are
 -- these. What happened was recorded.
 pub record Carries (config : GatewayConfig) (before : List Event) (gateway' : Gateway)
-    (tape tape' : TapeState) (heard asked sent told : List ℕ) : Type 0 where
+    (tape tape' : TapeState) (t : Traffic) : Type 0 where
   pub happened : List Event
   pub stands : Stands config gateway' (before ++ happened)
   pub records : List Record
-  pub woven : Woven heard asked records
+  pub woven : Woven t.came t.asked records
   pub weave_is : without_datagrams happened ≡ events records
-  pub heard_are : octets happened ≡ heard
+  pub heard_are : octets happened ≡ t.came
   pub asked_are : commands_in happened ≡ events (from_clients records)
-  pub sent_are : sent ≡ octets_for config before happened
-  pub told_are : told ≡ answers_for config before happened
+  pub sent_are : t.went ≡ octets_for config before happened
+  pub told_are : t.told ≡ answers_for config before happened
   pub recorded : Recorded tape tape' happened
 
 -- What came was heard and what was asked was obeyed, but for what is behind these. The device failed when the
 -- first octets had gone of those that are sent for them, and the first of the answers.
 pub record CarriesUntilWrite (config : GatewayConfig) (before : List Event) (gateway' : Gateway)
-    (tape tape' : TapeState) (came asked went told : List ℕ) : Type 0 where
+    (tape tape' : TapeState) (t : Traffic) : Type 0 where
   pub heard : List ℕ
   pub unheard : List ℕ
-  pub came_are : came ≡ heard ++ unheard
+  pub came_are : t.came ≡ heard ++ unheard
   pub obeyed : List ℕ
   pub unobeyed : List ℕ
-  pub asked_are : asked ≡ obeyed ++ unobeyed
+  pub asked_are : t.asked ≡ obeyed ++ unobeyed
   pub lost : List ℕ
   pub untold : List ℕ
-  pub carries : Carries config before gateway' tape tape' heard obeyed (went ++ lost) (told ++ untold)
+  pub carries : Carries config before gateway' tape tape'
+      (traffic heard obeyed (t.went ++ lost) (t.told ++ untold))
 
 -- how a trunk ended before its end: where a read failed all that came was heard and answered; for want of
 -- memory nothing came, was asked or went; no record was bad
-abbrev pub CarriesUntil : GatewayConfig → List Event → Gateway → TapeState → TapeState → List ℕ → List ℕ
-    → List ℕ → List ℕ → RunFault → Type 0
-CarriesUntil config before gateway' tape tape' came asked went told Read =
-    Carries config before gateway' tape tape' came asked went told
-CarriesUntil config before gateway' tape tape' came asked went told Write =
-    CarriesUntilWrite config before gateway' tape tape' came asked went told
-CarriesUntil config before gateway' tape tape' came asked went told OutOfMemory =
-    (came ≡ []) × (asked ≡ []) × (went ≡ []) × (told ≡ [])
-CarriesUntil config before gateway' tape tape' came asked went told _ = ⊥
+abbrev pub CarriesUntil : GatewayConfig → List Event → Gateway → TapeState → TapeState → Traffic → RunFault
+    → Type 0
+CarriesUntil config before gateway' tape tape' t Read = Carries config before gateway' tape tape' t
+CarriesUntil config before gateway' tape tape' t Write = CarriesUntilWrite config before gateway' tape tape' t
+CarriesUntil config before gateway' tape tape' t OutOfMemory = t ≡ traffic [] [] [] []
+CarriesUntil config before gateway' tape tape' t _ = ⊥
 
 -- a trunk was served up to its end, or until a fault
-abbrev pub Carried : GatewayConfig → List Event → Gateway → TapeState → TapeState → List ℕ → List ℕ
-    → List ℕ → List ℕ → Result Totals RunFault → Type 0
-Carried config before gateway' tape tape' came asked went told end = MatchResult end
-    (λ _. Carries config before gateway' tape tape' came asked went told)
-    (CarriesUntil config before gateway' tape tape' came asked went told)
+abbrev pub Carried : GatewayConfig → List Event → Gateway → TapeState → TapeState → Traffic
+    → Result Totals RunFault → Type 0
+Carried config before gateway' tape tape' t end = MatchResult end
+    (λ _. Carries config before gateway' tape tape' t) (CarriesUntil config before gateway' tape tape' t)

@@ -1,7 +1,7 @@
 //! A client of a trunk, who gives commands and takes their answers.
 
 ghost use Rattle.std.specs.Prelude.{◌≡◌, ◌⊎◌, ◌≤◌, ◌++◌, [], true, false, length, drop, OnOk, OnErr};
-ghost use Rattle.gw_trunk.specs.Clients.{Replies, Stays};
+ghost use Rattle.gw_trunk.specs.Clients.{HasNoRecord, IsAnswered, Replies, Stays};
 
 use arrayvec::ArrayVec;
 use gw_records::{Ending, Kinds, Log, first_record};
@@ -22,7 +22,7 @@ const KINDS: Kinds = Kinds {
 // The record that asks for the end of the session: its kind, no circuit, no body.
 const END: [u8; 4] = [0x45, 0, 0, 0];
 
-/// A client is to be let go: it has gone, has sent what is no command, or does not take its answer.
+/// A client is to be let go: it does not take its answer.
 #[derive(Clone, Copy)]
 pub struct Away;
 
@@ -50,8 +50,10 @@ pub struct Client {
     pub number: u64,
     /// Whether it has given a record.
     pub known: bool,
-    /// Whether the system has reported that it has hung up.
+    /// Whether it is known that it has hung up.
     pub left: bool,
+    // Whether its end was read: nothing comes from it any more.
+    ended: bool,
     /// The records that it gave.
     pub gave: Log,
     /// The octets of the answers that it got.
@@ -71,6 +73,7 @@ impl Client {
             number,
             known: false,
             left: false,
+            ended: false,
             gave: Log::new(),
             got: Log::new(),
         }
@@ -85,41 +88,45 @@ impl Client {
         self.left = self.left || has_left;
     }
 
+    // Notes that its end was read. What came before the end is still to be acted on.
+    fn end(&mut self)
+        ensures { Stays self.old self.new }
+    {
+        self.ready = false;
+        self.left = true;
+        self.ended = true;
+    }
+
     // Reads once what has come, as far as there is room.
-    fn read_once(&mut self, want: usize) -> Result<(), Away>
+    fn read_once(&mut self, want: usize)
         requires { want ≤ 64 }
         ensures { Stays self.old self.new }
     {
         let mut room = [0u8; ROOM_LEN];
         match self.stream.read(&mut room[..want]) {
-            Ok(0) => Err(Away),
+            Ok(0) => self.end(),
             Ok(n) => {
                 let _ = self.held.try_extend_from_slice(&room[..n]);
-                Ok(())
             }
             Err(error) => match error.kind() {
-                ErrorKind::WouldBlock => {
-                    self.ready = false;
-                    Ok(())
-                }
-                ErrorKind::Interrupted => Ok(()),
-                _ => Err(Away),
+                ErrorKind::WouldBlock => self.ready = false,
+                ErrorKind::Interrupted => {}
+                _ => self.end(),
             },
         }
     }
 
     // Reads what has come, until there is nothing or no room.
-    fn refill(&mut self) -> Result<(), Away>
+    fn refill(&mut self)
         ensures { Stays self.old self.new }
     {
         for _turn in 0..ROOM_LEN {
             let want = self.held.remaining_capacity();
             if want == 0 || want > ROOM_LEN || !self.ready {
-                return Ok(());
+                return;
             }
-            self.read_once(want)?;
+            self.read_once(want);
         }
-        Ok(())
     }
 
     // Drops the first octets that are held.
@@ -132,12 +139,13 @@ impl Client {
         self.held = rest;
     }
 
-    // What it comes to if no record is whole: there is none where all that came was read, and else it has
-    // sent what is none.
-    fn nothing(&self) -> Asked
-        ensures { Replies result self.now self.now [] }
+    // What it comes to if no record is whole: it has none yet, unless its end was read, or so much has come
+    // that it is none.
+    fn nothing(&self, room: &[u8]) -> Asked
+        requires { HasNoRecord self.now.held.items }
+        ensures { Replies result self.now self.now room.now }
     {
-        if self.ready {
+        if self.ready || self.ended {
             Asked::Gone
         } else {
             Asked::Nothing
@@ -160,21 +168,20 @@ impl Client {
                 self.known = true;
                 Asked::Command(first.len)
             }
-            Err(Ending::End | Ending::Truncated) => self.nothing(),
+            Err(Ending::End | Ending::Truncated) => self.nothing(room),
             Err(_) => Asked::Gone,
         }
     }
 
-    /// Takes its next record to the front of `room`, if it has a whole one.
+    /// Takes its next record to the front of `room`, if it has a whole one. Who has hung up is let go only
+    /// behind its last whole record.
     pub fn ask(&mut self, room: &mut [u8]) -> Asked
         ensures { Replies result self.old self.new room.new }
     {
-        if self.refill().is_err() {
-            return Asked::Gone;
-        }
+        self.refill();
         let held = self.held.as_slice();
         if held.len() < END.len() && END.starts_with(held) {
-            return self.nothing();
+            return self.nothing(room);
         }
         if held.starts_with(&END) {
             return Asked::End;
@@ -182,17 +189,20 @@ impl Client {
         self.next_record(room)
     }
 
-    /// Gives it an answer. A client that does not take it whole at once is to be let go.
+    /// Gives it an answer. A client that does not take it whole at once is to be let go, unless it has hung
+    /// up: then nobody gets the answer.
     pub fn answer(&mut self, answer: &[u8]) -> Result<(), Away>
         ensures gave { self.new.gave.octets ≡ self.old.gave.octets }
-        ensures ok { OnOk result (self.new.got.octets ≡ self.old.got.octets ++ answer.now) }
+        ensures ok { OnOk result (IsAnswered self.old self.new answer.now) }
     {
         match self.stream.write(answer) {
             Ok(n) if n == answer.len() => {
                 self.got.append(answer, n);
-                Ok(())
+                return Ok(());
             }
-            _ => Err(Away),
+            Ok(_) => {}
+            Err(error) => self.left = self.left || error.kind() == ErrorKind::BrokenPipe,
         }
+        if self.left { Ok(()) } else { Err(Away) }
     }
 }

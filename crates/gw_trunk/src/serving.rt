@@ -5,7 +5,7 @@ ghost use Rattle.gw_switch.specs.declared.GatewayConfig.{GatewayConfig};
 ghost use Rattle.gw_switch.specs.Events.{Event};
 ghost use Rattle.gw_switch.specs.Standing.{Stands};
 ghost use Rattle.gw_session.specs.Serve.{ServesAll, ServesUntil, around};
-ghost use Rattle.gw_trunk.specs.Serving.{Carried};
+ghost use Rattle.gw_trunk.specs.Serving.{Carried, traffic};
 
 use crate::device::{Incoming, Outgoing};
 use crate::sink::TrunkSink;
@@ -48,8 +48,8 @@ pub fn serve_trunk<I: Incoming, O: Outgoing, A: Outgoing, P: Ports, T: Tape>(
         gateway.old gateway.new) }
     ensures carries { (config : GatewayConfig) (before : List Event) → Stands config gateway.old before
         → ∥ Carried config before gateway.new (T.tells tape.old) (T.tells tape.new)
-        (I.came source.new.incoming) (I.asked source.new.incoming) (O.went sink.new.outgoing)
-        (A.went sink.new.answers) result ∥₁ }
+        (traffic (I.came source.new.incoming) (I.asked source.new.incoming)
+        (O.went sink.new.outgoing) (A.went sink.new.answers)) result ∥₁ }
 {
     serve_recorded(alloc, gateway, ports, source, sink, tape)
 }

@@ -44,8 +44,8 @@ abbrev pub KeepsOthers : {S : Type 0} → ℕ → List (Option (Endpoint S)) →
 KeepsOthers {S} c old new = (i : ℕ) (d : Option (Endpoint S)) → i ≢ c - 1
     → slice_index_or new i d ≡ slice_index_or old i d
 
--- a receive at a socket, after earlier ones, gave a stranger's datagram
-pub record Strays {S : Type 0} (receives : Received S) (senders : Senders) (peer : SocketAddr)
+-- a receive at a socket, after earlier ones, gave a stranger's datagram: one of a sender that is not accepted
+pub record Strays {S : Type 0} (receives : Received S) (accepted : SocketAddr → Type 0)
     (earlier : S → Type 0) (new : S) : Type 0 where
   pub between : S
   pub before : earlier between
@@ -53,22 +53,21 @@ pub record Strays {S : Type 0} (receives : Received S) (senders : Senders) (peer
   pub from : SocketAddr
   pub room : List ℕ
   pub received : receives between new (Ok (Some (len, from))) room
-  pub stranger : ¬ IsLetIn senders from peer
+  pub stranger : ¬ accepted from
 
 -- so many receives at a socket gave strangers' datagrams
-abbrev pub Skips : {S : Type 0} → Received S → Senders → SocketAddr → ℕ → S → S → Type 0
-Skips receives senders peer zero old new = new ≡ old
-Skips receives senders peer (suc n) old new =
-    Strays receives senders peer (Skips receives senders peer n old) new
+abbrev pub Skips : {S : Type 0} → Received S → (SocketAddr → Type 0) → ℕ → S → S → Type 0
+Skips receives accepted zero old new = new ≡ old
+Skips receives accepted (suc n) old new = Strays receives accepted (Skips receives accepted n old) new
 
 -- the last of them is the result: an accepted datagram, a fault, or none, also after sixteen strangers
-abbrev pub EndsWith : {S : Type 0} → Received S → Senders → SocketAddr → ℕ → S → S
+abbrev pub EndsWith : {S : Type 0} → Received S → (SocketAddr → Type 0) → ℕ → S → S
     → Result (Option ℕ) PortFault → List ℕ → Type 0
-EndsWith receives senders peer n old new (Ok (Some len)) room =
-    (from : SocketAddr) × receives old new (Ok (Some (len, from))) room × IsLetIn senders from peer
-EndsWith receives senders peer n old new (Ok None) room =
+EndsWith receives accepted n old new (Ok (Some len)) room =
+    (from : SocketAddr) × receives old new (Ok (Some (len, from))) room × accepted from
+EndsWith receives accepted n old new (Ok None) room =
     receives old new (Ok None) room ⊎ ((new ≡ old) × (n ≡ 16))
-EndsWith receives senders peer n old new (Err e) room = receives old new (Err e) room
+EndsWith receives accepted n old new (Err e) room = receives old new (Err e) room
 
 -- a receive discarded strangers' datagrams and gave what came then
 pub record ReceivesFrom {S : Type 0} (receives : Received S) (senders : Senders) (peer : SocketAddr)
@@ -76,8 +75,8 @@ pub record ReceivesFrom {S : Type 0} (receives : Received S) (senders : Senders)
   pub skipped : ℕ
   pub few : skipped ≤ 16
   pub last : S
-  pub skips : Skips receives senders peer skipped old last
-  pub ends : EndsWith receives senders peer skipped last new r room
+  pub skips : Skips receives (λ from. IsLetIn senders from peer) skipped old last
+  pub ends : EndsWith receives (λ from. IsLetIn senders from peer) skipped last new r room
 
 -- the receive of one circuit: no socket was asked, or this one, whose answer is the result
 abbrev pub ReceivesAt : {S : Type 0} → Received S → Option (Endpoint S) → Option (Endpoint S)

@@ -1,17 +1,18 @@
 use Rattle.gw_session.proofs.Common.{◌≡◌, ◌≤◌, List, ℕ, length, vec_len, Record, Passes, written_by, most_waiting}
-use Rattle.gw_session.proofs.Common.{SessionTrace, nothing_counted, state_of, work_left, Stage}
+use Rattle.gw_session.proofs.Common.{WatchedTrace, ActsShown, nothing_counted, state_of, work_left, Stage}
 use Rattle.gw_session.proofs.attend.attend.Given as goal
 
 abbrev pub invariant-attending : goal.invariant-attending
 invariant-attending g l = (octets : List ℕ) × (records : List Record) × record {
   stage : Stage l.kinds (g.S.Source.tells l.initial.source) (g.S.Source.tells l.source)
       (g.K.Sink.tells l.initial.sink) (g.K.Sink.tells l.sink) l.reader octets records;
-  through : SessionTrace (written_by g.O.Outlet.spells)
+  through : WatchedTrace (written_by g.O.Outlet.spells)
       (state_of (g.O.Outlet.tells l.initial.outlet) l.initial.gateway nothing_counted)
       (state_of (g.O.Outlet.tells l.outlet) l.gateway l.session.totals)
       (g.T.Tape.tells l.initial.tape) (g.T.Tape.tells l.tape)
       (λ first xs. Passes (g.K.Sink.tells l.initial.sink).taken (g.K.Sink.tells l.sink).taken
-      l.session.waiting.items xs) records;
+      l.session.waiting.items xs)
+      (ActsShown g.W.Watch.shows l.initial.gateway l.initial.watch l.watch) records;
   none_waits : length records ≡ 0 → length l.session.waiting.items ≡ 0;
   few : length l.session.waiting.items ≤ most_waiting l.initial.session.at_once;
   at_once : l.session.at_once ≡ l.initial.session.at_once;

@@ -1,12 +1,17 @@
 use Rattle.gw_session.proofs.Common.{most_waiting}
-use Rattle.gw_session.proofs.Ends.{all_as, until_as}
-use Rattle.gw_session.proofs.Plain.{runs, runs_until}
+use Rattle.gw_session.proofs.Ends.{all_as, until_as, either_way}
+use Rattle.gw_session.proofs.Plain.{runs, runs_until, seen_plain}
 use Rattle.gw_session.proofs.runs.run_watched.Goals as goal
 
 pub returns : goal.returns
 unfolding most_waiting
 returns g c = record {
-  ok = all_as _ _ _ _ _ runs c.attend.result c.attend.ensures.ok;
-  fault = until_as _ _ _ _ _ runs _ c.attend.result runs_until
+  ok = all_as _ _ _ _ _ (λ t records p. runs t records p.0) c.attend.result c.attend.ensures.ok;
+  fault = until_as _ _ _ _ _ (λ t records p. runs t records p.0) _ c.attend.result
+      (λ records p. (runs_until records p).0)
       (rw c.new-session.ensures.at_once at c.attend.ensures.fault);
+  watched = either_way _ _ c.attend.result
+      (all_as _ _ _ _ _ (λ t records p. (runs t records p.0, seen_plain p)) c.attend.result c.attend.ensures.ok)
+      (until_as _ _ _ _ _ (λ t records p. (runs t records p.0, seen_plain p)) _ c.attend.result runs_until
+      (rw c.new-session.ensures.at_once at c.attend.ensures.fault));
 }

@@ -1,4 +1,5 @@
 use Rattle.std.proofs.Common.{◌≤◌}
+use Rattle.gw_udp.specs.Senders.{IsLetIn}
 use Rattle.gw_udp.specs.Udp.{Skips}
 use Rattle.gw_udp.proofs.udp.receive_let_in.Given as goal
 
@@ -6,5 +7,5 @@ use Rattle.gw_udp.proofs.udp.receive_let_in.Given as goal
 abbrev pub invariant-loop-turn : goal.invariant-loop-turn
 invariant-loop-turn g l = record {
   few : l._turn ≤ 16;
-  skips : Skips g.S.Socket.receives l.senders l.peer l._turn l.initial.socket l.socket;
+  skips : Skips g.S.Socket.receives (λ from. IsLetIn l.senders from l.peer) l._turn l.initial.socket l.socket;
 }

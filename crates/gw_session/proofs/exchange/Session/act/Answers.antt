@@ -1,8 +1,24 @@
-use Rattle.gw_session.proofs.Common.{refl, Event, Takes, Act, answer_to, given_by, dropped_for, kind_and_circuit}
+use Rattle.gw_session.proofs.Common.{refl, ◌∙◌, Event, Takes, Act, answer_to, given_by, dropped_for, kind_and_circuit}
 use Rattle.gw_records.specs.Octets.{octet_of_command, octet_of_codec}
 use Rattle.gw_records.proofs.Again.{command_again, codec_again}
-use Rattle.gw_session.proofs.Acts.{one_acts}
+use Rattle.gw_session.proofs.Acts.{one_acts, on_ok_always}
 use Rattle.gw_session.proofs.exchange.Session.act.Goals as goal
+
+pub returns-in-Datagram-clause-code : goal.returns-in-Datagram-clause-code
+returns-in-Datagram-clause-code g c = rw c.in-Datagram.is (on_ok_always c.put_answer.result
+    (λ config before h. c.put_answer.ensures.code ∙ c.give-code.ensures.code config before h))
+
+pub returns-in-Command-clause-code : goal.returns-in-Command-clause-code
+returns-in-Command-clause-code g c =
+    let takes = rw (← command_again c.in-Command.command) at c.give_command-code.ensures in
+    rw c.in-Command.is (on_ok_always c.put_answer-in-Command.result
+    (λ config before h. c.put_answer-in-Command.ensures.code ∙ (takes config before h).1))
+
+pub returns-in-Codec-clause-code : goal.returns-in-Codec-clause-code
+returns-in-Codec-clause-code g c =
+    let takes = rw (← codec_again c.in-Codec.codec) at c.give_codec-code.ensures in
+    rw c.in-Codec.is (on_ok_always c.put_answer-in-Codec.result
+    (λ config before h. c.put_answer-in-Codec.ensures.code ∙ (takes config before h).1))
 
 pub returns-in-Datagram-clause-acts : goal.returns-in-Datagram-clause-acts
 unfolding answer_to given_by kind_and_circuit

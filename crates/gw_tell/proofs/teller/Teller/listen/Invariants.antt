@@ -7,5 +7,8 @@ abbrev pub invariant-loop-place : goal.invariant-loop-place
 invariant-loop-place l = record {
   count : length l.self.places ≡ 8;
   got : (k : ℕ) → k < l.place → Gets (at l.fn.self.places k) (at l.self.places k) [];
+  law : l.self.law ≡ l.fn.self.law;
+  place : l.self.place ≡ l.fn.self.place;
+  told : l.self.told ≡ l.fn.self.told;
   rest : (k : ℕ) → l.place ≤ k → at l.self.places k ≡ at l.fn.self.places k;
 }

@@ -1,0 +1,54 @@
+-- What a call of a Teller does (module `teller`).
+use Rattle.std.specs.Prelude.{◌≡◌, ◌⊎◌, ⊤, ℕ, List, [], Option, Some, None}
+use Rattle.e1_g711.specs.declared.Law.{Law}
+use Rattle.gw_switch.specs.declared.gateway.Gateway.{Gateway}
+use Rattle.gw_records.specs.Records.{Record}
+use Rattle.gw_tell.specs.declared.client.Client.{Client}
+use Rattle.gw_tell.specs.declared.picture.Picture.{Picture}
+use Rattle.gw_tell.specs.declared.place.Place.{Place}
+use Rattle.gw_tell.specs.declared.teller.Teller.{Teller}
+use Rattle.gw_tell.specs.Clients.{at, sent, Gets, AllFree, TellsChanges, StaysOrNew}
+use Rattle.gw_tell.specs.Reports.{Shows, place_after, whole_state}
+
+-- a Teller that was shown nothing yet: it has no client, and what was told last is how this gateway stands
+pub record HasBegun (t : Teller) (law : Law) (gateway : Gateway) : Type 0 where
+  pub law_is : t.law ≡ law
+  pub place_is : t.place ≡ 0
+  pub free : AllFree t.places
+  pub shows : Shows t.told gateway
+
+-- a place has no client, or a new one that was sent the whole state
+abbrev pub IsNew : Law → ℕ → Picture → Option Client → Type 0
+IsNew law place told None = ⊤
+IsNew law place told (Some client) = (sent client ≡ whole_state law place told) × (client.last ≡ place)
+
+-- the clients were told what changed with a record; if there is none, nothing was told
+abbrev pub TellsAny : ℕ → Record → ℕ → Gateway → Picture → Picture → List Place → List Place → Type 0
+TellsAny place r code gateway told told' places places' =
+    TellsChanges place r code gateway told told' places places'
+    ⊎ (AllFree places × (told' ≡ told) × (places' ≡ places))
+
+-- New clients were let in: each was sent the whole state by what was told last, and those before them stay.
+-- If there was none before them, that may be how the gateway stands now.
+abbrev pub LetsIn : Law → ℕ → Gateway → Picture → Picture → List Place → List Place → Type 0
+LetsIn law place gateway told told' places places' =
+    ((told' ≡ told) × ((k : ℕ) → StaysOrNew law place told (at places k) (at places' k)))
+    ⊎ (Shows told' gateway × ((k : ℕ) → IsNew law place told' (at places' k)))
+
+-- a record is not of the trunk
+abbrev pub IsOther : Record → Type 0
+IsOther (Record.Trunk octets) = ⊥
+IsOther _ = ⊤
+
+-- A Teller was shown a record, with the code of its answer and the gateway behind it. Its clients were told
+-- what changed. Behind a record of the trunk those who have gone were let go, and then new ones were let in.
+pub record TellsRecord (t t' : Teller) (r : Record) (code : ℕ) (gateway : Gateway) : Type 0 where
+  pub law_is : t'.law ≡ t.law
+  pub place_is : t'.place ≡ place_after t.place r
+  pub told : Picture
+  pub between : List Place
+  pub tells : TellsAny t.place r code gateway t.told told t.places between
+  pub here : List Place
+  pub listens : (k : ℕ) → Gets (at between k) (at here k) []
+  pub lets_in : LetsIn t.law t'.place gateway told t'.told here t'.places
+  pub others : IsOther r → (t'.places ≡ between) × (t'.told ≡ told)
