@@ -1,0 +1,1 @@
+-- Worked figures, as the definitions compute them.
