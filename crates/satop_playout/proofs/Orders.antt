@@ -1,8 +1,8 @@
 -- The order in which packets arrive does not matter to what plays give.
-use Rattle.std.proofs.Common.{◌≡◌, ◌≢◌, inl, inr, ℕ, zero, suc, ◌+◌, ◌-◌, ◌%◌, ◌^◌, ◌≤◌, ◌<◌, Bool, true, false, cond}
-use Rattle.std.proofs.Common.{List, [], ◌∷◌, ◌++◌, map, Option, Some, None, is_some, fold, All, IsPermutation, ◌==◌}
+use Rattle.std.proofs.Common.{◌≡◌, ℕ, zero, suc, ◌+◌, ◌^◌, ◌≤◌, ◌<◌, Bool, true, false, cond}
+use Rattle.std.proofs.Common.{List, [], ◌∷◌, ◌++◌, map, Option, Some, None, is_some, All, IsPermutation, ◌==◌}
 use Rattle.std.proofs.Common.{refl, sym, ap, subst, ◌∙◌, arith, append_assoc, append-nil}
-use Rattle.std.proofs.lemmas.Bool.{cases_lt, eqb-true}
+use Rattle.std.proofs.lemmas.Bool.{eqb-true}
 use Rattle.std.proofs.lemmas.List.Sums.{fold-append}
 use Rattle.std.proofs.lemmas.List.Elements.{All-nil, All-cons, All-append, All-head, All-tail}
 use Rattle.std.proofs.lemmas.List.Sorted.{IsPermutation-map, IsPermutation-append_right, IsPermutation-sym}
@@ -15,8 +15,8 @@ use Rattle.satop_playout.specs.Plays.{after_beginning, after_play, after_call, o
 use Rattle.satop_playout.specs.Plays.{arrival_answer, given_octets}
 use Rattle.satop_playout.specs.Laws.{plays_in, NoBeginning, arrivals_of, AllAccepted, OrderDoesNotMatter}
 use Rattle.satop_playout.proofs.Placing.{stream-push, packet_at-kept, packet_at-free, packet_at-apart, placed_at}
-use Rattle.satop_playout.proofs.Placing.{with_packet, after-accepted, not-refused}
-use Rattle.satop_playout.proofs.Turns.{Accepted, accepted, after, now-arrival}
+use Rattle.satop_playout.proofs.Placing.{with_packet, after-accepted, after-refused, not-refused}
+use Rattle.satop_playout.proofs.Turns.{accepted, after, now-arrival}
 
 -- each packet that arrives in calls is accepted, from a state on
 abbrev AcceptsIn : Settings → Stream → List Call → Type 0
@@ -87,18 +87,21 @@ found-after settings s (Arrives sequence octets ∷ calls) all =
         subst (λ (t : Stream). AllFound t.placed) (sym (after-refused settings s sequence octets fault e)) all
 found-after settings s (Plays ∷ calls) all = found-after settings (after_play settings s) calls all
 
+-- .. the first of them, or one of the others
+found-first : (placed : List Placed) (p : Placed) (k : ℕ) (rest : Option (List ℕ)) (octets : List ℕ) (b : Bool)
+    → (p.place == k) ≡ b → IsFound placed p → (rest ≡ Some octets → packet_at placed k ≡ Some octets)
+    → cond b (Some p.octets) rest ≡ Some octets → packet_at placed k ≡ Some octets
+found-first placed p k rest octets true at found others e =
+    ap (λ (n : ℕ). packet_at placed n) (sym (eqb-true p.place k at)) ∙ found ∙ e
+found-first placed p k rest octets false at found others e = others e
+
 -- a packet that is the one of its place among some is the one among others of the same packets
 found-among : (placed among : List Placed) (k : ℕ) (octets : List ℕ) → All (λ p. IsFound placed p) among
     → packet_at among k ≡ Some octets → packet_at placed k ≡ Some octets
 found-among placed [] k octets all e = cc
-found-among placed (p ∷ among) k octets all e = by_place (p.place == k) refl e
-  where
-    by_place : (b : Bool) → (p.place == k) ≡ b → cond b (Some p.octets) (packet_at among k) ≡ Some octets
-        → packet_at placed k ≡ Some octets
-    by_place true at e =
-        ap (λ (n : ℕ). packet_at placed n) (sym (eqb-true p.place k at))
-        ∙ All-head (λ p. IsFound placed p) p among all ∙ e
-    by_place false at e = found-among placed among k octets (All-tail (λ p. IsFound placed p) p among all) e
+found-among placed (p ∷ among) k octets all e =
+    found-first placed p k (packet_at among k) octets (p.place == k) refl (All-head (λ p. IsFound placed p) p among all)
+    (found-among placed among k octets (All-tail (λ p. IsFound placed p) p among all)) e
 
 same-option : (a b : Option (List ℕ)) → ((o : List ℕ) → a ≡ Some o → b ≡ Some o)
     → ((o : List ℕ) → b ≡ Some o → a ≡ Some o) → a ≡ b

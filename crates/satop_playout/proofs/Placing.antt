@@ -1,13 +1,13 @@
 -- The packet of a place, how far the accepted ones reach, and the state one call later.
-use Rattle.std.proofs.Common.{◌≡◌, ◌≢◌, ◌⊎◌, inl, inr, ℕ, suc, ◌+◌, ◌-◌, ◌≤◌, ◌<◌, ◌%◌, ◌^◌, Bool, true, false, cond}
-use Rattle.std.proofs.Common.{List, [], ◌∷◌, ◌++◌, length, Option, Some, None, is_some, fold, max, not, ◌==◌}
-use Rattle.std.proofs.Common.{refl, sym, ap, ◌∙◌, arith, nat_le, eq-eqb, Ok, Err}
-use Rattle.std.proofs.lemmas.Bool.{cases_eq, ne_eqb}
+use Rattle.std.proofs.Common.{◌≡◌, ◌≢◌, ℕ, suc, ◌+◌, ◌-◌, Bool, true, false, cond}
+use Rattle.std.proofs.Common.{List, [], ◌∷◌, ◌++◌, Option, Some, None, is_some, max, ◌==◌}
+use Rattle.std.proofs.Common.{refl, ap, arith, eq-eqb, Ok, Err}
+use Rattle.std.proofs.lemmas.Bool.{ne_eqb}
 use Rattle.std.proofs.lemmas.List.Sums.{fold_push}
 use Rattle.satop_playout.specs.declared.ArrivalFault.{ArrivalFault}
 use Rattle.satop_playout.specs.declared.ArrivalFault.TheVariants.{OtherSize, NotBegun, Late, TooFar, Repeat}
 use Rattle.satop_playout.specs.declared.Settings.{Settings}
-use Rattle.satop_playout.specs.Calls.{Call, Arrives, first_fault, answer_for}
+use Rattle.satop_playout.specs.Calls.{Call, first_fault, answer_for}
 use Rattle.satop_playout.specs.Plays.{Placed, Stream, at_first, packet_at, reach_from, ahead, refusal, after_arrival}
 use Rattle.satop_playout.specs.Plays.{after_call, stream}
 
@@ -21,27 +21,32 @@ stream-push settings calls call = fold_push (after_call settings) at_first calls
 abbrev pub placed_at : ℕ → List ℕ → Placed
 placed_at place octets = record { place = place; octets = octets }
 
+-- a packet is that of the first entry, or one of the others
+here-or : (b : Bool) (here was more : Option (List ℕ)) (octets : List ℕ) → (was ≡ Some octets → more ≡ Some octets)
+    → cond b here was ≡ Some octets → cond b here more ≡ Some octets
+here-or true here was more octets rest e = e
+here-or false here was more octets rest e = rest e
+
+free-or : (b : Bool) (here : List ℕ) (was more : Option (List ℕ)) (octets : List ℕ)
+    → (was ≡ None → more ≡ Some octets) → cond b (Some here) was ≡ None → cond b (Some here) more ≡ Some octets
+free-or true here was more octets rest e = cc
+free-or false here was more octets rest e = rest e
+
 -- a packet that is found stays the one of its place if another is accepted
 pub packet_at-kept : (placed : List Placed) (p : Placed) (place : ℕ) (octets : List ℕ)
     → packet_at placed place ≡ Some octets → packet_at (placed ++ p ∷ []) place ≡ Some octets
 packet_at-kept [] p place octets e = cc
-packet_at-kept (q ∷ placed) p place octets e = by_place (q.place == place) e
-  where
-    by_place : (b : Bool) → cond b (Some q.octets) (packet_at placed place) ≡ Some octets
-        → cond b (Some q.octets) (packet_at (placed ++ p ∷ []) place) ≡ Some octets
-    by_place true e = e
-    by_place false e = packet_at-kept placed p place octets e
+packet_at-kept (q ∷ placed) p place octets e =
+    here-or (q.place == place) (Some q.octets) (packet_at placed place) (packet_at (placed ++ p ∷ []) place) octets
+    (packet_at-kept placed p place octets) e
 
 -- an accepted packet is the one of its place if no other has it
 pub packet_at-free : (placed : List Placed) (place : ℕ) (octets : List ℕ) → packet_at placed place ≡ None
     → packet_at (placed ++ placed_at place octets ∷ []) place ≡ Some octets
 packet_at-free [] place octets e = rw (eq-eqb place place refl) refl
-packet_at-free (q ∷ placed) place octets e = by_place (q.place == place) e
-  where
-    by_place : (b : Bool) → cond b (Some q.octets) (packet_at placed place) ≡ None
-        → cond b (Some q.octets) (packet_at (placed ++ placed_at place octets ∷ []) place) ≡ Some octets
-    by_place true e = cc
-    by_place false e = packet_at-free placed place octets e
+packet_at-free (q ∷ placed) place octets e =
+    free-or (q.place == place) q.octets (packet_at placed place)
+    (packet_at (placed ++ placed_at place octets ∷ []) place) octets (packet_at-free placed place octets) e
 
 -- .. and changes nothing at another place
 pub packet_at-apart : (placed : List Placed) (p : Placed) (place : ℕ) → p.place ≢ place

@@ -1,6 +1,6 @@
 -- The slots of a ring, and the packets in them.
-use Rattle.std.proofs.Common.{◌≡◌, ◌≢◌, ◌⊎◌, inl, inr, ℕ, suc, ◌+◌, ◌-◌, ◌≤◌, ◌<◌, List, [], ◌∷◌, ◌++◌, length}
-use Rattle.std.proofs.Common.{Option, Some, None, slice_get, slice_set, refl, sym, ap, ◌∙◌, arith}
+use Rattle.std.proofs.Common.{◌≡◌, ◌≢◌, inl, inr, ℕ, ◌+◌, ◌<◌, List, [], ◌∷◌, ◌++◌, length}
+use Rattle.std.proofs.Common.{Some, None, slice_set, sym, ap, ◌∙◌, arith}
 use Rattle.std.proofs.lemmas.Bool.{cases_eq, cases_lt}
 use Rattle.circular_buffer.proofs.Places.{slice_get-set_same, slice_get-set_other}
 use Rattle.satop_playout.specs.declared.slot.Slot.{Slot}
@@ -23,11 +23,12 @@ wraps-apart start k j n p q h l other (a, inr f) (b, inl g) e = omega arith
 wraps-apart start k j n p q h l other (a, inr f) (b, inr g) e = other (omega arith)
 
 -- a place behind the next slot is one more behind this one
-pub wraps-next : (start next k n q : ℕ) → k + 1 < n → Wraps start 1 n next → Wraps next k n q → Wraps start (k + 1) n q
-wraps-next start next k n q h (a, inl f) (b, inl g) = (b, inl (omega arith))
-wraps-next start next k n q h (a, inl f) (b, inr g) = (b, inr (omega arith))
-wraps-next start next k n q h (a, inr f) (b, inl g) = (b, inr (omega arith))
-wraps-next start next k n q h (a, inr f) (b, inr g) = absurd (omega arith)
+pub wraps-next : (start next k n q : ℕ) → start < n → k + 1 < n → Wraps start 1 n next → Wraps next k n q
+    → Wraps start (k + 1) n q
+wraps-next start next k n q s h (a, inl f) (b, inl g) = (b, inl (omega arith))
+wraps-next start next k n q s h (a, inl f) (b, inr g) = (b, inr (omega arith))
+wraps-next start next k n q s h (a, inr f) (b, inl g) = (b, inr (omega arith))
+wraps-next start next k n q s h (a, inr f) (b, inr g) = absurd (omega arith)
 
 -- the last place behind the next slot is this slot
 pub wraps-last : (start next k n q : ℕ) → start < n → k + 1 ≡ n → Wraps start 1 n next → Wraps next k n q → q ≡ start
@@ -81,7 +82,7 @@ holds-next size window head next now slots placed slot held room start step is n
     elim (cases_lt (k + 1) window)
     as (λ _. packet_of size (slice_set slots head slot) q ≡ packet_at placed (now + 1 + k)) [
       | inl l ↦
-          let back : Wraps head (k + 1) window q = wraps-next head next k window q l step wraps in
+          let back : Wraps head (k + 1) window q = wraps-next head next k window q start l step wraps in
           let first : Wraps head 0 window head = (start, inl (omega arith)) in
           let at : now + (k + 1) ≡ now + 1 + k = omega arith in
           packet-other size slots head q slot

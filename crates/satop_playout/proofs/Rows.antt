@@ -1,5 +1,5 @@
 -- Worked figures, as the definitions compute them.
-use Rattle.std.proofs.Common.{◌≡◌, ℕ, List, [], ◌∷◌, ◌++◌, true, false, Ok, Err, refl, replicate, length, slice_index}
+use Rattle.std.proofs.Common.{◌≡◌, ℕ, List, [], ◌∷◌, ◌++◌, false, Ok, Err, refl, replicate, slice_index, lit≤}
 use Rattle.satop_playout.specs.declared.ArrivalFault.TheVariants.{OtherSize, NotBegun, Late, TooFar, Repeat}
 use Rattle.satop_playout.specs.declared.Fill.TheVariants.{Again, Ones}
 use Rattle.satop_playout.specs.declared.Settings.{Settings}
@@ -7,82 +7,92 @@ use Rattle.satop_playout.specs.Calls.{Call, Begins, Arrives, Plays}
 use Rattle.satop_playout.specs.Fill.{again, fill_of}
 use Rattle.satop_playout.specs.Plays.{stream, arrival_answer, is_there, given_octets, reach_after}
 
--- packets of two octets, four of which may be waited for
-abbrev pairs : Settings
-pairs = record { size = 2; window = 4; fill = Ones }
+-- packets of one frame, four of which may be waited for
+abbrev frames : Settings
+frames = record {
+  size = 32;
+  window = 4;
+  fill = Ones;
+  size_is = (lit≤ tt, lit≤ tt, refl);
+  window_is = (lit≤ tt, lit≤ tt);
+}
+
+-- a packet whose octets are all this one
+abbrev of : ℕ → List ℕ
+of octet = replicate 32 octet
 
 -- the second packet comes before the first, and the first number is the last before 0
 abbrev swapped : List Call
-swapped = Begins 65535 ∷ Arrives 0 (3 ∷ 4 ∷ []) ∷ Arrives 65535 (1 ∷ 2 ∷ []) ∷ []
+swapped = Begins 65535 ∷ Arrives 0 (of 3) ∷ Arrives 65535 (of 1) ∷ []
 
 -- both are played in order
-in_order : given_octets pairs (swapped ++ Plays ∷ Plays ∷ []) ≡ 1 ∷ 2 ∷ 3 ∷ 4 ∷ []
+in_order : given_octets frames (swapped ++ Plays ∷ Plays ∷ []) ≡ of 1 ++ of 3
 unfolding given_octets stream
 in_order = refl
 
 -- .. and then none is there
-no_third : is_there pairs (swapped ++ Plays ∷ Plays ∷ []) ≡ false
+no_third : is_there frames (swapped ++ Plays ∷ Plays ∷ []) ≡ false
 unfolding is_there stream
 no_third = refl
 
 -- so it is replaced
-third_filled : given_octets pairs (swapped ++ Plays ∷ Plays ∷ Plays ∷ []) ≡ 1 ∷ 2 ∷ 3 ∷ 4 ∷ 255 ∷ 255 ∷ []
+third_filled : given_octets frames (swapped ++ Plays ∷ Plays ∷ Plays ∷ []) ≡ of 1 ++ of 3 ++ of 255
 unfolding given_octets stream
 third_filled = refl
 
 -- the same number while it waits
-repeated : arrival_answer pairs swapped 0 (5 ∷ 6 ∷ []) ≡ Err Repeat
+repeated : arrival_answer frames swapped 0 (of 5) ≡ Err Repeat
 unfolding arrival_answer stream
 repeated = refl
 
 -- .. and after it was played
-played_before : arrival_answer pairs (swapped ++ Plays ∷ Plays ∷ []) 0 (5 ∷ 6 ∷ []) ≡ Err Late
+played_before : arrival_answer frames (swapped ++ Plays ∷ Plays ∷ []) 0 (of 5) ≡ Err Late
 unfolding arrival_answer stream
 played_before = refl
 
 -- the last number that may be waited for, and the one after it
-last_in_window : arrival_answer pairs swapped 2 (5 ∷ 6 ∷ []) ≡ Ok tt
+last_in_window : arrival_answer frames swapped 2 (of 5) ≡ Ok tt
 unfolding arrival_answer stream
 last_in_window = refl
 
-after_window : arrival_answer pairs swapped 3 (5 ∷ 6 ∷ []) ≡ Err TooFar
+after_window : arrival_answer frames swapped 3 (of 5) ≡ Err TooFar
 unfolding arrival_answer stream
 after_window = refl
 
 -- half of the numbers are ahead, half behind
-farthest : arrival_answer pairs (Begins 0 ∷ []) 32767 (5 ∷ 6 ∷ []) ≡ Err TooFar
+farthest : arrival_answer frames (Begins 0 ∷ []) 32767 (of 5) ≡ Err TooFar
 unfolding arrival_answer stream
 farthest = refl
 
-latest : arrival_answer pairs (Begins 0 ∷ []) 32768 (5 ∷ 6 ∷ []) ≡ Err Late
+latest : arrival_answer frames (Begins 0 ∷ []) 32768 (of 5) ≡ Err Late
 unfolding arrival_answer stream
 latest = refl
 
 -- another size comes first
-other_size : arrival_answer pairs [] 0 (5 ∷ []) ≡ Err OtherSize
+other_size : arrival_answer frames [] 0 (replicate 31 5) ≡ Err OtherSize
 unfolding arrival_answer stream
 other_size = refl
 
-not_begun : arrival_answer pairs (Plays ∷ []) 0 (5 ∷ 6 ∷ []) ≡ Err NotBegun
+not_begun : arrival_answer frames (Plays ∷ []) 0 (of 5) ≡ Err NotBegun
 unfolding arrival_answer stream
 not_begun = refl
 
 -- from the next packet to the last that arrived
-reached : reach_after pairs (Begins 7 ∷ Arrives 9 (1 ∷ 2 ∷ []) ∷ []) ≡ 3
+reached : reach_after frames (Begins 7 ∷ Arrives 9 (of 1) ∷ []) ≡ 3
 unfolding reach_after stream
 reached = refl
 
-reached_later : reach_after pairs (Begins 7 ∷ Arrives 9 (1 ∷ 2 ∷ []) ∷ Plays ∷ Plays ∷ []) ≡ 1
+reached_later : reach_after frames (Begins 7 ∷ Arrives 9 (of 1) ∷ Plays ∷ Plays ∷ []) ≡ 1
 unfolding reach_after stream
 reached_later = refl
 
-reached_not : reach_after pairs (Begins 7 ∷ Arrives 9 (1 ∷ 2 ∷ []) ∷ Plays ∷ Plays ∷ Plays ∷ Plays ∷ []) ≡ 0
+reached_not : reach_after frames (Begins 7 ∷ Arrives 9 (of 1) ∷ Plays ∷ Plays ∷ Plays ∷ Plays ∷ []) ≡ 0
 unfolding reach_after stream
 reached_not = refl
 
 -- a stream that begins forgets the packets that wait
-begun_anew : given_octets pairs (swapped ++ Begins 0 ∷ Arrives 0 (7 ∷ 8 ∷ []) ∷ Plays ∷ Plays ∷ [])
-    ≡ 7 ∷ 8 ∷ 255 ∷ 255 ∷ []
+begun_anew : given_octets frames (swapped ++ Begins 0 ∷ Arrives 0 (of 7) ∷ Plays ∷ Plays ∷ [])
+    ≡ of 7 ++ of 255
 unfolding given_octets stream
 begun_anew = refl
 

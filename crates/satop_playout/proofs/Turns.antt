@@ -1,21 +1,20 @@
 -- An accepted packet is played in its turn, and its number is not accepted again.
-use Rattle.std.proofs.Common.{◌≡◌, inl, inr, ℕ, suc, ◌+◌, ◌-◌, ◌%◌, ◌^◌, ◌≤◌, ◌<◌, Bool, true, false, cond, not}
-use Rattle.std.proofs.Common.{List, [], ◌∷◌, ◌++◌, length, Option, Some, None, is_some, fold, Ok, Err, nat_le, ◌==◌}
-use Rattle.std.proofs.Common.{refl, sym, ap, ◌∙◌, arith}
-use Rattle.std.proofs.lemmas.Bool.{cases_lt, leb-false, le-leb}
+use Rattle.std.proofs.Common.{◌≡◌, inl, inr, ℕ, ◌+◌, ◌^◌, ◌≤◌, ◌<◌, Bool, true, false, cond, not}
+use Rattle.std.proofs.Common.{List, [], ◌∷◌, ◌++◌, length, Option, Some, None, is_some, fold, nat_le, ◌==◌}
+use Rattle.std.proofs.Common.{refl, ap, ◌∙◌, arith}
+use Rattle.std.proofs.lemmas.Bool.{cases_lt, leb-false}
 use Rattle.std.proofs.lemmas.List.Sums.{fold-append}
-use Rattle.satop_playout.specs.declared.ArrivalFault.{ArrivalFault}
 use Rattle.satop_playout.specs.declared.Settings.{Settings}
 use Rattle.satop_playout.specs.Calls.{Call, Begins, Arrives, Plays}
 use Rattle.satop_playout.specs.Fill.{fill_of}
-use Rattle.satop_playout.specs.Plays.{Placed, Stream, at_first, packet_at, ahead_of, ahead, refusal, after_arrival}
+use Rattle.satop_playout.specs.Plays.{Stream, at_first, packet_at, ahead_of, ahead, refusal, after_arrival}
 use Rattle.satop_playout.specs.Plays.{after_play, after_call, octets_for, stream, arrival_answer, is_there, play_octets}
 use Rattle.satop_playout.specs.Plays.{given_octets}
 use Rattle.satop_playout.specs.Laws.{plays_in, NoBeginning, AcceptedIsPlayed, NothingIsAcceptedTwice}
 use Rattle.satop_playout.specs.Laws.{RefusalsChangeNothing, NothingIsGiven, BeginningsGiveNothing, ArrivalsGiveNothing}
 use Rattle.satop_playout.specs.Laws.{PlaysGiveTheirOctets}
 use Rattle.satop_playout.proofs.Placing.{stream-push, packet_at-kept, packet_at-free, placed_at, none-told, with_packet}
-use Rattle.satop_playout.proofs.Placing.{after-accepted, after-refused, not-refused, refused-by, chosen}
+use Rattle.satop_playout.proofs.Placing.{after-accepted, after-refused, not-refused, refused-by}
 
 -- the law of refused packets
 pub refusals_change_nothing : RefusalsChangeNothing

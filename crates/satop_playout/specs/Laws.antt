@@ -1,5 +1,5 @@
 -- Laws of the playout, by its definitions alone.
-use Rattle.std.specs.Prelude.{◌≡◌, ◌+◌, ◌≤◌, ◌^◌, ℕ, suc, true, List, [], ◌∷◌, ◌++◌, Ok, Err, IsPermutation}
+use Rattle.std.specs.Prelude.{◌≡◌, ◌≤◌, ◌^◌, ℕ, suc, true, List, [], ◌∷◌, ◌++◌, Ok, Err, IsPermutation}
 use Rattle.satop_playout.specs.declared.ArrivalFault.{ArrivalFault}
 use Rattle.satop_playout.specs.declared.Settings.{Settings}
 use Rattle.satop_playout.specs.Calls.{Call, Begins, Arrives, Plays}

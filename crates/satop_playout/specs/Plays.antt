@@ -41,6 +41,11 @@ ahead_of None now sequence = 0
 ahead_of (Some first) now sequence =
     (sequence + (2 ^ 16 - first % 2 ^ 16) + (2 ^ 16 - now % 2 ^ 16)) % 2 ^ 16
 
+-- the number after one, modulo 2^16
+abbrev pub number_after : Option ℕ → Option ℕ
+number_after None = None
+number_after (Some number) = Some ((number + 1) % 2 ^ 16)
+
 abbrev pub ahead : Stream → ℕ → ℕ
 ahead s sequence = ahead_of s.first s.now sequence
 

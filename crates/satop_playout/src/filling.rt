@@ -1,6 +1,6 @@
 //! The octets that replace a missing packet.
 
-ghost use Rattle.std.specs.Prelude.{◌≡◌, ◌≤◌, ℕ, List, length, min, replicate};
+ghost use Rattle.std.specs.Prelude.{◌≡◌, ◌≤◌, ℕ, List, length, min, slice_index};
 ghost use Rattle.circular_buffer.specs.Buffer.{keep_last};
 ghost use Rattle.satop_playout.specs.Fill.{again, fill_of};
 
@@ -14,12 +14,7 @@ pub(crate) const MULTIFRAME: usize = 512;
 pub(crate) const MOST_REPEATED: usize = 2048;
 
 // Fills a packet with octets, after the last multiframe of those given, of which so many in a row were filled.
-pub(crate) fn replace(
-    fill: Fill,
-    given: &HeapCircularBuffer<u8>,
-    filled: usize,
-    room: &mut [u8],
-)
+pub(crate) fn replace(fill: Fill, given: &HeapCircularBuffer<u8>, filled: usize, room: &mut [u8])
     requires { length room.old ≤ 1280 }
     ensures { (all : List ℕ) (count : ℕ) → given.now.items ≡ keep_last 512 all → filled ≡ min count 2048
         → room.new ≡ fill_of fill (length room.old) all count }
@@ -40,8 +35,16 @@ fn repeat(given: &HeapCircularBuffer<u8>, room: &mut [u8])
         → room.new ≡ again (length room.old) all }
 {
     for i in 0..room.len() {
-        if let Some(octet) = given.get(i % MULTIFRAME) {
-            room[i] = *octet;
-        }
+        room[i] = octet_at(given, i % MULTIFRAME);
+    }
+}
+
+// The octet at a place, or 0 behind the last one.
+fn octet_at(octets: &HeapCircularBuffer<u8>, place: usize) -> u8
+    ensures { result ≡ slice_index octets.now.items place }
+{
+    match octets.get(place) {
+        Some(octet) => *octet,
+        None => 0,
     }
 }

@@ -1,12 +1,7 @@
 //! The jitter buffer: packets arrive, and each is played in its turn or replaced.
 
-ghost use Rattle.std.specs.Prelude.{◌≡◌, ◌≤◌, ◌<◌, ◌+◌, ◌++◌, ◌∷◌, [], ℕ, List, length, None, Some};
-ghost use Rattle.std.specs.Prelude.{IfOk, OnErr, MatchResult};
-ghost use Rattle.satop_playout.specs.declared.Settings.{Settings};
-ghost use Rattle.satop_playout.specs.Calls.{Call, Begins, Arrives, Plays};
-ghost use Rattle.satop_playout.specs.Plays.{Stream, refusal, ahead};
-ghost use Rattle.satop_playout.specs.Plays.{arrival_answer, is_there, play_octets, reach_after};
-ghost use Rattle.satop_playout.specs.Standing.{Stands, Keeps, Wraps};
+ghost use Rattle.std.specs.Prelude.{◌≡◌, ◌≤◌, ◌<◌, length};
+ghost use Rattle.satop_playout.specs.Plays.{number_after};
 
 use crate::filling::{MOST_REPEATED, MULTIFRAME, replace};
 use crate::slot::Slot;
@@ -42,6 +37,16 @@ pub struct SatopPlayout {
 }
 
 impl SatopPlayout {
+    ghost use Rattle.std.specs.Prelude.{◌≡◌, ◌≤◌, ◌<◌, ◌+◌, ◌++◌, ◌∷◌, [], ℕ, List, length, None, Some};
+    ghost use Rattle.std.specs.Prelude.{IfOk, OnErr, MatchResult, min, if◌then◌else◌};
+    ghost use Rattle.satop_playout.specs.declared.Settings.{Settings};
+    ghost use Rattle.satop_playout.specs.Calls.{Call, Begins, Arrives, Plays};
+    ghost use Rattle.satop_playout.specs.Plays.{Stream, refusal, ahead};
+    ghost use Rattle.satop_playout.specs.Plays.{arrival_answer, is_there, play_octets, reach_after};
+    ghost use Rattle.satop_playout.specs.Standing.{Stands, Keeps, Wraps};
+    ghost use Rattle.satop_playout.specs.Fill.{fill_of};
+    ghost use Rattle.circular_buffer.specs.Buffer.{keep_last};
+
     /// Takes memory for the window. No stream has begun.
     pub fn new(alloc: Global, settings: Settings) -> Result<SatopPlayout, AllocError>
         ensures { IfOk result (λ playout. Stands playout settings []) }
@@ -152,26 +157,40 @@ impl SatopPlayout {
             → Stands self.new settings (calls ++ Plays ∷ []) }
     {
         let is_there = self.slots[self.head].take(room);
-        if is_there {
-            self.filled = 0;
-        } else {
-            replace(self.settings.fill, &self.given, self.filled, room);
-            self.filled = (self.filled + room.len()).min(MOST_REPEATED);
-        }
+        self.filled = self.fill(is_there, room);
         self.given.extend_from_slice(room);
-        self.step();
+        self.head = self.slot_after();
+        self.next = number_after(self.next);
+        self.reach = self.reach.saturating_sub(1);
         is_there
     }
 
-    // Moves on by one packet.
-    fn step(&mut self) {
-        self.head = if self.head + 1 < self.settings.window {
+    // Replaces a packet that is not there. Returns how many octets in a row are filled then, at most 2048.
+    fn fill(&self, is_there: bool, room: &mut [u8]) -> usize
+        requires { length room.old ≤ 1280 }
+        ensures octets { (all : List ℕ) (count : ℕ) → self.now.given.items ≡ keep_last 512 all
+            → self.now.filled ≡ min count 2048 → room.new
+            ≡ (if is_there then room.old else fill_of self.now.settings.fill (length room.old) all count) }
+        ensures filled { (count : ℕ) → self.now.filled ≡ min count 2048
+            → result ≡ min (if is_there then 0 else count + length room.old) 2048 }
+        ensures most { result ≤ 2048 }
+    {
+        if is_there {
+            return 0;
+        }
+        replace(self.settings.fill, &self.given, self.filled, room);
+        (self.filled + room.len()).min(MOST_REPEATED)
+    }
+
+    // The slot behind that of the next packet.
+    fn slot_after(&self) -> usize
+        ensures { Wraps self.now.head 1 self.now.settings.window result }
+    {
+        if self.head + 1 < self.settings.window {
             self.head + 1
         } else {
             0
-        };
-        self.next = self.next.map(|number| number.wrapping_add(1));
-        self.reach = self.reach.saturating_sub(1);
+        }
     }
 
     /// How many packets there are from the next one to the last one held, both counted; 0 if none is held.
@@ -181,4 +200,11 @@ impl SatopPlayout {
     {
         self.reach as u16
     }
+}
+
+// The number after one, modulo 2^16.
+fn number_after(number: Option<u16>) -> Option<u16>
+    ensures { result ≡ number_after number }
+{
+    number.map(|n| n.wrapping_add(1))
 }
