@@ -35,6 +35,8 @@ fn are_played(rt: &impl Abort, playout: &mut SatopPlayout, octets: &[u8], are_th
     }
 }
 
+// With memory refused at either of the requests that `new` makes (`rt try --test --fail-alloc N`) there is no
+// playout, and nothing else happens.
 #[test]
 fn order_is_restored(rt: HostRuntime) -> Result<(), Fail> {
     let mut playout = begun(&rt, rt.alloc(), Fill::Again, 65_534)?;
@@ -59,7 +61,12 @@ fn losses_are_filled(rt: HostRuntime) -> Result<(), Fail> {
     are_played(&rt, &mut playout, &[11, 12], true);
     are_played(&rt, &mut playout, &[11], false);
     are_played(&rt, &mut playout, &[14], true);
-    are_played(&rt, &mut playout, &[11, 14, 11, 14, 11, 14, 11, 14, ONES], false);
+    are_played(
+        &rt,
+        &mut playout,
+        &[11, 14, 11, 14, 11, 14, 11, 14, ONES],
+        false,
+    );
     are_accepted(&rt, &mut playout, &[24]);
     are_played(&rt, &mut playout, &[24], true);
     Ok(())

@@ -3,7 +3,7 @@ use Rattle.std.proofs.Common.{◌≡◌, inl, inr, ℕ, suc, ◌+◌, ◌-◌, �
 use Rattle.std.proofs.Common.{List, [], ◌∷◌, ◌++◌, length, take, drop, min, max, replicate, Option, Some, None, is_some}
 use Rattle.std.proofs.Common.{slice_set, get_or, refl, sym, ap, subst, ◌∙◌, arith, length-set, length-drop}
 use Rattle.std.proofs.Common.{length-append, append_assoc}
-use Rattle.std.proofs.lemmas.Bool.{cases_lt, cases_eq}
+use Rattle.std.proofs.lemmas.Bool.{cases_lt}
 use Rattle.std.proofs.lemmas.List.{take-append-drop, get_or-replicate, length-replicate, length-take-le}
 use Rattle.std.proofs.lemmas.Option.{slice_get-get_or, slice_get_past}
 use Rattle.std.proofs.Math.Seq.{drop-append-add, take-append_seam}
@@ -15,13 +15,13 @@ use Rattle.satop_playout.specs.declared.slot.Slot.{Slot}
 use Rattle.satop_playout.specs.Calls.{Call, Begins, Arrives, Plays}
 use Rattle.satop_playout.specs.Fill.{fill_of}
 use Rattle.satop_playout.specs.Plays.{Placed, Stream, at_first, packet_at, number_after, ahead, refusal}
-use Rattle.satop_playout.specs.Plays.{after_beginning, after_play, due_now, octets_for, octets_now, filled_for}
+use Rattle.satop_playout.specs.Plays.{after_beginning, after_play, due_now, octets_or_fill, octets_now, filled_for}
 use Rattle.satop_playout.specs.Plays.{stream, is_there, play_octets}
 use Rattle.satop_playout.specs.Standing.{Wraps, packet_in, packet_from, packet_of, IsNext, Keeps, Stands}
 use Rattle.satop_playout.proofs.Placing.{stream-push, with_packet, reach-push, reach-next, placed_at, packet_at-apart}
 use Rattle.satop_playout.proofs.Placing.{after-accepted, after-refused}
 use Rattle.satop_playout.proofs.Turns.{accepted}
-use Rattle.satop_playout.proofs.Rings.{holds-put, holds-next, packet-written, packet-other}
+use Rattle.satop_playout.proofs.Rings.{holds-put, holds-next}
 
 -- what holds at the settings of the playout holds at those of its history
 pub at_own : (playout : SatopPlayout) (calls : List Call) (P : Settings → Type 0)
@@ -58,18 +58,7 @@ empty-slots count slot none size p =
       | inr h ↦ ap (packet_from size) (slice_get_past (replicate count slot) p (omega arith))
     ]
 
--- one slot more holds nothing
-pub emptied-more : (slots : List Slot) (i : ℕ) (slot : Slot) → i < length slots
-    → ((size p : ℕ) → p < i → packet_of size slots p ≡ None) → ((size : ℕ) → packet_in size slot ≡ None)
-    → (size p : ℕ) → p < i + 1 → packet_of size (slice_set slots i slot) p ≡ None
-emptied-more slots i slot within before none size p h =
-    elim (cases_eq p i) as (λ _. packet_of size (slice_set slots i slot) p ≡ None) [
-      | inl same ↦ ap (λ (n : ℕ). packet_of size (slice_set slots i slot) n) same
-          ∙ packet-written size slots i slot within ∙ none size
-      | inr other ↦ packet-other size slots i p slot other ∙ before size p (omega arith)
-    ]
-
--- .. until all do
+-- .. and so do those that were emptied one by one
 pub emptied-all : (slots : List Slot) (i : ℕ) → length slots ≤ i
     → ((size p : ℕ) → p < i → packet_of size slots p ≡ None) → AllEmpty slots
 emptied-all slots i all before size p =
@@ -153,7 +142,8 @@ keeps-put playout after s place p slot octets k settings slots head next reach g
       start = omega arith;
       held = rw (slots, head) (holds-put playout.settings.size playout.settings.window playout.head s.now place p
           playout.slots.items s.placed slot octets k.held room near at is free);
-      none = λ other h. packet_at-apart s.placed (placed_at (s.now + place) octets) other (λ e. omega (arith, e, near, h))
+      none = λ other h.
+          packet_at-apart s.placed (placed_at (s.now + place) octets) other (λ e. omega (arith, e, near, h))
           ∙ k.none other h;
       next_is = next-kept playout.next after.next s.first s.placed s.now (placed_at (s.now + place) octets) k.next_is
           next begun;
@@ -257,7 +247,7 @@ pub stands-put : (playout after : SatopPlayout) (settings : Settings) (calls : L
     → Wraps playout.head place playout.settings.window p → packet_in playout.settings.size slot ≡ Some octets
     → Stands after settings (calls ++ Arrives sequence octets ∷ [])
 unfolding Stands
-stands-put playout after settings calls sequence octets place p slot k told is slots head next reach given filled near at
+stands-put playout after settings calls sequence octets place p slot k told is slots head next reach given full near at
     put =
     at_own playout calls (λ (t : Settings). Stands after t (calls ++ Arrives sequence octets ∷ []))
     (λ own.
@@ -270,7 +260,7 @@ stands-put playout after settings calls sequence octets place p slot k told is s
     (sym (stream-push playout.settings calls (Arrives sequence octets)
     ∙ after-accepted playout.settings s sequence octets why.0
     ∙ ap (λ (n : ℕ). with_packet s (s.now + n) octets) (sym why.1)))
-    (keeps-put playout after s place p slot octets own is slots head next reach given filled near at put free a.begun))
+    (keeps-put playout after s place p slot octets own is slots head next reach given full near at put free a.begun))
     settings k
 
 -- the packet whose turn it is, in the slot of the next one
@@ -285,10 +275,11 @@ due-in playout s slot k is =
 
 -- the octets of a packet that is there, or those that replace it
 either-octets : (o : Option (List ℕ)) (there : Bool) (room taken given fill : List ℕ) → there ≡ is_some o
-    → taken ≡ octets_for o room → given ≡ cond there taken fill → given ≡ octets_for o fill
+    → taken ≡ octets_or_fill o room → given ≡ cond there taken fill → given ≡ octets_or_fill o fill
 either-octets None there room taken given fill b t g = g ∙ ap (λ (v : Bool). cond v taken fill) b
 either-octets (Some octets) there room taken given fill b t g = g ∙ ap (λ (v : Bool). cond v taken fill) b ∙ t
 
+-- how many octets in a row are filled if a packet is there, or if not
 either-filled : (o : Option (List ℕ)) (there : Bool) (size filled : ℕ) → there ≡ is_some o
     → cond there 0 (filled + size) ≡ filled_for o size filled
 either-filled None there size filled b = ap (λ (v : Bool). cond v 0 (filled + size)) b
@@ -302,7 +293,7 @@ pub record Played (playout : SatopPlayout) (slot : Slot) (there : Bool) (given :
   pub size : length room ≡ playout.settings.size
   pub taken_size : length taken ≡ length room
   pub told : there ≡ is_some (packet_in (length room) slot)
-  pub octets : taken ≡ octets_for (packet_in (length room) slot) room
+  pub octets : taken ≡ octets_or_fill (packet_in (length room) slot) room
   pub replaced : (all : List ℕ) (count : ℕ) → playout.given.items ≡ keep_last 512 all → playout.filled ≡ min count 2048
       → given ≡ cond there taken (fill_of playout.settings.fill (length taken) all count)
   pub filled_is : (count : ℕ) → playout.filled ≡ min count 2048
@@ -323,11 +314,12 @@ played-octets playout slot there given filled s p k =
     either-octets (due_now s) there p.room p.taken given
     (fill_of playout.settings.fill playout.settings.size s.given s.filled)
     (played-there playout slot there given filled s p k)
-    (p.octets ∙ ap (λ (n : ℕ). octets_for (packet_in n slot) p.room) p.size
-    ∙ ap (λ (o : Option (List ℕ)). octets_for o p.room) due)
+    (p.octets ∙ ap (λ (n : ℕ). octets_or_fill (packet_in n slot) p.room) p.size
+    ∙ ap (λ (o : Option (List ℕ)). octets_or_fill o p.room) due)
     (p.replaced s.given s.filled k.recent k.filled_is
     ∙ ap (λ (n : ℕ). cond there p.taken (fill_of playout.settings.fill n s.given s.filled)) (p.taken_size ∙ p.size))
 
+-- what a play answers
 pub there-answer : (playout : SatopPlayout) (settings : Settings) (calls : List Call) (slot : Slot) (there : Bool)
     (given : List ℕ) (filled : ℕ) → Played playout slot there given filled → Stands playout settings calls
     → there ≡ is_there settings calls
@@ -336,6 +328,7 @@ there-answer playout settings calls slot there given filled p k =
     at_own playout calls (λ (t : Settings). there ≡ is_there t calls)
     (λ own. played-there playout slot there given filled (stream playout.settings calls) p own) settings k
 
+-- what a play gives
 pub octets-answer : (playout : SatopPlayout) (settings : Settings) (calls : List Call) (slot : Slot) (there : Bool)
     (given : List ℕ) (filled : ℕ) → Played playout slot there given filled → Stands playout settings calls
     → given ≡ play_octets settings calls

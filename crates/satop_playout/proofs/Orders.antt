@@ -11,7 +11,7 @@ use Rattle.satop_playout.specs.declared.Settings.{Settings}
 use Rattle.satop_playout.specs.Calls.{Call, Begins, Arrives, Plays}
 use Rattle.satop_playout.specs.Fill.{fill_of}
 use Rattle.satop_playout.specs.Plays.{Placed, Stream, at_first, packet_at, ahead_of, ahead, refusal, after_arrival}
-use Rattle.satop_playout.specs.Plays.{after_beginning, after_play, after_call, octets_for, filled_for, stream}
+use Rattle.satop_playout.specs.Plays.{after_beginning, after_play, after_call, octets_or_fill, filled_for, stream}
 use Rattle.satop_playout.specs.Plays.{arrival_answer, given_octets}
 use Rattle.satop_playout.specs.Laws.{plays_in, NoBeginning, arrivals_of, AllAccepted, OrderDoesNotMatter}
 use Rattle.satop_playout.proofs.Placing.{stream-push, packet_at-kept, packet_at-free, packet_at-apart, placed_at}
@@ -103,6 +103,7 @@ found-among placed (p ∷ among) k octets all e =
     found-first placed p k (packet_at among k) octets (p.place == k) refl (All-head (λ p. IsFound placed p) p among all)
     (found-among placed among k octets (All-tail (λ p. IsFound placed p) p among all)) e
 
+-- two packets that may be there are the same if each is the other wherever it is there
 same-option : (a b : Option (List ℕ)) → ((o : List ℕ) → a ≡ Some o → b ≡ Some o)
     → ((o : List ℕ) → b ≡ Some o → a ≡ Some o) → a ≡ b
 same-option None None there back = refl
@@ -123,7 +124,7 @@ abbrev ran : Settings → List Placed → ℕ → List ℕ → ℕ → ℕ → L
 ran settings placed now given filled zero = given
 ran settings placed now given filled (suc count) =
     ran settings placed (now + 1)
-    (given ++ octets_for (packet_at placed now) (fill_of settings.fill settings.size given filled))
+    (given ++ octets_or_fill (packet_at placed now) (fill_of settings.fill settings.size given filled))
     (filled_for (packet_at placed now) settings.size filled) count
 
 -- they give the same of the same packets
@@ -133,10 +134,10 @@ ran-same : (settings : Settings) (one other : List Placed) (now : ℕ) (given : 
 ran-same settings one other now given filled zero same = refl
 ran-same settings one other now given filled (suc count) same =
     ap (λ (o : Option (List ℕ)). ran settings one (now + 1)
-    (given ++ octets_for o (fill_of settings.fill settings.size given filled))
+    (given ++ octets_or_fill o (fill_of settings.fill settings.size given filled))
     (filled_for o settings.size filled) count) (same now)
     ∙ ran-same settings one other (now + 1)
-    (given ++ octets_for (packet_at other now) (fill_of settings.fill settings.size given filled))
+    (given ++ octets_or_fill (packet_at other now) (fill_of settings.fill settings.size given filled))
     (filled_for (packet_at other now) settings.size filled) count same
 
 module _ (settings : Settings) where
@@ -180,7 +181,7 @@ module _ (settings : Settings) where
       sym (past-after (after_play settings s) calls s.now none (omega arith)) in
       given-ran (after_play settings s) calls none
       ∙ ap (λ (o : Option (List ℕ)). ran settings all (s.now + 1)
-      (s.given ++ octets_for o (fill_of settings.fill settings.size s.given s.filled))
+      (s.given ++ octets_or_fill o (fill_of settings.fill settings.size s.given s.filled))
       (filled_for o settings.size s.filled) (plays_in calls)) now
 
 -- a packet at the place of its number, for a stream whose next place is this one

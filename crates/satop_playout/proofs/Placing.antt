@@ -27,6 +27,7 @@ here-or : (b : Bool) (here was more : Option (List ℕ)) (octets : List ℕ) →
 here-or true here was more octets rest e = e
 here-or false here was more octets rest e = rest e
 
+-- a place that had no packet has the one that is added
 free-or : (b : Bool) (here : List ℕ) (was more : Option (List ℕ)) (octets : List ℕ)
     → (was ≡ None → more ≡ Some octets) → cond b (Some here) was ≡ None → cond b (Some here) more ≡ Some octets
 free-or true here was more octets rest e = cc

@@ -32,6 +32,7 @@ pub record Asked (playout : SatopPlayout) (s : Stream) (sequence : ℕ) (octets 
   pub on_time : place < 2 ^ 15
   pub near : place < playout.settings.window
 
+-- .. as the playout finds them
 pub asked : (playout : SatopPlayout) (s : Stream) (sequence : ℕ) (octets : List ℕ) (next place : ℕ)
     → Keeps playout playout.settings s → length octets ≡ playout.settings.size → playout.next ≡ Some next
     → place ≡ (sequence + (2 ^ 16 - next)) % 2 ^ 16 → place < 2 ^ 15 → place < playout.settings.window

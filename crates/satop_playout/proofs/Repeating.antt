@@ -1,6 +1,7 @@
 -- Octets repeated from a multiframe before, as those of the last multiframe in turn.
 use Rattle.std.proofs.Common.{◌≡◌, ℕ, zero, suc, ◌+◌, ◌-◌, ◌%◌, ◌≤◌, ◌<◌, List, [], ◌∷◌, ◌++◌, length, drop}
-use Rattle.std.proofs.Common.{slice_index, slice_set, drop-cons, length-drop, refl, sym, ap, ◌∙◌, arith, append_assoc, append-nil, length-append, inl, inr}
+use Rattle.std.proofs.Common.{slice_index, slice_set, drop-cons, length-drop, refl, sym, ap, ◌∙◌, arith, inl, inr}
+use Rattle.std.proofs.Common.{append_assoc, append-nil, length-append}
 use Rattle.std.proofs.Math.Seq.{set-append_seam}
 use Rattle.std.proofs.lemmas.Bool.{cases_lt}
 use Rattle.std.proofs.lemmas.List.{get_or_append_left, get_or-append-add, get_or-drop}
@@ -75,12 +76,9 @@ again-next count given many =
     ∙ again-turns count count given many (omega arith)
     ∙ sym (get_or-drop (length given - 512) given (count % 512) 0)
 
--- the last 512 octets are 512 exactly if as many were given
+-- if the last 512 octets are 512, as many were given
 pub last-many : (given : List ℕ) (count : ℕ) → count ≡ length (keep_last 512 given) → 512 ≤ count → 512 ≤ length given
 last-many given count e many = let size = length-drop (length given - 512) given in omega arith
-
-pub last-few : (given : List ℕ) (count : ℕ) → count ≡ length (keep_last 512 given) → count < 512 → length given < 512
-last-few given count e few = let size = length-drop (length given - 512) given in omega arith
 
 -- one octet is repeated more: it is written where the room is free
 pub repeated-more : (i : ℕ) (given room was : List ℕ) (octet : ℕ) → i < length was

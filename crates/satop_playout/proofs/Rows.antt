@@ -50,20 +50,22 @@ played_before : arrival_answer frames (swapped ++ Plays ∷ Plays ∷ []) 0 (of 
 unfolding arrival_answer stream
 played_before = refl
 
--- the last number that may be waited for, and the one after it
+-- the last number that may be waited for
 last_in_window : arrival_answer frames swapped 2 (of 5) ≡ Ok tt
 unfolding arrival_answer stream
 last_in_window = refl
 
+-- the one after it is too far ahead
 after_window : arrival_answer frames swapped 3 (of 5) ≡ Err TooFar
 unfolding arrival_answer stream
 after_window = refl
 
--- half of the numbers are ahead, half behind
+-- the last of the numbers that are ahead
 farthest : arrival_answer frames (Begins 0 ∷ []) 32767 (of 5) ≡ Err TooFar
 unfolding arrival_answer stream
 farthest = refl
 
+-- .. the first that is behind is late
 latest : arrival_answer frames (Begins 0 ∷ []) 32768 (of 5) ≡ Err Late
 unfolding arrival_answer stream
 latest = refl
@@ -73,6 +75,7 @@ other_size : arrival_answer frames [] 0 (replicate 31 5) ≡ Err OtherSize
 unfolding arrival_answer stream
 other_size = refl
 
+-- before any stream a packet has no turn
 not_begun : arrival_answer frames (Plays ∷ []) 0 (of 5) ≡ Err NotBegun
 unfolding arrival_answer stream
 not_begun = refl
@@ -82,10 +85,12 @@ reached : reach_after frames (Begins 7 ∷ Arrives 9 (of 1) ∷ []) ≡ 3
 unfolding reach_after stream
 reached = refl
 
+-- .. each play comes nearer to it
 reached_later : reach_after frames (Begins 7 ∷ Arrives 9 (of 1) ∷ Plays ∷ Plays ∷ []) ≡ 1
 unfolding reach_after stream
 reached_later = refl
 
+-- .. and no further than to it
 reached_not : reach_after frames (Begins 7 ∷ Arrives 9 (of 1) ∷ Plays ∷ Plays ∷ Plays ∷ Plays ∷ []) ≡ 0
 unfolding reach_after stream
 reached_not = refl
@@ -114,6 +119,7 @@ still_repeated : fill_of Again 2 (multiframe_with 1 2) 2046 ≡ 1 ∷ 2 ∷ []
 unfolding again
 still_repeated = refl
 
+-- from one more on ones are filled
 too_long : fill_of Again 2 (multiframe_with 1 2) 2047 ≡ 255 ∷ 255 ∷ []
 too_long = refl
 

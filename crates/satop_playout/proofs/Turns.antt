@@ -8,8 +8,8 @@ use Rattle.satop_playout.specs.declared.Settings.{Settings}
 use Rattle.satop_playout.specs.Calls.{Call, Begins, Arrives, Plays}
 use Rattle.satop_playout.specs.Fill.{fill_of}
 use Rattle.satop_playout.specs.Plays.{Stream, at_first, packet_at, ahead_of, ahead, refusal, after_arrival}
-use Rattle.satop_playout.specs.Plays.{after_play, after_call, octets_for, stream, arrival_answer, is_there, play_octets}
-use Rattle.satop_playout.specs.Plays.{given_octets}
+use Rattle.satop_playout.specs.Plays.{after_play, after_call, octets_or_fill, stream, arrival_answer, is_there}
+use Rattle.satop_playout.specs.Plays.{play_octets, given_octets}
 use Rattle.satop_playout.specs.Laws.{plays_in, NoBeginning, AcceptedIsPlayed, NothingIsAcceptedTwice}
 use Rattle.satop_playout.specs.Laws.{RefusalsChangeNothing, NothingIsGiven, BeginningsGiveNothing, ArrivalsGiveNothing}
 use Rattle.satop_playout.specs.Laws.{PlaysGiveTheirOctets}
@@ -36,6 +36,7 @@ from-not : (b : Bool) → not b ≡ false → b ≡ true
 from-not true e = refl
 from-not false e = cc
 
+-- a packet that is not there is none
 none-from : (o : Option (List ℕ)) → is_some o ≡ false → o ≡ None
 none-from None e = refl
 none-from (Some v) e = cc
@@ -122,8 +123,8 @@ module _ (settings : Settings) where
     start = stream settings before
 
     abbrev begun : Stream
-    begun = with_packet (stream settings before) ((stream settings before).now + ahead (stream settings before) sequence)
-        octets
+    begun = with_packet (stream settings before)
+        ((stream settings before).now + ahead (stream settings before) sequence) octets
 
     pub whole : stream settings (before ++ Arrives sequence octets ∷ later) ≡ after begun later
     unfolding stream
@@ -156,15 +157,17 @@ accepted_is_played settings before later sequence octets answer none turn =
     let at : t.now ≡ s.now + ahead s sequence = omega arith in
     let due : packet_at t.placed t.now ≡ Some octets =
     ap (λ (n : ℕ). packet_at t.placed n) at ∙ place-later settings before later sequence octets is none in
-    (ap is_some due, ap (λ (o : Option (List ℕ)). octets_for o (fill_of settings.fill settings.size t.given t.filled)) due)
+    let fill = fill_of settings.fill settings.size t.given t.filled in
+    (ap is_some due, ap (λ (o : Option (List ℕ)). octets_or_fill o fill) due)
 
--- A number so many places ahead is the rest of them ahead after some plays, and behind after more.
+-- a number so many places ahead is the rest of them ahead after some plays
 ahead-later : (first : Option ℕ) (now plays sequence : ℕ) → is_some first ≡ true
     → ahead_of first now sequence < 2 ^ 15 → plays ≤ ahead_of first now sequence
     → plays + ahead_of first (now + plays) sequence ≡ ahead_of first now sequence
 ahead-later None now plays sequence begun on_time few = cc
 ahead-later (Some first) now plays sequence begun on_time few = omega arith
 
+-- .. behind after more
 ahead-behind : (first : Option ℕ) (now plays sequence : ℕ) → is_some first ≡ true
     → ahead_of first now sequence < 2 ^ 15 → ahead_of first now sequence < plays → plays ≤ 2 ^ 15
     → 2 ^ 15 ≤ ahead_of first (now + plays) sequence
@@ -203,6 +206,7 @@ pub nothing_is_given : NothingIsGiven
 unfolding given_octets stream
 nothing_is_given settings = refl
 
+-- a packet that arrives changes nothing of what was given
 either-given : (b : Bool) (s : Stream) (place : ℕ) (octets : List ℕ)
     → (cond b s (with_packet s place octets)).given ≡ s.given
 either-given true s place octets = refl

@@ -75,10 +75,11 @@ NothingIsAcceptedTwice = (settings : Settings) (before after : List Call) (seque
     → plays_in after ≤ 2 ^ 15
     → arrival_answer settings (before ++ Arrives sequence octets ∷ after) sequence others ≡ Ok tt → ⊥
 
--- Two lists of calls that follow the same calls give the same octets if no stream begins in them, and they have
--- as many plays (at most 2^15), and the same packets in any order, each accepted in both.
+-- Two lists of calls that follow the same calls give the same octets if no stream begins in them, and they
+-- have as many plays (at most 2^15), and the same packets in any order, each accepted in both.
 abbrev pub OrderDoesNotMatter : Type 0
 OrderDoesNotMatter = (settings : Settings) (lead one other : List Call) → NoBeginning one → NoBeginning other
-    → IsPermutation (arrivals_of one) (arrivals_of other) → plays_in one ≡ plays_in other → plays_in one ≤ 2 ^ 15
+    → IsPermutation (arrivals_of one) (arrivals_of other)
+    → plays_in one ≡ plays_in other → plays_in one ≤ 2 ^ 15
     → AllAccepted settings lead one → AllAccepted settings lead other
     → given_octets settings (lead ++ one) ≡ given_octets settings (lead ++ other)

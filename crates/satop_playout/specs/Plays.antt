@@ -15,9 +15,9 @@ pub record Placed : Type 0 where
   pub place : ℕ
   pub octets : List ℕ
 
--- The stream: the number of its first packet, if one has begun; its accepted packets; the number of plays since
--- it began, which is the place of the next play. And what all plays gave, also those before the stream, and how
--- many octets at the end of that are filled in a row.
+-- The stream: the number of its first packet, if one has begun; its accepted packets; the number of plays
+-- since it began, which is the place of the next play. And what all plays gave, also those before the stream,
+-- and how many octets at the end of that are filled in a row.
 pub record Stream : Type 0 where
   pub first : Option ℕ
   pub placed : List Placed
@@ -34,8 +34,8 @@ abbrev pub packet_at : List Placed → ℕ → Option (List ℕ)
 packet_at [] place = None
 packet_at (p ∷ placed) place = if p.place == place then Some p.octets else packet_at placed place
 
--- How many places after the next play a packet is due: its number less that of the first packet, less the plays
--- since then, modulo 2^16 (RFC 4553, 4.3). From 2^15 on its turn is over.
+-- How many places after the next play a packet is due: its number less that of the first packet, less the
+-- plays since then, modulo 2^16 (RFC 4553, 4.3). From 2^15 on its turn is over.
 abbrev pub ahead_of : Option ℕ → ℕ → ℕ → ℕ
 ahead_of None now sequence = 0
 ahead_of (Some first) now sequence =
@@ -77,12 +77,12 @@ abbrev pub due_now : Stream → Option (List ℕ)
 due_now s = packet_at s.placed s.now
 
 -- the octets of a play: those of the packet, or those that replace it
-abbrev pub octets_for : Option (List ℕ) → List ℕ → List ℕ
-octets_for None fill = fill
-octets_for (Some octets) fill = octets
+abbrev pub octets_or_fill : Option (List ℕ) → List ℕ → List ℕ
+octets_or_fill None fill = fill
+octets_or_fill (Some octets) fill = octets
 
 abbrev pub octets_now : Settings → Stream → List ℕ
-octets_now settings s = octets_for (due_now s) (fill_of settings.fill settings.size s.given s.filled)
+octets_now settings s = octets_or_fill (due_now s) (fill_of settings.fill settings.size s.given s.filled)
 
 -- how many octets in a row are filled after a play
 abbrev pub filled_for : Option (List ℕ) → ℕ → ℕ → ℕ
@@ -108,7 +108,8 @@ stream settings calls = fold (after_call settings) at_first calls
 
 -- the answer to a packet that arrives, after these calls
 unfoldable pub arrival_answer : Settings → List Call → ℕ → List ℕ → Result (Unit {0}) ArrivalFault
-arrival_answer settings calls sequence octets = answer_for (refusal settings (stream settings calls) sequence octets)
+arrival_answer settings calls sequence octets =
+    answer_for (refusal settings (stream settings calls) sequence octets)
 
 -- whether the packet of a play after these calls is there
 unfoldable pub is_there : Settings → List Call → Bool

@@ -13,7 +13,7 @@ pub(crate) const MULTIFRAME: usize = 512;
 // The most octets in a row that are repeated: 8 ms.
 pub(crate) const MOST_REPEATED: usize = 2048;
 
-// Fills a packet with octets, after the last multiframe of those given, of which so many in a row were filled.
+// Fills a packet, after the last multiframe of octets given, of which so many in a row were filled.
 pub(crate) fn replace(fill: Fill, given: &HeapCircularBuffer<u8>, filled: usize, room: &mut [u8])
     requires { length room.old ≤ 1280 }
     ensures { (all : List ℕ) (count : ℕ) → given.now.items ≡ keep_last 512 all → filled ≡ min count 2048

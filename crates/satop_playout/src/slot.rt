@@ -1,7 +1,7 @@
 //! A slot, which holds the octets of a packet or nothing.
 
 ghost use Rattle.std.specs.Prelude.{◌≡◌, ◌≤◌, ℕ, length, None, Some, is_some};
-ghost use Rattle.satop_playout.specs.Plays.{octets_for};
+ghost use Rattle.satop_playout.specs.Plays.{octets_or_fill};
 ghost use Rattle.satop_playout.specs.Standing.{packet_in};
 
 use crate::MAX_SIZE;
@@ -51,7 +51,7 @@ impl Slot {
     pub(crate) fn take(&mut self, room: &mut [u8]) -> bool
         requires { length room.old ≤ 1280 }
         ensures there { result ≡ is_some (packet_in (length room.old) self.old) }
-        ensures octets { room.new ≡ octets_for (packet_in (length room.old) self.old) room.old }
+        ensures octets { room.new ≡ octets_or_fill (packet_in (length room.old) self.old) room.old }
         ensures empty { (size : ℕ) → packet_in size self.new ≡ None }
     {
         if !self.held {
