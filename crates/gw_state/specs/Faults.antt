@@ -25,17 +25,17 @@ kind_number kinds.Value = 6
 kind_number kinds.Left = 7
 
 -- the mark, the version, the configuration and the check sum have 4, 1, 481 and 32 octets
-abbrev pub least : ℕ
-least = 518
+abbrev pub least_octets : ℕ
+least_octets = 518
 
 -- octets that are long enough begin so
 pub record Begins (front octets : List ℕ) : Type 0 where
-  pub long : least ≤ length octets
+  pub long : least_octets ≤ length octets
   pub front_is : take (length front) octets ≡ front
 
 -- octets that are long enough begin with another mark
 pub record HasNoMark (octets : List ℕ) : Type 0 where
-  pub long : least ≤ length octets
+  pub long : least_octets ≤ length octets
   pub other : take 4 octets ≢ mark
 
 -- the mark is there, and another version than 1
@@ -50,7 +50,7 @@ pub record IsDamaged (octets : List ℕ) : Type 0 where
 
 -- what octets are refused for before their configuration is looked at
 abbrev pub IsOutside : List ℕ → LoadFault → Type 0
-IsOutside octets (Refused kinds.Short number) = length octets < least
+IsOutside octets (Refused kinds.Short number) = length octets < least_octets
 IsOutside octets (Refused kinds.NoState number) = HasNoMark octets
 IsOutside octets (Refused kinds.Version number) = IsOfVersion octets
 IsOutside octets (Refused kinds.Sum number) = IsDamaged octets

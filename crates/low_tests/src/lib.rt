@@ -32,4 +32,6 @@ mod rtp_playout_tests;
 #[cfg(test)]
 mod satop_packet_tests;
 #[cfg(test)]
+mod satop_playout_tests;
+#[cfg(test)]
 mod saved_octets_tests;

@@ -1,0 +1,251 @@
+-- The order in which packets arrive does not matter to what plays give.
+use Rattle.std.proofs.Common.{◌≡◌, ℕ, zero, suc, ◌+◌, ◌^◌, ◌≤◌, ◌<◌, Bool, true, false, cond}
+use Rattle.std.proofs.Common.{List, [], ◌∷◌, ◌++◌, map, Option, Some, None, is_some, All, IsPermutation, ◌==◌}
+use Rattle.std.proofs.Common.{refl, sym, ap, subst, ◌∙◌, arith, append_assoc, append-nil}
+use Rattle.std.proofs.lemmas.Bool.{eqb-true}
+use Rattle.std.proofs.lemmas.List.Sums.{fold-append}
+use Rattle.std.proofs.lemmas.List.Elements.{All-nil, All-cons, All-append, All-head, All-tail}
+use Rattle.std.proofs.lemmas.List.Sorted.{IsPermutation-map, IsPermutation-append_right, IsPermutation-sym}
+use Rattle.std.proofs.lemmas.List.Sorted.{All-permutation}
+use Rattle.satop_playout.specs.declared.Settings.{Settings}
+use Rattle.satop_playout.specs.Calls.{Call, Begins, Arrives, Plays}
+use Rattle.satop_playout.specs.Fill.{fill_of}
+use Rattle.satop_playout.specs.Plays.{Placed, Stream, at_first, packet_at, ahead_of, ahead, refusal, after_arrival}
+use Rattle.satop_playout.specs.Plays.{after_beginning, after_play, after_call, octets_or_fill, filled_for, stream}
+use Rattle.satop_playout.specs.Plays.{arrival_answer, given_octets}
+use Rattle.satop_playout.specs.Laws.{plays_in, NoBeginning, arrivals_of, AllAccepted, OrderDoesNotMatter}
+use Rattle.satop_playout.proofs.Placing.{stream-push, packet_at-kept, packet_at-free, packet_at-apart, placed_at}
+use Rattle.satop_playout.proofs.Placing.{with_packet, after-accepted, after-refused, not-refused}
+use Rattle.satop_playout.proofs.Turns.{accepted, after, now-arrival}
+
+-- each packet that arrives in calls is accepted, from a state on
+abbrev AcceptsIn : Settings → Stream → List Call → Type 0
+AcceptsIn settings s [] = Unit {0}
+AcceptsIn settings s (Begins sequence ∷ calls) = AcceptsIn settings (after_beginning s sequence) calls
+AcceptsIn settings s (Arrives sequence octets ∷ calls) =
+    (refusal settings s sequence octets ≡ None) × AcceptsIn settings (after_arrival settings s sequence octets) calls
+AcceptsIn settings s (Plays ∷ calls) = AcceptsIn settings (after_play settings s) calls
+
+-- calls whose packets are accepted after other calls accept them from the state that those led to
+accepts-in : (settings : Settings) (before calls : List Call) → AllAccepted settings before calls
+    → AcceptsIn settings (stream settings before) calls
+unfolding arrival_answer
+accepts-in settings before [] all = tt
+accepts-in settings before (Begins sequence ∷ calls) all =
+    subst (λ (s : Stream). AcceptsIn settings s calls) (stream-push settings before (Begins sequence))
+    (accepts-in settings (before ++ Begins sequence ∷ []) calls all)
+accepts-in settings before (Arrives sequence octets ∷ calls) all = (
+  not-refused (refusal settings (stream settings before) sequence octets) all.0,
+  subst (λ (s : Stream). AcceptsIn settings s calls) (stream-push settings before (Arrives sequence octets))
+      (accepts-in settings (before ++ Arrives sequence octets ∷ []) calls all.1),
+)
+accepts-in settings before (Plays ∷ calls) all =
+    subst (λ (s : Stream). AcceptsIn settings s calls) (stream-push settings before Plays)
+    (accepts-in settings (before ++ Plays ∷ []) calls all)
+
+-- Each accepted packet is the one of its place: no two have one place.
+abbrev IsFound : List Placed → Placed → Type 0
+IsFound placed p = packet_at placed p.place ≡ Some p.octets
+
+abbrev AllFound : List Placed → Type 0
+AllFound placed = All (λ p. IsFound placed p) placed
+
+-- what was found is found still if one packet more is accepted
+found-kept : (placed among : List Placed) (q : Placed) → All (λ p. IsFound placed p) among
+    → All (λ p. IsFound (placed ++ q ∷ []) p) among
+found-kept placed [] q all = All-nil (λ p. IsFound (placed ++ q ∷ []) p)
+found-kept placed (p ∷ among) q all =
+    All-cons (λ p. IsFound (placed ++ q ∷ []) p) p among
+    (packet_at-kept placed q p.place p.octets (All-head (λ p. IsFound placed p) p among all))
+    (found-kept placed among q (All-tail (λ p. IsFound placed p) p among all))
+
+-- a packet at a free place is found beside those before it
+found-push : (placed : List Placed) (place : ℕ) (octets : List ℕ) → AllFound placed → packet_at placed place ≡ None
+    → AllFound (placed ++ placed_at place octets ∷ [])
+found-push placed place octets all free =
+    let q = placed_at place octets in
+    All-append (λ p. IsFound (placed ++ q ∷ []) p) placed (q ∷ []) (found-kept placed placed q all)
+    (All-cons (λ p. IsFound (placed ++ q ∷ []) p) q [] (packet_at-free placed place octets free)
+    (All-nil (λ p. IsFound (placed ++ q ∷ []) p)))
+
+-- after any calls
+found-after : (settings : Settings) (s : Stream) (calls : List Call) → AllFound s.placed
+    → AllFound (after settings s calls).placed
+found-after settings s [] all = all
+found-after settings s (Begins sequence ∷ calls) all =
+    found-after settings (after_beginning s sequence) calls (All-nil (λ p. IsFound [] p))
+found-after settings s (Arrives sequence octets ∷ calls) all =
+    found-after settings (after_arrival settings s sequence octets) calls
+    (by_refusal (refusal settings s sequence octets) refl)
+  where
+    by_refusal : (r : Option _) → refusal settings s sequence octets ≡ r
+        → AllFound (after_arrival settings s sequence octets).placed
+    by_refusal None e =
+        subst (λ (t : Stream). AllFound t.placed) (sym (after-accepted settings s sequence octets e))
+        (found-push s.placed (s.now + ahead s sequence) octets all (accepted settings s sequence octets e).free)
+    by_refusal (Some fault) e =
+        subst (λ (t : Stream). AllFound t.placed) (sym (after-refused settings s sequence octets fault e)) all
+found-after settings s (Plays ∷ calls) all = found-after settings (after_play settings s) calls all
+
+-- .. the first of them, or one of the others
+found-first : (placed : List Placed) (p : Placed) (k : ℕ) (rest : Option (List ℕ)) (octets : List ℕ) (b : Bool)
+    → (p.place == k) ≡ b → IsFound placed p → (rest ≡ Some octets → packet_at placed k ≡ Some octets)
+    → cond b (Some p.octets) rest ≡ Some octets → packet_at placed k ≡ Some octets
+found-first placed p k rest octets true at found others e =
+    ap (λ (n : ℕ). packet_at placed n) (sym (eqb-true p.place k at)) ∙ found ∙ e
+found-first placed p k rest octets false at found others e = others e
+
+-- a packet that is the one of its place among some is the one among others of the same packets
+found-among : (placed among : List Placed) (k : ℕ) (octets : List ℕ) → All (λ p. IsFound placed p) among
+    → packet_at among k ≡ Some octets → packet_at placed k ≡ Some octets
+found-among placed [] k octets all e = cc
+found-among placed (p ∷ among) k octets all e =
+    found-first placed p k (packet_at among k) octets (p.place == k) refl (All-head (λ p. IsFound placed p) p among all)
+    (found-among placed among k octets (All-tail (λ p. IsFound placed p) p among all)) e
+
+-- two packets that may be there are the same if each is the other wherever it is there
+same-option : (a b : Option (List ℕ)) → ((o : List ℕ) → a ≡ Some o → b ≡ Some o)
+    → ((o : List ℕ) → b ≡ Some o → a ≡ Some o) → a ≡ b
+same-option None None there back = refl
+same-option None (Some o) there back = back o refl
+same-option (Some o) b there back = sym (there o refl)
+
+-- the same packets in any order have the same one at each place
+same-packets : (one other : List Placed) (k : ℕ) → IsPermutation one other → AllFound one → AllFound other
+    → packet_at one k ≡ packet_at other k
+same-packets one other k moved all-one all-other =
+    let there = All-permutation (λ p. IsFound other p) other one (IsPermutation-sym one other moved) all-other in
+    let back = All-permutation (λ p. IsFound one p) one other moved all-one in
+    same-option (packet_at one k) (packet_at other k) (λ o e. found-among other one k o there e)
+    (λ o e. found-among one other k o back e)
+
+-- what plays give if all packets are known at first
+abbrev ran : Settings → List Placed → ℕ → List ℕ → ℕ → ℕ → List ℕ
+ran settings placed now given filled zero = given
+ran settings placed now given filled (suc count) =
+    ran settings placed (now + 1)
+    (given ++ octets_or_fill (packet_at placed now) (fill_of settings.fill settings.size given filled))
+    (filled_for (packet_at placed now) settings.size filled) count
+
+-- they give the same of the same packets
+ran-same : (settings : Settings) (one other : List Placed) (now : ℕ) (given : List ℕ) (filled count : ℕ)
+    → ((k : ℕ) → packet_at one k ≡ packet_at other k)
+    → ran settings one now given filled count ≡ ran settings other now given filled count
+ran-same settings one other now given filled zero same = refl
+ran-same settings one other now given filled (suc count) same =
+    ap (λ (o : Option (List ℕ)). ran settings one (now + 1)
+    (given ++ octets_or_fill o (fill_of settings.fill settings.size given filled))
+    (filled_for o settings.size filled) count) (same now)
+    ∙ ran-same settings one other (now + 1)
+    (given ++ octets_or_fill (packet_at other now) (fill_of settings.fill settings.size given filled))
+    (filled_for (packet_at other now) settings.size filled) count same
+
+module _ (settings : Settings) where
+  either-past : (b : Bool) (s : Stream) (place k : ℕ) (octets : List ℕ) → k < place
+      → packet_at (cond b s (with_packet s place octets)).placed k ≡ packet_at s.placed k
+  either-past true s place k octets h = refl
+  either-past false s place k octets h =
+      packet_at-apart s.placed (placed_at place octets) k (λ e. omega (arith, e, h))
+
+  -- packets that arrive later change nothing at the places of earlier plays
+  past-after : (s : Stream) (calls : List Call) (k : ℕ) → NoBeginning calls → k < s.now
+      → packet_at (after settings s calls).placed k ≡ packet_at s.placed k
+  past-after s [] k none h = refl
+  past-after s (Begins sequence ∷ calls) k none h = absurd none
+  past-after s (Arrives sequence octets ∷ calls) k none h =
+      let same = now-arrival settings s sequence octets in
+      past-after (after_arrival settings s sequence octets) calls k none (omega arith)
+      ∙ either-past (is_some (refusal settings s sequence octets)) s (s.now + ahead s sequence) k octets (omega arith)
+  past-after s (Plays ∷ calls) k none h = past-after (after_play settings s) calls k none (omega arith)
+
+  abbrev ran_from : Stream → List Placed → ℕ → List ℕ
+  ran_from s placed count = ran settings placed s.now s.given s.filled count
+
+  either-ran : (b : Bool) (s : Stream) (place : ℕ) (octets : List ℕ) (placed : List Placed) (count : ℕ)
+      → ran_from (cond b s (with_packet s place octets)) placed count ≡ ran_from s placed count
+  either-ran true s place octets placed count = refl
+  either-ran false s place octets placed count = refl
+
+  -- what plays among calls give is what they give of all packets, also those still to come
+  given-ran : (s : Stream) (calls : List Call) → NoBeginning calls
+      → (after settings s calls).given ≡ ran_from s (after settings s calls).placed (plays_in calls)
+  given-ran s [] none = refl
+  given-ran s (Begins sequence ∷ calls) none = absurd none
+  given-ran s (Arrives sequence octets ∷ calls) none =
+      given-ran (after_arrival settings s sequence octets) calls none
+      ∙ either-ran (is_some (refusal settings s sequence octets)) s (s.now + ahead s sequence) octets
+      (after settings (after_arrival settings s sequence octets) calls).placed (plays_in calls)
+  given-ran s (Plays ∷ calls) none =
+      let all = (after settings (after_play settings s) calls).placed in
+      let now : packet_at s.placed s.now ≡ packet_at all s.now =
+      sym (past-after (after_play settings s) calls s.now none (omega arith)) in
+      given-ran (after_play settings s) calls none
+      ∙ ap (λ (o : Option (List ℕ)). ran settings all (s.now + 1)
+      (s.given ++ octets_or_fill o (fill_of settings.fill settings.size s.given s.filled))
+      (filled_for o settings.size s.filled) (plays_in calls)) now
+
+-- a packet at the place of its number, for a stream whose next place is this one
+abbrev by_number : Option ℕ → ℕ → ℕ × List ℕ → Placed
+by_number first now packet = placed_at (now + ahead_of first now packet.0) packet.1
+
+-- in 2^15 plays the place of an accepted packet follows from its number alone
+number-fixed : (first : Option ℕ) (now plays sequence : ℕ) → is_some first ≡ true → plays ≤ 2 ^ 15
+    → ahead_of first (now + plays) sequence < 2 ^ 15
+    → now + plays + ahead_of first (now + plays) sequence ≡ now + ahead_of first now sequence
+number-fixed None now plays sequence begun few on_time = cc
+number-fixed (Some first) now plays sequence begun few on_time = omega arith
+
+-- each accepted packet is put behind those before it, at the place of its number
+placed-by_number : (settings : Settings) (first : Option ℕ) (now plays : ℕ) (s : Stream) (calls : List Call)
+    → s.first ≡ first → s.now ≡ now + plays → NoBeginning calls → AcceptsIn settings s calls
+    → plays + plays_in calls ≤ 2 ^ 15
+    → (after settings s calls).placed ≡ s.placed ++ map (by_number first now) (arrivals_of calls)
+placed-by_number settings first now plays s [] f at none all few = sym (append-nil s.placed)
+placed-by_number settings first now plays s (Begins sequence ∷ calls) f at none all few = absurd none
+placed-by_number settings first now plays s (Arrives sequence octets ∷ calls) f at none all few =
+    let a = accepted settings s sequence octets all.0 in
+    let rest = map (by_number first now) (arrivals_of calls) in
+    let begun : is_some first ≡ true = ap is_some (sym f) ∙ a.begun in
+    let is : ahead s sequence ≡ ahead_of first (now + plays) sequence =
+    ap (λ (o : Option ℕ). ahead_of o s.now sequence) f ∙ ap (λ (n : ℕ). ahead_of first n sequence) at in
+    let on_time = a.on_time in
+    let fixed = number-fixed first now plays sequence begun (omega arith) (omega arith) in
+    let place : s.now + ahead s sequence ≡ now + ahead_of first now sequence = omega arith in
+    let same : after_arrival settings s sequence octets
+    ≡ with_packet s (now + ahead_of first now sequence) octets =
+    after-accepted settings s sequence octets all.0 ∙ ap (λ (n : ℕ). with_packet s n octets) place in
+    let next = with_packet s (now + ahead_of first now sequence) octets in
+    ap (λ (t : Stream). (after settings t calls).placed) same
+    ∙ placed-by_number settings first now plays next calls f at none
+    (subst (λ (t : Stream). AcceptsIn settings t calls) same all.1) few
+    ∙ append_assoc s.placed (by_number first now (sequence, octets) ∷ []) rest
+placed-by_number settings first now plays s (Plays ∷ calls) f at none all few =
+    placed-by_number settings first now (plays + 1) (after_play settings s) calls f (omega arith) none all (omega arith)
+
+-- the law of two orders of arrival
+pub order_does_not_matter : OrderDoesNotMatter
+unfolding given_octets stream
+order_does_not_matter settings lead one other none-one none-other moved as_many few all-one all-other =
+    let s = stream settings lead in
+    let f = by_number s.first s.now in
+    let whole-one = fold-append (after_call settings) at_first lead one in
+    let whole-other = fold-append (after_call settings) at_first lead other in
+    let found = found-after settings at_first lead (All-nil (λ p. IsFound [] p)) in
+    let at : s.now ≡ s.now + 0 = omega arith in
+    let was-one = placed-by_number settings s.first s.now 0 s one refl at none-one
+    (accepts-in settings lead one all-one) (omega arith) in
+    let was-other = placed-by_number settings s.first s.now 0 s other refl at none-other
+    (accepts-in settings lead other all-other) (omega arith) in
+    let among = IsPermutation-append_right s.placed (map f (arrivals_of one)) (map f (arrivals_of other))
+    (IsPermutation-map f (arrivals_of one) (arrivals_of other) moved) in
+    let one-found = subst (λ (ps : List Placed). AllFound ps) was-one (found-after settings s one found) in
+    let other-found = subst (λ (ps : List Placed). AllFound ps) was-other (found-after settings s other found) in
+    let same : (k : ℕ) → packet_at (after settings s one).placed k ≡ packet_at (after settings s other).placed k =
+    λ k. ap (λ (ps : List Placed). packet_at ps k) was-one
+    ∙ same-packets (s.placed ++ map f (arrivals_of one)) (s.placed ++ map f (arrivals_of other)) k among one-found
+    other-found ∙ ap (λ (ps : List Placed). packet_at ps k) (sym was-other) in
+    ap (λ (t : Stream). t.given) whole-one ∙ given-ran settings s one none-one
+    ∙ ran-same settings (after settings s one).placed (after settings s other).placed s.now s.given s.filled
+    (plays_in one) same
+    ∙ ap (λ (n : ℕ). ran_from settings s (after settings s other).placed n) as_many
+    ∙ sym (given-ran settings s other none-other) ∙ sym (ap (λ (t : Stream). t.given) whole-other)

@@ -1,0 +1,35 @@
+//! Laws of the playout: what holds by the definitions alone, proved by functions that do nothing.
+
+ghost use Rattle.satop_playout.specs.Laws.{NothingIsGiven, BeginningsGiveNothing, ArrivalsGiveNothing};
+ghost use Rattle.satop_playout.specs.Laws.{PlaysGiveTheirOctets, RefusalsChangeNothing, AcceptedIsPlayed};
+ghost use Rattle.satop_playout.specs.Laws.{NothingIsAcceptedTwice, OrderDoesNotMatter};
+
+/// The octets given grow with each play by its octets, and with no other call.
+pub fn plays_give_octets()
+    ensures none { NothingIsGiven }
+    ensures begins { BeginningsGiveNothing }
+    ensures arrives { ArrivalsGiveNothing }
+    ensures plays { PlaysGiveTheirOctets }
+{}
+
+/// A refused packet changes nothing.
+pub fn refusals_change_nothing()
+    ensures { RefusalsChangeNothing }
+{}
+
+/// An accepted packet is played in its turn, as it was sent.
+pub fn accepted_packets_are_played()
+    ensures { AcceptedIsPlayed }
+{}
+
+/// No number is accepted twice within the 2^15 plays after it; so no packet is played twice.
+pub fn nothing_is_accepted_twice()
+    ensures { NothingIsAcceptedTwice }
+{}
+
+/// The order of arrival does not matter.
+///
+/// If all packets are accepted in both of two orders, all plays give the same octets in both.
+pub fn order_does_not_matter()
+    ensures { OrderDoesNotMatter }
+{}

@@ -1,0 +1,64 @@
+//! A slot, which holds the octets of a packet or nothing.
+
+ghost use Rattle.std.specs.Prelude.{◌≡◌, ◌≤◌, ℕ, length, None, Some, is_some};
+ghost use Rattle.satop_playout.specs.Plays.{octets_or_fill};
+ghost use Rattle.satop_playout.specs.Standing.{packet_in};
+
+use crate::MAX_SIZE;
+
+// The octets of a packet, if one is held.
+#[derive(Clone, Copy)]
+pub(crate) struct Slot {
+    held: bool,
+    octets: [u8; MAX_SIZE],
+}
+
+impl Slot {
+    // A slot that holds nothing.
+    pub(crate) fn empty() -> Slot
+        ensures { (size : ℕ) → packet_in size result ≡ None }
+    {
+        Slot {
+            held: false,
+            octets: [0; MAX_SIZE],
+        }
+    }
+
+    // Whether a packet is held.
+    pub(crate) fn is_held(&self) -> bool
+        ensures { (size : ℕ) → result ≡ is_some (packet_in size self.now) }
+    {
+        self.held
+    }
+
+    // Forgets the packet.
+    pub(crate) fn clear(&mut self)
+        ensures { (size : ℕ) → packet_in size self.new ≡ None }
+    {
+        self.held = false;
+    }
+
+    // Holds these octets.
+    pub(crate) fn put(&mut self, octets: &[u8])
+        requires { length octets.now ≤ 1280 }
+        ensures { packet_in (length octets.now) self.new ≡ Some octets.now }
+    {
+        self.held = true;
+        self.octets[..octets.len()].copy_from_slice(octets);
+    }
+
+    // Gives the packet's octets if one is held, and says whether it was. Then nothing is held.
+    pub(crate) fn take(&mut self, room: &mut [u8]) -> bool
+        requires { length room.old ≤ 1280 }
+        ensures there { result ≡ is_some (packet_in (length room.old) self.old) }
+        ensures octets { room.new ≡ octets_or_fill (packet_in (length room.old) self.old) room.old }
+        ensures empty { (size : ℕ) → packet_in size self.new ≡ None }
+    {
+        if !self.held {
+            return false;
+        }
+        self.held = false;
+        room.copy_from_slice(&self.octets[..room.len()]);
+        true
+    }
+}
