@@ -1,4 +1,4 @@
-"""Those who read all that a driver shows, as fast as they can: for test_readers and bench/readers."""
+"""Those who read all that e1gw-trunk shows, as fast as they can: for bench/readers."""
 from __future__ import annotations
 
 import multiprocessing
@@ -104,6 +104,7 @@ def all_answered(world: World) -> None:
     """Thirty calls."""
     world.until(lambda: world.exchange.aligned and not world.exchange.remote_alarms)
     world.step(15)
+    world.settle()
     with _connect(world.path('ctl')) as line:
         for n in range(1, 31):
             line.sendall(f'seize {n}\n'.encode())

@@ -158,10 +158,13 @@ class Recorded(Kept):
         self.starts('--flow', self.path('flow'))
         self.calls()
         for _ in range(2):
-            until = time.monotonic() + SECONDS
-            while self.place() != MULTIFRAME * len(self.heard):
+            until, before = time.monotonic() + SECONDS, MULTIFRAME * len(self.heard)
+            while (place := self.place()) < before:     # (of several in a look the one that was least late is noted)
+                self.assertEqual(place % MULTIFRAME, 0)
                 self.assertLess(time.monotonic(), until)
-                time.sleep(0.01)
+                self.step()
+                time.sleep(0.03)
+            self.assertLessEqual(place, MULTIFRAME * len(self.heard))
             self.keeper.send_signal(signal.SIGHUP)
             self.goes_on()
             self.step(20)
