@@ -5,7 +5,8 @@ use Rattle.gw_session.proofs.Common.{Appends, map_push, flat_map_more, GatewayCo
 use Rattle.gw_session.proofs.Common.{Record, IsGood, record_at, SinkState, Passes, Breaks, AppendsBut, AppendsPrefix}
 use Rattle.gw_session.proofs.Common.{Passes-appended, Passes-empty, Passes-join, Appends-join, AppendsBut-behind}
 use Rattle.gw_session.proofs.Common.{all_kinds, Spells, Act, told, turns_of, turns, events_in, events_through, Follows}
-use Rattle.gw_session.proofs.Common.{but_last, WatchedTrace, OfFirstActs, written_for, written_by, ActsOn, StopsAt, CutTrace}
+use Rattle.gw_session.proofs.Common.{but_last, WatchedTrace, OfFirstActs, written_for, written_by, ActsOn}
+use Rattle.gw_session.proofs.Common.{StopsAt, CutTrace}
 use Rattle.gw_session.proofs.Common.{TapeState, State, Output, drop-take, named, Passes-start, ActTrace}
 use Rattle.gw_records.specs.declared.records.First.{First}
 use Rattle.gw_session.proofs.Turns.{TurnTrace-none, TurnTrace-join, counted-more, octets-append, turns_have_octets}

@@ -105,8 +105,8 @@ impl Teller {
     ghost use Rattle.gw_tell.specs.Clients.{TellsChanges, StaysOrNew};
     ghost use Rattle.gw_tell.specs.Telling.{TellsAny, LetsIn};
 
-    /// Listens at a path, with no client yet, and takes the memory of all places. The error is the system's, or
-    /// that memory was refused.
+    /// Listens at a path, with no client yet, and takes the memory of all places. The error is the system's,
+    /// or that memory was refused.
     pub fn open(rt: &HostRuntime, path: &str, law: Law, gateway: &Gateway) -> io::Result<Teller>
         ensures { IfOk result (λ t. HasBegun t law gateway.now) }
     {
