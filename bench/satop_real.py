@@ -30,7 +30,7 @@ STEP = 0.002                        # seconds of a multiframe
 OUTGOING, INCOMING = range(1, 16), range(16, 31)    # circuit n speaks with n + 15
 PATIENCE = 20
 NOTED = 0.020                       # seconds that somebody stands still for before it is kept
-SILENCE = 0.1                       # seconds of the far end's that the driver has to take for silence
+SILENCE = 0.1                       # seconds of the far end's that the carrier has to take for silence
 AFTER = 3.0                         # seconds after that in which nothing of speech and alarms is held against it
 BEFORE = 2.0                        # seconds before something is told in which its cause may lie
 QUIET = ('state', 'command', 'codec', 'trunk', 'aligned')   # events that are no trouble
@@ -109,7 +109,7 @@ class Stood:
         self.far: list[tuple[float, float]] = []
         self.near: list[tuple[float, float]] = []
         self._back = self._until = time.monotonic()
-        self.silences, self._is_late = 0, False     # how often the driver has to take it for silence, at least
+        self.silences, self._is_late = 0, False     # how often the carrier has to take it for silence, at least
 
     def step(self, late: float, heard: bool) -> None:
         """The far end was late by so much, and then heard something or nothing."""
@@ -225,7 +225,7 @@ class World:
 
 
 class Control:
-    """The control socket of the driver; what is asked is asked in a thread, so that the trunk goes on."""
+    """The control socket of the trunk; what is asked is asked in a thread, so that the trunk goes on."""
 
     def __init__(self, path: str, world: World) -> None:
         self.path, self.world = path, world
@@ -278,7 +278,7 @@ def set_up(world: World, control: Control) -> None:
 
 
 def told(path: str, since: float) -> list[dict[str, Any]]:
-    """The events of the driver since then that are trouble."""
+    """The events of the trunk since then that are trouble."""
     with open(path, encoding='utf-8') as file:
         events = [json.loads(line) for line in file]
     return [event for event in events if event['time'] >= since and event['event'] not in QUIET]
@@ -293,7 +293,7 @@ def refused(status: dict[str, Any]) -> Counter[str]:
 
 
 def measure(world: World, control: Control, seconds: float, path: str, near: 'Near') -> list[Row | str]:
-    """Thirty calls for so long. At `path` are the events of the driver."""
+    """Thirty calls for so long. At `path` are the events of the trunk."""
     begun, since, used = control.status(), time.time(), near.processor()
     world.begin()
     world.run(seconds)
@@ -333,7 +333,7 @@ def _looked_at(world: World, seconds: float, begun: dict[str, Any], status: dict
          not (more['lost'] or more['late'] and not silent or more['malformed'] or more['unsent']), '0, 0, 0, 0'),
         ('times without packets for 100 ms', more['silences'], more['silences'] <= silent,
          f'{silent}, those of the far end'),
-        ('gaps of the trunk, by the driver\'s clock', status['clock']['gaps'] - begun['clock']['gaps'], True, 'told'),
+        ('gaps of the trunk', status['clock']['gaps'] - begun['clock']['gaps'], True, 'told'),
         ('octets of speech that are others', f'{wrong} of {right + wrong + excused}',
          0 < right and wrong * 1000 <= right + wrong, 'at most one in 1000'),
         ('others beside these, after silences of the far end', excused, True, 'told'),
@@ -351,21 +351,23 @@ def hurry() -> None:
 
 
 def child_of(parent: int, word: str) -> int:
-    """The process of the program that another one has started with this word."""
-    with open(f'/proc/{parent}/task/{parent}/children', encoding='ascii') as file:
-        children = file.read().split()
-    for child in children:
-        with open(f'/proc/{child}/cmdline', 'rb') as file:
-            if file.read().split(b'\0')[1:2] == [word.encode()]:
-                return int(child)
-    raise SystemExit(f'real time: no e1gw {word}')
+    """The process that another one, or one of those that it has started, has started with this word."""
+    left = [parent]
+    while left:
+        pid = left.pop(0)
+        with open(f'/proc/{pid}/task/{pid}/children', encoding='ascii') as file:
+            left += map(int, file.read().split())
+        with open(f'/proc/{pid}/cmdline', 'rb') as file:
+            if pid != parent and word in (os.path.basename(each.decode()) for each in file.read().split(b'\0')):
+                return pid
+    raise SystemExit(f'real time: no {word}')
 
 
 class Near:
     """The processes of the near end."""
 
     def __init__(self, driver: int) -> None:
-        self.processes = {'driver': driver} | {word: child_of(driver, word) for word in ('serve', 'satop', 'replay')}
+        self.processes = {word: child_of(driver, word) for word in ('trunk', 'e1gw-carry', 'satop', 'replay')}
 
     def processor(self) -> dict[str, float]:
         """Seconds of processor time."""
@@ -416,16 +418,16 @@ def others(world: World, what: str) -> Row:
 def on_purpose(world: World, driver: int) -> list[Row]:
     """What stands still or is slow on purpose, beside which no octet of speech is to be another one."""
     rows = []
-    for what, process in (('gateway', child_of(driver, 'serve')), ('e1gw satop', child_of(driver, 'satop')),
-                          ('driver', driver)):
+    carrier = child_of(driver, 'e1gw-carry')        # (a program that is stopped is killed, and another one goes on)
+    for what, process in (('carrier', carrier), ('e1gw satop', child_of(driver, 'satop'))):
         rows += [stands_still(world, what, process, seconds) for seconds in (.15, .3)]
         rows += [is_slow(world, what, process, share) for share in (.2, .3, .4, .5)]
     return rows
 
 
 def real_time(program: str, folder: str, seconds: float, nice: int, look: Look) -> bool:
-    """Starts the driver, sets up the calls, and measures. False where the far end itself stood still for so long that
-    the driver has to take it for silence."""
+    """Starts the trunk, sets up the calls, and measures. False where the far end itself stood still for so long that
+    the carrier has to take it for silence."""
     path, door, events = (os.path.join(folder, f'real.{name}') for name in ('toml', 'control', 'json'))
     with open(path, 'w', encoding='utf-8') as file:
         file.write(config())
@@ -450,5 +452,5 @@ def real_time(program: str, folder: str, seconds: float, nice: int, look: Look) 
     print(f'thirty calls in real time for {seconds:g} s:')
     for line in measured:
         look(*line) if isinstance(line, tuple) else print(f'  {line}')
-    look('status of the driver', status, status == 0, '0')
+    look('status of e1gw-trunk', status, status == 0, '0')
     return not world.stood.silences

@@ -2,11 +2,11 @@
 
 _e1gw_carry() {
   local cur=${COMP_WORDS[COMP_CWORD]} prev=${COMP_WORDS[COMP_CWORD - 1]}
-  local options='--listen --config --program --status --json --in --out --unix --tcp --satop --clear --align --crc4
-    --reopen --satop-size --satop-jitter --satop-rtp --satop-fill --satop-clock --help'
+  local options='--listen --config --program --status --tell --json --in --out --unix --tcp --satop --clear --align
+    --crc4 --reopen --satop-size --satop-jitter --satop-rtp --satop-fill --satop-clock --help'
   COMPREPLY=()
   case $prev in
-    --listen | --config | --program | --status | --json | --in | --out | --unix)
+    --listen | --config | --program | --status | --tell | --json | --in | --out | --unix)
       compopt -o filenames 2> /dev/null
       mapfile -t COMPREPLY < <(compgen -f -- "$cur") ;;
     --satop-fill) mapfile -t COMPREPLY < <(compgen -W 'again ones' -- "$cur") ;;

@@ -2,13 +2,13 @@
 
 _e1gw_trunk() {
   local cur=${COMP_WORDS[COMP_CWORD]} prev=${COMP_WORDS[COMP_CWORD - 1]}
-  local options='--config --name --program --repeat --seizure-wait --senders --totals --in --out --unix --tcp --satop
-    --clear --align --crc4 --pace --most --reopen --satop-size --satop-jitter --satop-rtp --satop-fill --satop-clock
-    --control --control-mode --control-group --on-loss --http --picture --metrics --json --watch --top --no-counts
-    --session --calls --keep --gap --dark --help'
+  local options='--config --name --program --repeat --seizure-wait --senders --totals --state --in --out --unix --tcp
+    --satop --clear --align --crc4 --pace --most --reopen --satop-size --satop-jitter --satop-rtp
+    --satop-fill --satop-clock --control --control-mode --control-group --on-loss --http --picture
+    --metrics --json --watch --top --no-counts --session --calls --keep --gap --dark --help'
   COMPREPLY=()
   case $prev in
-    --config | --program | --in | --out | --unix | --control | --metrics | --json | --session | --calls)
+    --config | --program | --in | --out | --unix | --control | --metrics | --json | --session | --calls | --state)
       compopt -o filenames 2> /dev/null
       mapfile -t COMPREPLY < <(compgen -f -- "$cur") ;;
     --satop-fill) mapfile -t COMPREPLY < <(compgen -W 'again ones' -- "$cur") ;;

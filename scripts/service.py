@@ -1,6 +1,6 @@
 """A trunk in service for scripts: `e1gw-trunk` as a process, and its control.
 
-Python's standard library alone. Used by examples/satop and by tests of the driver."""
+Python's standard library alone. Used by examples/satop and by the Python tests."""
 from __future__ import annotations
 
 import json
@@ -15,7 +15,7 @@ PATIENCE = 30               # seconds
 
 
 class Service:
-    """A driver with its gateway; what they print is kept in the folder, where the control is too."""
+    """A trunk; what its programs print is kept in the folder, where the control is too."""
 
     def __init__(self, folder: str, name: str, program: str, config: str, *options: str) -> None:
         self.name, self.control = name, os.path.join(folder, f'{name}.control')
@@ -33,7 +33,7 @@ class Service:
             return line.makefile('rb').readline().decode().strip()
 
     def status(self) -> dict[str, Any]:
-        """All that is known; nothing where the driver does not answer."""
+        """All that is known; nothing where nobody answers."""
         try:
             found: dict[str, Any] = json.loads(self.ask('status json'))
             return found

@@ -34,11 +34,15 @@ class Behind:
     wait: int = SEIZURE_WAIT        # of a seizure, in milliseconds
     failed: Callable[[str], None] = lambda why: None
     zstd: str | None = field(default_factory=lambda: shutil.which('zstd'))
-    _state: str = ''            # what the piece that is read next begins with; the first one with nothing
+    _state: str = ''            # what the piece that is read next begins with; with nothing if it is a new gateway
     _has_failed: bool = False
     _waiting: deque[tuple[str, str]] = field(default_factory=deque)
     _lock: threading.Lock = field(default_factory=threading.Lock)
     _works: bool = False
+
+    def begin(self, state: str) -> None:
+        """The first piece begins with the state of this file."""
+        self._state = state
 
     def put(self, piece: str, following: str) -> None:
         """Gives it a piece that is whole, and the one that follows it, by their paths without ending. Never waits."""

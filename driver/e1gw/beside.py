@@ -7,6 +7,7 @@ import time
 from collections import deque
 from typing import Callable, Mapping
 
+from .recorder import FLUSH
 from .running import Process, Run, Version, unlink
 
 GRACE = 1.0                 # seconds for an orderly end, and for a state to be saved
@@ -100,11 +101,13 @@ class Retired:
     def look(self, now: float) -> None:
         """Takes their files away."""
         for run in list(self.runs):
-            if not run.shadow or run.shadow.ended():
+            if all([process.ended() for process in run.beside()]):
                 self.runs.remove(run)
                 run.remove()
-            elif now > self._until:
+            elif run.shadow and now > self._until:
                 run.shadow.signal(signal.SIGKILL)
+            if run.recorder and now > self._until + FLUSH:
+                run.recorder.signal(signal.SIGKILL)
 
 
 class Trial:

@@ -35,7 +35,7 @@ def moment(seconds: float | None) -> str:
 
 @dataclass
 class Call:
-    """One call: when it was seized, answered and ended, who ended it, and where on the trunk it ended."""
+    """One call: when it was seized, answered and ended, and who ended it."""
 
     circuit: int
     seized: float | None        # None if it was up before anything was told
@@ -44,7 +44,6 @@ class Call:
     ended: float | None = None
     by: str = ''
     codec: str = ''
-    place: int = 0
 
 
 class Calls:
@@ -67,7 +66,7 @@ class Calls:
         if call and state is State.ANSWERED and call.answered is None:
             call.answered = self._clock()
         if call and state not in IN_CALL:
-            self._end(call, 'unwatched' if unwatched else self._who(call, was, state), event['place'])
+            self._end(call, 'unwatched' if unwatched else self._who(call, was, state))
 
     def _begin(self, circuit: int, seized: float | None) -> None:
         self._calls[circuit] = Call(circuit, seized, self._lines[circuit].unacknowledged)
@@ -91,19 +90,19 @@ class Calls:
         is_ours = (line.role is Role.OUTGOING) != (was is State.CLEAREDBACK)
         return 'gateway' if is_ours else 'exchange'
 
-    def _end(self, call: Call, by: str, place: int) -> None:
-        call.ended, call.by, call.place, call.codec = self._clock(), by, place, self._lines[call.circuit].codec
+    def _end(self, call: Call, by: str) -> None:
+        call.ended, call.by, call.codec = self._clock(), by, self._lines[call.circuit].codec
         self._ended.append(self._calls.pop(call.circuit))
 
     def look(self) -> None:
-        """To be called now and then: writes the calls whose packets are counted, or will not be."""
-        while self._ended and (self._counts.stale() or self._counts.has(self._ended[0].place)):
+        """To be called now and then: writes the calls that have ended."""
+        while self._ended:
             self._write(self._ended.pop(0))
 
     def finish(self) -> None:
         """The trunk is no longer carried: writes all."""
         for call in list(self._calls.values()):
-            self._end(call, 'stop', 0)
+            self._end(call, 'stop')
         for call in self._ended:
             self._write(call)
         self._ended = []

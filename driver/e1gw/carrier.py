@@ -57,8 +57,11 @@ class Carrier:
         self._earlier = self.owed + len(self._rest)
 
     def may_read(self) -> bool:
-        """Whether the trunk is read now: all that was given and answered before has gone."""
-        return bool(self.trunk and not self.trunk.waiting() and not (self.program and self.program.waiting()))
+        """Whether the trunk is read now: all that was given and answered before has gone. A file waits for a
+        program."""
+        if not self.trunk or self.trunk.waiting() or not (self.trunk.paced or self.program):
+            return False
+        return not (self.program and self.program.waiting())
 
     def carry(self) -> int:
         """Reads the trunk, and gives what has come to the program; returns how many octets."""
@@ -70,6 +73,12 @@ class Carrier:
             del self._rest[:count]
             self._give(octets)
         return count
+
+    def give_rest(self) -> None:
+        """Gives the program what is no whole multiframe, at the end of a trunk."""
+        octets, self._rest = bytes(self._rest), bytearray()
+        if octets:
+            self._give(octets)
 
     def _give(self, octets: bytes) -> None:
         self._look_at_owed()

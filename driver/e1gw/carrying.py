@@ -13,6 +13,7 @@ from __future__ import annotations
 import argparse
 import json
 import os
+import select
 import signal
 import socket
 import subprocess
@@ -32,7 +33,8 @@ from .lines import Event, law_of, read_config
 from .loop import GONE, READ, WRITE, Loop
 from .options import Usage
 from .outlets import Journal, Outlet, hold_descriptors, to_descriptor, to_file
-from .peers import Door
+from .parent import parent
+from .peers import Door, Peer
 from .programs import program_of
 from .session import MULTIFRAME, OCTETS_A_SECOND
 from .systemd import Notify
@@ -43,6 +45,7 @@ MODE = 0o660                # of the sockets
 REOPEN_MOST = 30.0          # seconds between two tries to open the trunk
 ALIVE = 0.5                 # seconds between two signs of life
 GRACE = 1.0                 # seconds for a program to end
+MOST_FOLLOWERS = 8          # at the socket of --tell
 LASTS = MULTIFRAME / OCTETS_A_SECOND    # seconds of a multiframe
 NOTHING = -1, 0             # no descriptor, no events
 
@@ -57,9 +60,18 @@ def parser() -> argparse.ArgumentParser:
     words.add_argument('--program', metavar='E1GW', help='the program [default: that of this repository, or e1gw]')
     words.add_argument('--status', metavar='PATH', help='a Unix socket that gives a line of JSON to each who connects')
     words.add_argument('--json', metavar='FILE', help='a line of JSON for each change; - is standard output')
+    words.add_argument('--tell', metavar='PATH', help='a Unix socket that gives the status and each change as lines of '
+                       'JSON, for e1gw-watch')
     add_trunk(words.add_argument_group('the trunk'))
     satop.add_arguments(words)
     return words
+
+
+class Follower(Peer):
+    """One who is told what changes, and says nothing."""
+
+    def took(self, octets: bytes) -> None:
+        pass
 
 
 def _listening(option: str, path: str) -> socket.socket:
@@ -85,6 +97,8 @@ class Carriage:
         self._json = self._open_json(asked.json)
         self._door = Door(loop, _listening('--listen', asked.listen), self._came, asked.listen)
         self._status_door = asked.status and Door(loop, _listening('--status', asked.status), self._asked, asked.status)
+        self._tell_door = asked.tell and Door(loop, _listening('--tell', asked.tell), self._follow, asked.tell)
+        self._followers: set[Peer] = set()
         self._notify.ready(f'listens at {asked.listen}')
 
     def _open_json(self, path: str | None) -> Outlet | None:
@@ -133,12 +147,30 @@ class Carriage:
             where = f': {trunk.name}' if trunk and trunk.name else ''
             self._watch_trunk(*NOTHING)
             self._due = None
+            if isinstance(fault, EOFError) and trunk and not trunk.paced:
+                self._finish_file()
             self.carrier.lose()
             if isinstance(fault, EOFError):
                 self._lost('the trunk has ended', 0)
             else:
                 self._lost(f'the trunk cannot be read or written: {words_of_fault(fault)}{where}', 1)
         self._watch()
+
+    def _finish_file(self) -> None:
+        """Gives the program the end of a file, and writes what it answers."""
+        carrier, until = self.carrier, time.monotonic() + GRACE
+        try:
+            carrier.give_rest()
+            while (program := carrier.program) and (carrier.owed or carrier.trunk and carrier.trunk.waiting()):
+                left = until - time.monotonic()
+                if left <= 0 or not select.select([program.fileno()] if carrier.owed else [], [], [], min(left, 0.01)):
+                    return
+                carrier.flush()
+                if carrier.owed:
+                    carrier.hear()
+                self._flush()
+        except (EOFError, OSError):
+            pass
 
     def _watch(self) -> None:
         trunk, program = self.carrier.trunk, self.carrier.program
@@ -212,14 +244,30 @@ class Carriage:
         self.journal.line(level, words_of(event), name)
         if self._json:
             self._json.put((json.dumps({'time': round(time.time(), 6), **event}) + '\n').encode())
+        self._pass_on(event)
+
+    def _pass_on(self, what: Event) -> None:
+        """To those who follow, none of whom is waited for."""
+        line = (json.dumps(what) + '\n').encode()
+        for follower in list(self._followers):
+            follower.send(line)
+
+    def _follow(self, line: socket.socket, _: object) -> None:
+        if len(self._followers) < MOST_FOLLOWERS:
+            self._followers.add(Follower(self.loop, line, self._followers.discard))
+            self._pass_on(self._status())
+        else:
+            line.close()
+
+    def _status(self) -> Event:
+        return {'time': round(time.time(), 3), 'uptime': round(time.monotonic() - self._began, 3),
+                **self.carrier.status()}
 
     def _asked(self, line: socket.socket, _: object) -> None:
         """The status for who has connected, who is never waited for."""
-        status = {'time': round(time.time(), 3), 'uptime': round(time.monotonic() - self._began, 3),
-                  **self.carrier.status()}
         line.setblocking(False)
         try:
-            line.send((json.dumps(status) + '\n').encode())
+            line.send((json.dumps(self._status()) + '\n').encode())
         except OSError:
             pass
         line.close()
@@ -234,6 +282,7 @@ class Carriage:
     def _tick(self) -> None:
         self._notify.alive(time.monotonic())
         self.journal.look()
+        self._pass_on(self._status())
 
     def run(self) -> int:
         """Carries the octets until its end; returns the status."""
@@ -249,7 +298,7 @@ class Carriage:
             elif deadline is not None and time.monotonic() >= deadline:
                 self._do(self._carry)
         self._notify.tell('STOPPING=1')
-        for door in (self._door, self._status_door):
+        for door in (self._door, self._status_door, self._tell_door):
             if door:
                 door.close()
         if self.carrier.program:
@@ -289,6 +338,8 @@ def _serve(asked: argparse.Namespace, journal: Journal) -> int:
         found[0].end(0)
     loop.catch_signals(caught)
     found.append(Carriage(loop, asked, opens, crc4, journal))
+    if (file := parent()) >= 0:
+        loop.watch(file, READ, lambda _: found[0].end(0))
     return found[0].run()
 
 

@@ -268,7 +268,7 @@ def obey(trunk: Managed, line: str, say: Say) -> None:
         say((__doc__ or '').partition('\n\n')[2].rstrip('\n'))
     elif name == 'quit' and not words:
         say(trunk.quit_words)
-        trunk.stop('quit')
+        trunk.stop('quit', trunk.quit_status)
     elif name in COMMANDS or name == 'codec':
         _obey_circuit(trunk, name, words, say)
     else:

@@ -1,19 +1,13 @@
 """What became of the datagrams of each circuit."""
 from __future__ import annotations
 
-import struct
-from collections import deque
 from dataclasses import dataclass, field
 from typing import Any, Callable
 
-from .session import CIRCUITS, HEAD, OCTETS_A_SECOND, DatagramRefusal, Kind
+from .session import CIRCUITS, DatagramRefusal
 
 SAMPLE = 32                     # octets of the trunk
-LATE = OCTETS_A_SECOND          # octets by which the answers may be behind before the counts are stale
 _WORDS = {int(refusal): refusal.label for refusal in DatagramRefusal}
-_head, _fields = HEAD.unpack_from, struct.Struct('>HII').unpack_from
-_TRUNK, _DATAGRAM = int(Kind.TRUNK), int(Kind.DATAGRAM)
-_ANSWER = int(Kind.ANSWER)
 
 
 @dataclass(slots=True)
@@ -69,10 +63,6 @@ class Counts:
         """Whether the counts are not those of now."""
         return self.ended is not None
 
-    def has(self, place: int) -> bool:
-        """Whether all is counted that came before this place of the trunk."""
-        return True
-
     def count(self, circuit: int, code: int, place: int, sequence: int, timestamp: int, ssrc: int) -> None:
         """What became of a datagram that came at a place of the trunk, with three numbers of its header."""
         row = self.circuits[circuit]
@@ -89,62 +79,3 @@ class Counts:
         row = self.circuits[circuit]
         return {'datagrams': row.counts(), 'lost': row.stream.lost,
                 'jitter_ms': round(row.stream.jitter / 8, 2), 'stale': self.stale()}
-
-
-class Taped(Counts):
-    """Counts from a recording and from what its replay answers. `taped` is given the octets of the one and `answered`
-    those of the other, in pieces."""
-
-    def __init__(self, counted: Callable[[int, int, int], None] | None = None) -> None:
-        super().__init__(counted)
-        self.place = 0                      # octets of the trunk on the recording
-        self.answered_place = 0             # of them those that the replay has answered
-        self._tape, self._answers = b'', b''
-        self._asked: deque[tuple[int, int, int, int, int]] = deque()
-
-    def stale(self) -> bool:
-        return super().stale() or self.place - self.answered_place > LATE
-
-    def has(self, place: int) -> bool:
-        return self.answered_place >= place
-
-    def taped(self, octets: bytes) -> bytes:
-        """Octets of the recording: notes each datagram and where on the trunk it came. Returns the records that are
-        whole now."""
-        held, at = self._tape + octets, 0
-        upto = len(held) - 4
-        while at <= upto:
-            kind, circuit, length = _head(held, at)
-            after = at + 4 + length
-            if after > upto + 4:
-                break
-            if kind == _DATAGRAM:
-                sequence, timestamp, ssrc = _fields(held, at + 6) if length >= 12 else (0, 0, 0)
-                self._asked.append((circuit, self.place, sequence, timestamp, ssrc))
-            elif kind == _TRUNK:
-                self.place += length
-            at = after
-        self._tape = held[at:]
-        return held[:at]
-
-    def answered(self, octets: bytes) -> None:
-        """Octets of the replay: what was sent, and what became of each datagram."""
-        held, at = self._answers + octets, 0
-        upto = len(held) - 4
-        while at <= upto:
-            kind, circuit, length = _head(held, at)
-            after = at + 4 + length
-            if after > upto + 4:
-                break
-            if kind == _DATAGRAM:
-                self.circuits[circuit].sent += 1
-            elif kind == _TRUNK:
-                self.answered_place += length
-            elif kind == _ANSWER and held[at + 4] == _DATAGRAM:
-                self._count(circuit, held[at + 5])
-            at = after
-        self._answers = held[at:]
-
-    def _count(self, circuit: int, code: int) -> None:
-        _, *asked = self._asked.popleft()
-        self.count(circuit, code, *asked)

@@ -11,7 +11,7 @@ from collections import deque
 from dataclasses import dataclass, field
 from typing import Any
 
-from .behind import RECORDS, Behind, forget
+from .behind import RECORDS, STATE, UNFINISHED, Behind, forget
 from .lines import SEIZURE_WAIT, WAIT
 from .outlets import write_all
 
@@ -48,7 +48,8 @@ class Ring:
     the day: it may be set at any time, and tells no more than a name.
 
     NAME-TIME.state is what the gateway was when the file begins, so that it replays as it was. The first file of a
-    ring begins with a gateway that is new, and has none."""
+    ring begins with `state`, or with a gateway that is new, and has none. `named` is the configuration's path, if it is
+    read elsewhere."""
 
     folder: str
     name: str
@@ -56,6 +57,8 @@ class Ring:
     keep: int
     behind: Behind = field(default_factory=Behind)
     wait: int = SEIZURE_WAIT        # of a seizure, in milliseconds
+    state: bytes = b''              # the gateway when the first file begins; none for a new one
+    named: str = ''
     _file: int = -1
     _front: str = ''        # the path of the file that is written, without its ending
     _due: float = 0.0
@@ -75,7 +78,6 @@ class Ring:
         if self.behind.program:
             self.behind.config = hold(config)
         self._each = max(5, self.keep // FILES)
-        self._earlier.extend(_fronts_in(self.folder, self.name))
 
     def write(self, octets: bytes) -> None:
         """Writes whole records."""
@@ -101,9 +103,9 @@ class Ring:
     def _next(self, place: int) -> None:
         self._finish()
         whole = self._front
-        self._about = {'config': os.path.abspath(self.config), 'config_sha256': self._sum,
-                       'time': round(time.time(), 3), 'place': place,
-                       WAIT: self.wait, 'begins': 'start' if self._began is None else 'middle'}
+        begins = 'middle' if self.state or self._began is not None else 'start'
+        self._about = {'config': os.path.abspath(self.named or self.config), 'config_sha256': self._sum,
+                       'time': round(time.time(), 3), 'place': place, WAIT: self.wait, 'begins': begins}
         stamp = time.strftime('%Y%m%dT%H%M%SZ', time.gmtime())
         self._file, self._front = _open_fresh(os.path.join(self.folder, f'{self.name}-{stamp}'))
         self._own.append(self._front)
@@ -111,15 +113,26 @@ class Ring:
             file.write(json.dumps(self._about) + '\n')
         if whole:
             self.behind.put(whole, self._front)
+        elif self.state:
+            self._put_state()
         now = time.monotonic()
         self._began = now if self._began is None else self._began
         self._due = now + self._each
         self._drop_old(now - self._began)
 
+    def _put_state(self) -> None:
+        """Puts the state of the first file beside it."""
+        path = f'{self._front}{STATE}'
+        with open(os.open(f'{path}{UNFINISHED}', FRESH, 0o640), 'wb') as file:
+            file.write(self.state)
+        os.rename(f'{path}{UNFINISHED}', path)
+        self.behind.begin(path)
+
     def _drop_old(self, seconds: float) -> None:
         """Takes away what is older than is to be kept; this ring has been writing for so many seconds."""
         while len(self._own) > FILES + 1:
             _drop(self._own.popleft())
+        self._earlier = deque(front for front in _fronts_in(self.folder, self.name) if front not in self._own)
         while self._earlier and (len(self._earlier) > MOST_EARLIER or seconds >= self.keep):
             _drop(self._earlier.popleft())
 

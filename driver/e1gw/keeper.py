@@ -7,37 +7,54 @@ import os
 import select
 import signal
 import sys
+import threading
 import time
-from dataclasses import dataclass
+from collections import Counter
+from dataclasses import dataclass, field
 from enum import Enum, auto
+from math import inf
 from typing import Any, Callable
 
 from .beside import DEATHS, GRACE, Deaths, Retired, Standby, Trial
+from .faults import words_of_fault
+from .left import note
 from .outlets import Journal
+from .parent import parent
 from .places import point, store
-from .running import Process, Run, Version, open_version, spawn, unlink
+from .recorder import FLUSH, Recording
+from .running import Process, Run, Version, open_version, spawn, started, unlink
 from .systemd import Notify
+from .trunks import Stream
 
 KEPT = 'E1GW_KEPT'          # the variable that leads through an exec
+TRUNK_NAMES = 'trunk-in', 'trunk-out'       # of what systemd keeps
 LOST = ', what it had in hand is lost: 2048 octets (8 ms) at most'
+MOST_LOST = 0.008           # seconds of the trunk
 ANEW = '; all calls begin anew'
 APART, MOST_APART = 1.0, 60.0       # seconds between two handovers for a shadow that has ended
 QUICK = 5.0                 # seconds within which a shadow that ends has the next one wait longer
 SOON = 0.2                  # seconds after which the next program is started, to wait
+REOPEN, MOST_REOPEN = 0.25, 30.0    # seconds before a trunk is opened again
 SIGNALS = (signal.SIGTERM, signal.SIGINT, signal.SIGHUP, signal.SIGUSR2, signal.SIGCHLD)
 
 
 @dataclass
 class Asked:
-    """What the keeper was asked for. `words` are further options of the program for a configuration."""
+    """What the keeper was asked for. `words` are further options of the program for a configuration, `both` those that
+    its shadow has, too; `reopens` opens a trunk that has ended, if that is asked."""
 
     program: str
     config: str
     words: Callable[[str], list[str]]
+    both: list[str]
     control: str | None
     state: str | None
     folder: str
     tell: str | None = None
+    totals: bool = False
+    reopens: Callable[[], Stream] | None = None
+    recording: Recording | None = None
+    opens: list[str | None] = field(default_factory=list)      # which trunk it is, for a keeper that comes after
 
 
 class Phase(Enum):
@@ -46,6 +63,7 @@ class Phase(Enum):
     ENDS = auto()           # it was asked to end behind what it has read
     SAVES = auto()          # it has died; its shadow saves
     PAUSED = auto()
+    OPENS = auto()          # the trunk is opened again
     OVER = auto()
 
 
@@ -54,7 +72,8 @@ class Keeper:
 
     def __init__(self, asked: Asked, journal: Journal, notify: Notify, trunk: tuple[int, int]) -> None:
         self.asked, self.journal, self.notify, self.trunk = asked, journal, notify, trunk
-        self.number = self.octets = 0           # of what was begun; octets of the trunk that programs have taken
+        self.number = 0                         # of what was begun
+        self.counted = Counter[str]()           # by programs that have ended; `octets` are those of the trunk
         self.version: Version
         self.before: Version | None = None      # the version to go back to, until a program of the new one is up
         self.run: Run
@@ -62,13 +81,17 @@ class Keeper:
         self.phase, self.status = Phase.BEGINS, 0
         self.wanted = self.ending = ''          # why a handover is wanted, and why the keeper ends
         self.reload_wanted = self.exec_wanted = self.was_up = False
+        self.is_lost = False                    # the trunk has ended, and is to be opened again
         self.why = self.lost = ''               # of the run that begins
         self.silent = self.up = self.due = self.deadline = 0.0
-        self._apart = APART
+        self._apart, self._reopen = APART, REOPEN
+        self.held: str | None = None            # the state that is kept while there is no trunk
+        self._opened: Stream | OSError | None = None    # from another thread
         self._phases: dict[Phase, Callable[[float], None]] = {
             Phase.BEGINS: self._begins, Phase.UP: self._is_there, Phase.ENDS: self._ends, Phase.SAVES: self._saves,
-            Phase.PAUSED: self._paused}
-        self._wake = self._catch_signals()
+            Phase.PAUSED: self._paused, Phase.OPENS: self._opens}
+        self._noted, self._held = '', frozenset[str]()     # what is noted, and what systemd keeps
+        self._wake, self._parent = self._catch_signals(), parent()
 
     # ---- what is waited for ----
 
@@ -91,13 +114,13 @@ class Keeper:
 
     def _processes(self) -> list[Process]:
         waits = self.standby.run
-        found = [self.run.program, self.run.shadow, waits and waits.program, self.trial.process,
-                 *(run.shadow for run in self.retired.runs)]
+        found = [self.run.program, *self.run.beside(), waits and waits.program, self.trial.process,
+                 *(process for run in self.retired.runs for process in run.beside())]
         return [process for process in found if process and process.status is None and process.file >= 0]
 
     def _wait(self) -> None:
         poll = select.poll()
-        for file in (self._wake, self.run.hello(), *(process.file for process in self._processes())):
+        for file in (self._wake, self._parent, self.run.hello(), *(process.file for process in self._processes())):
             if file >= 0:
                 poll.register(file, select.POLLIN)
         poll.poll(self._patience())
@@ -107,6 +130,13 @@ class Keeper:
             pass
         for process in self._processes():
             process.ended()
+        self._look_at_parent()
+
+    def _look_at_parent(self) -> None:
+        """Ends where who started this has ended."""
+        if self._parent >= 0 and select.select([self._parent], [], [], 0)[0]:
+            os.close(self._parent)
+            self._parent, self.ending = -1, self.ending or 'what started the keeper has ended'
 
     def _patience(self) -> float:
         """Milliseconds until all is looked at again although nothing has come."""
@@ -125,6 +155,8 @@ class Keeper:
         self.trial.look()
         if self.phase in self._phases:
             self._phases[self.phase](now)
+        if self.phase is not Phase.OVER:
+            self.note()
 
     def work(self) -> int:
         """Carries the trunk until its end; returns the status."""
@@ -137,7 +169,7 @@ class Keeper:
         self.notify.tell('STOPPING=1')
         self.standby.drop(0.0)
         until = time.monotonic() + GRACE
-        while self.retired.runs and time.monotonic() < until + GRACE:
+        while self.retired.runs and time.monotonic() < until + FLUSH:
             time.sleep(0.002)
             self.retired.look(time.monotonic())
         for path in (self.asked.control, self.asked.tell):
@@ -153,7 +185,7 @@ class Keeper:
     def _version_of_now(self) -> Version:
         asked = self.asked
         self.number += 1
-        return open_version(asked.program, asked.config, asked.words(asked.config),
+        return open_version(asked.program, asked.config, asked.words(asked.config), asked.both,
                             os.path.join(asked.folder, f'config.{self.number}'))
 
     def _new_run(self, version: Version, state: str | None, waits: bool) -> Run:
@@ -166,6 +198,7 @@ class Keeper:
         """Begins with the program and the configuration of now, from a state if there is one."""
         self.version = self._version_of_now()
         self.begin(state, f'begins{state and " with what was saved" or ""}', '')
+        self.note()
 
     def begin(self, state: str | None, why: str, lost: str) -> None:
         """Begins a program from a state."""
@@ -174,7 +207,12 @@ class Keeper:
 
     def _begins(self, now: float) -> None:
         if self.run.program.ended():
-            self._never_up(self.run)
+            if self.run.program.status == 0 and not self.ending:
+                if self.asked.recording:
+                    self._follow(self.run, None)
+                self._died(now)             # all of a short trunk went through
+            else:
+                self._never_up(self.run)
         elif self.run.program.stopped():
             self.run.program.signal(signal.SIGKILL)
         elif self.run.answers():
@@ -182,7 +220,7 @@ class Keeper:
 
     def _is_up(self) -> None:
         run, now, path, tell = self.run, time.monotonic(), self.asked.control, self.asked.tell
-        shadow = run.follow(f'{tell}.{os.path.basename(run.folder)}' if tell else None)
+        shadow = self._follow(run, f'{tell}.{os.path.basename(run.folder)}' if tell else None)
         for name, its in ((path, run.control), (tell, run.tell)):
             if name and its:
                 point(name, its)
@@ -190,9 +228,11 @@ class Keeper:
             unlink(self.asked.state)
         again = f'; clients of {path} connect again' if path and self.was_up else ''
         after = f' goes on after {(now - self.silent) * 1000:.0f} ms' if self.was_up else ' carries the trunk'
-        behind = f' behind octet {self.octets}' if self.octets else ''
-        self._say(Journal.WARNING if self.lost else Journal.NOTICE,
-                  f'{self.why}: program {run.program.pid}{after}{behind}{self.lost}; shadow {shadow.pid}{again}')
+        octets = self.counted['octets']
+        behind = f' behind octet {octets}' if octets else ''
+        recorder = f', recorder {run.recorder.pid}' if run.recorder else ''
+        self._say(Journal.WARNING if self.lost else Journal.NOTICE, f'{self.why}: program {run.program.pid}{after}'
+                  f'{behind}{self.lost}; shadow {shadow.pid}{recorder}{again}')
         self._pass_on(run)
         self.notify.ready(f'program {run.program.pid}, shadow {shadow.pid}')
         if self.before and run.version is self.version:
@@ -200,6 +240,13 @@ class Keeper:
             self.before = None
         self.phase, self.was_up, self.up = Phase.UP, True, now
         self.standby.due = now + SOON
+
+    def _follow(self, run: Run, tell: str | None) -> Process:
+        """Starts the shadow, and what keeps recordings before it."""
+        if not self.asked.recording:
+            return run.follow(tell)
+        before = self.retired.runs[-1].recorder if self.retired.runs else None
+        return run.record(tell, self.asked.recording, before, self.counted['octets'], MOST_LOST if self.lost else 0.0)
 
     def _pass_on(self, run: Run) -> None:
         """Tells what the program says."""
@@ -210,6 +257,7 @@ class Keeper:
         """A program ended before it answered."""
         words, state, status = run.last_words(), run.state, run.program.status or 1
         if self.ending or not (self.was_up or state):
+            self._explain(words)
             return self._finish(0 if self.ending else max(1, status), self.ending or f'the program {words}', state)
         if self.before and run.version is self.version:
             self._go_back(words)
@@ -220,6 +268,13 @@ class Keeper:
         else:
             self._again(state, f'the program {words}', self.lost)
         self.retired.add(run)
+
+    def _explain(self, words: str) -> None:
+        """Says why a program that never answered did not begin, as far as that is known."""
+        from .explain import gateway_words
+        for line in words.removeprefix('says: ').split('; '):
+            if why := gateway_words(line, self.run.version.config):
+                self._say(Journal.ERROR, why)
 
     def _again(self, state: str | None, why: str, lost: str) -> None:
         """Another program after one that died."""
@@ -266,9 +321,14 @@ class Keeper:
                 self._try_exec()
 
     def _look_at_shadow(self, run: Run, now: float) -> None:
-        shadow = run.shadow
+        shadow, recorder = run.shadow, run.recorder
         assert shadow
-        if shadow.ended():
+        if recorder and recorder.ended():
+            self.wanted = f'the recorder {recorder.words()}'
+        elif recorder and recorder.stopped():
+            self.wanted = 'the recorder stood still'
+            recorder.signal(signal.SIGKILL)
+        elif shadow.ended():
             self.wanted = f'the shadow {run.shadow_words()}'
         elif shadow.stopped() or run.is_behind():
             self.wanted = 'the shadow stood still'
@@ -281,6 +341,7 @@ class Keeper:
 
     def _hand_over(self, now: float) -> None:
         self.phase, self.silent, self.deadline = Phase.ENDS, now, now + GRACE
+        self.note()             # (before it ends: what ends unasked is the trunk's end)
         self.run.ask_end()
 
     def _ends(self, now: float) -> None:
@@ -291,7 +352,7 @@ class Keeper:
             return
         if run.program.status != 0 or not run.saved():
             return self._died(now)
-        self.octets += run.octets('program')
+        self.counted.update(run.totals('program'))
         self._pass_on(run)
         why, self.wanted = self.wanted, ''
         if self.ending:
@@ -304,11 +365,16 @@ class Keeper:
         run, self.silent = self.run, now
         words = run.last_words()
         if run.program.status == 0 or words.startswith(('says: fault 5 ', 'says: fault 6 ')):
-            self.octets += run.octets('program')
-            why = f': the program {words}' if run.program.status else ''
-            return self._finish(run.program.status or 0, f'the trunk has ended{why}', run.saved())
-        self.why = f'the program {words}'
+            why = f'the trunk has ended{f": the program {words}" if run.program.status else ""}'
+            if not self.asked.reopens or self.ending:
+                self.counted.update(run.totals('program'))
+                return self._finish(run.program.status or 0, why, run.saved())
+            self.why, self.is_lost = why, True
+        else:
+            self.why = f'the program {words}'
         (run.shadow or run.follow()).signal(signal.SIGCONT)
+        if run.recorder:
+            run.recorder.signal(signal.SIGCONT)
         self.phase, self.deadline = Phase.SAVES, now + GRACE
         self._saves(now)
 
@@ -320,14 +386,56 @@ class Keeper:
                 shadow.signal(signal.SIGKILL)
             return
         state, lost, self.wanted = run.followed(), LOST, ''
-        self.octets += run.octets('shadow')
+        self.counted.update(run.totals('shadow'))
         if not state:
             self._say(Journal.ERROR, f'{self.why}, and its shadow {run.shadow_words()}: no state is known')
             lost = ANEW
         if self.ending:
             return self._finish(0, self.ending, state)
-        self._again(state, self.why, lost)
+        if self.is_lost:
+            self._lost_trunk(state, lost if state is None else '')
+        else:
+            self._again(state, self.why, lost)
         self.retired.add(run)
+
+    # ---- a trunk that is opened again ----
+
+    def _lost_trunk(self, state: str | None, lost: str) -> None:
+        """The trunk has ended: another one goes on with this state."""
+        self._say(Journal.WARNING, f'{self.why}, behind octet {self.counted["octets"]}; it is opened again')
+        self.standby.drop(0.0)
+        for file in {*self.trunk}:
+            os.close(file)
+        self.trunk = -1, -1
+        self.held = os.path.join(self.asked.folder, 'held') if state else None
+        if state and self.held:
+            os.replace(state, self.held)
+        now, self.is_lost, self.lost = time.monotonic(), False, lost
+        self._reopen = REOPEN if now - self.up > QUICK else min(MOST_REOPEN, 2 * self._reopen)
+        self.phase, self.due = Phase.OPENS, now + self._reopen
+
+    def _opens(self, now: float) -> None:
+        found, self._opened = self._opened, None
+        if self.ending:
+            self._finish(0, self.ending, self.held)
+        elif isinstance(found, Stream):
+            self.trunk = found.reads, found.writes
+            self.begin(self.held, self.why, self.lost)
+        elif found:
+            self._say(Journal.WARNING, f'the trunk cannot be opened: {words_of_fault(found)}; it is tried again')
+            self._reopen = min(MOST_REOPEN, 2 * self._reopen)
+            self.due = now + self._reopen
+        elif now >= self.due:
+            self.due = inf
+            threading.Thread(target=self._open, name='opening the trunk', daemon=True).start()
+
+    def _open(self) -> None:
+        """Opens the trunk, in a thread, since that may wait."""
+        assert self.asked.reopens
+        try:
+            self._opened = self.asked.reopens()
+        except OSError as fault:
+            self._opened = fault
 
     # ---- reload and exec ----
 
@@ -384,26 +492,62 @@ class Keeper:
         self.standby.drop(0.0)
         signal.pthread_sigmask(signal.SIG_BLOCK, SIGNALS)
         self.journal.close()
-        for file in self.trunk:
+        files = self.run.files()
+        for file in (*self.trunk, *files.values()):
             os.set_inheritable(file, True)
-        os.environ[KEPT] = json.dumps({'trunk': self.trunk, 'folder': self.asked.folder, 'number': self.number,
-                                       'octets': self.octets, 'run': self.run.kept()})
+        os.environ[KEPT] = json.dumps({**self._kept(), 'trunk': self.trunk, 'files': files})
         os.execv(sys.executable, [sys.executable, *sys.orig_argv[1:]])
 
-    def take_up(self, kept: dict[str, Any]) -> None:
+    def _kept(self) -> dict[str, Any]:
+        """What another keeper has to know, as plain values."""
+        waits, tried = self.standby.run, self.trial.process
+        others = ([waits.program] if waits else []) + ([tried] if tried else [])
+        return {'keeper': [os.getpid(), started(os.getpid())], 'opens': self.asked.opens, 'folder': self.asked.folder,
+                'number': self.number, 'counted': self.counted, 'up': self.phase is Phase.UP, 'run': self.run.kept(),
+                'others': [[process.pid, process.started] for process in others]}
+
+    def note(self) -> None:
+        """Notes what another keeper has to know if this one is killed, and has systemd keep the descriptors."""
+        kept = json.dumps(self._kept())
+        if kept != self._noted:
+            self._noted = kept
+            note(self.asked.folder, kept)
+        files = {name: file for name, file in zip(TRUNK_NAMES, self.trunk) if file >= 0}
+        if self.phase is Phase.UP:
+            number = os.path.basename(self.run.folder)
+            files |= {f'{name}-{number}': file for name, file in self.run.files().items()}
+        for name, file in files.items():
+            if name not in self._held:
+                self.notify.keep(name, file)
+        for name in self._held - {*files}:
+            self.notify.forget(name)
+        self._held = frozenset(files)
+
+    def take_up(self, kept: dict[str, Any], files: dict[str, int], why: str) -> None:
         """Goes on where the keeper before left."""
-        self.number, self.octets = kept['number'], kept['octets']
-        self.run = Run.taken_up(kept['run'])
+        self.number, self.counted = kept['number'], Counter(kept['counted'])
+        self.run = Run.taken_up(kept['run'], files)
         self.version = self.run.version
         self.phase, self.was_up, self.up = Phase.UP, True, time.monotonic()
-        self._say(Journal.NOTICE, f'the keeper was replaced; program {self.run.program.pid} goes on')
+        self._say(Journal.NOTICE, f'the keeper was {why}; program {self.run.program.pid} goes on')
+        self.note()
         self.notify.ready(f'program {self.run.program.pid}')
+
+    def go_on(self, kept: dict[str, Any], state: str | None) -> None:
+        """Begins where a keeper that was killed has left no program, from the state that was found."""
+        self.number, self.counted = kept['number'], Counter(kept['counted'])
+        self.version = self._version_of_now()
+        lost = ANEW if not state else LOST if os.path.basename(state) == 'followed' else ''
+        self.begin(state, 'the keeper was killed', lost)
+        self.note()
 
     # ---- the end ----
 
     def _finish(self, status: int, why: str, state: str | None) -> None:
         self.phase, self.status = Phase.OVER, status
-        self._say(Journal.ERROR if status else Journal.INFO, f'ends: {why}, behind octet {self.octets}')
+        self._say(Journal.ERROR if status else Journal.INFO, f'ends: {why}, behind octet {self.counted["octets"]}')
+        if self.asked.totals:
+            self._say(Journal.INFO, 'totals: ' + ', '.join(f'{word} {count}' for word, count in self.counted.items()))
         if self.asked.state and state:
             try:
                 store(state, self.asked.state)

@@ -46,9 +46,16 @@ def kept(path: str, last: int | None = None) -> Kept:
     if len(trunks) > 1:
         raise Trouble(f'{path} holds sessions of several trunks: {", ".join(sorted(trunks))}')
     files = [os.path.join(path, name) for name in names]
-    begun = [n for n, file in enumerate(files) if beside(file).get('begins') == 'start']
+    begun = _begun([beside(file) for file in files])
     files = files[begun[-1] if begun else 0:]
     return _told(Kept(files[_enough(files, last):] if last else files))
+
+
+def _begun(abouts: list[dict[str, Any]]) -> list[int]:
+    """Which of the files begin a session: a new gateway, or one of another configuration than the file before."""
+    sums = [about.get('config_sha256') for about in abouts]
+    return [n for n, about in enumerate(abouts)
+            if about.get('begins') == 'start' or n and sums[n] and sums[n - 1] and sums[n] != sums[n - 1]]
 
 
 def _enough(files: list[str], last: int) -> int:

@@ -17,15 +17,17 @@ from .events import NOTICED, WARNED, words_of
 from .faults import named, words_of_fault, words_of_refusal
 from .guards import Guards
 from .lines import OPEN, Event, Lines, Role, State
-from .loop import Loop
+from .loop import READ, Loop
 from .options import Options
 from .outlets import Journal, Outlet, to_descriptor, to_file
 from .pages import Pages
+from .parent import parent
 from .peers import Door, Peer
 from .restarts import Restarts
 from .session import Codec, Command, Record, codec_record, command_record
 from .snapshots import Snapshot, Snapshots
 from .sockets import Tables
+from .systemd import Notify
 
 BESIDE = ('json', 'calls', 'metrics', 'pages')      # what may end without the calls
 Answered = Callable[[Record], None]
@@ -34,7 +36,7 @@ Answered = Callable[[Record], None]
 class Managed:
     """A trunk that is managed. What carries it gives it `lines` and `counts`, and carries commands to it."""
 
-    quit_words = 'quit: done'
+    quit_words, quit_status = 'quit: done', 0
 
     def __init__(self, loop: Loop, options: Options, journal: Journal, version: str, lines: Lines, counts: Counts,
                  restarts: Restarts) -> None:
@@ -57,7 +59,6 @@ class Managed:
         self._calls_out = to_calls(options.calls, self.note) if options.calls else None
         self.calls = Calls(options.name, lines.lines, counts, self._calls_out.put) if self._calls_out else None
         self.pages: Pages | None = None
-        self._drawn: socket.socket | None = None        # the end at which pictures are asked for
 
     # ---- what carries the trunk has to have ----
 
@@ -107,9 +108,10 @@ class Managed:
 
     def _open_pages(self, door: socket.socket | None) -> None:
         options = self.options
-        words = {'config': options.config, 'name': options.name, 'top': options.top, 'metrics': options.metrics}
+        words = {'config': options.config, 'name': options.name, 'top': options.top, 'metrics': options.metrics,
+                 **options.drawn}
         try:
-            self.pages = Pages(self.loop, words, door, self._drawn, self._snapshot_wanted, self.end_beside)
+            self.pages = Pages(self.loop, words, door, self._snapshot_wanted, self.end_beside)
         except OSError as fault:
             self.end_beside('pages', fault.strerror or str(fault))
 
@@ -207,7 +209,7 @@ class Managed:
         self.snapshots.look()
 
     def tell(self, event: Event) -> None:
-        """Tells a change to all who follow."""
+        """Tells a change to the journal and to all who follow."""
         name = event['event']
         if name in WARNED or name in NOTICED:
             level = Journal.WARNING if name in WARNED or event.get('on') else Journal.NOTICE
@@ -216,6 +218,10 @@ class Managed:
             self.journal.line(Journal.WARNING, words_of(event), name)
         if self.calls and name == 'state':
             self.calls.took(event)
+        self.pass_on(event)
+
+    def pass_on(self, event: Event) -> None:
+        """Tells a change to all who follow."""
         self.snapshots.changed()
         followers = [peer for peer in self.peers if isinstance(peer, Client) and peer.follows]
         if followers or self._json:
@@ -245,11 +251,11 @@ class Managed:
         """Goes on until the end; returns the status."""
         raise NotImplementedError
 
-    def stop(self, why: str) -> None:
+    def stop(self, why: str, status: int = 0) -> None:
         """Ends as asked."""
         if self.status_code is None:
             self.journal.line(Journal.INFO, f'ends: {why}')
-            self.end(0)
+            self.end(status)
 
     def end(self, status: int) -> None:
         if self.status_code is None:
@@ -303,9 +309,13 @@ def serve(loop: Loop, journal: Journal, made: Callable[[Loop], Managed]) -> int:
             os._exit(0)
     loop.catch_signals(caught)
     trunk.append(made(loop))
+    if (file := parent()) >= 0:
+        loop.watch(file, READ, lambda _: trunk[0].stop('e1gw-trunk has ended'))
     try:
         trunk[0].open_doors()
     except (OSError, DoorTaken, KeyError, ValueError) as fault:
         journal.line(Journal.ERROR, f'cannot listen: {words_of_fault(fault)}')
         trunk[0].end(2)
+    else:
+        Notify().ready('listens')
     return trunk[0].run()

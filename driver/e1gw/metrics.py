@@ -57,26 +57,25 @@ def _of_trunk(status: Status) -> list[Family]:
     if 'shadow' in status:
         found.append(('e1gw_connected', 'gauge', '1 where the watcher has a connection.',
                       [({'to': other}, int(status[other])) for other in OTHERS]))
-    return found + (_of_octets(status, clock) if 'transport' in status else [])
+    found.append(('e1gw_trunk_octets_total', 'counter', 'Octets of the trunk.', [({}, status['octets'])]))
+    return found + _of_flow(status, clock)
 
 
-def _of_octets(status: Status, clock: Status) -> list[Family]:
-    """What is known of each octet of the trunk, where a driver carries it."""
-    found: list[Family] = [
-        ('e1gw_trunk_octets_total', 'counter', 'Octets of the trunk.', [({}, status['octets'])]),
-        ('e1gw_wrong_signals_total', 'counter', 'Frame alignment signals in error.',
-         [({}, status['wrong_signals'])]),
-        ('e1gw_trunk_gaps_total', 'counter', 'Slips, at which octets of the trunk were lost.', [({}, clock['gaps'])]),
-        ('e1gw_trunk_gap_seconds_total', 'counter', 'Seconds of the trunk that slips have lost.',
-         [({}, clock['gap_seconds'])])]
-    if clock['ppm'] is not None:
+def _of_flow(status: Status, clock: Status) -> list[Family]:
+    """What is known of the flow of octets, and of the transport of a trunk that is carried."""
+    found: list[Family] = []
+    if 'gaps' in clock:
+        found += [('e1gw_trunk_gaps_total', 'counter', 'Slips, at which octets of the trunk were lost.',
+                   [({}, clock['gaps'])]),
+                  ('e1gw_trunk_gap_seconds_total', 'counter', 'Seconds of the trunk that slips have lost.',
+                   [({}, clock['gap_seconds'])])]
+    if clock.get('ppm') is not None:
         found.append(('e1gw_trunk_rate_ppm', 'gauge', 'The rate relative to this machine\'s clock, over a minute.',
                       [({}, clock['ppm'])]))
-    numbers = [({'what': what}, n) for what, n in status['transport'].items()
-               if isinstance(n, (int, float)) and not isinstance(n, bool)]
-    found.append(('e1gw_slowest_turn_seconds', 'gauge', 'The longest time from octets of the trunk to their answer in '
-                  'the last minute.', [({}, status['slowest_turn'])]))
-    found.append(('e1gw_transport', 'untyped', 'What the transport of the trunk tells of itself.', numbers))
+    if 'transport' in status:
+        numbers = [({'what': what}, n) for what, n in status['transport'].items()
+                   if isinstance(n, (int, float)) and not isinstance(n, bool)]
+        found.append(('e1gw_transport', 'untyped', 'What the transport of the trunk tells of itself.', numbers))
     return found
 
 
@@ -193,7 +192,7 @@ def _head(status: Status) -> list[str]:
         f'{status["octets"] / 256_000:.1f} s of the trunk at {at} UTC, {state_of(status)}; the other end: '
         + _far_end(status),
         'alignment lost: ' + ', '.join(f'{what} {n}' for what, n in status['losses'].items())
-        + f'; stalls {clock["stalls"]}{_slips(status, clock)}']
+        + f'; stalls {clock["stalls"]}{_slips(clock)}']
     lines += _crc4_line(status)
     lines += [f'ended: {what}: {why}' for what, why in status['ended'].items() if why is not None]
     if status['stale']:
@@ -201,13 +200,12 @@ def _head(status: Status) -> list[str]:
     return lines
 
 
-def _slips(status: Status, clock: Status) -> str:
-    """Slips, the rate and the slowest turn, which only a driver knows."""
+def _slips(clock: Status) -> str:
+    """Slips and the rate, if they are known."""
     if 'gaps' not in clock:
         return ''
     rate = '' if clock['ppm'] is None else f', rate {clock["ppm"]:+.0f} ppm'
-    return (f', slips {clock["gaps"]} ({clock["gap_seconds"]:.1f} s){rate}; slowest turn '
-            f'{status["slowest_turn"] * 1000:.1f} ms')
+    return f', slips {clock["gaps"]} ({clock["gap_seconds"]:.1f} s){rate}'
 
 
 def _crc4_line(status: Status) -> list[str]:

@@ -1,4 +1,4 @@
-"""What is asked of who carries a trunk or watches it: the options that both have, and what a driver is asked for."""
+"""What an operator asks of a trunk: the options that e1gw-trunk and e1gw-watch have."""
 from __future__ import annotations
 
 import argparse
@@ -8,14 +8,12 @@ import sys
 from dataclasses import dataclass, field
 from typing import Any, Callable, NoReturn
 
-from .crc4 import Crc4
 from .explain import config_words
 from .faults import number, options_words, words_of_fault
-from .gateway import ConfigRefused
 from .guards import OnLoss, on_loss_of
-from .lines import SEIZURE_WAIT
 from .outlets import Journal, hold_descriptors
-from .trunks import Trunk, host_and_port
+from .programs import ConfigRefused
+from .trunks import host_and_port
 
 
 class Usage(Exception):
@@ -24,7 +22,7 @@ class Usage(Exception):
 
 @dataclass(kw_only=True)
 class Options:
-    """What an operator wants to have of a trunk."""
+    """What an operator wants to have of a trunk. `drawn` has the picture that is wanted, as words of the pages."""
 
     config: str
     name: str
@@ -39,25 +37,7 @@ class Options:
     calls: str | None = None
     dark: float | None = None
     on_loss: OnLoss = OnLoss()
-
-
-@dataclass(kw_only=True)
-class DriverOptions(Options):
-    """What the driver was asked for."""
-
-    program: str
-    open_trunk: Callable[[], Trunk]
-    most: int = 256
-    pace: float = 0.0
-    serve: list[str] = field(default_factory=list)      # further options of e1gw serve
-    seizure_wait: int = SEIZURE_WAIT        # milliseconds
-    reopen: bool = False
-    session: str | None = None
-    keep: int | None = None
-    gap: float = 0.1
-    counts: bool = True
-    picture: float | None = None
-    crc4: Crc4 | None = None
+    drawn: dict[str, Any] = field(default_factory=dict)
 
 
 def add_options(words: argparse.ArgumentParser) -> None:

@@ -17,7 +17,6 @@ from .lines import Line, lines_of, read_config
 from .loop import READ, Loop
 from .metrics import exposition, table
 from .outlets import Outlet, to_descriptor
-from .pictures import LENGTH, PACKAGE
 from .pipes import put_behind
 from .snapshots import EVERY, Snapshot
 from .sockets import sockets_of, with_sockets
@@ -25,7 +24,10 @@ from .web import NOT_FOUND, NOT_YET, Got, Page, Web
 
 WANTED, ENDED = b'?', b'!'          # of what comes from there: a snapshot is wanted; the file of metrics has ended
 PATIENCE = 1.0                      # seconds that a snapshot is waited for before the last one does
-PICTURE_FRESH = 1.0                 # seconds in which nobody gets another picture
+PICTURE_FRESH = 5.0                 # seconds in which nobody gets another picture
+PATIENCE_DRAWN = 60.0               # seconds for one to be drawn
+PACKAGE = os.path.dirname(os.path.dirname(os.path.abspath(__file__)))
+DRAWS, WHOLE = 'import sys; from e1gw.picture.main import main; sys.exit(main())', b'</html>\n'
 METRICS_EVERY, SHOWN_EVERY = 5.0, 0.5
 
 
@@ -33,11 +35,11 @@ class Pages:
     """The process that makes pages, as the driver sees it. `wanted` is called when it wants a snapshot, `ended` with
     what is no more, and why."""
 
-    def __init__(self, loop: Loop, words: dict[str, Any], door: socket.socket | None, pictures: socket.socket | None,
-                 wanted: Callable[[], None], ended: Callable[[str, str], None]) -> None:
+    def __init__(self, loop: Loop, words: dict[str, Any], door: socket.socket | None, wanted: Callable[[], None],
+                 ended: Callable[[str, str], None]) -> None:
         self.loop, self._wanted, self._ended, self.has_ended = loop, wanted, ended, False
         self._line, theirs = socket.socketpair(socket.AF_UNIX, socket.SOCK_SEQPACKET)
-        given = {'line': theirs, 'door': door, 'pictures': pictures}
+        given = {'line': theirs, 'door': door}
         files = {name: end.fileno() for name, end in given.items() if end}
         try:
             self.process = subprocess.Popen(
@@ -125,55 +127,47 @@ PATHS = frozenset((b'/', b'/table', b'/metrics', b'/status'))
 
 
 class Drawn:
-    """The pictures that the process that draws them sends, as long as there is one."""
+    """The picture of the last seconds of what the keeper has kept, drawn by a process for those who ask."""
 
-    def __init__(self, loop: Loop, line: socket.socket) -> None:
-        self.loop, self._line, self.has_ended = loop, line, False
-        self._held, self._page, self._until = bytearray(), Page('', b''), 0.0
+    def __init__(self, loop: Loop, words: Words) -> None:
+        self.loop, self._words = loop, ['--last', f'{words.picture}s', '--title', words.name, '--refresh', '10',
+                                        *(['--program', words.program] if words.program else []), words.session or '']
+        self._page, self._until = bytearray(), 0.0
         self._asked: list[Callable[[Page | None], None]] = []
-        line.setblocking(False)
-        loop.watch(line.fileno(), READ, lambda _: self._read())
 
     def ask(self, got: Callable[[Page | None], None]) -> None:
         """`got` is called with the picture, or with None if there is none."""
-        if self.has_ended:
-            return got(None)
         if time.monotonic() < self._until:
-            return got(self._page)
+            return got(self._found())
         self._asked.append(got)
         if len(self._asked) == 1:
-            try:
-                self._line.send(b'P')
-            except OSError:
-                self._end()
+            self._page.clear()
+            process = subprocess.Popen([sys.executable, '-BP', '-c', DRAWS, *self._words], stdin=subprocess.DEVNULL,
+                                       stdout=subprocess.PIPE, stderr=subprocess.DEVNULL,
+                                       env=os.environ | {'PYTHONPATH': PACKAGE})
+            assert process.stdout
+            put_behind(process.pid, 15)
+            os.set_blocking(process.stdout.fileno(), False)
+            self.loop.watch(process.stdout.fileno(), READ, lambda _: self._read(process))
+            self.loop.later(PATIENCE_DRAWN, process.kill)
 
-    def _read(self) -> None:
-        try:
-            octets = self._line.recv(1 << 18)
-        except BlockingIOError:
+    def _read(self, process: subprocess.Popen[bytes]) -> None:
+        assert process.stdout
+        octets = process.stdout.read(1 << 18)
+        if octets is None:
             return
-        except OSError:
-            octets = b''
+        self._page += octets
         if not octets:
-            return self._end()
-        self._held += octets
-        front, page = self._held[:LENGTH.size], self._held[LENGTH.size:]
-        if len(front) < LENGTH.size or len(page) < LENGTH.unpack(front)[0]:
-            return
-        self._page, self._until = Page('text/html', bytes(page)), time.monotonic() + PICTURE_FRESH
-        self._held.clear()
-        self._answer(self._page)
+            self.loop.forget(process.stdout.fileno())
+            process.stdout.close()
+            process.wait()
+            self._until = time.monotonic() + PICTURE_FRESH
+            asked, self._asked = self._asked, []
+            for got in asked:
+                got(self._found())
 
-    def _answer(self, page: Page | None) -> None:
-        asked, self._asked = self._asked, []
-        for got in asked:
-            got(page)
-
-    def _end(self) -> None:
-        self.has_ended = True
-        self.loop.forget(self._line.fileno())
-        self._line.close()
-        self._answer(None)
+    def _found(self) -> Page | None:
+        return Page('text/html', bytes(self._page)) if self._page.endswith(WHOLE) else None
 
 
 @dataclass
@@ -186,7 +180,9 @@ class Words:
     top: bool
     metrics: str | None = None
     door: int | None = None
-    pictures: int | None = None
+    picture: float | None = None        # seconds that are drawn, of the folder `session`
+    session: str | None = None
+    program: str | None = None
 
 
 class Making:
@@ -201,7 +197,7 @@ class Making:
         self._until = self._asked_at = 0.0
         self._waiting: list[Callable[[Seen | None], None]] = []
         self.loop.watch(self._line.fileno(), READ, lambda _: self._read())
-        self._drawn = Drawn(self.loop, socket.socket(fileno=words.pictures)) if words.pictures else None
+        self._drawn = Drawn(self.loop, words) if words.picture else None
         if words.door:
             Web(self.loop, socket.socket(fileno=words.door), self.find)
         if words.metrics:

@@ -8,10 +8,10 @@ import stat
 import tempfile
 
 
-def folder_of(asked: str | None) -> str:
+def folder_of(asked: str | None, prefix: str = 'keep-') -> str:
     """A new folder in memory, if there is one, for what the keeper and its programs tell each other."""
     within = [asked, os.environ.get('RUNTIME_DIRECTORY', '').partition(':')[0], '/dev/shm', tempfile.gettempdir()]
-    return tempfile.mkdtemp(prefix='keep-', dir=next(path for path in within if path and (path == asked
+    return tempfile.mkdtemp(prefix=prefix, dir=next(path for path in within if path and (path == asked
                                                                                            or os.path.isdir(path))))
 
 

@@ -1,4 +1,4 @@
-"""Which program carries a trunk, and whose datagrams it receives."""
+"""Which program carries a trunk, what it says of a configuration, and whose datagrams it receives."""
 from __future__ import annotations
 
 import ipaddress
@@ -7,6 +7,8 @@ import shutil
 import subprocess
 
 from .lines import read_config
+
+PATIENCE = 5.0              # seconds for a program to say its version
 
 TOP = os.path.dirname(os.path.dirname(os.path.dirname(os.path.abspath(__file__))))
 
@@ -33,3 +35,30 @@ def senders_of(config: str) -> str:
     except (OSError, ValueError, TypeError, AttributeError):    # a name; what is no configuration is told later
         return 'any'
     return 'host'
+
+
+class ConfigRefused(Exception):
+    """The program refuses a configuration, in these words."""
+
+    def __init__(self, words: str, config: str) -> None:
+        super().__init__(words)
+        self.config = config
+
+
+def check_config(program: str, config: str) -> None:
+    """Asks the program whether the configuration is one."""
+    done = subprocess.run([program, 'check', '--config', config], stdin=subprocess.DEVNULL,
+                          stdout=subprocess.DEVNULL, stderr=subprocess.PIPE, check=False)
+    if done.returncode:
+        raise ConfigRefused(done.stderr.decode(errors='replace').strip() or f'status {done.returncode}', config)
+
+
+def version_of(program: str) -> str:
+    """The version that the program says, as 0.1.0; nothing if it says none."""
+    try:
+        done = subprocess.run([program, '--version'], stdin=subprocess.DEVNULL, stdout=subprocess.PIPE,
+                              stderr=subprocess.DEVNULL, check=False, timeout=PATIENCE)
+    except (OSError, subprocess.TimeoutExpired):
+        return ''
+    name, _, version = done.stdout.decode(errors='replace').strip().partition(' ')
+    return version if name == 'e1gw' else ''

@@ -6,14 +6,16 @@ from __future__ import annotations
 
 import fcntl
 import os
+import select
 import shutil
 import signal
 import socket
 import sys
 import termios
-from dataclasses import asdict, dataclass
+from dataclasses import asdict, dataclass, field
 from typing import Any, Mapping, Sequence
 
+from .recorder import AROUND, BEFORE_FILE, CONFIG_FILE, STATE_FROM, Part, Recording, words_of
 from .session import Kind, spell
 
 TAPE_ROOM = 1 << 20         # octets: two seconds of thirty calls
@@ -22,8 +24,10 @@ END = spell(0x45, 0, b'')   # asks for the end of the session
 # Another codec whose payload type none may have: it is refused, changes nothing, and its answer says that all runs.
 HELLO = spell(Kind.CODEC, 1, b'\1\1')
 TOTALS = ('records', 'octets', 'datagrams', 'dropped', 'port_faults')
+NONE = 'discarded_multiframes 0'
 RENEWED = ' begins as new'  # so ends what is said of a circuit that was configured otherwise: nothing failed
 STATE_FILE = 3              # the descriptor at which a program that waits is given its state
+APART = 64                  # descriptors from here on are none that a process is given
 
 
 class Process:
@@ -31,6 +35,7 @@ class Process:
 
     def __init__(self, pid: int) -> None:
         self.pid, self.file = pid, os.pidfd_open(pid)
+        self.started = started(pid)
         self.status: int | None = None      # negative for a signal
 
     def ended(self) -> bool:
@@ -66,6 +71,71 @@ class Process:
             self.file = -1
 
 
+def started(pid: int) -> int:
+    """When a process was started, in ticks since the machine was (proc(5)); 0 if there is none."""
+    return int(_stat(pid)[19]) if _stat(pid) else 0
+
+
+def _stat(pid: int) -> list[str]:
+    """What proc(5) says of a process behind its name: first its state."""
+    try:
+        with open(f'/proc/{pid}/stat', encoding='ascii', errors='replace') as file:
+            return file.read().rpartition(')')[2].split()
+    except OSError:
+        return []
+
+
+class Adopted(Process):
+    """A process that another keeper started, by its number and when it was started. It is no child of this one, so how
+    it has ended is known by the file `done` alone, which it leaves where it ended in order."""
+
+    UNKNOWN = 255
+
+    def __init__(self, its: Sequence[int], done: str = '') -> None:     # pylint: disable=super-init-not-called
+        self.pid, self.started = its
+        self.file, self.status, self._done = -1, None, done
+        try:
+            self.file = os.pidfd_open(self.pid)
+            signal.pidfd_send_signal(self.file, 0)
+        except OSError:
+            self.close()
+        # (one that may be sent signals, and that proc(5) hides, is of the same user in another name space: a service)
+        if started(self.pid) not in (self.started, 0):      # another one has its number
+            self.close()
+
+    def ended(self) -> bool:
+        if self.status is None and (self.file < 0 or self._is_over()):
+            self.status = 0 if self._done and os.path.exists(self._done) else self.UNKNOWN
+        return self.status is not None
+
+    def _is_over(self) -> bool:
+        return bool(select.select([self.file], [], [], 0)[0])
+
+    def stopped(self) -> bool:
+        return self.status is None and _stat(self.pid)[:1] == ['T']
+
+    def signal(self, number: int) -> None:
+        if not self.ended():
+            signal.pidfd_send_signal(self.file, number)
+
+    def words(self) -> str:
+        return 'ended while no keeper was there' if self.status == self.UNKNOWN else super().words()
+
+    def kill(self) -> None:
+        self.signal(signal.SIGKILL)
+        while not self.ended():
+            select.select([self.file], [], [])
+
+
+def taken_up(its: Sequence[int], done: str) -> Process:
+    """A process that was started before: a child still, or not."""
+    try:
+        os.waitid(os.P_PID, its[0], os.WEXITED | os.WNOHANG | os.WNOWAIT)
+    except ChildProcessError:
+        return Adopted(its, done)
+    return Process(its[0])
+
+
 @dataclass(frozen=True)
 class Version:
     """A program and a configuration as they were at one moment: later changes of their files change neither."""
@@ -74,6 +144,7 @@ class Version:
     file: int               # a descriptor of the program
     config: str             # a copy
     words: list[str]        # further options of e1gw trunk
+    both: list[str] = field(default_factory=list)       # and of e1gw replay, too
 
     def path(self) -> str:
         """What is executed: the file, as long as it is the same one."""
@@ -93,19 +164,30 @@ class Version:
         unlink(self.config)
 
 
-def spawn(path: str, words: Sequence[str], files: Mapping[int, int]) -> Process:
-    """Starts a process. `files` says which descriptor of the keeper becomes which of it; it has no others."""
-    moves = [(os.POSIX_SPAWN_DUP2, ours, theirs) for theirs, ours in sorted(files.items())]
-    return Process(os.posix_spawn(path, list(words), os.environ, file_actions=moves, setsid=True, setsigmask=[]))
+def spawn(path: str, words: Sequence[str], files: Mapping[int, int], around: Mapping[str, str] = {}) -> Process:
+    """Starts a process. `files` says which descriptor of the keeper becomes which of it; it has no others. `around` is
+    added to its environment."""
+    # (what would be written over before it is copied is copied out of the way first)
+    apart = {ours: fcntl.fcntl(ours, fcntl.F_DUPFD_CLOEXEC, APART) for theirs, ours in files.items()
+             if ours != theirs and ours in files}
+    moves = [(os.POSIX_SPAWN_DUP2, apart.get(ours, ours) if ours != theirs else ours, theirs)
+             for theirs, ours in sorted(files.items())]
+    try:
+        return Process(os.posix_spawn(path, list(words), {**os.environ, **around}, file_actions=moves, setsid=True,
+                                      setsigmask=[]))
+    finally:
+        for file in apart.values():
+            os.close(file)
 
 
-def open_version(program: str, config: str, words: Sequence[str], copy: str) -> Version:
+def open_version(program: str, config: str, words: Sequence[str], both: Sequence[str], copy: str) -> Version:
     """The program and the configuration of now; the configuration is copied."""
     file = os.open(program, os.O_RDONLY)
     try:
         shutil.copyfile(config, copy)
         # (above the descriptors that a program is given)
-        return Version(program, fcntl.fcntl(file, fcntl.F_DUPFD_CLOEXEC, STATE_FILE + 1), copy, list(words))
+        held = fcntl.fcntl(file, fcntl.F_DUPFD_CLOEXEC, STATE_FILE + 1)
+        return Version(program, held, copy, list(words), list(both))
     finally:
         os.close(file)
 
@@ -129,13 +211,14 @@ class Run:
         self.is_up = False
         self._said = 0                      # lines of the program that were told
         self.shadow: Process | None = None
+        self.recorder: Process | None = None    # between the program and the shadow, if recordings are kept
         self.tell: str | None = None        # where the shadow tells how the trunk stands
         os.mkdir(folder, 0o700)
         self.state = self._own(state)       # the file of the state that it begins with
         self._open_tape()
         files = dict(enumerate(trunk))
         words = ['trunk', '--config', version.config, '--control', control, '--record', self.path('tape'),
-                 '--save', self.path('saved'), '--totals', *version.words]
+                 '--save', self.path('saved'), '--totals', *version.words, *version.both]
         if waits:
             files[STATE_FILE], self._state = os.pipe()
             _widen(self._state, STATE_ROOM)
@@ -214,12 +297,44 @@ class Run:
 
     def follow(self, tell: str | None = None) -> Process:
         """Starts the shadow, which tells how the trunk stands at a socket, if one is named."""
+        return self._follow(self.tape, tell)
+
+    def record(self, tell: str | None, recording: Recording, before: Process | None, place: int,
+               lost: float) -> Process:
+        """As `follow`, with what keeps the recording in between, behind another that did so `before`. The program began
+        at this place of the trunk, and so many seconds of the trunk are lost before it."""
+        before = before if before and before.file >= 0 else None
+        part = Part(place, lost, self.version.program, self.path('passed'), before is not None)
+        source, sink = os.pipe()
+        try:
+            _widen(sink, TAPE_ROOM)
+            self.recorder = self._record(words_of(recording, part), sink, before)
+            return self._follow(source, tell)
+        finally:
+            os.close(source)
+            os.close(sink)
+
+    def _record(self, words: list[str], sink: int, before: Process | None) -> Process:
+        """Starts what passes the recording on and keeps it."""
+        files = {0: self.tape, 1: sink, 2: 2}
+        opened = {number: os.open(path, os.O_RDONLY)
+                  for number, path in ((CONFIG_FILE, self.version.config), (STATE_FROM, self.state)) if path}
+        if before:
+            files[BEFORE_FILE] = before.file
+        try:
+            return spawn(sys.executable, words, {**files, **opened}, AROUND)
+        finally:
+            for file in opened.values():
+                os.close(file)
+
+    def _follow(self, source: int, tell: str | None) -> Process:
         self.tell = tell
-        words = ['replay', '--config', self.version.config, '--save', self.path('followed'), '--totals']
+        words = ['replay', '--config', self.version.config, '--save', self.path('followed'), '--totals',
+                 *self.version.both]
         words += (['--load', self.state] if self.state else []) + (['--tell', tell] if tell else [])
         nowhere = os.open(os.devnull, os.O_WRONLY)
         try:
-            self.shadow = self._spawn(words, {0: self.tape, 1: nowhere}, 'shadow')
+            self.shadow = self._spawn(words, {0: source, 1: nowhere}, 'shadow')
             return self.shadow
         finally:
             os.close(nowhere)
@@ -229,9 +344,13 @@ class Run:
         return self.path('saved') if os.path.exists(self.path('saved')) else None
 
     def followed(self) -> str | None:
-        """The file of the state that the shadow saved at its end, if it did."""
-        path = self.path('followed')
-        return path if self.shadow and self.shadow.status == 0 and os.path.exists(path) else None
+        """The file of the state that the shadow saved at its end, if it did, and if it was given all."""
+        path, given = self.path('followed'), not self.recorder or os.path.exists(self.path('passed'))
+        return path if given and self.shadow and self.shadow.status == 0 and os.path.exists(path) else None
+
+    def beside(self) -> list[Process]:
+        """The shadow, and what keeps recordings."""
+        return [process for process in (self.recorder, self.shadow) if process]
 
     def ask_end(self) -> None:
         """Asks the program to end behind what it has read."""
@@ -258,7 +377,8 @@ class Run:
         return new
 
     def _told(self, name: str) -> list[str]:
-        return [f'{word} {rest}' for word, rest in self._lines(name) if word not in TOTALS]
+        lines = [(word, f'{word} {rest}') for word, rest in self._lines(name)]
+        return [line for word, line in lines if word not in TOTALS and line != NONE]
 
     def last_words(self) -> str:
         """How the program ended: what it has said, or its status."""
@@ -269,9 +389,9 @@ class Run:
         assert self.shadow
         return told_of(self._told('shadow'), self.shadow)
 
-    def octets(self, name: str) -> int:
-        """How many octets of the trunk the program or the shadow took, once it has ended."""
-        return sum(int(rest) for word, rest in self._lines(name) if word == 'octets')
+    def totals(self, name: str) -> dict[str, int]:
+        """What the program or the shadow has counted, once it has ended in order."""
+        return {word: int(rest) for word, rest in self._lines(name) if word in TOTALS and rest.isdigit()}
 
     def close(self) -> None:
         """Gives back what the keeper holds of it, but for processes that go on."""
@@ -285,36 +405,46 @@ class Run:
 
     def remove(self) -> None:
         """Takes its files away."""
-        if self.shadow:
-            self.shadow.close()
+        for process in self.beside():
+            process.close()
         shutil.rmtree(self.folder, ignore_errors=True)
         unlink(self.control)
         if self.tell:
             unlink(self.tell)
 
-    # ---- through an exec of the keeper ----
+    # ---- for another keeper ----
+
+    def files(self) -> dict[str, int]:
+        """The descriptors that the keeper has of a run that is up."""
+        assert self._hello
+        return {'tape': self.tape, 'hello': self._hello.fileno(), 'program': self.version.file}
 
     def kept(self) -> dict[str, Any]:
-        """A run that is up, as plain values. Its descriptors outlive an exec from now on."""
-        assert self._hello and self.shadow
-        hello = self._hello.fileno()
-        for file in (self.tape, hello, self.version.file):
-            os.set_inheritable(file, True)
-        return {'folder': self.folder, 'control': self.control, 'version': asdict(self.version), 'tape': self.tape,
-                'hello': hello, 'state': self.state, 'program': self.program.pid, 'shadow': self.shadow.pid,
-                'said': self._said, 'tell': self.tell}
+        """The run as plain values, but for its descriptors."""
+        processes = {'program': self.program, 'shadow': self.shadow, 'recorder': self.recorder}
+        return {'folder': self.folder, 'control': self.control, 'version': asdict(self.version), 'state': self.state,
+                'said': self._said, 'tell': self.tell,
+                **{name: [process.pid, process.started] if process else None for name, process in processes.items()}}
 
     @classmethod
-    def taken_up(cls, kept: Mapping[str, Any]) -> Run:
-        """The run that was kept through an exec."""
+    def taken_up(cls, kept: Mapping[str, Any], files: Mapping[str, int]) -> Run:
+        """The run that another keeper has kept, with its descriptors."""
         run = cls.__new__(cls)
-        run.folder, run.control, run.version = kept['folder'], kept['control'], Version(**kept['version'])
-        run.tape, run.state, run._state, run.is_up, run._said = kept['tape'], kept['state'], -1, True, kept['said']
-        run.program, run.shadow, run.tell = Process(kept['program']), Process(kept['shadow']), kept.get('tell')
-        for file in (run.tape, kept['hello'], run.version.file):
+        run.folder, run.control, run.tell = kept['folder'], kept['control'], kept['tell']
+        run.version = Version(**kept['version'] | {'file': files['program']})
+        run.tape, run.state, run._state, run.is_up, run._said = files['tape'], kept['state'], -1, True, kept['said']
+        run.program = taken_up(kept['program'], folder_path(kept, 'saved'))
+        run.shadow = taken_up(kept['shadow'], folder_path(kept, 'followed'))
+        run.recorder = taken_up(kept['recorder'], folder_path(kept, 'passed')) if kept['recorder'] else None
+        for file in files.values():
             os.set_inheritable(file, False)
-        run._hello = socket.socket(fileno=kept['hello'])
+        run._hello = socket.socket(fileno=files['hello'])
         return run
+
+
+def folder_path(kept: Mapping[str, Any], name: str) -> str:
+    """A file of a run that was kept."""
+    return os.path.join(kept['folder'], name)
 
 
 def _widen(file: int, room: int) -> None:

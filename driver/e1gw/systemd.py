@@ -1,9 +1,15 @@
-"""What a service tells systemd (sd_notify(3)): that it is ready, that it reloads, that it is alive."""
+"""What a service tells systemd (sd_notify(3)): that it is ready, that it reloads, that it is alive; and the descriptors
+that systemd keeps for its next start (sd_pid_notify_with_fds(3))."""
 from __future__ import annotations
 
+import array
+import fcntl
 import os
 import socket
 import time
+from collections import deque
+
+FIRST_FILE, APART = 3, 64   # the first descriptor that systemd gives, and from where on they are put
 
 
 class Notify:
@@ -17,13 +23,37 @@ class Notify:
         self._due = 0.0
         self._line = socket.socket(socket.AF_UNIX, socket.SOCK_DGRAM)
         self._line.setblocking(False)
+        self._unsent: deque[tuple[str, int]] = deque()      # what systemd did not take yet, with a descriptor or -1
 
     def tell(self, *lines: str) -> None:
+        self._put('\n'.join(lines))
+
+    def keep(self, name: str, file: int) -> None:
+        """Has systemd keep a descriptor under this name, until it is told to forget it."""
+        self._put(f'FDSTORE=1\nFDNAME={name}\nFDPOLL=0', file)
+
+    def forget(self, name: str) -> None:
+        self._put(f'FDSTOREREMOVE=1\nFDNAME={name}')
+
+    def _put(self, text: str, file: int = -1) -> None:
         if self._path:
+            self._unsent.append((text, os.dup(file) if file >= 0 else -1))
+            self._send()
+
+    def _send(self) -> None:
+        """Sends what systemd takes, in its order."""
+        while self._unsent:
+            text, file = self._unsent[0]
+            rights = [(socket.SOL_SOCKET, socket.SCM_RIGHTS, array.array('i', [file]))] if file >= 0 else []
             try:
-                self._line.sendto('\n'.join(lines).encode(), self._path.replace('@', '\0', 1))
+                self._line.sendmsg([text.encode()], rights, 0, self._path.replace('@', '\0', 1))
+            except BlockingIOError:
+                return
             except OSError:
                 pass
+            self._unsent.popleft()
+            if file >= 0:
+                os.close(file)
 
     def ready(self, status: str) -> None:
         self.tell('READY=1', f'STATUS={status}')
@@ -33,6 +63,20 @@ class Notify:
 
     def alive(self, now: float) -> None:
         """To be called at least each half second: gives a sign of life when one is due."""
+        self._send()
         if self._seconds and now >= self._due:
             self._due = now + self._seconds
             self.tell('WATCHDOG=1')
+
+
+def given() -> dict[str, int]:
+    """The descriptors that systemd has kept, by their names (sd_listen_fds_with_names(3)). To be called once."""
+    count, pid = int(os.environ.pop('LISTEN_FDS', '0')), os.environ.pop('LISTEN_PID', '')
+    names = os.environ.pop('LISTEN_FDNAMES', '').split(':')
+    if pid != str(os.getpid()):
+        return {}
+    files = {}
+    for number, name in enumerate(names[:count], FIRST_FILE):
+        files[name] = fcntl.fcntl(number, fcntl.F_DUPFD_CLOEXEC, APART)
+        os.close(number)
+    return files

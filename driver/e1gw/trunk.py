@@ -1,30 +1,41 @@
-"""Carries an E1 trunk: joins what gives 2048 kbit/s as octets with `e1gw serve`, which it starts.
+"""Carries an E1 trunk: runs e1gw-keep on it and e1gw-watch beside that, and ends both together.
 
-Each octet that is read from the trunk goes to the gateway, and as many come back and are written to the trunk. Lines
-that are typed, or come over the socket of --control, are commands: seize N, clear N, answer N, clear-back N, block N,
-unblock N, codec N CODEC TYPE, status, events, quit, help. Nothing beside the calls ends them: what can no longer be
-written, told or kept is told once, and the trunk goes on.
+e1gw-keep holds the trunk and runs `e1gw trunk`, which carries each octet by itself; e1gw-watch takes commands and tells
+how the trunk stands. A trunk that is no plain device (--satop, --clear, --align, --crc4) is read and written by
+e1gw-carry. Lines that are typed, or come over the socket of --control, are commands: seize N, clear N, answer N,
+clear-back N, block N, unblock N, codec N CODEC TYPE, status, events, quit, help. Nothing beside the calls ends them:
+what can no longer be written, told or kept is told once, and a watcher that ends is begun again.
 
+Signals: SIGTERM, SIGINT end; SIGHUP takes the program and the configuration of now, and loses no octet.
 Statuses: 0 ended as asked, or with the trunk's input; 1 the trunk or the gateway failed; 2 the command line or the
 configuration.
 """
 from __future__ import annotations
 
 import argparse
-from typing import NoReturn
+import os
+import shutil
+from typing import Any, Iterable, NoReturn
 
 from . import satop
-from .driver import Driver
 from .faults import Parser, number
-from .gateway import check_config
 from .keep import seconds_of
-from .lines import SEIZURE_WAIT, wait_words
-from .loop import Loop
-from .managed import serve
-from .options import DriverOptions, Usage, add_calls, add_control, add_options, fields_of, run
+from .lines import SEIZURE_WAIT
+from .options import Usage, add_calls, add_control, add_options, fields_of, run
 from .outlets import Journal
-from .programs import SENDERS, program_of, senders_of
+from .places import folder_of
+from .programs import check_config, program_of
+from .supervisor import Part, Parts, Supervisor
+from .systemd import Notify
 from .trunk_options import add_trunk, opening_of
+
+NO_MORE = 'without effect, as the program reads the trunk when octets come'
+# What the keeper is given, the carrier, and the watcher, as these options are asked for.
+KEPT = ('name', 'senders', 'repeat', 'seizure_wait', 'totals', 'state', 'session', 'keep')
+OPENED = ('input', 'out', 'unix', 'tcp', 'reopen')
+CARRIED = ('satop', 'clear', 'align', 'crc4')
+WATCHED = ('name', 'control', 'control_mode', 'control_group', 'on_loss', 'http', 'metrics', 'json', 'watch', 'top',
+           'calls', 'dark', 'gap')
 
 
 def parser() -> argparse.ArgumentParser:
@@ -36,32 +47,29 @@ def parser() -> argparse.ArgumentParser:
     words.add_argument('--program', metavar='E1GW', help='the program [default: that of this repository, or e1gw]')
     words.add_argument('--senders', choices=('any', 'host', 'peer'), help='whose datagrams are received, e1gw(1) '
                        '[default: host if each peer_host is an address, else any]')
-    words.add_argument('--repeat', type=int, choices=range(9), default=0, metavar='N',
+    words.add_argument('--repeat', type=number(0, 8), default=0, metavar='N',
                        help='sends each datagram again behind the N-th after it, 0 to 8 [default: 0, never]')
     words.add_argument('--seizure-wait', type=number(200, 8000), default=SEIZURE_WAIT, metavar='MS',
                        help='a seizure that is not acknowledged is released after so many milliseconds, 200 to 8000 '
                        '[default: 200]')
     words.add_argument('--totals', action='store_true', help='tells at the end what the gateway has counted')
+    words.add_argument('--state', metavar='FILE', help='the state is saved there at the end, and loaded at the start '
+                       'if it is there')
     _add_trunk(words.add_argument_group('the trunk'))
     satop.add_arguments(words)
     told = words.add_argument_group('control and what is told')
     add_control(told)
     told.add_argument('--picture', type=number(10, 3600, float), metavar='SECONDS',
-                      help='/ is a picture of the last seconds, 10 to 3600, drawn by a process of its own')
-    told.add_argument('--no-counts', dest='counts', action='store_false',
-                      help='no shadow: what becomes of datagrams is not counted')
+                      help='/ is a picture of the last seconds, 10 to 3600, of what --keep has; wants both')
+    told.add_argument('--no-counts', action='store_true', help='without effect: the program always has a shadow')
     _add_sessions(words.add_argument_group('sessions and calls'))
     return words
 
 
 def _add_trunk(words: argparse._ArgumentGroup) -> None:
     add_trunk(words)
-    words.add_argument('--pace', type=number(0, 20), default=4, metavar='MS',
-                       help='a trunk that flows is read each so many milliseconds, 0 to 20; 0 reads it when octets '
-                       'come; not with --satop [default: 4]')
-    words.add_argument('--most', type=number(1, 65535), metavar='OCTETS',
-                       help='octets in a record at most, 1 to 65535; a frame has 32 [default: 2048, 8 ms; 256 with '
-                       '--satop or --pace 0]')
+    words.add_argument('--pace', type=number(0, 20), metavar='MS', help=NO_MORE)
+    words.add_argument('--most', type=number(1, 65535), metavar='OCTETS', help=NO_MORE)
 
 
 def _add_sessions(words: argparse._ArgumentGroup) -> None:
@@ -72,42 +80,71 @@ def _add_sessions(words: argparse._ArgumentGroup) -> None:
     add_calls(words)
 
 
-def options_of(words: list[str]) -> DriverOptions:
+def options_of(words: list[str]) -> argparse.Namespace:
     """The options of a command line; Usage where they are none."""
     asked = parser().parse_args(words)
     try:
-        opening = opening_of(asked)
-        fields = fields_of(asked)
-        keep = seconds_of(asked.keep) if asked.keep else None
+        opening_of(asked), fields_of(asked)
+        if asked.keep:
+            seconds_of(asked.keep)
     except ValueError as fault:
         raise Usage(str(fault)) from None
-    if keep is not None and not asked.session:
+    if asked.keep and not asked.session:
         raise Usage('--keep wants --session')
-    if asked.picture and not (asked.http and asked.counts):
-        raise Usage('--picture wants --http, and the counts')
-    program = program_of(asked.program)
-    opens, crc4 = opening(program)
-    return DriverOptions(
-        **fields, program=program, open_trunk=opens, pace=asked.pace / 1000,
-        most=asked.most or (2048 if asked.pace and not asked.satop else 256), serve=_serve_words(asked),
-        seizure_wait=asked.seizure_wait, reopen=asked.reopen, session=asked.session, keep=keep, gap=asked.gap / 1000,
-        counts=asked.counts, picture=asked.picture, crc4=crc4)
+    if asked.picture and not (asked.http and asked.keep):
+        raise Usage('--picture wants --http, and --session with --keep')
+    return asked
 
 
-def _serve_words(asked: argparse.Namespace) -> list[str]:
-    """The options that the gateway gets."""
-    return (['--totals'] * asked.totals + ['--repeat', str(asked.repeat)] * (asked.repeat > 0)
-            + wait_words(asked.seizure_wait) + ['--senders', asked.senders or senders_of(asked.config)])
+def words_of(asked: argparse.Namespace, names: Iterable[str]) -> list[str]:
+    """The options of these names, as they were asked for."""
+    known: dict[str, Any] = {action.dest: action for action in parser()._actions}
+    found: list[str] = []
+    for name in names:
+        value, action = getattr(asked, name), known[name]
+        if value == action.default:
+            continue
+        found.append(action.option_strings[-1])
+        if isinstance(value, list):
+            found += value
+        elif value is not True:
+            found.append(f'{value:o}' if name == 'control_mode' else str(value))
+    return found
+
+
+def is_carried(asked: argparse.Namespace) -> bool:
+    """Whether the trunk is no plain descriptor."""
+    return any(getattr(asked, name) for name in CARRIED)
+
+
+def parts_of(asked: argparse.Namespace, program: str, folder: str) -> Parts:
+    """The programs that carry this trunk, and tell each other what they do in this folder."""
+    def path(name: str) -> str:
+        return os.path.join(folder, name)
+    common, carried = ['--config', asked.config], is_carried(asked)
+    satop_options = [name for name in vars(asked) if name.startswith('satop_')]
+    trunk = ['--unix', path('carried'), '--reopen'] if carried else words_of(asked, OPENED)
+    keep = [*common, '--program', program, *trunk, '--control', path('program'), '--tell', path('tell'), '--folder',
+            folder, '--flow', path('flow'), *words_of(asked, KEPT)]
+    carry = [*common, '--program', program, '--listen', path('carried'), '--tell', path('carrier'),
+             *words_of(asked, [*OPENED, *CARRIED, *satop_options])]
+    watch = [*common, '--tell', path('tell'), '--program-control', path('program'), '--flow', path('flow'),
+             '--quit-all', *(['--carrier', path('carrier')] if carried else []), *words_of(asked, WATCHED)]
+    if asked.picture:
+        watch += ['--picture', str(asked.picture), '--session', asked.session, '--program', program]
+    return Parts(Part('e1gw-keep', keep, folder), Part('e1gw-watch', watch, folder, has_terminal=True),
+                 Part('e1gw-carry', carry, folder) if carried else None, asked.reopen)
 
 
 def _serve(words: list[str], journal: Journal) -> int:
-    options = options_of(words)
-
-    def made(loop: Loop) -> Driver:
-        check_config(options.program, options.config)
-        journal.line(Journal.INFO, SENDERS[options.serve[-1]])
-        return Driver(loop, options, journal)
-    return serve(Loop(), journal, made)
+    asked = options_of(words)
+    program = program_of(asked.program)
+    check_config(program, asked.config)
+    folder = folder_of(None, 'trunk-')
+    try:
+        return Supervisor(parts_of(asked, program, folder), journal, Notify()).run()
+    finally:
+        shutil.rmtree(folder, ignore_errors=True)
 
 
 def main(words: list[str] | None = None) -> NoReturn:

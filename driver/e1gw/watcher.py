@@ -2,6 +2,7 @@
 program at its control socket. It may end, stand still and be started again at any time: no octet passes through it."""
 from __future__ import annotations
 
+import json
 import threading
 import time
 from collections import deque
@@ -10,13 +11,14 @@ from typing import Any, Callable
 
 from .control import Say
 from .counts import Counts
-from .gateway import version_of
-from .lines import read_config
+from .flow import Flowing
+from .lines import Event, read_config
 from .links import Link
 from .loop import Loop
 from .managed import Answered, Managed
 from .options import Options
 from .outlets import Journal
+from .programs import version_of
 from .restarts import Restarts
 from .running import HELLO
 from .session import BadSession, Kind, Reader, Record
@@ -24,7 +26,9 @@ from .told import BadTelling, Told
 
 TICK = 0.1                  # seconds between two looks, and two tries to connect
 REST = 0.01                 # seconds between two reads of what the shadow tells
+FIRST = 2.0                 # seconds before it is told that somebody was never there
 PATIENCE = 0.3              # seconds that an answer of the program waits for the shadow
+QUIT = 3                    # the status by which e1gw-trunk knows that the trunk is to end
 EACH = 10                   # ticks between two looks whether octets flow, and in which one has to be answered
 
 
@@ -34,6 +38,10 @@ class WatchOptions(Options):
 
     tell: str               # the socket at which the shadow tells
     program_control: str    # that at which the program takes commands
+    carrier: str | None = None      # that at which the carrier of the trunk tells, if there is one
+    quit_all: bool = False  # whether `quit` ends the trunk, and not the watcher alone
+    flow: str | None = None     # the file in which the recorder notes how octets flow
+    gap: float = 0.1            # seconds by which octets are displaced that are a gap
 
 
 @dataclass(eq=False)
@@ -135,10 +143,36 @@ class Pulse:
         self.quiet = -1
 
 
+class Carried:
+    """What a carrier tells of its trunk: a status now and then, and each change, which `passed_on` is called with."""
+
+    def __init__(self, loop: Loop, path: str, passed_on: Callable[[Event], None]) -> None:
+        self.link = Link(loop, path, lambda _: None, self._took, lambda _: self._gone())
+        self.status: dict[str, Any] = {}        # the last one; empty if nobody tells
+        self._passed_on, self._held = passed_on, b''
+
+    def _took(self, octets: bytes) -> None:
+        *lines, self._held = (self._held + octets).split(b'\n')
+        for line in lines:
+            try:
+                told = json.loads(line)
+            except ValueError:
+                return self.link.close('it tells what is not understood')
+            if 'event' in told:
+                self._passed_on(told)
+            else:
+                self.status = told
+
+    def _gone(self) -> None:
+        self.status, self._held = {}, b''
+
+    def is_open(self) -> bool:
+        return bool(self.status.get('trunk_up'))
+
+
 class Watcher(Managed):
     """One trunk that is watched."""
 
-    quit_words = 'the watcher ends; the trunk and its calls go on\nquit: done'
     options: WatchOptions
     lines: Told
 
@@ -147,18 +181,26 @@ class Watcher(Managed):
         counts = Counts(restarts.counted)
         lines = Told(read_config(options.config), self.tell, counts, began=self._told_all)
         super().__init__(loop, options, journal, '', lines, counts, restarts)
+        if options.quit_all:
+            self.quit_status = QUIT
+        else:
+            self.quit_words = f'the watcher ends; the trunk and its calls go on\n{self.quit_words}'
         self._connected: dict[str, bool] = {}
         self._since = dict.fromkeys(('shadow', 'program'), time.time())
         self._shadow = Link(loop, options.tell, lines.begin, self._told, self._shadow_gone, REST)
         self._program = Program(loop, options.program_control, self._stands)
         lines.commanded = self._program.told
+        self._carried = Carried(loop, options.carrier, self.pass_on) if options.carrier else None
         self._pulse = Pulse(loop, options.tell, lines.reach)
         self._silent = 0                        # ticks in which the shadow that is there has told nothing yet
         self._stalls, self._stood = 0, 0.0      # how often no octets came, and since when none come, or 0
+        self._flowing = Flowing(options.flow, options.gap) if options.flow else None
         lines.lost()
 
     def _stands(self, what: str, on: bool, why: str = '') -> None:
-        """Whether there is a connection to the shadow or the program."""
+        """Whether there is a connection to the shadow or the program. At first they may still be to come."""
+        if not on and what not in self._connected and time.monotonic() < self.began + FIRST:
+            return
         if self._connected.get(what) is not on:
             self._connected[what], self._since[what] = on, time.time()
             self.tell({'event': 'connected', 'to': what} if on else {'event': 'disconnected', 'from': what, 'why': why})
@@ -197,6 +239,16 @@ class Watcher(Managed):
             self.tell({'event': 'flows', 'seconds': round(now - self._stood, 3)})
             self._stood = 0.0
 
+    def _look_at_gaps(self) -> None:
+        """What the recorder's notes show of octets that were lost, came too early, or come at another rate."""
+        for finding in self._flowing.look() if self._flowing else []:
+            if finding.what == 'rate':
+                self.tell({'event': 'rate', 'ppm': round(finding.value, 1)})
+            else:
+                seconds = round(finding.value, 3)
+                self.tell({'event': finding.what, 'seconds': seconds})
+                self.restarts.want(self.lines.open_circuits(), f'{finding.what} of {seconds} s')
+
     def _shadow_gone(self, why: str) -> None:
         self.lines.lost()
         self._stands('shadow', False, why)
@@ -206,6 +258,8 @@ class Watcher(Managed):
         self._shadow.rests(0.0)
 
     def dark_words(self) -> str | None:
+        if self._carried and not self._carried.is_open():
+            return 'no trunk'
         return 'the trunk is stalled' if self._stood else self.lines.dark_words()
 
     # ---- the whole ----
@@ -215,16 +269,28 @@ class Watcher(Managed):
         now = time.monotonic()
         self._shadow.look()
         self._program.link.look()
+        if self._carried:
+            self._carried.link.look()
         self._settle(now)
         self._look_at_flow(now)
+        self._look_at_gaps()
         self.restarts.look(now, self.lines.place, self.lines.open_circuits(), not self.counts.stale())
         self.look()
         self._look_at_calls(now)
 
+    def _flow_status(self) -> dict[str, Any]:
+        """Gaps and the rate, once the recorder has noted how octets flow."""
+        clock = self._flowing.clock if self._flowing else None
+        return clock.status() if clock else {}
+
     def status(self) -> dict[str, Any]:
         status = super().status() | {
             'version': self._program.version, 'trunk_up': self._connected.get('program', False),
-            'clock': {'stalled': bool(self._stood), 'stalls': self._stalls}}
+            'clock': {**self._flow_status(), 'stalled': bool(self._stood), 'stalls': self._stalls}}
+        if self._carried:
+            told = self._carried.status
+            status |= {'trunk_up': status['trunk_up'] and self._carried.is_open(), 'crc4': told.get('crc4'),
+                       'transport': told.get('transport', {})}
         for what, since in self._since.items():
             status |= {what: self._connected.get(what, False), f'{what}_since': round(since, 3)}
         return status

@@ -5,7 +5,8 @@ socket of --tell. The watcher knows what it is told there, and gives commands to
 --program-control. It may end, stand still and be started again: the trunk and its calls go on. Only what it does with
 calls by itself (--dark, --on-loss, jitter buffers resynchronised) is not done meanwhile.
 
-Statuses: 0 ended as asked; 2 the command line, the configuration, or a control socket that is taken.
+Statuses: 0 ended as asked; 2 the command line, the configuration, or a control socket that is taken; 3 ended by quit,
+with --quit-all.
 """
 from __future__ import annotations
 
@@ -13,12 +14,12 @@ import argparse
 from typing import NoReturn
 
 from .explain import config_words
-from .faults import Parser
-from .gateway import ConfigRefused
+from .faults import Parser, number
 from .loop import Loop
 from .managed import serve
 from .options import Usage, add_calls, add_control, add_options, fields_of, run
 from .outlets import Journal
+from .programs import ConfigRefused
 from .watcher import Watcher, WatchOptions
 
 
@@ -32,8 +33,21 @@ def parser() -> argparse.ArgumentParser:
                        help='where the shadow tells how the trunk stands, that of e1gw-keep --tell')
     words.add_argument('--program-control', metavar='SOCKET', required=True,
                        help='where the program takes commands, that of e1gw-keep --control')
+    words.add_argument('--carrier', metavar='SOCKET', help='where the carrier of the trunk tells, that of e1gw-carry '
+                       '--tell')
+    words.add_argument('--quit-all', action='store_true',
+                       help='quit ends this with status 3, by which e1gw-trunk ends the trunk')
+    words.add_argument('--flow', metavar='FILE', help='where it is noted how octets flow, that of e1gw-keep --flow: '
+                       'gaps and the rate of the trunk')
+    words.add_argument('--gap', type=number(20, 10_000), default=100, metavar='MS',
+                       help='a displacement of octets that is a gap, 20 to 10000 [default: 100]')
     told = words.add_argument_group('control and what is told')
     add_control(told)
+    told.add_argument('--picture', type=number(10, 3600, float), metavar='SECONDS',
+                      help='/ is a picture of the last seconds, 10 to 3600, of what is kept in --session')
+    told.add_argument('--session', metavar='DIR', help='where e1gw-keep --keep has its recordings, for --picture')
+    told.add_argument('--program', metavar='E1GW', help='the program that replays them [default: that of this '
+                      'repository, or e1gw]')
     add_calls(told)
     return words
 
@@ -41,8 +55,12 @@ def parser() -> argparse.ArgumentParser:
 def options_of(words: list[str]) -> WatchOptions:
     """The options of a command line; Usage where they are none."""
     asked = parser().parse_args(words)
+    if asked.picture and not (asked.http and asked.session):
+        raise Usage('--picture wants --http and --session')
+    drawn = {'picture': asked.picture, 'session': asked.session, 'program': asked.program} if asked.picture else {}
     try:
-        return WatchOptions(**fields_of(asked), tell=asked.tell, program_control=asked.program_control)
+        return WatchOptions(**fields_of(asked), drawn=drawn, tell=asked.tell, program_control=asked.program_control,
+                            carrier=asked.carrier, quit_all=asked.quit_all, flow=asked.flow, gap=asked.gap / 1000)
     except ValueError as fault:
         raise Usage(str(fault)) from None
 

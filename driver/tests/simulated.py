@@ -8,20 +8,43 @@ import os
 import random
 import subprocess
 import tempfile
+from collections import deque
+from typing import Callable
 
 from . import support
 from e1gw.clock import TICK, Clock
-from e1gw.counts import Taped
+from e1gw.counts import Counts
 from e1gw.followed import Followed
 from e1gw.lines import Event
 from e1gw.restarts import Restarts
-from e1gw.session import (FRAME, MULTIFRAME, Codec, Command, Kind, Packet, Reader, codec_record, command_record,
-                          datagram_record, trunk_record)
+from e1gw.session import (FRAME, MULTIFRAME, Codec, Command, Kind, Packet, Reader, Record, codec_record,
+                          command_record, datagram_record, packet_of, records_in, trunk_record)
 
 STEP = 0.002                # a multiframe
 PACKET = 0.02
 IDLE, SPOKEN = 0xD5, 0x55
 ACKNOWLEDGED, ANSWERED = 3, 1
+
+
+class Counted(Counts):
+    """Counts what becomes of datagrams, from the records that a replay is given and those that it answers."""
+
+    def __init__(self, counted: Callable[[int, int, int], None]) -> None:
+        super().__init__(counted)
+        self._place, self._asked = 0, deque[tuple[int, int, int, int, int]]()
+
+    def given(self, records: bytes) -> None:
+        for record in records_in(records):
+            if record.kind is Kind.DATAGRAM:
+                packet = packet_of(record.body)
+                self._asked.append((record.circuit, self._place, packet.sequence, packet.timestamp, packet.ssrc))
+            elif record.kind is Kind.TRUNK:
+                self._place += len(record.body)
+
+    def answered(self, record: Record) -> None:
+        if record.kind is Kind.ANSWER and record.body[0] == Kind.DATAGRAM:
+            circuit, *asked = self._asked.popleft()
+            self.count(circuit, record.body[1], *asked)
 
 
 class Call:
@@ -40,7 +63,7 @@ class Call:
         self.exchange, self.lines = support.Exchange(), Followed(path, self.events.append)
         self.clock = Clock(0.0, gap)
         self._restarts = Restarts(self._restart, self.events.append)
-        self.counts = Taped(self._restarts.counted)
+        self.counts = Counted(self._restarts.counted)
         self._reader = Reader((Kind.TRUNK, Kind.DATAGRAM, Kind.ANSWER))
         self.now, self._tick = 0.0, TICK
         self.sent, self.heard, self._speaks = 0, 0, False
@@ -121,7 +144,7 @@ class Call:
                 self.events.append({'event': finding.what, 'seconds': finding.value})
                 if finding.what in ('gap', 'ahead'):
                     self._restarts.want([1], finding.what)
-            self._restarts.look(self.now, self.lines.place, [1], self._counts and not self.counts.stale())
+            self._restarts.look(self.now, self.lines.place, [1], self._counts)
         self.now = until
 
     def _restart(self, circuits: list[int]) -> None:
@@ -149,15 +172,15 @@ class Call:
     def _ask(self, records: bytes, kind: Kind) -> bytes:
         """Gives the replay records; the body of the last answer, which is of this kind."""
         assert self._replay.stdin and self._replay.stdout
-        self.counts.taped(records)
+        self.counts.given(records)
         self._replay.stdin.write(records)
         self._replay.stdin.flush()
         while True:
             octets = os.read(self._replay.stdout.fileno(), 65_536)
             assert octets, 'the replay has ended'
             self._reader.push(octets)
-            self.counts.answered(octets)
             for record in self._reader.whole():
+                self.counts.answered(record)
                 if record.kind is kind and (kind is Kind.TRUNK or record.body[0] != Kind.DATAGRAM):
                     return record.body
 

@@ -150,47 +150,5 @@ class States(Ringed):
         self.assertEqual(len(self.failed), 1)
 
 
-class InService(support.Folder):
-    """A driver makes them beside the calls, and tells it once if it can't."""
-
-    def test_states_beside_calls(self) -> None:
-        program = self.write('e1gw', FAILS_TO_SAVE.format(program=support.program()))
-        os.chmod(program, 0o755)
-        options = ('--session', '@/ring', '--keep', '1m')
-        with World(config_of_world(range(1, 5)), *options) as good, World(
-                config_of_world(range(5, 9)), *options, '--program', program) as bad:
-            until = time.monotonic() + SECONDS
-            for world, circuit in ((good, 1), (bad, 5)):
-                world.step(60)
-                self.assertIn('done', world.ask(f'seize {circuit}'))
-            while not (states_of(good) and bad.told()['ended']['states']) and time.monotonic() < until:
-                time.sleep(0.05)        # (a piece has 5 s of this machine's clock)
-                good.step(5)
-                bad.step(5)
-            self.assertEqual([good.state(1), bad.state(5)], ['answered'] * 2)
-            self.assertIn('no more', bad.told()['ended']['states'])
-            self.assertEqual([why for why in good.told()['ended'].values() if why], [])
-            status, said = bad.quit()
-            self.assertEqual((status, said.count('states ended, the calls go on: no state for trunk-')), (0, 1))
-            good.quit()
-            self.replays(good)
-
-    def replays(self, world: World) -> None:
-        """Each piece answers from its state on as the whole session does."""
-        ring = kept(world.path('ring'))
-        pieces = [b''.join(octets_of(path)) for path in ring.files]
-        loads = [['--load', state] if (state := state_of(path)) else [] for path in ring.files]
-        self.assertEqual([bool(load) for load in loads], [False, *[True] * (len(pieces) - 1)])
-        words = ['replay', '--config', world.config]
-        parts = [support.run(*words, *load, given=piece) for load, piece in zip(loads, pieces)]
-        self.assertEqual(b''.join(parts), support.run(*words, given=b''.join(pieces)))
-
-
-def states_of(world: World) -> list[str]:
-    """The states of a driver's ring."""
-    ring = world.path('ring')
-    return [name for name in os.listdir(ring) if name.endswith('.state')] if os.path.exists(ring) else []
-
-
 if __name__ == '__main__':
     unittest.main()

@@ -299,7 +299,7 @@ class Gateway(support.Folder):
 
     def test_the_driver_opens_another_device(self) -> None:
         with World(config_of(range(1, 2)), '--clear', '--reopen') as world:
-            self.assertEqual(len(self.through(world, 100)), 100)
+            self.assertEqual(len(self.through(world, 496)), 496)       # a multiframe of 31 slots
             world.line.close()
             with world.new_door() as door:
                 world.take(door)

@@ -2,15 +2,10 @@
 from __future__ import annotations
 
 import unittest
-from types import SimpleNamespace
 
 from . import support
 from e1gw.clock import TICK, Clock, Finding
-from e1gw.counts import Stream, Taped
-from e1gw.driver import Driver
-from e1gw.followed import Followed
-from e1gw.lines import Alignment
-from e1gw.session import codec_record, datagram_record, spell, trunk_record, Codec, Kind, Packet
+from e1gw.counts import Stream
 
 assert support.TOP
 RECORD = 0.001
@@ -125,20 +120,6 @@ class Flow(unittest.TestCase):
         trunk.quiet(0.2)
         self.assertEqual(trunk.words(), ['stalled'])
 
-    def test_no_seizure_while_no_octets_come(self) -> None:
-        trunk = Trunk()
-        driver = SimpleNamespace(trunk=trunk, clock=trunk.clock, lines=Followed({}))
-        driver.lines.alarms = dict.fromkeys(Alignment, False)
-        words = lambda: Driver.dark_words(driver)       # noqa: E731
-        trunk.go(2)
-        self.assertIsNone(words())
-        trunk.quiet(0.15)
-        self.assertEqual(words(), 'the trunk is stalled')
-        trunk.go(0.1)
-        self.assertIsNone(words())
-        trunk.stand_still(0.5)
-        self.assertIsNone(words())
-
     def test_small_gaps_add_up(self) -> None:
         trunk = Trunk()
         trunk.go(2)
@@ -186,23 +167,6 @@ class Streams(unittest.TestCase):
         self.assertEqual((stream.lost, stream.jitter), (1, 2.0))
         stream.take(9, 0, 8, 5)
         self.assertEqual((stream.lost, stream.jitter), (1, 0.0))
-
-    def test_answers_are_those_of_the_datagrams_before(self) -> None:
-        answers_of: list[tuple[int, int, int]] = []
-        counts = Taped(lambda *answer: answers_of.append(answer))
-        packet = Packet(8, 1, 0, 1, b'\xD5' * 160).spelled()
-        tape = (trunk_record(bytes(64)) + datagram_record(3, b'') + codec_record(3, Codec.G711, 8)
-                + datagram_record(4, packet) + trunk_record(bytes(32)))
-        answers = (trunk_record(bytes(64)) + spell(Kind.ANSWER, 3, b'\x44\1') + spell(Kind.ANSWER, 3, b'\x4B\0')
-                   + spell(Kind.ANSWER, 4, b'\x44\0') + datagram_record(4, packet) + trunk_record(bytes(32)))
-        whole = b''.join(counts.taped(tape[at:at + 7]) for at in range(0, len(tape), 7))
-        self.assertEqual((whole, counts.place), (tape, 96))
-        for at in range(0, len(answers), 5):
-            counts.answered(answers[at:at + 5])
-        self.assertEqual(counts.status(3)['datagrams'], {'sent': 0, 'admitted': 0, 'Short': 1})
-        self.assertEqual(counts.status(4)['datagrams'], {'sent': 1, 'admitted': 1})
-        self.assertEqual((counts.stale(), counts.answered_place), (False, 96))
-        self.assertEqual(answers_of, [(3, 1, 64), (4, 0, 64)])
 
 
 if __name__ == '__main__':

@@ -17,8 +17,8 @@ import unittest
 from unittest import mock
 
 from . import support
-from .test_driver import FOUR, aligned, call
-from .world import LAUNCHER, SECONDS, World, config_of
+from .test_trunk import FOUR, aligned, call
+from .world import LAUNCHER, SECONDS, World, config_of, descendant
 from e1gw import crc4, filtered, metrics
 from e1gw.crc4 import Crc4, counts_of, with_crc4
 from e1gw.events import words_of
@@ -117,6 +117,11 @@ def of_children(parent: int, *words: str) -> list[int]:
     return found
 
 
+def of_carrier(world: World, *words: str) -> int:
+    """The process that the carrier has started with these words."""
+    return of_children(descendant(world.process.pid, 'e1gw-carry'), *words)[0]
+
+
 class Demanding(World):
     """A driver with --crc4, whose exchange sends CRC-4."""
 
@@ -185,15 +190,17 @@ class Service(unittest.TestCase):
 
     def test_one_in_a_thousand(self) -> None:
         """Errored submultiframes, and E bits of 0, are counted one by one; alignment is found once over all checks."""
-        world, submultiframes = self.world('--reopen'), 12_000
-        world.sender.errored_at = set(range(500, submultiframes, 1000))
-        world.sender.far_at = set(range(301, submultiframes, 2000))
-        world.step(submultiframes // 2)
+        world = self.world('--reopen')
+        first = len(world.sent) // HALF
+        world.sender.errored_at = {first + n for n in range(500, 12_000, 1000)}
+        world.sender.far_at = {first + n for n in range(301, 12_000, 2000)}
+        world.step(6_000)
+        submultiframes = len(world.sent) // HALF
         counts = self.ended(world)
         self.assertEqual((counts['errored'], counts['far_end_errored']), (12, 6))
         self.assertEqual((counts['multiframes_found'], counts['multiframes_lost'], counts['given_up']), (1, 0, 0))
         # Each of three checks passes by 8 ms and what is missing of two multiframes.
-        self.assertTrue(submultiframes - 3 * 16 < counts['submultiframes'] < submultiframes, counts)
+        self.assertTrue(12_000 - 3 * 16 < counts['submultiframes'] < submultiframes, counts)
         self.assertEqual(counts['checked'], submultiframes * HALF)
         status, said = world.quit()
         self.assertEqual(status, 0)
@@ -206,19 +213,25 @@ class Service(unittest.TestCase):
         with world.new_door() as door:
             world.line.close()
             world.take(door)
-        world.until(lambda: bool(world.told()['trunk_up']))
-        counts: dict[str, int] = world.told()['crc4']
+        until = time.monotonic() + SECONDS
+        counts: dict[str, int] = {}
+        while counts.get('checked') != len(world.sent) and time.monotonic() < until:
+            counts = world.known()['crc4'] or {}
         return counts
 
     def test_a_trunk_that_comes_again_inside_a_frame(self) -> None:
         """Its CRC-4 goes on with the gateway's frames: no octet of another slot is touched, and all is right."""
         world = aligned(self.world('--reopen'))
-        world.give(b'\xD5' * 77)
-        self.ended(world)
-        begun = len(world.heard)
+        world.line.sendall(b'\xD5' * 77)
+        world.all_read()
+        with world.new_door() as door:
+            world.line.close()
+            world.take(door)
+        world.exchange = support.Exchange()
+        begun = len(world.heard) + 77
         world.give(b'\xD5' * (MULTIFRAME - 77))
         world.step(100)
-        heard = bytes(world.heard[begun:])
+        heard = bytes(world.heard[begun - 77:])
         at = world.alignment_of(heard)
         self.assertEqual((begun + at) % MULTIFRAME, 0)
         self.assertEqual(checked(heard, at).count(False), 0)
@@ -244,11 +257,11 @@ class Service(unittest.TestCase):
             self.assertEqual(checked(bytes(world.heard), world.alignment_of(bytes(world.heard))).count(False), 0)
 
     def test_it_ends_with_each_filter(self) -> None:
-        for words, said in ((('crc4',), 'the trunk cannot be (read|written): e1gw crc4 ended by signal 9'),
-                            (('crc4', '--check'), 'the trunk cannot be read: e1gw crc4 --check ended by signal 9')):
+        for words, said in ((('crc4',), 'cannot be read or written: e1gw crc4 ended by signal 9'),
+                            (('crc4', '--check'), 'cannot be read or written: e1gw crc4 --check ended by signal 9')):
             with self.subTest(words), Demanding(config_of(FOUR)) as world:
                 aligned(world)
-                os.kill(of_children(world.process.pid, *words)[0], signal.SIGKILL)
+                os.kill(of_carrier(world, *words), signal.SIGKILL)
                 try:
                     world.step(2)
                 except (EOFError, ConnectionError, BrokenPipeError):
@@ -261,7 +274,7 @@ class Service(unittest.TestCase):
         world = aligned(self.world('--reopen'))
         call(world, 1)
         with world.new_door() as door:
-            os.kill(of_children(world.process.pid, 'crc4')[0], signal.SIGKILL)
+            os.kill(of_carrier(world, 'crc4'), signal.SIGKILL)
             try:
                 world.step()
             except (EOFError, ConnectionError, BrokenPipeError):

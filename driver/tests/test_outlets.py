@@ -9,7 +9,7 @@ import time
 import unittest
 
 from . import support
-from .test_driver import FOUR, aligned, call
+from .test_trunk import FOUR, aligned, call
 from .world import SECONDS, World, config_of
 from e1gw.outlets import Journal, Outlet, open_to_append, to_file
 
@@ -57,9 +57,8 @@ class Openings(support.Folder):
     def test_a_trunk_whose_files_do_not_open(self) -> None:
         support.program()
         none = os.path.join(self.fifo, 'none')
-        for options, what in ((('--session', self.fifo), 'session'), (('--json', self.fifo), 'json'),
-                              (('--session', none), 'session'), (('--json', none), 'json'),
-                              (('--session', none, '--keep', '1m'), 'session')):
+        for options, what in ((('--json', self.fifo), 'json'), (('--json', none), 'json'),
+                              (('--calls', none), 'calls')):
             with self.subTest(options), World(config_of(FOUR), *options) as world:
                 aligned(world)
                 call(world, 1)
@@ -74,10 +73,10 @@ class Openings(support.Folder):
     def test_modes(self) -> None:
         support.program()
         front = ('sh', '-c', 'umask 0; exec "$@"', 'sh')
-        with World(config_of(FOUR), '--session', '@/kept', '--json', '@/told', front=front) as world:
+        with World(config_of(FOUR), '--calls', '@/calls', '--json', '@/told', front=front) as world:
             aligned(world)
             world.quit()
-            self.assertEqual([stat.S_IMODE(os.stat(world.path(name)).st_mode) for name in ('kept', 'told')],
+            self.assertEqual([stat.S_IMODE(os.stat(world.path(name)).st_mode) for name in ('calls', 'told')],
                              [0o640, 0o640])
 
 

@@ -15,7 +15,7 @@ from .picture_made import TROUBLES, Made, Sender, answered, recorded, rtp
 
 from e1gw.followed import Followed
 from e1gw.lines import read_config
-from e1gw.picture import Live, page
+from e1gw.picture import page
 from e1gw.picture.facts import MOST, Cell, Facts, Row, Spans, RANK
 from e1gw.picture.findings import findings
 from e1gw.picture.following import Follower
@@ -243,22 +243,6 @@ class BesideTheProgram(unittest.TestCase):
         found = findings(read(io.BytesIO(given), io.BytesIO(answers), read_config(path), program=program()))
         self.assertIn('come 380 ms earlier', next(each.seen for each in found if each.kind == 'gap'))
 
-    def test_in_pieces_as_in_one(self) -> None:
-        given, answers, path = played('jump')
-        live, rng = Live(read_config(path), 60), random.Random(2)
-        at = [0, 0]
-        while at[0] < len(given) or at[1] < len(answers):
-            for n, (octets, take) in enumerate(((given, live.taped), (answers, live.answered))):
-                size = rng.randrange(1, 3000)
-                take(octets[at[n]:at[n] + size])
-                at[n] += size
-        live.page()
-        self.assertFalse(live.ended)
-        facts = read(io.BytesIO(given), io.BytesIO(answers), read_config(path), program=program())
-        whole, cell = facts.rows[3].count(), live.facts.rows[3].count()
-        for name in Cell.__slots__:
-            self.assertEqual(getattr(whole, name), getattr(cell, name), name)
-
 
 class Checker(html.parser.HTMLParser):
     """Sees that what is opened is closed, and that nothing is fetched."""
@@ -353,11 +337,10 @@ class Drawn(unittest.TestCase):
         facts.turn(10 * OCTETS_A_SECOND)
         self.assertIn('0 calls, 0 answered, 1 connected before', self.checked(draw(facts, 'x')))
 
-    def test_slips_of_a_live_page(self) -> None:
-        live = Live({}, 60)
-        live.slipped(100, 0.3)
-        words = self.checked(live.page())
-        self.assertIn('the driver noted 1 slip, first at', words)
+    def test_slips_that_were_noted(self) -> None:
+        facts = Facts()
+        facts.slips = [(100, 0.3)]
+        self.assertIn('the driver noted 1 slip, first at', self.checked(draw(facts, 'x')))
 
     def test_words_are_escaped(self) -> None:
         text = draw(Facts(), '<b>&"')
@@ -375,18 +358,6 @@ class Drawn(unittest.TestCase):
         words = self.checked(draw(facts, 'x'))
         self.assertIn('2023-11-14 22:13:20 UTC', words)
         self.assertIn('22:14:00', words)
-
-    def test_live_ends_at_what_cannot_be(self) -> None:
-        live = Live({}, 60)
-        live.taped(b'T\0\0\1x')
-        live.answered(b'T\0\0\2xy')
-        self.assertIn('It is not updated any more: fault 1 BadKind', self.checked(live.page()))
-        live.taped(b'more')
-        self.assertIn('not updated any more', self.checked(live.page()))
-        behind = Live({}, 60)
-        for _ in range(200):
-            behind.taped(trunk_record(bytes(60_000)))
-        self.assertEqual(behind.ended, 'the answers fell behind')
 
     def test_small_things(self) -> None:
         self.assertEqual(numbers([1, 2, 3, 4, 7, 9, 10]), '1 to 4, 7, 9, 10')

@@ -1,4 +1,4 @@
-"""Who reads pages, the status or events costs the octets nothing; who asks much has no more than a share."""
+"""Who reads pages, the status or events and who asks much has no more than a share."""
 from __future__ import annotations
 
 import json
@@ -13,86 +13,15 @@ from typing import Any
 from unittest import mock
 
 from . import support
-from .readers import DOORS, EVENTS, Readers, all_answered, calls_of
-from .test_driver import FOUR, aligned, call, child
+from .readers import EVENTS
+from .test_trunk import FOUR, aligned, call
 from .test_web import free_port
-from .world import SECONDS, World, config_of
+from .world import SECONDS, World, config_of, descendant
 from e1gw import control, loop, snapshots
 from e1gw.loop import READ, SAVED, SHARE, Loop
 from e1gw.pages import Pages
 from e1gw.snapshots import Snapshot, Snapshots
 from e1gw.sockets import Tables
-
-ROUNDS = 150
-MEDIAN, WORST = 0.001, 0.020        # seconds of the driver's processor time by which an octet may be later
-BURSTS, MULTIFRAMES = 9, 64         # octets that have waited
-
-
-def processor(pid: int) -> float:
-    """Seconds of processor time that a process has used, to the nanosecond."""
-    return time.clock_gettime(~pid << 3 | 2)
-
-
-def rounds(world: World) -> list[float]:
-    """For each multiframe, the driver's processor time from when it is sent until all of it has come back."""
-    found, pid = [], world.process.pid
-    for number in range(ROUNDS):
-        if number % 10 == 0:
-            world.ask(EVENTS)
-        began = processor(pid)
-        world.give(world.exchange.multiframe())
-        found.append(processor(pid) - began)
-    return sorted(found)
-
-
-def burst(world: World) -> float:
-    """The driver's processor time for octets that come all at once, the median of some bursts."""
-    found, pid = [], world.process.pid
-    for _ in range(BURSTS):
-        octets = b''.join(world.exchange.multiframe() for _ in range(MULTIFRAMES))
-        began = processor(pid)
-        world.give(octets)
-        found.append(processor(pid) - began)
-    return sorted(found)[BURSTS // 2]
-
-
-def later(found: list[float], quiet: list[float]) -> tuple[float, float]:
-    """By how much the median and the 99th percentile are above those without readers."""
-    places = ROUNDS // 2, ROUNDS * 99 // 100
-    median, worst = (found[place] - quiet[place] for place in places)
-    return median, worst
-
-
-class Octets(unittest.TestCase):
-    """Thirty calls, and four who read as fast as they can over each door."""
-
-    def setUp(self) -> None:
-        support.program()
-        self.port = free_port()
-        self.world = World(config_of(range(1, 31), prefill=320), '--http', f'127.0.0.1:{self.port}')
-        self.addCleanup(self.world.__exit__)
-
-    def test_no_octet_is_later(self) -> None:
-        world = self.world
-        all_answered(world)
-        quiet, at_once = rounds(world), burst(world)
-        for door in DOORS:
-            with self.subTest(door), Readers(4, door, self.port, world.path('ctl')) as readers:
-                self.until_read(readers, 8)
-                count = readers.count.value
-                # A host that stands still counts as processor time: three tries.
-                tries = (later(rounds(world), quiet) for _ in range(3))
-                self.assertTrue(any(median < MEDIAN and worst < WORST for median, worst in tries))
-                self.assertTrue(any(burst(world) < 1.5 * at_once + 0.005 for _ in range(3)))
-                self.until_read(readers, count + 1)
-        self.assertEqual(calls_of(world), 30)
-
-    def until_read(self, readers: Readers, count: int) -> None:
-        """Carries the trunk until they have read so often."""
-        until = time.monotonic() + SECONDS
-        while readers.count.value < count and time.monotonic() < until:
-            self.world.step()
-        self.assertGreaterEqual(readers.count.value, count)
 
 
 class Turns(unittest.TestCase):
@@ -276,7 +205,7 @@ class Clients(unittest.TestCase):
         self.assertIn('circuits are', self.world.ask('seize 31'))
         last = self.connect(b'seize 31\n')
         last.recv(100)
-        self.assertIn('no seat: 64 clients', self.world.ask(b''))
+        self.assertIn('no seat: 64 clients', self.world.ask_at_once(b''))
         lines[0].close()
         last.close()
         self.assertIn('circuits are', self.world.ask('seize 31'))
@@ -306,7 +235,7 @@ class ProcessOfPages(unittest.TestCase):
         self.port = free_port()
         with open('/dev/null', encoding='ascii') as file:
             words = {'config': file.name, 'name': 'west', 'top': False, 'metrics': None}
-        self.pages = Pages(self.loop, words, socket.create_server(('127.0.0.1', self.port)), None, self.want,
+        self.pages = Pages(self.loop, words, socket.create_server(('127.0.0.1', self.port)), self.want,
                            lambda what, why: self.ended.append((what, why)))
         self.addCleanup(self.pages.finish)
         self.loop.every(0.01, lambda: None)
@@ -385,7 +314,7 @@ class PagesOfATrunk(unittest.TestCase):
         world = self.world
         aligned(world)
         self.assertIn('e1gw_trunk_up', self.get('/metrics'))
-        os.kill(child(world, 'e1gw.pages'), signal.SIGKILL)
+        os.kill(descendant(world.process.pid, 'e1gw.pages'), signal.SIGKILL)
         call(world, 1)
         until = time.monotonic() + SECONDS
         while (ended := world.status()['ended'])['pages'] is None and time.monotonic() < until:
@@ -402,7 +331,7 @@ class PagesOfATrunk(unittest.TestCase):
         world = self.world
         aligned(world)
         before = json.loads(self.get('/status'))['octets']
-        found = child(world, 'e1gw.pages')
+        found = descendant(world.process.pid, 'e1gw.pages')
         os.kill(found, signal.SIGSTOP)
         call(world, 1)
         world.step(300)

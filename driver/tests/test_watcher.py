@@ -205,8 +205,7 @@ class Service(Watches):
                             ('e1gw_connected{trunk="west",to="shadow"}', 1),
                             ('e1gw_trunk_up{trunk="west"}', 1), ('e1gw_trunk_stalled{trunk="west"}', 0)):
             self.assertEqual(found.get(name), value, name)
-        for name in ('e1gw_trunk_gaps', 'e1gw_trunk_rate', 'e1gw_transport', 'e1gw_crc4', 'e1gw_slowest',
-                     'e1gw_trunk_octets', 'e1gw_wrong'):
+        for name in ('e1gw_trunk_gaps', 'e1gw_trunk_rate', 'e1gw_transport', 'e1gw_crc4'):
             self.assertFalse([each for each in found if each.startswith(name)], name)
         self.assertEqual(json.loads(page('/status'))['circuits'][0]['state'], 'answered')
         self.assertIn(' 1 outgoing answered ', page('/table'))

@@ -4,7 +4,6 @@ from __future__ import annotations
 import json
 import os
 import re
-import signal
 import socket
 import time
 import unittest
@@ -12,7 +11,7 @@ import urllib.error
 import urllib.request
 
 from . import support
-from .test_driver import FOUR, aligned, call, child
+from .test_trunk import FOUR, aligned, call
 from .world import SECONDS, World, config_of
 from e1gw.crc4 import Crc4
 from e1gw.metrics import exposition, family
@@ -47,12 +46,12 @@ class Text(unittest.TestCase):
 
 
 class Picture(unittest.TestCase):
-    def setUp(self) -> None:
-        support.program()
-
     def test_the_last_seconds(self) -> None:
+        """Drawn of what is kept; the calls go on meanwhile."""
+        support.program()
         port = free_port()
-        with World(config_of(FOUR), '--http', f'127.0.0.1:{port}', '--picture', '60', '--name', 'west') as world:
+        options = ('--http', f'127.0.0.1:{port}', '--picture', '60', '--session', '@/ring', '--keep', '1m')
+        with World(config_of(FOUR), *options, '--name', 'west') as world:
             aligned(world)
             call(world, 1)
 
@@ -61,13 +60,9 @@ class Picture(unittest.TestCase):
                     return page.headers['Content-Type'], page.read().decode()
             kind, page = get('/')
             self.assertEqual((kind, '</html>' in page, 'west' in page), ('text/html; charset=utf-8', True, True))
+            self.assertIn('1 answered', page)
             self.assertEqual(get('/table')[0], 'text/plain; charset=utf-8')
-            found = child(world, 'e1gw.pictures')
-            os.kill(found, signal.SIGKILL)
-            time.sleep(0.2)
             call(world, 2)
-            self.assertEqual(get('/')[0], 'text/plain; charset=utf-8')
-            self.assertIsNotNone(world.status()['ended']['picture'])
 
 
 class Pages(unittest.TestCase):
@@ -88,7 +83,7 @@ class Pages(unittest.TestCase):
         call(world, 1)
         world.ask('seize 1')
         world.step(30)
-        status = world.settled()
+        status = world.status()
         found = samples(self.get('/metrics'))
         counts = status['circuits'][0]['datagrams']
         self.assertGreater(counts['sent'], 2)
@@ -100,9 +95,9 @@ class Pages(unittest.TestCase):
                 ('e1gw_circuit_seizures_total{trunk="west",circuit="1"}', 1),
                 ('e1gw_datagrams_total{trunk="west",circuit="1",what="sent"}', counts['sent']),
                 ('e1gw_commands_total{trunk="west",command="seize",answer="not idle"}', 1),
-                ('e1gw_ended{trunk="west",what="shadow"}', 0), ('e1gw_counts_stale{trunk="west"}', 0)):
+                ('e1gw_ended{trunk="west",what="json"}', 0), ('e1gw_counts_stale{trunk="west"}', 0)):
             self.assertEqual(found.get(name), value, name)
-        self.assertEqual(json.loads(self.get('/status'))['octets'], status['octets'])
+        self.assertGreaterEqual(json.loads(self.get('/status'))['octets'], status['octets'])
         for path in ('/none', '/metrics/x'):
             with self.assertRaises(urllib.error.HTTPError) as fault:
                 self.get(path)
@@ -115,8 +110,9 @@ class Pages(unittest.TestCase):
         for name in ('alerts.yml', 'dashboard.json'):
             with open(f'{support.TOP}/package/{name}', encoding='utf-8') as file:
                 named |= set(re.findall(r'\be1gw_\w+', file.read()))
-        more = exposition(self.world.status() | {'crc4': Crc4().status(), 'program': True, 'shadow': True})
-        declared = set(re.findall(r'^# TYPE (\w+)', self.get('/metrics') + more, re.M)) | {'e1gw_trunk_rate_ppm'}
+        more = exposition(self.world.status() | {'crc4': Crc4().status()})
+        declared = set(re.findall(r'^# TYPE (\w+)', self.get('/metrics') + more, re.M)) | {
+            'e1gw_trunk_rate_ppm'}
         self.assertLessEqual(named, declared)
 
     def test_a_file_of_metrics(self) -> None:

@@ -1,13 +1,15 @@
-"""A driver in service for tests: an exchange at the far end of its trunk, which goes in lock step, and its control."""
+"""A trunk in service for tests: an exchange at the far end of it, which goes in lock step, and its control."""
 from __future__ import annotations
 
 import contextlib
+import fcntl
 import json
 import os
 import socket
 import subprocess
 import sys
 import tempfile
+import termios
 import time
 from typing import Any, Callable
 
@@ -45,6 +47,26 @@ def child_of(parent: int, word: str) -> int:
         except (OSError, ValueError):
             pass
     raise AssertionError(f'no e1gw {word}')
+
+
+def descendant(parent: int, word: str, without: str | None = None) -> int:
+    """A process that another one has started, or one of those has, with this word in its command line, and not that
+    end of one."""
+    parents: dict[int, list[int]] = {}
+    for name in filter(str.isdecimal, os.listdir('/proc')):
+        with contextlib.suppress(OSError), open(f'/proc/{name}/stat', encoding='utf-8') as stat:
+            parents.setdefault(int(stat.read().rpartition(')')[2].split()[1]), []).append(int(name))
+    left = [parent]
+    while left:
+        pid = left.pop()
+        left += parents.get(pid, [])
+        with contextlib.suppress(OSError), open(f'/proc/{pid}/cmdline', 'rb') as file:
+            words = file.read().decode().split('\0')
+            if without and any(each.endswith(without) for each in words):
+                continue
+            if pid != parent and word in map(os.path.basename, words):
+                return pid
+    raise AssertionError(f'no process {word}')
 
 
 def aligner_of(parent: int) -> int:
@@ -144,32 +166,90 @@ class Served:
         return self.process.wait(SECONDS), said.decode()
 
 
-class World(Served):
-    """A driver at a Unix socket, with a folder of its own. The exchange acknowledges and answers what is seized.
+SETTLES = 'codec 30 g726-16 95'     # a command that is refused and changes nothing
+SETTLED = 'codec 30: no payload type of the codec'
 
-    It gives octets when a test does, and not by a clock; so but for an option --gap no pause is a stall."""
+
+class World(Served):
+    """An e1gw-trunk at a Unix socket, with a folder of its own. The exchange acknowledges and answers what is seized.
+
+    It gives octets when a test does, and not by a clock; so but for an option --gap no pause is one. What it is asked
+    it knows all of that was given before: each question comes behind a command that the gateway refuses, whose answer
+    comes behind all of that."""
 
     def __init__(self, config: str, *options: str, answers: bool = True, front: tuple[str, ...] = (),
                  **streams: Any) -> None:
         super().__init__(config)
         self.exchange = support.Exchange()
         self.answers = answers
+        self.ones = b'\xff' * (496 if '--clear' in options else 512)     # a carrier gives whole multiframes
         self.sent, self.heard = bytearray(), bytearray()
         self._ages: dict[int, int] = {}
         if '--gap' not in options:
             options += ('--gap', '10000')
+        os.mkdir(self.path('run'))
         with self._door() as door:
             streams = {'stdin': subprocess.DEVNULL, 'stdout': subprocess.DEVNULL, 'stderr': subprocess.PIPE} | streams
             self.process = subprocess.Popen(
                 [*front, sys.executable, '-B', LAUNCHER, '--program', support.program(), '--config', self.config,
                  '--unix', self.path('card'), '--control', self.path('ctl'),
-                 *(word.replace('@', self.folder) for word in options)], **streams)
-            self.take(door)
+                 *(word.replace('@', self.folder) for word in options)],
+                env={**os.environ, 'RUNTIME_DIRECTORY': self.path('run')}, **streams)
+            try:
+                self.take(door)
+                self.connected()
+            except BaseException:
+                self.__exit__()
+                raise
+
+    def connected(self) -> None:
+        """Waits until the watcher knows how the trunk stands. It is told that at the first octets that come."""
+        until = time.monotonic() + SECONDS
+        while time.monotonic() < until and self.process.poll() is None:
+            try:
+                if self.ask_at_once(SETTLES) == SETTLED and self.known()['shadow']:
+                    return
+            except (FileNotFoundError, ConnectionRefusedError, EOFError):
+                time.sleep(0.01)
+            else:
+                self.give(self.ones)
+        raise AssertionError('the watcher does not come to know the trunk')
+
+    def ask(self, command: str | bytes) -> str:
+        self.settle()
+        return self.ask_at_once(command)
+
+    def ask_at_once(self, command: str | bytes) -> str:
+        """The answer of a watcher that may not know what was given before."""
+        return super().ask(command)
+
+    def known(self) -> dict[str, Any]:
+        """What such a watcher knows."""
+        found: dict[str, Any] = json.loads(self.ask_at_once('status json'))
+        return found
+
+    def settle(self) -> None:
+        """Returns once the watcher knows what was given."""
+        assert self.ask_at_once(SETTLES) == SETTLED
 
     def new_door(self) -> socket.socket:
         """The socket anew, for a driver that opens its trunk again."""
         os.unlink(self.path('card'))
         return self._door()
+
+    def all_read(self) -> None:
+        """Returns once the other end has read all that was sent."""
+        until = time.monotonic() + SECONDS
+        while int.from_bytes(fcntl.ioctl(self.line, termios.TIOCOUTQ, bytes(4)), sys.byteorder):
+            if time.monotonic() > until:
+                raise AssertionError('the trunk is not read')
+            time.sleep(0.001)
+
+    def comes_again(self) -> None:
+        """Takes whoever opens the trunk again, and waits until the watcher knows it."""
+        with self.new_door() as door:
+            self.take(door)
+        self.connected()
 
     def _door(self) -> socket.socket:
         door = socket.socket(socket.AF_UNIX)
@@ -226,13 +306,3 @@ class World(Served):
                 return
             self.step()
         raise AssertionError('it does not come to hold')
-
-    def settled(self) -> dict[str, Any]:
-        """The status once the shadow has answered all."""
-        until = time.monotonic() + SECONDS
-        while time.monotonic() < until:
-            status = self.status()
-            if status['counted'] == status['octets']:
-                return status
-            time.sleep(0.02)
-        raise AssertionError('the shadow does not answer')

@@ -6,11 +6,10 @@ from collections.abc import Mapping
 from typing import Any
 
 from ..session import OCTETS_A_SECOND
-from .live import Live
 from .page import draw
 from .reading import read
 
-__all__ = ['Live', 'page']
+__all__ = ['page']
 
 
 def page(given: bytes, answered: bytes, config: Mapping[str, Any], last: float | None = None,

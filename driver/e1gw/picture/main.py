@@ -89,6 +89,8 @@ def parser() -> argparse.ArgumentParser:
     words.add_argument('--begin', type=moment, metavar='TIME', help='when the session began, in UTC')
     words.add_argument('--seizure-wait', type=number(200, 8000), metavar='MS',
                        help='as of the gateway [default: that of the kept session, or 200]')
+    words.add_argument('--refresh', type=number(1, 3600), metavar='SECONDS',
+                       help='the page is loaded again each so many seconds [default: never]')
     words.add_argument('--title', metavar='WORDS', help='the title of the page')
     words.add_argument('--program', metavar='E1GW', help='the program [default: that of this repository, or e1gw]')
     return words
@@ -199,7 +201,7 @@ def drawn(options: argparse.Namespace) -> tuple[str, bool]:
     notes += [middle] if middle else []
     for note in notes:
         print(f'e1gw-picture: {note}', file=sys.stderr)
-    return draw(facts, title, options.circuits, notes=notes), not failure
+    return draw(facts, title, options.circuits, options.refresh, notes), not failure
 
 
 def main() -> int:

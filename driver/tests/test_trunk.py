@@ -1,4 +1,4 @@
-"""The driver in service: commands, sessions that replay alike, and what ends beside the calls without ending them."""
+"""e1gw-trunk in service: commands, what ends beside the calls without ending them, and how all of it ends."""
 from __future__ import annotations
 
 import json
@@ -7,16 +7,16 @@ import signal
 import socket
 import subprocess
 import sys
+import tempfile
 import time
 import unittest
 import unittest.mock
-from typing import Any
+from typing import Any, Sequence
 
 from . import support
-from .world import IDLE, LAUNCHER, SECONDS, SEIZED, World, config_of, free_ports
+from .world import ANSWERED, IDLE, LAUNCHER, SECONDS, SEIZED, World, config_of, descendant, free_ports
 from e1gw import session
-from e1gw.session import Kind
-from e1gw.trunk import _serve_words, parser    # pylint: disable=protected-access
+from e1gw.trunk import options_of, parts_of
 
 FOUR = range(1, 5)
 # Runs a command in the background of a terminal, as a shell does.
@@ -33,7 +33,22 @@ def aligned(world: World) -> World:
     """Steps until the lines are idle."""
     world.until(lambda: world.exchange.aligned and not world.exchange.remote_alarms)
     world.step(15)
+    world.settle()
     return world
+
+
+def records_of(octets: bytes) -> bytes:
+    """Octets of the trunk as records."""
+    return b''.join(session.trunk_record(octets[at:at + 2048]) for at in range(0, len(octets), 2048))
+
+
+def is_there(pid: int) -> bool:
+    """Whether a process has not ended."""
+    try:
+        with open(f'/proc/{pid}/stat', encoding='utf-8') as stat:
+            return stat.read().rpartition(')')[2].split()[0] != 'Z'
+    except OSError:
+        return False
 
 
 def call(world: World, circuit: int) -> None:
@@ -143,22 +158,21 @@ class Sessions(unittest.TestCase):
             world.step(80)
             world.ask('codec 5 g726-32 97')
             world.step(40)
-            status = world.settled()
+            status = world.status()
             self.assertEqual(world.quit()[0], 0)
             with open(world.path('kept'), 'rb') as file:
                 kept = file.read()
             answered = support.run('replay', '--config', world.config, given=kept)
             listed = support.run('check', '--config', world.config, given=kept).decode().splitlines()
-        given = b''.join(r.body for r in session.records_in(kept) if r.kind is Kind.TRUNK)
-        heard = b''.join(r.body for r in session.records_in(answered) if r.kind is Kind.TRUNK)
+        given = b''.join(r.body for r in session.records_in(kept) if r.kind is session.Kind.TRUNK)
+        heard = b''.join(r.body for r in session.records_in(answered) if r.kind is session.Kind.TRUNK)
         self.assertEqual(given, bytes(world.sent))
         self.assertEqual(heard, bytes(world.heard))
         for row, line in zip(status['circuits'], listed, strict=True):
-            counts = dict(row['datagrams'])
-            sent, admitted = counts.pop('sent'), counts.pop('admitted')
-            self.assertEqual([row['state'], row['sent'], row['recognised'], str(sent), str(admitted),
-                              str(sum(counts.values())), row['codec'], str(row['payload'])], line.split()[2:])
-        self.assertGreater(sum(row['datagrams']['admitted'] for row in status['circuits']), 30)
+            words = line.split()
+            self.assertEqual([row['state'], row['sent'], row['recognised'], row['codec'], str(row['payload'])],
+                             [*words[2:5], *words[8:]])
+        self.assertGreater(sum(int(line.split()[6]) for line in listed), 30)
 
     def test_causes_are_counted(self) -> None:
         config = config_of(FOUR)
@@ -171,7 +185,7 @@ class Sessions(unittest.TestCase):
             for datagram in rows.values():
                 stranger.sendto(datagram, ('127.0.0.1', port))
             world.step(4)
-            counts = world.settled()['circuits'][0]['datagrams']
+            counts = world.status()['circuits'][0]['datagrams']
             self.assertEqual({cause: counts.get(cause) for cause in rows}, dict.fromkeys(rows, 1))
 
     def test_datagrams_of_strangers(self) -> None:
@@ -184,28 +198,7 @@ class Sessions(unittest.TestCase):
                 stranger.bind(('127.0.0.9', 0))
                 stranger.sendto(b'', ('127.0.0.1', int(config.split('local_port = ')[1].split()[0])))
                 world.step(4)
-                self.assertEqual(world.settled()['circuits'][0]['datagrams'].get('Short', 0), short)
-
-    def test_a_ring_of_files(self) -> None:
-        with World(config_of(FOUR), '--session', '@/ring', '--keep', '1m', '--name', 'west') as world:
-            aligned(world)
-            world.quit()
-            files = sorted(os.listdir(world.path('ring')))
-            about = next(name for name in files if name.endswith('.json'))
-            with open(os.path.join(world.path('ring'), about), encoding='utf-8') as file:
-                found = json.load(file)
-            self.assertEqual((found['begins'], found['place'], len(found['config_sha256'])), ('start', 0, 64))
-            self.assertTrue(all(name.startswith('west-') for name in files))
-
-    def test_files_are_appended_to(self) -> None:
-        with World(config_of(FOUR), '--session', '@/kept', '--json', '@/told') as world:
-            for name in ('kept', 'told'):
-                with open(world.path(name), 'ab') as file:
-                    file.write(b'T\0\0\0')
-            world.step(2)
-            world.quit()
-            with open(world.path('kept'), 'rb') as file:
-                self.assertEqual(file.read().count(b'T\0\0\0'), 1)
+                self.assertEqual(world.status()['circuits'][0]['datagrams'].get('Short', 0), short)
 
 
 class Beside(unittest.TestCase):
@@ -226,35 +219,79 @@ class Beside(unittest.TestCase):
         self.assertEqual([name for name, why in ended.items() if why is not None], [what] if what else [])
 
     def test_a_full_disk(self) -> None:
-        for option, what in (('--session', 'session'), ('--json', 'json')):
-            with self.subTest(option), World(config_of(FOUR), option, '/dev/full') as world:
-                self.goes_on(world, what)
-                status, said = world.quit()
-                self.assertEqual((status, said.count(f'{what} ended, the calls go on: No space left')), (0, 1))
+        with World(config_of(FOUR), '--json', '/dev/full') as world:
+            self.goes_on(world, 'json')
+            status, said = world.quit()
+            self.assertEqual((status, said.count('json ended, the calls go on: No space left')), (0, 1))
 
     def test_a_folder_for_metrics_that_is_not_there(self) -> None:
         with World(config_of(FOUR), '--metrics', '@/none/e1gw.prom') as world:
             self.goes_on(world, 'metrics')
 
-    def test_a_recording_that_nobody_reads_any_more(self) -> None:
-        with World(config_of(FOUR)) as world:
-            world.step(2)
-            found = child(world, 'replay')
-            os.kill(found, signal.SIGKILL)
-            self.goes_on(world, 'shadow')
-            self.assertTrue(world.status()['stale'])
-            self.assertIn('the counts of packets are not those of now', world.ask('status'))
+    def test_a_watcher_that_is_killed(self) -> None:
+        """What is sent is to the octet what one uncut replay gives, and another watcher comes."""
+        for number in (signal.SIGKILL, signal.SIGTERM):
+            with self.subTest(number), World('law = "A"\n') as world:
+                aligned(world)
+                before = len(world.sent)
+                commands = b''
+                for n in FOUR:
+                    self.assertEqual(world.ask(f'seize {n}'), f'seize {n}: done')
+                    commands += session.command_record(n, session.Command.SEIZE)
+                world.step(60)
+                os.kill(descendant(world.process.pid, 'e1gw-watch'), number)
+                world.step(300)
+                world.connected()
+                world.step(60)
+                self.assertEqual([world.state(n) for n in FOUR], ['answered'] * 4)
+                given = records_of(world.sent[:before]) + commands + records_of(world.sent[before:])
+                answered = support.run('replay', '--config', world.config, given=given)
+                uncut = b''.join(r.body for r in session.records_in(answered) if r.kind is session.Kind.TRUNK)
+                self.assertEqual(bytes(world.heard), uncut)
+                self.assertEqual(world.quit()[0], 0)
 
-    def test_a_shadow_that_stands_still(self) -> None:
-        with World(config_of(FOUR)) as world:
-            found = child(world, 'replay')
-            os.kill(found, signal.SIGSTOP)
+    def test_a_keeper_or_a_carrier_that_is_killed(self) -> None:
+        """Another one opens the trunk again, and the call is up."""
+        for name, options in (('e1gw-keep', ()), ('e1gw-carry', ('--align', '--reopen'))):
+            with self.subTest(name), World(config_of(FOUR), *options) as world:
+                aligned(world)
+                call(world, 1)
+                with world.new_door() as door:
+                    os.kill(descendant(world.process.pid, name), signal.SIGKILL)
+                    world.line.close()
+                    world.take(door)
+                world.exchange = support.Exchange()
+                world.exchange.pairs[1] = ANSWERED
+                world.connected()
+                world.step(60)
+                self.assertEqual(world.state(1), 'answered')
+                status, said = world.quit()
+                self.assertEqual((status, said.count(f'{name} ended by signal 9 (SIGKILL), the calls go on')), (0, 1))
+
+    def test_what_ends_with_e1gw_trunk(self) -> None:
+        """All that it has started ends once it is killed."""
+        with World(config_of(FOUR), '--align') as world:
             aligned(world)
-            call(world, 1)
-            world.step(600)
-            self.assertTrue(world.status()['stale'])
-            os.kill(found, signal.SIGCONT)
-            self.assertFalse(world.settled()['stale'])
+            left = [descendant(world.process.pid, name) for name in ('e1gw-keep', 'e1gw-carry', 'e1gw-watch', 'trunk')]
+            os.kill(world.process.pid, signal.SIGKILL)
+            until = time.monotonic() + SECONDS
+            while any(map(is_there, left)) and time.monotonic() < until:
+                time.sleep(0.02)
+            self.assertEqual([pid for pid in left if is_there(pid)], [])
+
+    def test_what_ends_with_e1gw_trunk_while_it_opens(self) -> None:
+        with tempfile.TemporaryDirectory() as folder:
+            fifo, config = os.path.join(folder, 'fifo'), os.path.join(folder, 'trunk.toml')
+            os.mkfifo(fifo)
+            with open(config, 'w', encoding='ascii') as file:
+                file.write('law = "A"\n')
+            with subprocess.Popen([sys.executable, '-B', LAUNCHER, '--program', support.program(), '--config', config,
+                                   '--in', fifo, '--out', '/dev/null'], stdin=subprocess.DEVNULL,
+                                  stderr=subprocess.PIPE) as process:
+                assert process.stderr
+                process.stderr.readline()       # whose datagrams are received; then the FIFO is waited for
+                os.kill(process.pid, signal.SIGKILL)
+                self.assertNotIn(b'Traceback', process.stderr.read())       # up to the end of all
 
     def test_readers_that_go_and_readers_that_stand_still(self) -> None:
         reads, writes = os.pipe()
@@ -313,37 +350,39 @@ class Beside(unittest.TestCase):
         os.close(terminal)
 
     def test_signals(self) -> None:
-        with World(config_of(FOUR)) as world:
+        """They end nothing. One takes the program and the configuration of now, with all calls up."""
+        with tempfile.NamedTemporaryFile() as told, World(config_of(FOUR), stderr=told) as world:
+            aligned(world)
+            call(world, 2)
             for number in (signal.SIGHUP, signal.SIGPIPE, signal.SIGXFSZ, signal.SIGWINCH, signal.SIGCHLD,
-                           signal.SIGUSR1, signal.SIGUSR2):
+                           signal.SIGUSR1):
                 world.process.send_signal(number)
+
+            def reloaded() -> bool:
+                with open(told.name, encoding='utf-8') as file:
+                    return 'e1gw-keep: reload: program' in file.read()
+            world.until(reloaded, 1_000_000)
+            world.connected()
+            self.assertEqual(world.state(2), 'answered')
             self.goes_on(world)
 
     def test_the_end_at_any_moment(self) -> None:
+        """Whatever has begun when the end is asked for, it ends, and nothing is left."""
         for number in range(8):
-            with self.subTest(number), World(config_of(FOUR), '--session', '@/kept') as world:
-                world.line.settimeout(0.2)
-                time.sleep(0.02 * number)
-                world.process.send_signal((signal.SIGTERM, signal.SIGINT)[number % 2])
-                try:
-                    world.step(500)
-                except (EOFError, OSError):
-                    pass
-                status, said = world.wait()
-                self.assertEqual((status, 'Traceback' in said), (0, False))
-                kept = b''
-                if os.path.exists(world.path('kept')):
-                    with open(world.path('kept'), 'rb') as file:
-                        kept = file.read()
-                list(session.records_in(kept, session.KINDS_READ))
-
-    def test_the_gateway_dies(self) -> None:
-        with World(config_of(FOUR)) as world:
-            aligned(world)
-            found = child(world, 'serve')
-            os.kill(found, signal.SIGKILL)
-            status, said = world.wait()
-            self.assertEqual((status, 'the gateway ended by signal 9' in said), (1, True))
+            with self.subTest(number), tempfile.TemporaryDirectory() as folder:
+                config = os.path.join(folder, 'trunk.toml')
+                with open(config, 'w', encoding='ascii') as file:
+                    file.write('law = "A"\n')
+                words = [sys.executable, '-B', LAUNCHER, '--program', support.program(), '--config', config, '--in',
+                         '/dev/zero', '--out', '/dev/null', '--control', os.path.join(folder, 'ctl')]
+                with subprocess.Popen(words, stdin=subprocess.DEVNULL, stderr=subprocess.PIPE,
+                                      env={**os.environ, 'RUNTIME_DIRECTORY': folder}) as process:
+                    time.sleep(0.1 + 0.12 * number)
+                    process.send_signal((signal.SIGTERM, signal.SIGINT)[number % 2])
+                    assert process.stderr
+                    said = process.stderr.read().decode()       # up to the end of all that it has started
+                    self.assertEqual((process.wait(SECONDS), 'Traceback' in said), (0, False), said)
+                self.assertFalse(os.path.exists(os.path.join(folder, 'ctl')))
 
     def test_the_trunk_ends(self) -> None:
         with World(config_of(FOUR)) as world:
@@ -354,25 +393,14 @@ class Beside(unittest.TestCase):
             self.assertFalse(os.path.exists(world.path('ctl')))
 
 
-def children(world: World) -> list[str]:
-    with open(f'/proc/{world.process.pid}/task/{world.process.pid}/children', encoding='ascii') as file:
-        return file.read().split()
-
-
-def command_line(pid: str) -> str:
-    with open(f'/proc/{pid}/cmdline', encoding='utf-8') as file:
-        return file.read().replace('\0', ' ')
-
-
-def child(world: World, word: str) -> int:
-    """The process that the driver started with this word."""
-    until = time.monotonic() + SECONDS
-    while time.monotonic() < until:
-        for pid in children(world):
-            if word in command_line(pid):
-                return int(pid)
-        time.sleep(0.02)
-    raise AssertionError(f'no process {word}')
+def cut(options: Sequence[str]) -> list[list[str]]:
+    """Each option with its values."""
+    found: list[list[str]] = []
+    for word in options:
+        if word.startswith('--'):
+            found.append([])
+        found[-1].append(word)
+    return found
 
 
 class Refused(support.Folder):
@@ -452,10 +480,10 @@ class Refused(support.Folder):
             port = held.getsockname()[1]
             text = f'law = "A"\n[[circuit]]\nnumber = 3\nlocal_port = {port}\npeer_port = 9\n'
             config = self.write('port.toml', text)
-            status, said = self.run_driver('--config', config, '--unix', os.path.join(self.folder, 'none'), '--reopen')
-        lines = [line.removeprefix('e1gw-trunk: ') for line in said.splitlines()]
-        at = lines.index('gateway: socket 3')
-        self.assertEqual((status, lines[at + 1]), (1, f'port {port} is in use (ss -ulpn shows by whom)'))
+            status, said = self.run_driver('--config', config, '--in', '/dev/zero', '--out', '/dev/null', '--reopen')
+        lines = [line.removeprefix('e1gw-keep: ') for line in said.splitlines()]
+        at = lines.index(f'port {port} is in use (ss -ulpn shows by whom)')
+        self.assertEqual((status, lines[at + 1]), (1, 'ends: the program says: socket 3, behind octet 0'))
 
     def test_options_that_a_unit_lacks(self) -> None:
         none = os.path.join(self.folder, 'west.options')
@@ -476,15 +504,42 @@ class Refused(support.Folder):
                 status, told = self.run_driver('--config', config, *words, *option)
                 self.assertEqual((status, told.count(f'({said})')), (0, 1))
 
-    def test_repeat_is_passed_on(self) -> None:
-        words = ['--config', self.good, '--in', '/dev/null', '--out', '/dev/null', '--senders', 'any']
-        for option, given in (([], []), (['--repeat', '0'], []), (['--repeat', '2'], ['--repeat', '2'])):
-            self.assertEqual(_serve_words(parser().parse_args(words + option)), given + ['--senders', 'any'])
+    def words(self, name: str, *options: str) -> list[str]:
+        """What one of the programs is started with, for these options."""
+        asked = options_of(['--config', self.good, *options])
+        parts = parts_of(asked, 'e1gw', self.folder)
+        try:
+            return next(part.words for part in parts.every() if part.name == name)
+        finally:
+            for part in parts.every():
+                part.close()
+                os.unlink(os.path.join(self.folder, f'{part.name}.ready'))
 
-    def test_the_wait_of_a_seizure_is_passed_on(self) -> None:
-        words = ['--config', self.good, '--in', '/dev/null', '--out', '/dev/null', '--senders', 'any']
-        for option, given in (([], []), (['--seizure-wait', '2000'], ['--seizure-wait', '2000'])):
-            self.assertEqual(_serve_words(parser().parse_args(words + option)), given + ['--senders', 'any'])
+    def test_options_are_passed_on(self) -> None:
+        """Each option goes to the program that does it, as it was asked for."""
+        trunk = ('--in', '/dev/null', '--out', '/dev/zero')
+        for name, options in (('e1gw-keep', trunk), ('e1gw-keep', ('--unix', 'card', '--reopen')),
+                              ('e1gw-keep', (*trunk, '--repeat', '2', '--seizure-wait', '2000', '--totals')),
+                              ('e1gw-keep', (*trunk, '--senders', 'peer', '--state', 'state')),
+                              ('e1gw-keep', (*trunk, '--session', 'kept', '--keep', '1h')),
+                              ('e1gw-carry', ('--tcp', 'host:1', '--reopen', '--clear')),
+                              ('e1gw-carry', ('--unix', 'card', '--align', '--crc4')),
+                              ('e1gw-carry', ('--satop', '127.0.0.1:1,127.0.0.1:2', '--satop-jitter', '8')),
+                              ('e1gw-watch', (*trunk, '--name', 'west', '--control', 'ctl', '--control-mode', '600')),
+                              ('e1gw-watch', (*trunk, '--on-loss', 'clear', '5', '--http', '[::1]:80', '--top')),
+                              ('e1gw-watch', (*trunk, '--json', '-', '--calls', 'csv', '--dark', '2.5', '--watch'))):
+            with self.subTest(options):
+                given = self.words(name, *options)
+                for words in cut(options[4:] if name == 'e1gw-watch' else options):
+                    at = given.index(words[0])
+                    self.assertEqual(given[at:at + len(words)], words)
+
+    def test_a_trunk_that_is_carried(self) -> None:
+        """The keeper opens the socket of the carrier, and opens it again if the carrier was begun again."""
+        given = self.words('e1gw-keep', '--unix', 'card', '--crc4')
+        at = given.index('--unix')
+        self.assertEqual(given[at:at + 3], ['--unix', os.path.join(self.folder, 'carried'), '--reopen'])
+        self.assertNotIn('--reopen', self.words('e1gw-carry', '--unix', 'card', '--crc4'))
 
     def test_a_file_goes_through(self) -> None:
         trunk = os.path.join(self.folder, 'trunk')

@@ -1,0 +1,110 @@
+"""What a keeper that was killed has left: the program and its shadow, which go on, and what it wrote down of them."""
+from __future__ import annotations
+
+import json
+import os
+import select
+import signal
+import socket
+import time
+from typing import Any, Sequence
+
+from .running import END, Adopted, Process, folder_path
+
+NOTE = 'kept'               # the file of a keeper's folder in which it notes what it has
+GRACE = 1.0                 # seconds for an orderly end, and for a state to be saved
+
+
+def note(folder: str, text: str) -> None:
+    """Puts what a keeper has into its folder, whole."""
+    path = os.path.join(folder, NOTE)
+    with open(f'{path}.new', 'w', encoding='utf-8') as file:
+        file.write(text)
+    os.replace(f'{path}.new', path)
+
+
+def left_in(within: str, trunk: Sequence[str | None]) -> dict[str, Any] | None:
+    """What a keeper of this trunk that is no more has noted last, in a folder of its own within this one."""
+    found: list[tuple[float, dict[str, Any]]] = []
+    for entry in os.scandir(within):
+        if not entry.name.startswith('keep-') or not entry.is_dir(follow_symlinks=False):
+            continue
+        try:
+            its = entry.stat(follow_symlinks=False)
+            with open(os.path.join(entry.path, NOTE), encoding='utf-8') as file:
+                kept = json.load(file)
+            if its.st_uid == os.getuid() and kept['opens'] == list(trunk) and Adopted(kept['keeper']).ended():
+                found.append((os.stat(file.name).st_mtime, kept))
+        except (OSError, ValueError, KeyError, TypeError):
+            continue        # of another user, or of a keeper that has noted nothing
+    return max(found, key=lambda pair: pair[0])[1] if found else None
+
+
+def end_others(kept: dict[str, Any]) -> None:
+    """Ends what the keeper had beside the run in service: a program that has touched nothing."""
+    for its in kept['others']:
+        Adopted(its).kill()
+
+
+def state_of(kept: dict[str, Any]) -> str | None:
+    """Has the program end in order, if it is there, and returns the file of its state: what it has saved, or what its
+    shadow has, or what it began with if it may never have carried the trunk; None where no state is known."""
+    run = kept['run']
+    if not run:
+        return None
+    program = Adopted(run['program'], folder_path(run, 'saved'))
+    shadow = Adopted(run['shadow'], folder_path(run, 'followed')) if run['shadow'] else None
+    if not program.ended():
+        _ask_end(run['control'])
+        _wait(program)
+    saved, followed, passed = (folder_path(run, name) for name in ('saved', 'followed', 'passed'))
+    if shadow and not os.path.exists(saved):
+        _wait(shadow)
+    if os.path.exists(saved):
+        return saved
+    if shadow:
+        return followed if os.path.exists(followed) and (not run['recorder'] or os.path.exists(passed)) else None
+    begun = run['state']
+    return begun if begun and os.path.exists(begun) else None
+
+
+def _ask_end(control: str) -> None:
+    """Asks a program to end behind what it has read."""
+    with socket.socket(socket.AF_UNIX) as line:
+        line.settimeout(GRACE)
+        try:
+            line.connect(control)
+            line.sendall(END)
+            line.recv(1)
+        except OSError:
+            pass
+
+
+def _wait(process: Process) -> None:
+    """Waits until it has ended; it is killed if that takes too long."""
+    until = time.monotonic() + GRACE
+    process.signal(signal.SIGCONT)
+    while not process.ended() and time.monotonic() < until:
+        poll = select.poll()
+        poll.register(process.file, select.POLLIN)
+        poll.poll(50)
+    process.kill()
+
+
+def end_left_overs() -> None:
+    """Ends what runs in the unit's control group beside this process: nobody knows what it is on."""
+    try:
+        with open('/proc/self/cgroup', encoding='ascii') as file:
+            group = next((line[3:].strip() for line in file if line.startswith('0::')), '')
+        if not os.path.basename(group).startswith('e1gw-keep@'):
+            return
+        with open(f'/sys/fs/cgroup{group}/cgroup.procs', encoding='ascii') as file:
+            processes = [int(line) for line in file]
+    except OSError:
+        return
+    for pid in processes:
+        if pid not in (0, os.getpid()):
+            try:
+                os.kill(pid, signal.SIGKILL)
+            except OSError:
+                pass

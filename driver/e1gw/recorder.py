@@ -1,0 +1,259 @@
+"""Between the program of a kept trunk and its shadow: passes the recording on, and keeps it behind that.
+
+The keeper starts it, if it is asked to keep recordings or to tell how the octets flow. The recording is its standard
+input, a pipe to the shadow its standard output. Each octet is given to the shadow first. What is kept is written by a
+thread of its own, so a disk that is slow or full is never waited for: the recording is passed on, and a line says that
+no more is kept. If the shadow is gone all is kept still; if this process is gone the keeper takes it for a shadow that
+has ended."""
+from __future__ import annotations
+
+import functools
+import json
+import os
+import select
+import sys
+import threading
+import time
+from dataclasses import asdict, dataclass
+from typing import Mapping
+
+from .behind import Behind
+from .clock import TICK, Clock, Finding
+from .faults import words_of_fault
+from .flow import Flow
+from .keep import Ring
+from .lines import SEIZURE_WAIT
+from .outlets import Journal, OneFile, Outlet, write_all
+from .pipes import put_behind
+from .session import HEAD, Kind
+
+PIECE = 1 << 16
+FLUSH = 5.0                 # seconds at the end for what is not written yet
+NICE = 10                   # of the thread that writes
+# Descriptors of its configuration, of the state that the program began with, and of the recorder before it (a pidfd).
+CONFIG_FILE, STATE_FROM, BEFORE_FILE = 3, 4, 5
+
+
+@dataclass(frozen=True)
+class Recording:
+    """What a keeper's recorders keep. `session` is a file, or with `keep`, so many seconds, the folder of a ring."""
+
+    session: str | None
+    keep: int | None
+    name: str
+    config: str                     # its path, for those who read what is kept
+    wait: int = SEIZURE_WAIT        # of a seizure, in milliseconds
+    flow: str | None = None         # the file in which it is noted how octets flow
+
+
+@dataclass(frozen=True)
+class Part:
+    """One program's part of it, from a place of the trunk on. `lost` are seconds of the trunk that are known to be lost
+    before it; `passed` is the file that says that all was passed on; one that `waits` writes nothing before the
+    recorder before it has written all."""
+
+    place: int
+    lost: float
+    program: str
+    passed: str
+    waits: bool
+
+
+def words_of(recording: Recording, part: Part) -> list[str]:
+    """The command line of a recorder."""
+    return [sys.executable, '-BP', '-m', 'e1gw.recorder', json.dumps([asdict(recording), asdict(part)])]
+
+
+AROUND: Mapping[str, str] = {'PYTHONPATH': os.path.dirname(os.path.dirname(os.path.abspath(__file__)))}
+
+
+class Records:
+    """Cuts a recording into whole records. `place` is that of the trunk behind them."""
+
+    def __init__(self, place: int) -> None:
+        self.place = place
+        self._held = b''
+
+    def whole(self, octets: bytes) -> bytes:
+        """The records that are whole now."""
+        held, at = self._held + octets, 0
+        upto = len(held) - HEAD.size
+        while at <= upto:
+            kind, _, length = HEAD.unpack_from(held, at)
+            after = at + HEAD.size + length
+            if after > len(held):
+                break
+            if kind == Kind.TRUNK:
+                self.place += length
+            at = after
+        self._held = held[at:]
+        return held[:at]
+
+
+class Kept:
+    """What is kept: nothing, a file, or a ring."""
+
+    def __init__(self, recording: Recording, part: Part, journal: Journal) -> None:
+        self._journal, self._place = journal, part.place
+        self._ring: Ring | None = None
+        self._outlet: Outlet | None = None
+        self._held: list[bytes] = []
+        self._slips = [(part.place, part.lost)] if part.lost else []
+        if recording.session:
+            self._outlet = (self._open_ring if recording.keep else self._open_file)(recording.session, recording, part)
+
+    def _open_file(self, path: str, recording: Recording, part: Part) -> Outlet:
+        file = OneFile(path)
+
+        def opened() -> None:
+            _begin_writing(part)
+            file.open()
+        return Outlet('session', file.write, self._ended, file.close, opened, path)
+
+    def _open_ring(self, folder: str, recording: Recording, part: Part) -> Outlet:
+        assert recording.keep
+        behind = Behind(part.program, wait=recording.wait, failed=functools.partial(self._ended, 'states'))
+        ring = self._ring = Ring(folder, recording.name, f'/dev/fd/{CONFIG_FILE}', recording.keep, behind,
+                                 recording.wait, _read_state(), recording.config)
+
+        def opened() -> None:
+            _begin_writing(part)
+            ring.open()
+        return Outlet('session', ring.write, self._ended, ring.close, opened, folder)
+
+    def _ended(self, what: str, why: str) -> None:
+        self._journal.line(Journal.WARNING, f'{what} ended, the calls go on: {why}')
+
+    def add(self, records: bytes) -> None:
+        """Whole records behind the last ones."""
+        if self._outlet and not self._outlet.has_ended and records:
+            self._held.append(records)
+
+    def slipped(self, place: int, seconds: float) -> None:
+        """Octets of the trunk were lost at this place."""
+        self._slips.append((place, seconds))
+
+    def put(self, place: int) -> None:
+        """Gives what was added to the thread that writes; the trunk is at this place behind it."""
+        if self._held and self._outlet:
+            if self._ring:
+                self._ring.slips.extend(self._slips)
+                self._ring.places.append(self._place)
+            self._outlet.put(b''.join(self._held))
+            self._held, self._slips = [], []
+        self._place = place
+
+    def close(self) -> None:
+        if self._outlet:
+            self._outlet.close(FLUSH)
+
+
+def _begin_writing(part: Part) -> None:
+    """To be called in the thread that writes, before it writes."""
+    put_behind(threading.get_native_id(), NICE)
+    if part.waits:
+        poll = select.poll()
+        poll.register(BEFORE_FILE, select.POLLIN)
+        poll.poll()
+
+
+def _read_state() -> bytes:
+    """The state that the program began with; none for a new gateway."""
+    try:
+        with open(STATE_FROM, 'rb') as file:
+            return file.read()
+    except OSError:
+        return b''
+
+
+class Flows:
+    """Notes how octets flow, if that is asked, and measures it for what is kept."""
+
+    def __init__(self, recording: Recording, part: Part, journal: Journal) -> None:
+        self._first, self._clock = part.place, Clock(time.monotonic())
+        self._flow: Flow | None = None
+        if recording.flow:
+            try:
+                self._flow = Flow(recording.flow)
+            except OSError as fault:
+                journal.line(Journal.WARNING, f'flow ended, the calls go on: {words_of_fault(fault)}')
+
+    def came(self, now: float, place: int) -> None:
+        """All that the program has written by now is read, up to this place of the trunk."""
+        if place > self._first + self._clock.octets:
+            self._clock.took(place - self._first - self._clock.octets, now)
+            if self._flow:
+                self._flow.came(now, place)
+
+    def look(self, now: float) -> list[Finding]:
+        """To be called each TICK: what was found."""
+        if self._flow:
+            self._flow.look(now)
+        return self._clock.look(now)
+
+
+class Recorder:
+    """Passes the recording on, keeps it, and notes how it flows."""
+
+    def __init__(self, recording: Recording, part: Part, journal: Journal) -> None:
+        self._part = part
+        self._records, self._kept = Records(part.place), Kept(recording, part, journal)
+        self._flows = Flows(recording, part, journal)
+        self._has_shadow = True
+        self._due = time.monotonic() + TICK
+
+    def run(self) -> None:
+        """Until the recording ends."""
+        poll = select.poll()
+        poll.register(0, select.POLLIN)
+        while True:
+            now = time.monotonic()
+            if now >= self._due:
+                self._look(now)
+            if poll.poll(max(0.0, self._due - now) * 1000):
+                octets = os.read(0, PIECE)
+                if not octets:
+                    break
+                self._pass(octets, time.monotonic())
+        self._end()
+
+    def _look(self, now: float) -> None:
+        self._due = now + TICK
+        for finding in self._flows.look(now):
+            if finding.what == 'gap':
+                self._kept.slipped(self._records.place, round(finding.value, 3))
+        self._kept.put(self._records.place)
+
+    def _pass(self, octets: bytes, now: float) -> None:
+        """Octets that were read just now. If they were all that there was, it is known how late they are."""
+        if self._has_shadow:
+            try:
+                write_all(1, octets)
+            except OSError:
+                self._has_shadow = False
+        self._kept.add(self._records.whole(octets))
+        if len(octets) < PIECE:
+            self._flows.came(now, self._records.place)
+
+    def _end(self) -> None:
+        """All was passed on, which a file says before the shadow's input ends."""
+        if self._has_shadow and os.path.isdir(os.path.dirname(self._part.passed)):
+            os.close(os.open(self._part.passed, os.O_WRONLY | os.O_CREAT, 0o600))
+        nowhere = os.open(os.devnull, os.O_WRONLY)
+        os.dup2(nowhere, 1)
+        self._kept.put(self._records.place)
+        self._kept.close()
+
+
+def main() -> None:
+    sys.setswitchinterval(0.001)
+    recording, part = json.loads(sys.argv[1])
+    journal = Journal(name='e1gw-keep')
+    Recorder(Recording(**recording), Part(**part), journal).run()
+    journal.close()
+    # A thread may still wait for a disk; nothing waits for it.
+    os._exit(0)
+
+
+if __name__ == '__main__':
+    main()

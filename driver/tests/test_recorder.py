@@ -1,0 +1,221 @@
+"""Recordings of a kept trunk, in lock step: what is kept replays to what was heard, whatever ends meanwhile.
+
+A file of a ring, too, replays from the state beside it. What keeps them may be killed or stand still, and its disk may
+be full: the calls go on."""
+from __future__ import annotations
+
+import json
+import os
+import re
+import signal
+import subprocess
+import sys
+import time
+import unittest
+
+from . import support
+from .test_keeper import LAUNCHER, SECONDS, Kept
+from e1gw.behind import run_last
+from e1gw.kept import beside, kept, octets_of
+from e1gw.session import MULTIFRAME, Kind, records_in
+
+RECORDER = re.compile(r'recorder (\d+)')
+
+
+class Recorded(Kept):
+    """A kept trunk whose recordings are kept."""
+
+    def recorder(self) -> int:
+        """The recorder of now."""
+        return int(RECORDER.findall(self.told())[-1])
+
+    def given_trunk(self) -> bytes:
+        return b''.join(record.body for record in records_in(b''.join(self.given)) if record.kind is Kind.TRUNK)
+
+    def trunk_of(self, path: str) -> bytes:
+        """Octets of the trunk in what is kept there."""
+        return b''.join(record.body for record in records_in(self.kept_of(path)) if record.kind is Kind.TRUNK)
+
+    def kept_of(self, path: str) -> bytes:
+        files = kept(path).files if os.path.exists(path) and (not os.path.isdir(path) or os.listdir(path)) else []
+        return b''.join(piece for file in files for piece in octets_of(file))
+
+    def answers(self, octets: bytes, *options: str) -> bytes:
+        """Octets of the trunk that a replay answers."""
+        said = support.run('replay', '--config', self.config, *options, given=octets)
+        return b''.join(record.body for record in records_in(said) if record.kind is Kind.TRUNK)
+
+    def heard_all(self) -> bytes:
+        return b''.join(piece or b'' for piece in self.heard)
+
+    def handed_over(self, number: int | None, pid: int = 0) -> None:
+        """A handover in which nothing is lost: a process is sent a signal, or the trunk is reloaded."""
+        waiting = self.send(2)
+        os.kill(pid or self.keeper.pid, number or signal.SIGHUP)
+        waiting += self.send(2)
+        self.take(waiting)
+        self.goes_on()
+        self.step(self.chance.randrange(1, 40))
+
+
+class OneFile(Recorded):
+    def test_whole_session(self) -> None:
+        """Whatever ends beside the program, nothing that was heard is lost; what is kept begins as it was."""
+        self.starts('--session', self.path('kept'))
+        self.calls()
+        self.handed_over(None)
+        self.handed_over(signal.SIGKILL, self.shadow)
+        self.handed_over(signal.SIGKILL, self.recorder())
+        self.handed_over(signal.SIGSTOP, self.recorder())
+        self.assertNotIn('at most', self.told())
+        self.as_uncut()
+        self.ends()
+        mine = self.kept_of(self.path('kept'))
+        self.assertEqual(self.answers(mine)[:MULTIFRAME * 100], self.heard_all()[:MULTIFRAME * 100])
+
+    def test_nothing_is_missing(self) -> None:
+        """Where no recorder died, not one octet, datagram or command is missing."""
+        self.starts('--session', self.path('kept'))
+        self.calls()
+        self.handed_over(None)
+        self.handed_over(signal.SIGKILL, self.shadow)
+        self.keeper.send_signal(signal.SIGUSR2)
+        self.awaits('the keeper was replaced')
+        self.step(20)
+        self.handed_over(None)
+        self.as_uncut()
+        self.ends()
+        mine = self.kept_of(self.path('kept'))
+        self.assertEqual(self.trunk_of(self.path('kept')), self.given_trunk())
+        self.assertEqual(self.answers(mine), self.heard_all())
+        self.assertEqual([record for record in records_in(mine) if record.kind is Kind.COMMAND],
+                         [record for record in records_in(b''.join(self.given)) if record.kind is Kind.COMMAND])
+
+    def test_full_disk(self) -> None:
+        """It ends what is kept, and nothing else."""
+        self.starts('--session', '/dev/full')
+        self.calls()
+        self.awaits('session ended, the calls go on: No space left on device: /dev/full')
+        self.step(20)
+        os.kill(self.program, signal.SIGKILL)
+        self.assertIn('at most', self.goes_on())
+        self.step(60)
+        self.assertEqual(self.device.exchange.signals, self.up())
+        self.ends()
+
+    def test_recorder_and_program(self) -> None:
+        """If the recorder dies, and the program before another one has begun, no state is taken for that of now."""
+        self.starts('--session', self.path('kept'))
+        self.calls()
+        os.kill(self.keeper.pid, signal.SIGSTOP)
+        for pid in (self.recorder(), self.program):
+            os.kill(pid, signal.SIGKILL)
+        os.kill(self.keeper.pid, signal.SIGCONT)
+        self.awaits('no state is known')
+        self.assertIn('all calls begin anew', self.goes_on())
+        self.ends()
+
+
+class Ring(Recorded):
+    def files(self) -> list[str]:
+        """The files of the ring without their endings, in their order."""
+        names = os.listdir(self.path('ring')) if os.path.exists(self.path('ring')) else []
+        return sorted(os.path.join(self.path('ring'), name.removesuffix('.json'))
+                      for name in names if name.endswith('.json'))
+
+    def starts_ring(self) -> None:
+        self.starts('--session', self.path('ring'), '--keep', '1m', '--name', 'west')
+        self.calls()
+
+    def test_each_file_replays(self) -> None:
+        """Each file begins with the state of its program, and replays from that state to what was heard."""
+        self.starts_ring()
+        self.handed_over(None)
+        self.handed_over(signal.SIGKILL, self.shadow)
+        self.ends()
+        self.as_uncut()
+        places = [beside(f'{front}.e1gw')['place'] for front in self.files()]
+        self.assertEqual(len(places), 3)
+        self.assertEqual([beside(f'{front}.e1gw')['begins'] for front in self.files()], ['start', 'middle', 'middle'])
+        ends = [*places[1:], len(self.given_trunk())]
+        for front, begin, end in zip(self.files(), places, ends):
+            with open(f'{front}.e1gw', 'rb') as file:
+                octets = file.read()
+            load = ('--load', f'{front}.state') if begin else ()
+            self.assertEqual(self.answers(octets, *load), self.heard_all()[begin:end], begin)
+            self.assertNotIn('slips', beside(f'{front}.e1gw'))
+        self.assertEqual(self.trunk_of(self.path('ring')), self.given_trunk())
+
+    def test_what_a_crash_lost(self) -> None:
+        """It is noted where the next file begins, which has the state of the shadow."""
+        self.starts_ring()
+        os.kill(self.program, signal.SIGKILL)
+        self.goes_on()
+        self.step(40)
+        self.ends()
+        front = self.files()[1]
+        about = beside(f'{front}.e1gw')
+        self.assertEqual(about['slips'], [[about['place'], 0.008]])
+        self.assertEqual(about['place'], len(self.given_trunk()) - 40 * MULTIFRAME)
+        with open(f'{front}.e1gw', 'rb') as file:
+            self.assertEqual(self.answers(file.read(), '--load', f'{front}.state'), self.heard_all()[about['place']:])
+
+    def test_another_configuration(self) -> None:
+        """What is read of the ring begins where the configuration changed, with the state."""
+        self.starts_ring()
+        self.handed_over(None)
+        self.write('trunk.toml', self.peers.config(prefill=400))
+        self.keeper.send_signal(signal.SIGHUP)
+        self.goes_on()
+        self.awaits('program: circuit 7 begins as new')
+        self.step(40)
+        self.ends()
+        session = kept(self.path('ring'))
+        self.assertEqual((session.files, session.state, session.middle),
+                         ([f'{self.files()[2]}.e1gw'], f'{self.files()[2]}.state', True))
+        self.assertEqual(self.answers(self.kept_of(self.path('ring')), '--load', session.state),
+                         self.heard_all()[session.place:])
+
+    def test_state_behind_a_file(self) -> None:
+        """A ring that goes on makes the state of its second file from that of its first."""
+        self.starts_ring()
+        until = time.monotonic() + SECONDS
+        while len(fronts := self.files()) < 2 or not os.path.exists(f'{fronts[1]}.state'):
+            self.step(10)
+            time.sleep(0.05)
+            self.assertLess(time.monotonic(), until)
+        self.ends()
+        front = self.files()[1]
+        place = beside(f'{front}.e1gw')['place']
+        with open(f'{front}.e1gw', 'rb') as file:
+            self.assertEqual(self.answers(file.read(), '--load', f'{front}.state'), self.heard_all()[place:])
+
+    def test_picture_and_records(self) -> None:
+        """Those who read a ring read this one."""
+        self.starts_ring()
+        self.handed_over(None)
+        self.ends()
+        page = self.path('page.html')
+        picture = os.path.join(support.TOP, 'driver', 'e1gw-picture')
+        status, said = run_last([picture, '--program', support.program(), '-o', page, self.path('ring')])
+        self.assertEqual((status, os.path.exists(page)), (0, True), said)
+        for front in self.files():
+            with open(f'{front}.json', encoding='utf-8') as file:
+                self.assertEqual(json.load(file)['config'], self.config)
+            status, said = run_last([os.path.join(support.TOP, 'scripts', 'records'), f'{front}.e1gw'])
+            self.assertEqual(status, 0, said)
+
+
+class Refusals(Recorded):
+    def test_options(self) -> None:
+        words = ('--config', self.config, '--unix', self.device.path)
+        for options, said in ((('--keep', '1h'), '--keep wants --session'),
+                              (('--keep', '1x', '--session', 'ring'), 'is no time such as 30m')):
+            done = subprocess.run([sys.executable, '-B', LAUNCHER, '--program', support.program(), *words, *options],
+                                  stderr=subprocess.PIPE, stdin=subprocess.DEVNULL, timeout=SECONDS)
+            self.assertEqual(done.returncode, 2)
+            self.assertIn(said, done.stderr.decode())
+
+
+if __name__ == '__main__':
+    unittest.main()
