@@ -290,7 +290,7 @@ def look_at_speech(bench: Bench, spoken: dict[Any, bytes], heard: dict[Any, byte
 
 
 def processor(bench: Bench) -> dict[str, float]:
-    """Seconds of the processor that each driver, with the programs that it has started, and each tie has taken."""
+    """Seconds of the processor that each e1gw-trunk, with what it has started, and each tie has taken."""
     found = {}
     for kind, processes in (('driver', bench.drivers), ('tie', bench.ties)):
         for site, process in processes.items():
@@ -299,8 +299,10 @@ def processor(bench: Bench) -> dict[str, float]:
 
 
 def children(pid: int) -> list[int]:
+    """The processes that one has started, and those that these have."""
     with open(f'/proc/{pid}/task/{pid}/children', encoding='ascii') as file:
-        return [int(word) for word in file.read().split()]
+        found = [int(word) for word in file.read().split()]
+    return found + [each for child in found for each in children(child)]
 
 
 def ticks(pid: int) -> int:

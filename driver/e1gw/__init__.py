@@ -1,1 +1,1 @@
-"""What stands beside the program e1gw: the driver of a trunk, and what it shares with the other tools."""
+"""What stands beside the program e1gw: what keeps, watches and carries a trunk, and the other tools."""

@@ -33,7 +33,7 @@ class Clear(Trunk):
     """The 32 slots of a trunk of which a device has slots 1 to 31."""
 
     def __init__(self, device: Trunk, place: Place | None = None) -> None:
-        self._device, self.paced, self.gives_all, self.name = device, device.paced, device.gives_all, device.name
+        self._device, self.paced, self.name = device, device.paced, device.name
         self._place = place or Place()
         self._idle = bytes([IDLE[self._place.law or 'A']])
         self._silence = self._idle * 16 + b'\xFF' + self._idle * 15     # a frame without a signal in slot 16

@@ -304,8 +304,6 @@ def gateway_words(line: str, path: str) -> str | None:
     """The words for a line with which `e1gw serve` ended at its start; None for another line."""
     if found := re.fullmatch(r'socket (\d+)', line):
         return socket_words(path, int(found[1])) or 'its port is free now, or its peer cannot be reached'
-    if line == 'cannot open the recording':
-        return 'the driver reads what the gateway takes from a pipe, /dev/fd: is /proc mounted?'
     return None
 
 

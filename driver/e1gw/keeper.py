@@ -13,7 +13,7 @@ from collections import Counter
 from dataclasses import dataclass, field
 from enum import Enum, auto
 from math import inf
-from typing import Any, Callable
+from typing import Any, Callable, Iterable
 
 from .beside import DEATHS, GRACE, Deaths, Retired, Standby, Trial
 from .faults import words_of_fault
@@ -22,7 +22,7 @@ from .outlets import Journal
 from .parent import parent
 from .places import point, store
 from .recorder import FLUSH, Recording
-from .running import Process, Run, Version, open_version, spawn, started, unlink
+from .running import Process, Run, Version, lines_in, open_version, spawn, started, unlink
 from .systemd import Notify
 from .trunks import Stream
 
@@ -35,6 +35,7 @@ APART, MOST_APART = 1.0, 60.0       # seconds between two handovers for a shadow
 QUICK = 5.0                 # seconds within which a shadow that ends has the next one wait longer
 SOON = 0.2                  # seconds after which the next program is started, to wait
 REOPEN, MOST_REOPEN = 0.25, 30.0    # seconds before a trunk is opened again
+TOOK = {'saved': 'program', 'followed': 'shadow'}      # who has said how much it took, by the state that it left
 SIGNALS = (signal.SIGTERM, signal.SIGINT, signal.SIGHUP, signal.SIGUSR2, signal.SIGCHLD)
 
 
@@ -70,7 +71,9 @@ class Phase(Enum):
 class Keeper:
     """One trunk. Each turn looks at all that may have happened, and does what follows from it."""
 
-    def __init__(self, asked: Asked, journal: Journal, notify: Notify, trunk: tuple[int, int]) -> None:
+    def __init__(self, asked: Asked, journal: Journal, notify: Notify, trunk: tuple[int, int],
+                 held: Iterable[str] = ()) -> None:
+        """`held` are the names of the descriptors that systemd has kept from a keeper before."""
         self.asked, self.journal, self.notify, self.trunk = asked, journal, notify, trunk
         self.number = 0                         # of what was begun
         self.counted = Counter[str]()           # by programs that have ended; `octets` are those of the trunk
@@ -90,7 +93,8 @@ class Keeper:
         self._phases: dict[Phase, Callable[[float], None]] = {
             Phase.BEGINS: self._begins, Phase.UP: self._is_there, Phase.ENDS: self._ends, Phase.SAVES: self._saves,
             Phase.PAUSED: self._paused, Phase.OPENS: self._opens}
-        self._noted, self._held = '', frozenset[str]()     # what is noted, and what systemd keeps
+        self._own = [os.getpid(), started(os.getpid())]
+        self._noted, self._held = '', frozenset(held)       # what is noted, and what systemd keeps
         self._wake, self._parent = self._catch_signals(), parent()
 
     # ---- what is waited for ----
@@ -167,12 +171,15 @@ class Keeper:
                 self._say(Journal.ERROR, f'the keeper goes on: {fault}')
                 time.sleep(0.1)
         self.notify.tell('STOPPING=1')
+        for name in self._held:
+            self.notify.forget(name)
         self.standby.drop(0.0)
         until = time.monotonic() + GRACE
         while self.retired.runs and time.monotonic() < until + FLUSH:
             time.sleep(0.002)
             self.retired.look(time.monotonic())
-        for path in (self.asked.control, self.asked.tell):
+        recording = self.asked.recording
+        for path in (self.asked.control, self.asked.tell, recording and recording.flow):
             if path:
                 unlink(path)
         return self.status
@@ -502,7 +509,7 @@ class Keeper:
         """What another keeper has to know, as plain values."""
         waits, tried = self.standby.run, self.trial.process
         others = ([waits.program] if waits else []) + ([tried] if tried else [])
-        return {'keeper': [os.getpid(), started(os.getpid())], 'opens': self.asked.opens, 'folder': self.asked.folder,
+        return {'keeper': self._own, 'opens': self.asked.opens, 'folder': self.asked.folder,
                 'number': self.number, 'counted': self.counted, 'up': self.phase is Phase.UP, 'run': self.run.kept(),
                 'others': [[process.pid, process.started] for process in others]}
 
@@ -511,7 +518,7 @@ class Keeper:
         kept = json.dumps(self._kept())
         if kept != self._noted:
             self._noted = kept
-            note(self.asked.folder, kept)
+            self._write_note(kept)
         files = {name: file for name, file in zip(TRUNK_NAMES, self.trunk) if file >= 0}
         if self.phase is Phase.UP:
             number = os.path.basename(self.run.folder)
@@ -522,6 +529,12 @@ class Keeper:
         for name in self._held - {*files}:
             self.notify.forget(name)
         self._held = frozenset(files)
+
+    def _write_note(self, kept: str) -> None:
+        try:
+            note(self.asked.folder, kept)
+        except OSError as fault:
+            self._say(Journal.WARNING, f'it is not noted what another keeper would need: {fault}')
 
     def take_up(self, kept: dict[str, Any], files: dict[str, int], why: str) -> None:
         """Goes on where the keeper before left."""
@@ -537,7 +550,11 @@ class Keeper:
         """Begins where a keeper that was killed has left no program, from the state that was found."""
         self.number, self.counted = kept['number'], Counter(kept['counted'])
         self.version = self._version_of_now()
-        lost = ANEW if not state else LOST if os.path.basename(state) == 'followed' else ''
+        folder, name = os.path.split(state or '')
+        lost = ANEW if not state else LOST if name == 'followed' else ''
+        if name in TOOK:
+            said = lines_in(os.path.join(folder, TOOK[name]))
+            self.counted['octets'] += sum(int(rest) for word, rest in said if word == 'octets')
         self.begin(state, 'the keeper was killed', lost)
         self.note()
 

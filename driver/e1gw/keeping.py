@@ -154,7 +154,7 @@ def _end_with(file: int, is_open: threading.Event) -> None:
         os._exit(0)
 
 
-def _start(words: argparse.Namespace, journal: Journal) -> Keeper:
+def _start(words: argparse.Namespace, journal: Journal, notify: Notify) -> Keeper:
     """A keeper that has opened its trunk and begun."""
     opens, asked = trunk_of(words), _asked_of(words, '')
     check_config(asked.program, words.config)
@@ -164,7 +164,7 @@ def _start(words: argparse.Namespace, journal: Journal) -> Keeper:
     journal.line(Journal.INFO, SENDERS[program_words(words, words.config)[1]])
     trunk = _first(opens, words.reopen, journal)
     asked.folder = folder_of(words.folder)
-    keeper = Keeper(asked, journal, Notify(), (trunk.reads, trunk.writes))
+    keeper = Keeper(asked, journal, notify, (trunk.reads, trunk.writes))
     state = None
     if words.state and os.path.exists(words.state):
         state = os.path.join(asked.folder, 'loaded')
@@ -197,14 +197,14 @@ def _go_on(words: argparse.Namespace, journal: Journal, kept: dict[str, Any], fi
     its = {name: file for name in RUN_NAMES if (file := files.get(f'{name}-{number}')) is not None}
     trunk = _held_trunk(files)
     if trunk and kept['up'] and len(its) == len(RUN_NAMES):
-        keeper = Keeper(asked, journal, Notify(), trunk)
+        keeper = Keeper(asked, journal, Notify(), trunk, files)
         keeper.take_up(kept, its, 'killed')
         return keeper
     state = state_of(kept)
     if not trunk:
         opened = trunk_of(words)()
         trunk = opened.reads, opened.writes
-    keeper = Keeper(asked, journal, Notify(), trunk)
+    keeper = Keeper(asked, journal, Notify(), trunk, files)
     keeper.go_on(kept, state)
     return keeper
 
@@ -213,6 +213,15 @@ def _held_trunk(files: dict[str, int]) -> tuple[int, int] | None:
     """The trunk's descriptors that systemd has kept. Of two that are one it has kept the first."""
     reads = files.get(TRUNK_NAMES[0])
     return None if reads is None else (reads, files.get(TRUNK_NAMES[1], reads))
+
+
+def _forget(files: dict[str, int]) -> Notify:
+    """Closes descriptors that nothing is noted of, and has systemd do so; what tells it more."""
+    notify = Notify()
+    for name, file in files.items():
+        os.close(file)
+        notify.forget(name)
+    return notify
 
 
 def _keep(words: list[str], journal: Journal) -> int:
@@ -224,11 +233,11 @@ def _keep(words: list[str], journal: Journal) -> int:
         keeper = _go_on(asked, journal, left, files)
     else:
         end_left_overs()
-        keeper = _start(asked, journal)
-    try:
-        return keeper.work()
-    finally:
-        shutil.rmtree(keeper.asked.folder, ignore_errors=True)
+        keeper = _start(asked, journal, _forget(files))
+    status = keeper.work()
+    # (a keeper that fails leaves it to the next one)
+    shutil.rmtree(keeper.asked.folder, ignore_errors=True)
+    return status
 
 
 def main(words: list[str] | None = None) -> NoReturn:

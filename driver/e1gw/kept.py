@@ -1,4 +1,4 @@
-"""Sessions that were kept: a file, or a folder of a driver, what stands beside each file, and the octets."""
+"""Sessions that were kept: a file, or a folder of a ring, what stands beside each file, and the octets."""
 from __future__ import annotations
 
 import json
@@ -33,8 +33,8 @@ class Kept:
 
 
 def kept(path: str, last: int | None = None) -> Kept:
-    """A session in one file, or what the driver has kept in a folder. Of a folder the last so many octets of the trunk
-    are enough, if the driver has kept what the gateway was before them."""
+    """A session in one file, or what was kept in a folder. Of a folder the last so many octets of the trunk
+    are enough, if it was kept what the gateway was before them."""
     if not os.path.isdir(path):
         return _told(Kept([path]))
     every = {name for name in os.listdir(path) if name.endswith(ENDINGS)}
@@ -71,13 +71,13 @@ def front_of(path: str) -> str:
 
 
 def state_of(path: str) -> str:
-    """The file of what the gateway was when a file begins that the driver keeps; an empty text if there is none."""
+    """The file of what the gateway was when a file of a ring begins; an empty text if there is none."""
     state = f'{front_of(path)}.state'
     return state if os.path.exists(state) else ''
 
 
 def beside(path: str) -> dict[str, Any]:
-    """What the driver has written beside a file that it keeps."""
+    """What stands beside a file that is kept."""
     try:
         with open(f'{front_of(path)}.json', encoding='utf-8') as file:
             about = json.load(file)

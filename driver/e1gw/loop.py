@@ -1,4 +1,4 @@
-"""What the driver waits for: descriptors, moments and signals, in one place and one thread.
+"""What a program waits for: descriptors, moments and signals, in one place and one thread.
 
 What carries octets comes first. What is beside that (clients, those who connect, a terminal) is served one event at a
 time, when nothing else waits, and takes a quarter of this thread's time at most."""

@@ -37,7 +37,7 @@ def exposition(status: Status, trunk: str = '') -> str:
     """All metrics of a trunk, which `trunk` names."""
     common = f'trunk="{_escaped(trunk)}"' if trunk else ''
     families = [*_of_trunk(status), *crc4_families(status), *_of_lines(status), *_of_packets(status),
-                *_of_datagrams(status), *_of_driver(status)]
+                *_of_datagrams(status), *_of_watcher(status)]
     return ''.join(family(*each, common) for each in families)
 
 
@@ -150,7 +150,7 @@ def _of_datagrams(status: Status) -> list[Family]:
          [({'circuit': row['circuit']}, row['socket']['waiting']) for row in sockets])]
 
 
-def _of_driver(status: Status) -> list[Family]:
+def _of_watcher(status: Status) -> list[Family]:
     return [
         ('e1gw_commands_total', 'counter', 'Commands by answer.',
          [({'command': row['command'], 'answer': row['answer']}, row['count']) for row in status['commands']]),

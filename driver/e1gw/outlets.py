@@ -1,4 +1,4 @@
-"""Where the driver writes to beside the call: each place has a thread of its own, so that no slow disk, full disk or
+"""Where is written to beside the calls: each place has a thread of its own, so that no slow disk, full disk or
 reader that stands still is ever waited for."""
 from __future__ import annotations
 

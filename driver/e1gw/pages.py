@@ -1,5 +1,5 @@
 """What is seen from outside, made by a process of its own: the pages over HTTP, the file of metrics and the table in
-the terminal, so that no octet waits for who reads them. It asks the driver for a snapshot when somebody asks it."""
+the terminal, so that no octet waits for who reads them. It asks the watcher for a snapshot when somebody asks it."""
 from __future__ import annotations
 
 import json
@@ -32,7 +32,7 @@ METRICS_EVERY, SHOWN_EVERY = 5.0, 0.5
 
 
 class Pages:
-    """The process that makes pages, as the driver sees it. `wanted` is called when it wants a snapshot, `ended` with
+    """The process that makes pages, as the watcher sees it. `wanted` is called when it wants a snapshot, `ended` with
     what is no more, and why."""
 
     def __init__(self, loop: Loop, words: dict[str, Any], door: socket.socket | None, wanted: Callable[[], None],
@@ -234,7 +234,7 @@ class Making:
         except BlockingIOError:
             return
         if not octets:
-            os._exit(0)         # the driver is gone
+            os._exit(0)         # the watcher is gone
         self._seen = Seen(marshal.loads(octets), self._lines, self.words.name)
         self._until = time.monotonic() + EVERY
         self._answer()

@@ -28,6 +28,7 @@ from .pipes import put_behind
 from .session import HEAD, Kind
 
 PIECE = 1 << 16
+REST = 8                    # milliseconds in which octets gather
 FLUSH = 5.0                 # seconds at the end for what is not written yet
 NICE = 10                   # of the thread that writes
 # Descriptors of its configuration, of the state that the program began with, and of the recorder before it (a pidfd).
@@ -203,9 +204,10 @@ class Recorder:
         self._due = time.monotonic() + TICK
 
     def run(self) -> None:
-        """Until the recording ends."""
-        poll = select.poll()
+        """Until the recording ends. After each read it rests, unless the program has ended."""
+        poll, ended = select.poll(), select.poll()
         poll.register(0, select.POLLIN)
+        ended.register(0, 0)        # (an end is told in any case)
         while True:
             now = time.monotonic()
             if now >= self._due:
@@ -215,6 +217,7 @@ class Recorder:
                 if not octets:
                     break
                 self._pass(octets, time.monotonic())
+                ended.poll(REST)
         self._end()
 
     def _look(self, now: float) -> None:

@@ -192,6 +192,12 @@ def open_version(program: str, config: str, words: Sequence[str], both: Sequence
         os.close(file)
 
 
+def lines_in(path: str) -> list[tuple[str, str]]:
+    """Lines that a program has said into a file, each as its first word and the rest."""
+    with open(path, encoding='utf-8', errors='replace') as file:
+        return [(word, rest) for word, _, rest in (line.partition(' ') for line in file.read().splitlines())]
+
+
 def told_of(lines: list[str], process: Process) -> str:
     """How a process ended: what it has said of that, or its status."""
     said = '; '.join(line for line in lines if not line.endswith(RENEWED))
@@ -367,8 +373,7 @@ class Run:
 
     def _lines(self, name: str) -> list[tuple[str, str]]:
         """What the program or the shadow has said, each line as its first word and the rest."""
-        with open(self.path(name), encoding='utf-8', errors='replace') as file:
-            return [(word, rest) for word, _, rest in (line.partition(' ') for line in file.read().splitlines())]
+        return lines_in(self.path(name))
 
     def says(self) -> list[str]:
         """What the program has said since this was last asked, its totals left out."""

@@ -22,6 +22,7 @@ SIGNALS = (signal.SIGTERM, signal.SIGINT, signal.SIGHUP, signal.SIGUSR2, signal.
 PAUSE, MOST_PAUSE = 0.2, 10.0       # seconds before a program that has ended is begun again
 LASTS = 10.0                # seconds after which one that has ended is begun again after PAUSE
 GRACE = 10.0                # seconds for a program to end in order, before it is killed
+OPENS = 2.0                 # seconds in which a trunk that may be waited for is opened
 ALIVE = 0.5                 # seconds between two looks while nothing happens
 USAGE = 2                   # of a command line that is refused, or a socket that is taken
 
@@ -120,7 +121,7 @@ class Supervisor:
         self.parts, self.journal, self.notify = parts, journal, notify
         self.status: int | None = None      # once it is there the keeper has been asked to end
         self._until = inf                   # when what has not ended is killed
-        self._has_told = False              # that the trunk is in service
+        self._has_told = self._waits = False        # it is told that the trunk is in service, or not open yet
         self._caught: list[int] = []
         self._wake = self._catch_signals()
 
@@ -197,10 +198,13 @@ class Supervisor:
     def _hear(self, part: Part) -> None:
         """What a part tells: that it is ready. The keeper tells it again after each reload."""
         told = part.hear()
-        all_ready = all(each.was_ready for each in self.parts.every())
-        if all_ready and (not self._has_told or part is self.parts.keep and b'READY=1' in told):
-            self._has_told = True
-            self.notify.ready('in service')
+        if all(each.was_ready for each in self.parts.every()):
+            if not self._has_told or part is self.parts.keep and b'READY=1' in told:
+                self._has_told = True
+                self.notify.ready('in service')
+        elif self.parts.reopens and not self._waits and time.monotonic() > self.parts.keep.began + OPENS > OPENS:
+            self._waits = True
+            self.notify.ready('the trunk is not open yet')
 
     # ---- the end of one ----
 
@@ -213,7 +217,7 @@ class Supervisor:
 
     def _carrier_ended(self, part: Part, process: Process, now: float) -> None:
         status = process.status or 0
-        if status == USAGE or 0 <= status <= 1 and not self.parts.reopens:
+        if status == USAGE and not part.was_ready or 0 <= status <= 1 and not self.parts.reopens:
             return self.end(status)         # with its trunk; it has told why
         self._again(part, process, now)
 

@@ -23,8 +23,6 @@ class Trunk(ABC):
     name = ''                       # where it is: a path, or an address
     deadline: float | None = None   # of time.monotonic: `read` is called then although nothing has come
     paced = True                    # octets come by a clock, and not as fast as they are read
-    may_wait = True                 # octets may wait for some milliseconds before they are read
-    gives_all = False               # a read that gives less than it may gives all that has come
     tell: Callable[[dict[str, Any]], None] | None = None    # is called with each change that is to be told
 
     @abstractmethod
@@ -66,8 +64,6 @@ class Trunk(ABC):
 
 class Stream(Trunk):
     """A trunk that is read and written as octets, by one descriptor or two."""
-
-    gives_all = True
 
     def __init__(self, reads: int, writes: int, name: str) -> None:
         self.reads, self.writes, self.name = reads, writes, name

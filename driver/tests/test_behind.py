@@ -11,10 +11,7 @@ from unittest import mock
 from . import support
 from .test_keep import EACH, KEPT, Now
 from .test_state import config_of, records_of
-from .world import SECONDS, World
-from .world import config_of as config_of_world
 from e1gw import behind, keep
-from e1gw.kept import kept, octets_of, state_of
 from e1gw.session import Kind
 
 FAILS_TO_SAVE = '''#!/bin/sh

@@ -1,81 +1,20 @@
-"""A keeper that is killed, in lock step: the next one goes on with the program that is there, or with its state.
-
-Systemd is played: a socket that takes what a service tells and keeps its descriptors, which the next start is given."""
+"""A keeper that is killed, in lock step: the next one goes on with the program that is there, or with its state."""
 from __future__ import annotations
 
-import array
 import contextlib
 import os
 import signal
-import socket
 import subprocess
 import sys
 import tempfile
-import threading
 import time
 import unittest
 
 from . import support
+from .manager import Manager
 from .test_keeper import LAUNCHER, SECONDS, Kept
 from e1gw.running import Adopted, started
 from e1gw.session import MULTIFRAME, Kind, records_in
-
-
-class Manager:
-    """What systemd does for a service: it keeps descriptors by their names, and gives them to the next start."""
-
-    def __init__(self, path: str) -> None:
-        self.path, self.files = path, dict[str, int]()
-        self.line = socket.socket(socket.AF_UNIX, socket.SOCK_DGRAM)
-        self.line.bind(path)
-        self.told: list[str] = []
-        threading.Thread(target=self._take, daemon=True).start()
-
-    def _take(self) -> None:
-        while True:
-            try:
-                text, rights, _, _ = self.line.recvmsg(4096, socket.CMSG_SPACE(16))
-            except OSError:
-                return
-            words = dict(line.split('=', 1) for line in text.decode().split('\n'))
-            self.told += text.decode().split('\n')
-            if 'FDSTORE' in words:
-                (file,) = array.array('i', rights[0][2])
-                self._keep(words['FDNAME'], file)
-            elif 'FDSTOREREMOVE' in words:
-                os.close(self.files.pop(words['FDNAME']))
-
-    def _keep(self, name: str, file: int) -> None:
-        """One that is there already, by whichever name, is not kept again."""
-        if any(os.path.sameopenfile(file, its) for its in self.files.values()):
-            os.close(file)
-        else:
-            self.files[name] = file
-
-    def starts(self, words: list[str], told: int) -> subprocess.Popen[bytes]:
-        """Starts the service with what is kept, from descriptor 3 on."""
-        script = ('import os, sys\n'
-                  'os.environ["LISTEN_PID"] = str(os.getpid())\n'
-                  'os.execv(sys.argv[1], sys.argv[1:])\n')
-        held = [os.dup(file) for file in self.files.values()]
-        high = [os.dup2(file, 100 + place) for place, file in enumerate(held)]
-
-        def give() -> None:
-            for place, file in enumerate(high):
-                os.dup2(file, 3 + place, inheritable=True)
-        around = {'LISTEN_FDS': str(len(held)), 'LISTEN_FDNAMES': ':'.join(self.files)} if held else {}
-        try:
-            return subprocess.Popen([sys.executable, '-c', script, *words], stderr=told, stdin=subprocess.DEVNULL,
-                                    env={**os.environ, 'NOTIFY_SOCKET': self.path, **around}, close_fds=False,
-                                    preexec_fn=give)
-        finally:
-            for file in (*held, *high):
-                os.close(file)
-
-    def close(self) -> None:
-        self.line.close()
-        for file in self.files.values():
-            os.close(file)
 
 
 class Restarted(Kept):
@@ -225,7 +164,8 @@ class Killed(Restarted):
         self.assertEqual(b''.join(heard), b''.join(piece or b'' for piece in self.heard))
 
     def test_descriptors_that_are_held(self) -> None:
-        """Those of the run of now and of the trunk, not more and not fewer, and none behind an orderly end."""
+        """Those of the run of now and of the trunk, not more and not fewer, and none behind an orderly end. What is
+        held of a run of which nothing is noted is forgotten."""
         self.begins()
         self.assertEqual(sorted(name.split('-')[0] for name in self.manager.files),
                          ['hello', 'program', 'tape', 'trunk'])
@@ -233,8 +173,29 @@ class Killed(Restarted):
         self.goes_on()
         self.settles()
         self.assertEqual(len(self.manager.files), 4)
+        self.kill_keeper()
+        self.again()
+        self.awaits('the keeper was killed')
+        self.assertEqual(len(self.manager.files), 4)
         self.ends()
         self.assertIn('STOPPING=1', self.manager.told)
+        self.none_held()
+        self.device.line.close()
+        self.manager.files['trunk-in'] = os.open(os.devnull, os.O_RDONLY)
+        self.again()
+        self.device.accept()
+        self.goes_on()
+        self.settles()
+        self.assertEqual(len(self.manager.files), 4)
+        self.step(20)
+        self.ends()
+
+    def none_held(self) -> None:
+        """Until systemd has taken what it was told last."""
+        until = time.monotonic() + SECONDS
+        while self.manager.files:
+            self.assertLess(time.monotonic(), until, self.manager.files)
+            time.sleep(0.005)
 
 
 class Opened(Restarted):
@@ -262,7 +223,7 @@ class Opened(Restarted):
             self.step(20)
             self.reopens()
             self.awaits('the keeper was killed: ')
-            self.goes_on()
+            self.assertIn(f'behind octet {len(self.heard) * MULTIFRAME}', self.goes_on())
             self.step(40)
             time.sleep(0.3)
         self.as_uncut()
@@ -275,7 +236,7 @@ class Opened(Restarted):
         self.step(20)
         os.kill(self.program, signal.SIGKILL)
         self.reopens()
-        self.assertIn('at most', self.goes_on())
+        self.assertIn(f'behind octet {len(self.heard) * MULTIFRAME}, what it had in hand is lost', self.goes_on())
         self.step(60)
         self.as_uncut()
         self.ends()

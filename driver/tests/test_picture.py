@@ -16,14 +16,14 @@ from .picture_made import TROUBLES, Made, Sender, answered, recorded, rtp
 from e1gw.followed import Followed
 from e1gw.lines import read_config
 from e1gw.picture import page
-from e1gw.picture.facts import MOST, Cell, Facts, Row, Spans, RANK
+from e1gw.picture.facts import MOST, Facts, Row, Spans, RANK
 from e1gw.picture.findings import findings
 from e1gw.picture.following import Follower
 from e1gw.picture.page import MOST as MOST_OCTETS
 from e1gw.picture.page import draw, numbers
 from e1gw.picture.reading import read
 from e1gw.picture.svg import Scale, apart, clock, duration, runs
-from e1gw.session import OCTETS_A_SECOND, Codec, DatagramRefusal, Kind, codec_record, records_in, spell, trunk_record
+from e1gw.session import OCTETS_A_SECOND, Codec, DatagramRefusal, Kind, codec_record, records_in, spell
 
 # The columns of `e1gw check`: number, role, state, pairs sent and recognised, sent, admitted, refused, codec, type.
 NUMBER, STATE, SENT, ADMITTED, REFUSED = 0, 2, 5, 6, 7

@@ -13,7 +13,6 @@ from .support import program, run
 from .picture_made import BITS, TROUBLES, coded, g726, of_aal2, of_codec, packets
 
 from e1gw.g711 import OTHER, TONES, VALUES, level, power
-from e1gw.picture import Live
 from e1gw.picture.facts import Facts
 from e1gw.picture.findings import findings
 from e1gw.picture.orders import Orders, reordered
@@ -134,18 +133,6 @@ class Laws(unittest.TestCase):
             heard_of = facts.rows[3].count().heard
             self.assertGreater(heard_of['order'].own, 4, codec)
             self.assertGreater(heard_of['slot'].own, 4, codec)
-
-
-    def test_of_a_trunk_in_service(self) -> None:
-        path = program()
-        for name, words in (('other-order', 'is packed as in AAL2'), ('other-law', 'read like mu-law')):
-            session = TROUBLES[name]()
-            given = b''.join(session.given())
-            live = Live(tomllib.loads(session.config()), 60, 'a trunk', path)
-            live.taped(given)
-            live.answered(of_records(session.config(), given)[1])
-            self.assertIn(words, live.page())
-            self.assertIn(words, live.page())
 
 
 class WordOrders(unittest.TestCase):

@@ -1,23 +1,13 @@
 """Trunks of each kind, and what becomes of calls when a trunk loses octets or goes and comes again."""
 from __future__ import annotations
 
-import contextlib
-import json
 import os
-import signal
-import socket
-import sys
-import tempfile
-import threading
 import time
 import unittest
-from typing import Any
 
-from . import clocked, devices, support
+from . import devices, support
 from .test_trunk import FOUR, aligned, call
-from .world import SECONDS, World, child_of, config_of
-from e1gw.restarts import REFUSED
-from e1gw.session import OCTETS_A_SECOND, Packet
+from .world import SECONDS, World, config_of
 from e1gw.trunks import Stream, Trunk, host_and_port, open_files
 
 OCTETS = bytes(range(256)) * 2

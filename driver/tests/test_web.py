@@ -2,7 +2,6 @@
 from __future__ import annotations
 
 import json
-import os
 import re
 import socket
 import time
@@ -82,7 +81,7 @@ class Pages(unittest.TestCase):
         aligned(world)
         call(world, 1)
         world.ask('seize 1')
-        world.step(30)
+        world.step(150)         # the counts that are told are a quarter of a second old
         status = world.status()
         found = samples(self.get('/metrics'))
         counts = status['circuits'][0]['datagrams']

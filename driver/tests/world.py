@@ -64,7 +64,7 @@ def descendant(parent: int, word: str, without: str | None = None) -> int:
             words = file.read().decode().split('\0')
             if without and any(each.endswith(without) for each in words):
                 continue
-            if pid != parent and word in map(os.path.basename, words):
+            if pid != parent and word in [os.path.basename(each) for each in words]:
                 return pid
     raise AssertionError(f'no process {word}')
 

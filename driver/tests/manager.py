@@ -1,0 +1,67 @@
+"""Systemd played for one service: a socket that takes what it tells, and keeps its descriptors for the next start."""
+from __future__ import annotations
+
+import array
+import os
+import socket
+import subprocess
+import sys
+import threading
+
+
+class Manager:
+    """What systemd does for a service: it keeps descriptors by their names, and gives them to the next start."""
+
+    def __init__(self, path: str) -> None:
+        self.path, self.files = path, dict[str, int]()
+        self.line = socket.socket(socket.AF_UNIX, socket.SOCK_DGRAM)
+        self.line.bind(path)
+        self.told: list[str] = []
+        threading.Thread(target=self._take, daemon=True).start()
+
+    def _take(self) -> None:
+        while True:
+            try:
+                text, rights, _, _ = self.line.recvmsg(4096, socket.CMSG_SPACE(16))
+            except OSError:
+                return
+            words = dict(line.split('=', 1) for line in text.decode().split('\n'))
+            self.told += text.decode().split('\n')
+            if 'FDSTORE' in words:
+                (file,) = array.array('i', rights[0][2])
+                self._keep(words['FDNAME'], file)
+            elif 'FDSTOREREMOVE' in words:
+                if words['FDNAME'] in self.files:
+                    os.close(self.files.pop(words['FDNAME']))
+
+    def _keep(self, name: str, file: int) -> None:
+        """One that is there already, by whichever name, is not kept again."""
+        if any(os.path.sameopenfile(file, its) for its in self.files.values()):
+            os.close(file)
+        else:
+            self.files[name] = file
+
+    def starts(self, words: list[str], told: int) -> subprocess.Popen[bytes]:
+        """Starts the service with what is kept, from descriptor 3 on."""
+        script = ('import os, sys\n'
+                  'os.environ["LISTEN_PID"] = str(os.getpid())\n'
+                  'os.execv(sys.argv[1], sys.argv[1:])\n')
+        held = [os.dup(file) for file in self.files.values()]
+        high = [os.dup2(file, 100 + place) for place, file in enumerate(held)]
+
+        def give() -> None:
+            for place, file in enumerate(high):
+                os.dup2(file, 3 + place, inheritable=True)
+        around = {'LISTEN_FDS': str(len(held)), 'LISTEN_FDNAMES': ':'.join(self.files)} if held else {}
+        try:
+            return subprocess.Popen([sys.executable, '-c', script, *words], stderr=told, stdin=subprocess.DEVNULL,
+                                    env={**os.environ, 'NOTIFY_SOCKET': self.path, **around}, close_fds=False,
+                                    preexec_fn=give)
+        finally:
+            for file in (*held, *high):
+                os.close(file)
+
+    def close(self) -> None:
+        self.line.close()
+        for file in self.files.values():
+            os.close(file)
