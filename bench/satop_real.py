@@ -318,7 +318,8 @@ def measure(world: World, control: Control, seconds: float, path: str, near: 'Ne
 def _looked_at(world: World, seconds: float, begun: dict[str, Any], status: dict[str, Any]) -> list[Row]:
     before, after, silent = begun['transport'], status['transport'], world.stood.silences
     more = {name: after[name] - before[name] for name in after if isinstance(after[name], int)}
-    lost = more['alignment_lost'] + sum(status['losses'][name] - begun['losses'][name] for name in status['losses'])
+    more['malformed'] = sum(n for name, n in more.items() if name.startswith('malformed_'))
+    lost = sum(status['losses'][name] - begun['losses'][name] for name in status['losses'])
     right, wrong, excused = world.octets()[0], sum(world.others.values()), sum(world.excused.values())
     up = sum(row['state'] == 'answered' for row in status['circuits'])
     on_the_way = 'lost', 'late', 'malformed', 'unsent'
@@ -337,9 +338,7 @@ def _looked_at(world: World, seconds: float, begun: dict[str, Any], status: dict
          0 < right and wrong * 1000 <= right + wrong, 'at most one in 1000'),
         ('others beside these, after silences of the far end', excused, True, 'told'),
         ('gaps in what comes back, losses of its alignment', f'{world.far.gaps}, {world.far.losses}',
-         not (world.far.gaps or world.far.losses), '0, 0'),
-        ('octets not of e1gw align, and of another opinion', f'{more["align_stood_in"]}, {more["align_differing"]}',
-         not more['align_differing'], 'told, 0')]
+         not (world.far.gaps or world.far.losses), '0, 0')]
 
 
 def hurry() -> None:
@@ -368,7 +367,7 @@ class Near:
     """The processes of the near end."""
 
     def __init__(self, driver: int) -> None:
-        self.processes = {word: child_of(driver, word) for word in ('trunk', 'e1gw-carry', 'align', 'replay')}
+        self.processes = {word: child_of(driver, word) for word in ('trunk', 'e1gw-carry', 'satop', 'replay')}
 
     def processor(self) -> dict[str, float]:
         """Seconds of processor time."""
@@ -420,13 +419,10 @@ def on_purpose(world: World, driver: int) -> list[Row]:
     """What stands still or is slow on purpose, beside which no octet of speech is to be another one."""
     rows = []
     carrier = child_of(driver, 'e1gw-carry')        # (a program that is stopped is killed, and another one goes on)
-    rows += [stands_still(world, 'carrier', carrier, seconds) for seconds in (.15, .3)]
-    rows += [is_slow(world, 'carrier', carrier, share) for share in (.2, .3, .4, .5)]
-    rows.append(stands_still(world, 'e1gw align', child_of(driver, 'align'), .3))
-    world.begin()
-    os.kill(child_of(driver, 'align'), signal.SIGKILL)
-    world.run(2.0)
-    return [*rows, others(world, 'e1gw align killed')]
+    for what, process in (('carrier', carrier), ('e1gw satop', child_of(driver, 'satop'))):
+        rows += [stands_still(world, what, process, seconds) for seconds in (.15, .3)]
+        rows += [is_slow(world, what, process, share) for share in (.2, .3, .4, .5)]
+    return rows
 
 
 def real_time(program: str, folder: str, seconds: float, nice: int, look: Look) -> bool:

@@ -23,12 +23,8 @@ from e1gw.crc4 import Crc4, with_crc4
 from e1gw.exchange import ACKNOWLEDGED, SEIZED
 from e1gw.followed import Followed
 from e1gw.lines import read_config
-from e1gw.satop import Circuit, Satop, connected
 from e1gw.session import FRAME, MULTIFRAME, Command, Kind, command_record, records_in
 from e1gw.trunks import Stream
-
-STEP = 0.001                # seconds of a packet
-
 
 class Tapped(Stream):
     """A program's connection that keeps what goes there and back."""
@@ -46,18 +42,16 @@ class Tapped(Stream):
 
 
 class End:
-    """A carrier of a SAToP circuit, and the program behind it. Circuit 1 is the only one with a role of its own."""
+    """A carrier of a trunk, and the program behind it. Circuit 1 is the only one with a role of its own."""
 
-    def __init__(self, folder: str, role: str, ports: tuple[int, int], circuit: Circuit,
-                 clock: Callable[[], float]) -> None:
+    def __init__(self, folder: str, role: str, line: socket.socket) -> None:
         config, control = (os.path.join(folder, f'{role}.{kind}') for kind in ('toml', 'control'))
         with open(config, 'w', encoding='utf-8') as file:
             file.write(f'law = "A"\n[[circuit]]\nnumber = 1\nrole = "{role}"\n')
         self.crc4 = Crc4()
         self.carrier = Carrier(lambda event: None, self.crc4)
-        near, far = (('127.0.0.1', port) for port in ports)
-        self.carrier.open(with_crc4(lambda: Satop(connected(near, far), circuit, clock, support.program()),
-                                    support.program(), self.crc4))
+        trunk = line.detach()
+        self.carrier.open(with_crc4(lambda: Stream(trunk, trunk, 'line'), support.program(), self.crc4))
         ours, theirs = socket.socketpair()
         with theirs:
             self.program = subprocess.Popen([support.program(), 'trunk', '--config', config, '--control', control],
@@ -107,18 +101,17 @@ class Calls(support.Folder):
     def setUp(self) -> None:
         support.program()
         super().setUp()
-        self.now = 0.0
-        west, east = free_ports(2)
-        self.west = End(self.folder, 'outgoing', (west, east), Circuit(own_clock=True), lambda: self.now)
+        west, east = socket.socketpair()
+        east.sendall(b'\xff' * MULTIFRAME)      # so many octets go round
+        self.west = End(self.folder, 'outgoing', west)
         self.addCleanup(self.west.close)
-        self.east = End(self.folder, 'incoming', (east, west), Circuit(), lambda: self.now)
+        self.east = End(self.folder, 'incoming', east)
         self.addCleanup(self.east.close)
 
     def until(self, holds: Callable[[], bool]) -> None:
         for _ in range(2000):
             if holds():
                 return
-            self.now += STEP
             self.west.turn()
             self.east.turn()
         self.fail(f'{self.west.state()}, {self.east.state()}')
@@ -138,7 +131,6 @@ class Calls(support.Folder):
         self.west.lines.command(1, Command.SEIZE)
         self.until(lambda: self.states() == ('acked', 'acked'))
         for end in (self.west, self.east):
-            self.assertEqual(end.carrier.status()['transport']['alignment_lost'], 0)
             self.assertEqual(end.carrier.counts['ones'], 0)
             end.close()
             self.assertEqual(self.counts(end), {'errored': 0, 'multiframes_found': 1, 'multiframes_lost': 0})
@@ -229,16 +221,17 @@ class Emulated(support.Folder):
             line.sendall(ready[:count])
             del ready[:count]
 
-    def transport(self, name: str) -> dict[str, Any]:
+    def aligned_at(self, name: str) -> bool:
+        """Whether an end has CRC multiframes of the other."""
         with socket.socket(socket.AF_UNIX) as line:
             line.connect(self.path(f'{name}.status'))
-            found: dict[str, Any] = json.loads(line.makefile('rb').readline())['transport']
-        return found
+            found: dict[str, Any] = json.loads(line.makefile('rb').readline())
+        return bool(found['trunk_up'] and found['crc4'] and found['crc4']['aligned'])
 
     def aligned(self) -> None:
         """Goes on until both ends are."""
         until = time.monotonic() + SECONDS
-        while not all(self.transport(name).get('aligned') for name in self.programs):
+        while not all(self.aligned_at(name) for name in self.programs):
             self.assertLess(time.monotonic(), until)
             self.answer()
 

@@ -14,7 +14,7 @@ import unittest
 
 from . import devices, support
 from .test_trunk import FOUR, aligned, call
-from .test_satop_bits import expected, late
+from .bits import expected, late
 from .world import LAUNCHER, SECONDS, World, aligner_of, config_of, descendant
 from e1gw import session
 from e1gw.filtered import Received, align
