@@ -1,0 +1,15 @@
+//! An emulated circuit: a trunk as SAToP packets over UDP (RFC 4553), its octets on the other side.
+#![tactic(auto)]
+
+mod line;
+mod log;
+mod pace;
+mod packet;
+mod sender;
+mod timing;
+
+pub use line::{Receipt, Receiver};
+pub use pace::Pace;
+pub use packet::Malformed;
+pub use sender::{Sender, Start};
+pub use timing::Timing;
