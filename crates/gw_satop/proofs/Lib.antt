@@ -1,3 +1,4 @@
 pub mod Packets
 pub mod Replies
 pub mod Ones
+pub mod Arriving

@@ -4,3 +4,4 @@ pub mod Times
 pub mod Pace
 pub mod Sending
 pub mod Line
+pub mod Session

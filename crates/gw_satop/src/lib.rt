@@ -1,15 +1,21 @@
 //! An emulated circuit: a trunk as SAToP packets over UDP (RFC 4553), its octets on the other side.
 #![tactic(auto)]
 
+mod circuit;
+mod counts;
 mod line;
 mod log;
 mod pace;
+mod peer;
 mod packet;
 mod sender;
 mod timing;
 
+pub use circuit::Circuit;
+pub use counts::Counts;
 pub use line::{Receipt, Receiver};
 pub use pace::Pace;
 pub use packet::Malformed;
+pub use peer::{Peer, UdpPeer};
 pub use sender::{Sender, Start};
 pub use timing::Timing;

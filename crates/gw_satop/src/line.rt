@@ -68,6 +68,9 @@ impl Receiver {
             (packet_in self.old.rtp self.old.settings.size datagram.now) }
         ensures stands { (calls : List Call) → HasPlayed self.old calls → HasPlayed self.new (calls
             ++ calls_for self.old.settings.size result (packet_in self.old.rtp self.old.settings.size datagram.now)) }
+        ensures given { (calls : List Call) → given_octets self.old.settings (calls
+            ++ calls_for self.old.settings.size result (packet_in self.old.rtp self.old.settings.size datagram.now))
+            ≡ given_octets self.old.settings calls }
         ensures settings { self.new.settings ≡ self.old.settings }
         ensures rtp { self.new.rtp ≡ self.old.rtp }
     {
@@ -87,6 +90,8 @@ impl Receiver {
             (λ fault. beginning pace.old fault sequence now) }
         ensures stands { (calls : List Call) → HasPlayed self.old calls
             → HasPlayed self.new (calls ++ calls_of_receipt result sequence octets.now) }
+        ensures given { (calls : List Call) → given_octets self.old.settings
+            (calls ++ calls_of_receipt result sequence octets.now) ≡ given_octets self.old.settings calls }
         ensures settings { self.new.settings ≡ self.old.settings }
         ensures rtp { self.new.rtp ≡ self.old.rtp }
     {
@@ -112,6 +117,8 @@ impl Receiver {
     fn begin(&mut self, first: u16, sequence: u16, octets: &[u8])
         ensures stands { (calls : List Call) → HasPlayed self.old calls
             → HasPlayed self.new (calls ++ Begins first ∷ Arrives sequence octets.now ∷ []) }
+        ensures given { (calls : List Call) → given_octets self.old.settings
+            (calls ++ Begins first ∷ Arrives sequence octets.now ∷ []) ≡ given_octets self.old.settings calls }
         ensures settings { self.new.settings ≡ self.old.settings }
         ensures rtp { self.new.rtp ≡ self.old.rtp }
     {
@@ -150,10 +157,10 @@ impl Receiver {
         self.playout.reach()
     }
 
-    /// How the playout is set up.
-    pub fn settings(&self) -> Settings
-        ensures { result ≡ self.now.settings }
+    /// The octets of a packet.
+    pub fn size(&self) -> usize
+        ensures { result ≡ self.now.settings.size }
     {
-        self.settings
+        self.settings.size
     }
 }
