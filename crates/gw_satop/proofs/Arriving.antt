@@ -53,8 +53,14 @@ heard receiver receiver' received datagram went receipt k settings rtp stands gi
     record {
       calls = k.calls ++ calls_for size receipt packet;
       stands = stands k.calls k.stands;
-      arrivals_are = rw (settings, rtp, arrivals-append k.calls (calls_for size receipt packet),
-          arrivals-for size receipt packet, arrivals-more receiver.rtp size received datagram, k.arrivals_are) refl;
+      arrivals_are = rw (
+        settings,
+        rtp,
+        arrivals-append k.calls (calls_for size receipt packet),
+        arrivals-for size receipt packet,
+        arrivals-more receiver.rtp size received datagram,
+        k.arrivals_are,
+      ) refl;
       went_are = rw (settings, given k.calls) k.went_are;
     }
 

@@ -23,3 +23,9 @@ pub record SendsAll (sender : Sender) (sent : List (List ℕ)) (came : List ℕ)
   pub came_are : sender.came.octets ≡ came
   pub sent_are : sent ≡ packets_of sender.start sender.log.flags came
   pub rest : length sender.held.items < sender.start.size
+
+-- both halves are set up as they were
+pub record HasSettings (receiver receiver' : Receiver) (sender sender' : Sender) : Type 0 where
+  pub settings_are : receiver'.settings ≡ receiver.settings
+  pub rtp_is : receiver'.rtp ≡ receiver.rtp
+  pub start_is : sender'.start ≡ sender.start

@@ -1,7 +1,7 @@
 //! An emulated circuit between a trunk and its far end.
 
-ghost use Rattle.std.specs.Prelude.{◌≡◌, ◌++◌, ◌<◌, ◌≤◌, [], ℕ, List, length, drop, IfOk};
-ghost use Rattle.gw_satop.specs.Session.{PlaysAll, SendsAll};
+ghost use Rattle.std.specs.Prelude.{◌≡◌, ◌++◌, ◌<◌, ◌≤◌, [], ℕ, List, length, drop, true, IfOk};
+ghost use Rattle.gw_satop.specs.Session.{HasSettings, PlaysAll, SendsAll};
 ghost use Rattle.gw_satop.specs.Line.{HasPlayed};
 ghost use Rattle.gw_satop.specs.Sending.{packets_of};
 
@@ -50,10 +50,7 @@ fn drop_first(left: &mut ArrayVec<u8, 1280>, len: usize)
 }
 
 // Gives the trunk what is left for it, all of it; it waits until the trunk takes it.
-fn put_out<O: Outgoing>(
-    outgoing: &mut O,
-    left: &mut ArrayVec<u8, 1280>,
-) -> Result<(), DeviceFault>
+fn put_out<O: Outgoing>(outgoing: &mut O, left: &mut ArrayVec<u8, 1280>) -> Result<(), DeviceFault>
     ensures went { O.went outgoing.new ++ left.new.items ≡ O.went outgoing.old ++ left.old.items }
     ensures all { IfOk result (λ _. left.new.items ≡ []) }
 {
@@ -74,7 +71,9 @@ fn put_out<O: Outgoing>(
 fn play_into(receiver: &mut Receiver, room: &mut [u8], left: &mut ArrayVec<u8, 1280>) -> bool
     requires room { length room.old ≡ receiver.old.settings.size }
     requires left { left.old.items ≡ [] }
-    ensures { (received : List (List ℕ)) (went : List ℕ)
+    ensures settings { receiver.new.settings ≡ receiver.old.settings }
+    ensures rtp { receiver.new.rtp ≡ receiver.old.rtp }
+    ensures plays { (received : List (List ℕ)) (went : List ℕ)
         → PlaysAll receiver.old received (went ++ left.old.items)
         → PlaysAll receiver.new received (went ++ left.new.items) }
 {
@@ -99,6 +98,7 @@ fn send_all<P: Peer>(
         ≡ packets_of sender.new.start sender.new.log.flags sender.new.came.octets }
     ensures came { sender.new.came.octets ≡ sender.old.came.octets ++ octets.now }
     ensures received { P.received peer.new ≡ P.received peer.old }
+    ensures start { sender.new.start ≡ sender.old.start }
 {
     let mut packet = ArrayVec::new();
     let mut at = 0;
@@ -148,7 +148,9 @@ impl<I: Incoming, O: Outgoing, P: Peer> Circuit<I, O, P> {
     }
 
     // Receives a datagram, if one waits.
-    fn hear(&mut self, now: u64) -> bool {
+    fn hear(&mut self, now: u64) -> bool
+        ensures same { HasSettings self.old.receiver self.new.receiver self.old.sender self.new.sender }
+    {
         let mut room = [0u8; ROOM_LEN];
         let Some(n) = self.peer.receive(&mut room) else {
             return false;
@@ -158,9 +160,11 @@ impl<I: Incoming, O: Outgoing, P: Peer> Circuit<I, O, P> {
         true
     }
 
-    // Gives the trunk what is left for it.
-    fn flush(&mut self) -> Result<(), DeviceFault>
-        ensures { IfOk result (λ _. self.new.left.items ≡ []) }
+    /// Gives the trunk what is left for it.
+    pub fn flush(&mut self) -> Result<(), DeviceFault>
+        ensures all { IfOk result (λ _. self.new.left.items ≡ []) }
+        ensures same { HasSettings self.old.receiver self.new.receiver self.old.sender self.new.sender }
+        ensures incoming { self.new.incoming ≡ self.old.incoming }
     {
         put_out(&mut self.outgoing, &mut self.left)
     }
@@ -168,6 +172,7 @@ impl<I: Incoming, O: Outgoing, P: Peer> Circuit<I, O, P> {
     // Plays the next packet, which is then left for the trunk.
     fn play_next(&mut self)
         requires { self.old.left.items ≡ [] }
+        ensures same { HasSettings self.old.receiver self.new.receiver self.old.sender self.new.sender }
     {
         let mut room = [0u8; MAX_SIZE];
         let size = self.receiver.size();
@@ -178,14 +183,18 @@ impl<I: Incoming, O: Outgoing, P: Peer> Circuit<I, O, P> {
     }
 
     // Plays the next packet to the trunk.
-    fn play(&mut self) -> Result<(), DeviceFault> {
+    fn play(&mut self) -> Result<(), DeviceFault>
+        ensures same { HasSettings self.old.receiver self.new.receiver self.old.sender self.new.sender }
+    {
         self.flush()?;
         self.play_next();
         self.flush()
     }
 
     // Plays the packets that are due.
-    fn play_due(&mut self, now: u64, read_all: bool) -> Result<(), DeviceFault> {
+    fn play_due(&mut self, now: u64, read_all: bool) -> Result<(), DeviceFault>
+        ensures same { HasSettings self.old.receiver self.new.receiver self.old.sender self.new.sender }
+    {
         for _play in 0..MOST_PLAYS {
             if !self.pace.is_due(now, self.receiver.reach(), read_all) {
                 return Ok(());
@@ -196,7 +205,10 @@ impl<I: Incoming, O: Outgoing, P: Peer> Circuit<I, O, P> {
     }
 
     // Takes octets of the trunk that have come, and sends them. Returns whether no octet will come any more.
-    fn take(&mut self) -> Result<bool, DeviceFault> {
+    fn take(&mut self) -> Result<bool, DeviceFault>
+        ensures same { HasSettings self.old.receiver self.new.receiver self.old.sender self.new.sender }
+        ensures ended { IfOk result (λ ended. ended ≡ true → I.has_ended self.new.incoming) }
+    {
         let mut room = [0u8; ROOM_LEN];
         match self.incoming.read(&mut room)? {
             Taken::Octets(n) => {
@@ -215,7 +227,9 @@ impl<I: Incoming, O: Outgoing, P: Peer> Circuit<I, O, P> {
     }
 
     // Receives all that waits, and plays what is due meanwhile.
-    fn hear_all(&mut self, now: u64) -> Result<(), DeviceFault> {
+    fn hear_all(&mut self, now: u64) -> Result<(), DeviceFault>
+        ensures same { HasSettings self.old.receiver self.new.receiver self.old.sender self.new.sender }
+    {
         for _datagram in 0..MOST_DATAGRAMS {
             if !self.hear(now) {
                 return Ok(());
@@ -227,7 +241,10 @@ impl<I: Incoming, O: Outgoing, P: Peer> Circuit<I, O, P> {
 
     /// One turn at a time: receives what waits, plays what is due and sends what came from the trunk. Returns
     /// whether no octet will come from the trunk any more.
-    pub fn turn(&mut self, now: u64) -> Result<bool, DeviceFault> {
+    pub fn turn(&mut self, now: u64) -> Result<bool, DeviceFault>
+        ensures same { HasSettings self.old.receiver self.new.receiver self.old.sender self.new.sender }
+        ensures ended { IfOk result (λ ended. ended ≡ true → I.has_ended self.new.incoming) }
+    {
         self.pace.advance(now);
         self.hear_all(now)?;
         if self.pace.listen(now) {
@@ -238,7 +255,10 @@ impl<I: Incoming, O: Outgoing, P: Peer> Circuit<I, O, P> {
     }
 
     /// When something is due if nothing comes.
-    pub fn plan(&mut self, now: u64) -> u64 {
+    pub fn plan(&mut self, now: u64) -> u64
+        ensures same { HasSettings self.old.receiver self.new.receiver self.old.sender self.new.sender }
+        ensures incoming { self.new.incoming ≡ self.old.incoming }
+    {
         self.pace.plan(now, self.receiver.reach())
     }
 }

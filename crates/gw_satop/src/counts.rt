@@ -7,12 +7,10 @@ use thiserror::Error;
 
 /// The counts of an emulated circuit, each up to the greatest u64. They print as one line.
 #[derive(Clone, Copy, Debug, Default, PartialEq, Eq, Error)]
-#[error(
-    "satop received={received} sent={sent} unsent={unsent} lost={lost} filled={filled} late={late} \
+#[error("satop received={received} sent={sent} unsent={unsent} lost={lost} filled={filled} late={late} \
      repeated={repeated} too_far={too_far} restarts={restarts} silences={silences} ticks={ticks} \
      malformed_short={short} malformed_no_rtp_header={no_rtp} malformed_no_control_word={no_control} \
-     malformed_other_length={other_length} malformed_other_size={other_size}"
-)]
+     malformed_other_length={other_length} malformed_other_size={other_size}")]
 pub struct Counts {
     /// Packets that came.
     pub received: u64,

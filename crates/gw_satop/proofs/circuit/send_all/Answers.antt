@@ -1,4 +1,4 @@
-use Rattle.std.proofs.Common.{◌≡◌, ◌<◌, ◌≤◌, ◌+◌, ◌-◌, ◌++◌, length, take, drop, ◌∙◌, sym, ap, arith, append_assoc, refl, ℕ, List}
+use Rattle.std.proofs.Common.{◌≡◌, ◌≤◌, ◌+◌, ◌-◌, ◌++◌, length, take, drop, ◌∙◌, sym, ap, arith, append_assoc, refl, ℕ, List}
 use Rattle.std.proofs.Math.Seq.{take-add}
 use Rattle.std.proofs.lemmas.Bool.{leb-false}
 use Rattle.std.proofs.lemmas.List.{length-drop, take_all}
@@ -30,6 +30,7 @@ loop-at-preserved-then-packet g c = record {
   came = c.packet.ensures.came ∙ more-came _ _ _ _ _ _ c.loop-at.invariant.came c.fill-at.ensures.came;
   within = stays-within _ _ _ c.loop-at.invariant.within c.fill-at.ensures.bound;
   received = c.send.ensures.received ∙ c.loop-at.invariant.received;
+  start = c.packet.ensures.start ∙ c.fill-at.ensures.start ∙ c.loop-at.invariant.start;
 }
 
 pub loop-at-preserved : goal.loop-at-preserved
@@ -39,4 +40,5 @@ loop-at-preserved g c = record {
   came = c.packet.ensures.came ∙ more-came _ _ _ _ _ _ c.loop-at.invariant.came c.fill-at.ensures.came;
   within = stays-within _ _ _ c.loop-at.invariant.within c.fill-at.ensures.bound;
   received = c.loop-at.invariant.received;
+  start = c.packet.ensures.start ∙ c.fill-at.ensures.start ∙ c.loop-at.invariant.start;
 }

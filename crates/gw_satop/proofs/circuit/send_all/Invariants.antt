@@ -10,6 +10,7 @@ invariant-loop-at g l = record {
   came : l.sender.came.octets ≡ l.initial.sender.came.octets ++ take l.at l.octets;
   within : l.at ≤ length l.octets;
   received : g.P.Peer.received l.peer ≡ g.P.Peer.received l.initial.peer;
+  start : l.sender.start ≡ l.initial.sender.start;
 }
 
 abbrev pub decreases-loop-at : goal.decreases-loop-at

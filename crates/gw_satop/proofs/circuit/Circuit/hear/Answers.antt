@@ -1,7 +1,4 @@
-use Rattle.std.proofs.Common.{◌++◌, ◌∙◌, sym}
 use Rattle.std.proofs.Math.Logic.{∥∥₁_map}
-use Rattle.gw_satop.specs.Line.{calls_for}
-use Rattle.gw_satop.specs.Packets.{packet_in}
 use Rattle.gw_satop.proofs.Arriving.{heard}
 use Rattle.gw_satop.proofs.circuit.Circuit.hear.Goals as goal
 

@@ -1,4 +1,4 @@
-use Rattle.std.proofs.Common.{◌∙◌, sym, refl, ◌≡◌, ◌++◌, take, ap, List, ℕ}
+use Rattle.std.proofs.Common.{◌∙◌, sym, refl}
 use Rattle.gw_satop.proofs.circuit.Circuit.take.Goals as goal
 
 pub send_all-requires-clause-sent : goal.send_all-requires-clause-sent

@@ -8,8 +8,8 @@ returns-clause-given c calls =
     let settings = c.args.self.now.settings in
     let begun : List Call = calls ++ Begins c.args.first ∷ [] in
     let all : begun ++ Arrives c.args.sequence c.args.octets.now ∷ []
-        ≡ calls ++ Begins c.args.first ∷ Arrives c.args.sequence c.args.octets.now ∷ [] =
-        append_assoc calls (Begins c.args.first ∷ []) (Arrives c.args.sequence c.args.octets.now ∷ []) in
+    ≡ calls ++ Begins c.args.first ∷ Arrives c.args.sequence c.args.octets.now ∷ [] =
+    append_assoc calls (Begins c.args.first ∷ []) (Arrives c.args.sequence c.args.octets.now ∷ []) in
     rw (← all) (c.plays_give_octets.ensures.arrives settings begun c.args.sequence c.args.octets.now
     ∙ c.plays_give_octets.ensures.begins settings calls c.args.first)
 
@@ -18,12 +18,12 @@ returns-clause-stands c calls h =
     let settings = c.args.self.now.settings in
     let begun : List Call = calls ++ Begins c.args.first ∷ [] in
     let all : begun ++ Arrives c.args.sequence c.args.octets.now ∷ []
-        ≡ calls ++ Begins c.args.first ∷ Arrives c.args.sequence c.args.octets.now ∷ [] =
-        append_assoc calls (Begins c.args.first ∷ []) (Arrives c.args.sequence c.args.octets.now ∷ []) in
+    ≡ calls ++ Begins c.args.first ∷ Arrives c.args.sequence c.args.octets.now ∷ [] =
+    append_assoc calls (Begins c.args.first ∷ []) (Arrives c.args.sequence c.args.octets.now ∷ []) in
     let same : given_octets settings (begun ++ Arrives c.args.sequence c.args.octets.now ∷ [])
-        ≡ given_octets settings calls =
-        c.plays_give_octets.ensures.arrives settings begun c.args.sequence c.args.octets.now
-        ∙ c.plays_give_octets.ensures.begins settings calls c.args.first in
+    ≡ given_octets settings calls =
+    c.plays_give_octets.ensures.arrives settings begun c.args.sequence c.args.octets.now
+    ∙ c.plays_give_octets.ensures.begins settings calls c.args.first in
     record {
       playout = rw (← all) (c.arrive.ensures.stands settings begun (c.begin.ensures.stands settings calls h.playout));
       aligner = rw (← all, same) h.aligner;
