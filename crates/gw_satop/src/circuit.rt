@@ -140,6 +140,14 @@ impl<I: Incoming, O: Outgoing, P: Peer> Circuit<I, O, P> {
         }
     }
 
+    /// Whether the trunk has taken all that was played.
+    pub fn is_whole(&self) -> bool
+        ensures yes { result ≡ true → self.now.left.items ≡ [] }
+        ensures no { self.now.left.items ≡ [] → result ≡ true }
+    {
+        self.left.is_empty()
+    }
+
     /// What was counted.
     pub fn counts(&self) -> Counts
         ensures { result ≡ self.now.counts }
