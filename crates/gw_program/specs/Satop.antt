@@ -1,5 +1,5 @@
 -- A trunk over SAToP (module `satop`).
-use Rattle.std.specs.Prelude.{◌≡◌, ◌⊎◌, ⊤, ℕ, Bool, List, [], ◌++◌, Option, Some, None, is_some, Result, Ok, Err}
+use Rattle.std.specs.Prelude.{◌≡◌, ◌⊎◌, ⊤, ℕ, List, [], ◌++◌, Option, Some, is_some, Result}
 use Rattle.std.specs.Prelude.{MatchResult, MatchOption, codes}
 use Rattle.clap.specs.Words.{Row}
 use Rattle.gw_records.specs.declared.outcome.Totals.{Totals}
@@ -18,9 +18,9 @@ IsDeviceTrouble left (troubles.Session faults.Read) = left ≡ []
 IsDeviceTrouble left (troubles.Session faults.Write) = ⊤
 IsDeviceTrouble left _ = ⊥
 
--- A circuit was carried: what went to the trunk is what is played for the datagrams that came, but for what is
--- left, and what was sent to the far end are the packets of the octets that came. Nothing is left at the end of
--- the trunk.
+-- A circuit was carried: what went to the trunk is what is played for the datagrams that came, but for what
+-- is left, and what was sent to the far end are the packets of the octets that came. Nothing is left at the
+-- end of the trunk.
 pub record CarriesSatop (receiver : Receiver) (sender : Sender) (received sent : List (List ℕ))
     (came went left : List ℕ) (told : Result Totals Trouble) : Type 0 where
   pub plays : ∥ PlaysAll receiver received (went ++ left) ∥₁

@@ -1,4 +1,3 @@
 pub mod Packets
-pub mod Replies
 pub mod Ones
 pub mod Arriving

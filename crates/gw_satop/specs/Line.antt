@@ -14,7 +14,7 @@ use Rattle.gw_satop.specs.declared.line.Receiver.{Receiver}
 use Rattle.gw_satop.specs.declared.line.Receipt.TheVariants as receipts
 use Rattle.gw_satop.specs.declared.packet.Malformed.{Malformed}
 use Rattle.gw_satop.specs.declared.pace.Pace.{Pace}
-use Rattle.gw_satop.specs.Packets.{octets_of}
+use Rattle.gw_satop.specs.Packets.{octets_to_play}
 use Rattle.gw_satop.specs.Pace.{beginning}
 
 -- what becomes of a packet that is refused, and with which a stream begins at this number or none does
@@ -31,7 +31,7 @@ receipt_by (Err fault) begins = receipt_refused fault (begins fault)
 abbrev pub receipt_of : Settings → List Call → Pace → ℕ → Result Content Malformed → Receipt
 receipt_of settings calls pace now (Err fault) = receipts.Malformed fault
 receipt_of settings calls pace now (Ok p) = receipt_by
-    (arrival_answer settings calls p.control.sequence (octets_of settings.size p))
+    (arrival_answer settings calls p.control.sequence (octets_to_play settings.size p))
     (λ fault. beginning pace fault p.control.sequence now)
 
 -- the calls for a packet of which this became: it arrives, after a beginning if a stream begins with it
@@ -42,7 +42,7 @@ calls_of_receipt _ sequence octets = Arrives sequence octets ∷ []
 -- the calls for a datagram of which this became
 abbrev pub calls_for : ℕ → Receipt → Result Content Malformed → List Call
 calls_for size receipt (Err fault) = []
-calls_for size receipt (Ok p) = calls_of_receipt receipt p.control.sequence (octets_of size p)
+calls_for size receipt (Ok p) = calls_of_receipt receipt p.control.sequence (octets_to_play size p)
 
 -- the octets that a receiver gives in the plays of these calls: those of the time slots (ITU-T G.704) for the
 -- octets that its playout gives

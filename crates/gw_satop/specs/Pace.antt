@@ -1,6 +1,6 @@
 -- When packets are played, and when a stream begins (module `pace`). Times are in microseconds.
-use Rattle.std.specs.Prelude.{ℕ, ◌+◌, ◌-◌, ◌*◌, ◌/◌, ◌%◌, ◌^◌, ◌==◌, ◌&&◌, ◌||◌, not, nat_le, nat_lt, min, max}
-use Rattle.std.specs.Prelude.{Bool, false, if◌then◌else◌, Option, Some, None}
+use Rattle.std.specs.Prelude.{ℕ, ◌+◌, ◌-◌, ◌*◌, ◌/◌, ◌%◌, ◌^◌, ◌==◌, ◌&&◌, ◌||◌, not}
+use Rattle.std.specs.Prelude.{nat_le, nat_lt, min, max, Bool, false, if◌then◌else◌, Option, Some, None}
 use Rattle.satop_playout.specs.declared.ArrivalFault.{ArrivalFault}
 use Rattle.satop_playout.specs.declared.ArrivalFault.TheVariants.{OtherSize, NotBegun, Late, TooFar, Repeat}
 use Rattle.gw_satop.specs.declared.pace.Pace.{Pace}
@@ -65,8 +65,8 @@ after_refusal p TooFar sequence now =
 after_refusal p OtherSize sequence now = p
 after_refusal p Repeat sequence now = p
 
--- the pace after a packet of the stream has come: there is no silence. By packets, this machine's clock counts
--- from it
+-- the pace after a packet of the stream has come: there is no silence. By packets, this machine's clock
+-- counts from it
 abbrev pub after_packet : Pace → ℕ → Pace
 after_packet p now = record p {
   heard = now;
@@ -79,8 +79,8 @@ after_packet p now = record p {
 abbrev pub by_clock : Pace → Bool
 by_clock p = p.silent || p.timing.own_clock
 
--- A packet is due. By packets, once `jitter` later ones have come, and within the rate. By this machine's clock,
--- each time of a packet; before all that came was read, only those behind which `jitter` others wait.
+-- A packet is due. By packets, once `jitter` later ones have come, and within the rate. By this machine's
+-- clock, each time of a packet; before all that came was read, only those behind which `jitter` others wait.
 abbrev pub is_due : Pace → ℕ → ℕ → Bool → Bool
 is_due p now reach read_all = if by_clock p
     then nat_le p.timing.packet (now - p.reached) && (read_all || nat_lt p.timing.jitter reach)
@@ -91,9 +91,9 @@ abbrev pub after_play : Pace → Pace
 after_play p = if by_clock p then record p { reached = min (p.reached + p.timing.packet) (2 ^ 64 - 1) }
     else record p { credit = p.credit - 1000 * p.timing.packet }
 
--- The pace at a time. In thousandths of a microsecond, the credit grows by a thousandth more than time passes,
--- up to a second: so a thousandth above the rate of the trunk is played at most, except after a stall of a
--- second at most. If this machine's process itself came so late, what came may still be on its way.
+-- The pace at a time. In thousandths of a microsecond, the credit grows by a thousandth more than time
+-- passes, up to a second: so a thousandth above the rate of the trunk is played at most, except after a stall
+-- of a second at most. If this machine's process itself came so late, what came may still be on its way.
 abbrev pub at_time : Pace → ℕ → Pace
 at_time p now = record p {
   credit = min (p.credit + 1001 * min (now - p.counted) 1000000) 1000000000;

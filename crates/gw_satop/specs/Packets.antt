@@ -38,12 +38,12 @@ packet_in rtp size datagram = fitting size (reading_of rtp datagram)
 
 -- The octets that are played for a packet: those that it has, or ones if bit L says that they are invalid
 -- (RFC 4553, 4.3 and 6.2.2).
-abbrev pub octets_of : ℕ → Content → List ℕ
-octets_of size p = if p.control.lost then replicate size 255 else p.payload
+abbrev pub octets_to_play : ℕ → Content → List ℕ
+octets_to_play size p = if p.control.lost then replicate size 255 else p.payload
 
 -- the numbers and octets of a packet, or nothing
 abbrev pub arrival_of : ℕ → Result Content Malformed → List (ℕ × List ℕ)
-arrival_of size (Ok p) = (p.control.sequence, octets_of size p) ∷ []
+arrival_of size (Ok p) = (p.control.sequence, octets_to_play size p) ∷ []
 arrival_of size (Err f) = []
 
 -- the numbers and octets of the packets in these datagrams, in order

@@ -127,6 +127,8 @@ impl<I: Incoming, O: Outgoing, P: Peer> Circuit<I, O, P> {
         requires receiver { HasPlayed receiver [] }
         requires sender { (sender.came.octets ≡ []) × (sender.log.flags ≡ [])
             × (length sender.held.items < sender.start.size) }
+        ensures receiver { result.receiver ≡ receiver }
+        ensures sender { result.sender ≡ sender }
     {
         Circuit {
             incoming,

@@ -3,7 +3,7 @@
 ghost use Rattle.std.specs.Prelude.{◌≡◌};
 
 use crate::pace::Pace;
-use crate::packet::{Malformed, octets_of, packet_in};
+use crate::packet::{Malformed, octets_to_play, packet_in};
 use g704_bits::BitAligner;
 use gw_filter::filter_all;
 use satop_playout::laws::plays_give_octets;
@@ -41,8 +41,10 @@ impl Receiver {
     ghost use Rattle.g704_framing.specs.Replies.{replies_after};
     ghost use Rattle.gw_filter.specs.Align.{align_reply};
     ghost use Rattle.satop_playout.specs.Calls.{Call, Begins, Arrives, Plays};
-    ghost use Rattle.satop_playout.specs.Plays.{arrival_answer, given_octets, is_there, play_octets, reach_after};
-    ghost use Rattle.gw_satop.specs.Line.{calls_for, calls_of_receipt, HasPlayed, played, receipt_by, receipt_of};
+    ghost use Rattle.satop_playout.specs.Plays.{arrival_answer, given_octets, is_there, play_octets};
+    ghost use Rattle.satop_playout.specs.Plays.{reach_after};
+    ghost use Rattle.gw_satop.specs.Line.{calls_for, calls_of_receipt, HasPlayed, played};
+    ghost use Rattle.gw_satop.specs.Line.{receipt_by, receipt_of};
     ghost use Rattle.gw_satop.specs.Pace.{beginning};
     ghost use Rattle.gw_satop.specs.Packets.{packet_in};
 
@@ -66,17 +68,19 @@ impl Receiver {
         ensures receipt { (calls : List Call) → HasPlayed self.old calls
             → result ≡ receipt_of self.old.settings calls pace.old now
             (packet_in self.old.rtp self.old.settings.size datagram.now) }
-        ensures stands { (calls : List Call) → HasPlayed self.old calls → HasPlayed self.new (calls
-            ++ calls_for self.old.settings.size result (packet_in self.old.rtp self.old.settings.size datagram.now)) }
-        ensures given { (calls : List Call) → given_octets self.old.settings (calls
-            ++ calls_for self.old.settings.size result (packet_in self.old.rtp self.old.settings.size datagram.now))
+        ensures stands { (calls : List Call) → HasPlayed self.old calls
+            → HasPlayed self.new (calls ++ calls_for self.old.settings.size result
+            (packet_in self.old.rtp self.old.settings.size datagram.now)) }
+        ensures given { (calls : List Call) → given_octets self.old.settings
+            (calls ++ calls_for self.old.settings.size result
+            (packet_in self.old.rtp self.old.settings.size datagram.now))
             ≡ given_octets self.old.settings calls }
         ensures settings { self.new.settings ≡ self.old.settings }
         ensures rtp { self.new.rtp ≡ self.old.rtp }
     {
         match packet_in(self.rtp, self.settings.size, datagram) {
             Ok(view) => {
-                let octets = octets_of(self.settings.size, &view);
+                let octets = octets_to_play(self.settings.size, &view);
                 self.arrive(pace, now, view.control().sequence, octets)
             }
             Err(fault) => Receipt::Malformed(fault),
@@ -118,7 +122,8 @@ impl Receiver {
         ensures stands { (calls : List Call) → HasPlayed self.old calls
             → HasPlayed self.new (calls ++ Begins first ∷ Arrives sequence octets.now ∷ []) }
         ensures given { (calls : List Call) → given_octets self.old.settings
-            (calls ++ Begins first ∷ Arrives sequence octets.now ∷ []) ≡ given_octets self.old.settings calls }
+            (calls ++ Begins first ∷ Arrives sequence octets.now ∷ [])
+            ≡ given_octets self.old.settings calls }
         ensures settings { self.new.settings ≡ self.old.settings }
         ensures rtp { self.new.rtp ≡ self.old.rtp }
     {

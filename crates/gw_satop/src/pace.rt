@@ -234,7 +234,9 @@ impl Pace {
     /// All that came was read. Returns whether a silence begins.
     pub fn listen(&mut self, now: u64) -> bool
         ensures begins { result ≡ falls_silent self.old now }
-        ensures stands { self.new ≡ record self.old { silent = self.old.silent || falls_silent self.old now } }
+        ensures stands { self.new ≡ record self.old {
+          silent = self.old.silent || falls_silent self.old now;
+        } }
     {
         let begins = !self.silent
             && now.saturating_sub(self.heard) >= SILENCE_US

@@ -1,7 +1,7 @@
 //! The packets of an emulated circuit in datagrams.
 
 ghost use Rattle.std.specs.Prelude.{◌≡◌, ◌≤◌, replicate};
-ghost use Rattle.gw_satop.specs.Packets.{fits, malformed_by, malformed_number, octets_of, packet_in};
+ghost use Rattle.gw_satop.specs.Packets.{fits, malformed_by, malformed_number, octets_to_play, packet_in};
 
 use satop_packet::{MAX_PAYLOAD, SatopFault, SatopView, parse};
 use thiserror::Error;
@@ -76,9 +76,9 @@ fn ones(size: usize) -> &'static [u8]
 }
 
 // The octets that are played for a packet: ones if its own are invalid.
-pub(crate) fn octets_of<'d>(size: usize, view: &SatopView<'d>) -> &'d [u8]
+pub(crate) fn octets_to_play<'d>(size: usize, view: &SatopView<'d>) -> &'d [u8]
     requires { size ≤ 1280 }
-    ensures { result.now ≡ octets_of size view.now }
+    ensures { result.now ≡ octets_to_play size view.now }
 {
     if view.control().lost {
         ones(size)

@@ -11,8 +11,8 @@ use std::net::{Net, SocketAddr, ToSocketAddrs};
 
 /// The far end of an emulated circuit.
 ///
-/// What came from it and what was sent to it is the type's own: a caller that does not know the type has it of
-/// its calls alone.
+/// What came from it and what was sent to it is the type's own: a caller that does not know the type has it
+/// of its calls alone.
 pub trait Peer {
     /// The datagrams that came from the far end, in order.
     ghost received: { Self → List (List ℕ) };
@@ -24,7 +24,8 @@ pub trait Peer {
     /// waits. It never waits for one.
     fn receive(&mut self, room: &mut [u8]) -> Option<usize>
         ensures bound { IfSome result (λ n. n ≤ length room.new) }
-        ensures received { IfSome result (λ n. received self.new ≡ received self.old ++ take n room.new ∷ []) }
+        ensures received { IfSome result (λ n.
+            received self.new ≡ received self.old ++ take n room.new ∷ []) }
         ensures none { IfNone result (received self.new ≡ received self.old) }
         ensures sent { sent self.new ≡ sent self.old };
 

@@ -32,8 +32,8 @@ pub struct Start {
 
 /// The sent half of an emulated circuit.
 ///
-/// Its packets have the octets that came, in order, each once. The octets that came and the flag of each packet
-/// are ghost data.
+/// Its packets have the octets that came, in order, each once. The octets that came and the flag of each
+/// packet are ghost data.
 #[derive(Drop)]
 pub struct Sender {
     start: Start,
@@ -86,7 +86,8 @@ impl Sender {
     pub fn fill(&mut self, octets: &[u8]) -> usize
         ensures bound { result ≤ length octets.now }
         ensures came { self.new.came.octets ≡ self.old.came.octets ++ take result octets.now }
-        ensures progress { length self.old.held.items < self.old.start.size → 0 < length octets.now → 0 < result }
+        ensures progress { length self.old.held.items < self.old.start.size
+            → 0 < length octets.now → 0 < result }
         ensures flags { self.new.log.flags ≡ self.old.log.flags }
         ensures start { self.new.start ≡ self.old.start }
         ensures sent { packets_of self.new.start self.new.log.flags self.new.came.octets

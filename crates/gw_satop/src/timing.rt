@@ -1,7 +1,7 @@
 //! How an emulated circuit is timed.
 
 ghost use Rattle.std.specs.Prelude.{◌≡◌, ◌≤◌, ◌*◌};
-ghost use Rattle.gw_satop.specs.Times.{IsPacketTime};
+ghost use Rattle.gw_satop.specs.Times.{IsPacketMicros};
 
 // The microseconds of a frame.
 const FRAME_US: u64 = 125;
@@ -15,7 +15,7 @@ pub struct Timing {
     pub(crate) jitter: u16,
     // this machine's clock plays, and not the packets
     pub(crate) own_clock: bool,
-    ghost packet_is: { IsPacketTime packet },
+    ghost packet_is: { IsPacketMicros packet },
 }
 
 impl Timing {

@@ -1,7 +1,7 @@
 use Rattle.std.proofs.Common.{[], refl}
 use Rattle.gw_filter.specs.Align.{align_reply}
 use Rattle.satop_playout.specs.Plays.{given_octets, play_octets}
-use Rattle.gw_satop.proofs.Replies.{replies-append}
+use Rattle.g704_framing.proofs.Replies.{replies-append}
 use Rattle.gw_satop.proofs.line.Receiver.play.Goals as goal
 
 pub returns-clause-played : goal.returns-clause-played
