@@ -7,6 +7,8 @@ _e1gw_values() {
     --codec) echo 'g711 g726-16 g726-24 g726-32 g726-40' ;;
     --ptime) echo '10 20 30' ;;
     --senders) echo 'any host peer' ;;
+    --fill) echo 'again ones' ;;
+    --clock) echo 'packets own' ;;
   esac
 }
 
@@ -23,12 +25,13 @@ _e1gw_options() {
     trunk)
       echo '--config --load --save --control --record --record-over --repeat --seizure-wait --senders' \
         '--totals --help' ;;
+    satop) echo '--size --jitter --rtp --fill --clock --help' ;;
     '') echo '--help --version' ;;
   esac
 }
 
 _e1gw() {
-  local subcommands='encode decode align crc4 replay check serve trunk help'
+  local subcommands='encode decode align crc4 replay check serve trunk satop help'
   local cur=${COMP_WORDS[COMP_CWORD]} prev=${COMP_WORDS[COMP_CWORD - 1]} subcommand=''
   [ "$COMP_CWORD" -lt 2 ] || subcommand=${COMP_WORDS[1]}
   # readline makes a word of the sign in --law=mu
@@ -39,10 +42,10 @@ _e1gw() {
   fi
   COMPREPLY=()
   case $prev in
-    --law | --codec | --ptime | --senders)
+    --law | --codec | --ptime | --senders | --fill | --clock)
       mapfile -t COMPREPLY < <(compgen -W "$(_e1gw_values "$prev")" -- "$cur")
       return ;;
-    --payload | --ssrc | --sequence | --timestamp | --repeat | --seizure-wait)
+    --payload | --ssrc | --sequence | --timestamp | --repeat | --seizure-wait | --size | --jitter | --rtp)
       return ;;
     --config | --load | --save | --control | --record | --tell)
       compopt -o filenames 2> /dev/null

@@ -103,12 +103,18 @@ pub record IsTrunk (command : Option (List ℕ × List Row)) : Type 0 where
   pub options : List Row
   pub named : command ≡ Some (codes "trunk", options)
 
+-- a subcommand names a trunk over SAToP
+pub record IsSatop (command : Option (List ℕ × List Row)) : Type 0 where
+  pub options : List Row
+  pub named : command ≡ Some (codes "satop", options)
+
 -- what a subcommand and its options ask for
 abbrev pub IsRequest : Option (List ℕ × List Row) → Request → Type 0
 IsRequest command (requests.Job job) = IsJob command job
 IsRequest command (requests.Session session) = IsSession command session
 IsRequest command (requests.Filter filter) = IsFilter command filter
 IsRequest command requests.Trunk = IsTrunk command
+IsRequest command requests.Satop = IsSatop command
 
 -- the first text of an option of a subcommand
 abbrev pub text_in : List ℕ → Option (List ℕ × List Row) → Option (List ℕ)

@@ -6,7 +6,7 @@ ghost use Rattle.clap.specs.Words.{found_of, rows_of, subcommand_rows_of};
 ghost use Rattle.gw_speech.specs.declared.spec.StreamSpec.{StreamSpec};
 ghost use Rattle.gw_command.specs.Command.{law_name, codec_name, job_name, job_spec, usual_payload};
 ghost use Rattle.gw_command.specs.Command.{IsStream, IsJob, IsSession, session_name};
-ghost use Rattle.gw_command.specs.Command.{IsFilter, filter_name, IsTrunk, IsRequest, text_in};
+ghost use Rattle.gw_command.specs.Command.{IsFilter, filter_name, IsTrunk, IsSatop, IsRequest, text_in};
 ghost use Rattle.gw_command.specs.Command.{SaysNumberIn, IsWaitOf, SaysWait};
 ghost use Rattle.gw_command.specs.declared.command.Filter.{Filter};
 ghost use Rattle.gw_command.specs.declared.command.Job.{Job};
@@ -34,6 +34,8 @@ pub enum Request {
     Filter(Filter),
     /// A trunk in service.
     Trunk,
+    /// A trunk over SAToP.
+    Satop,
 }
 
 /// A job on a stream of speech.
@@ -74,6 +76,7 @@ pub fn arguments<R: Env + AllocGlobal>(rt: &R) -> io::Result<Vec<String>> {
 /// Whether the totals are asked for.
 pub fn wants_totals(matches: &ArgMatches<'_>) -> bool {
     match matches.subcommand() {
+        Some(("satop", _)) => false,
         Some((_, options)) => options.get_flag("totals"),
         None => false,
     }
@@ -214,6 +217,18 @@ fn trunk_of(matches: &ArgMatches<'_>) -> Option<()>
     }
 }
 
+// Whether the matches ask for a trunk over SAToP.
+fn satop_of(matches: &ArgMatches<'_>) -> Option<()>
+    ensures found { IfSome result (λ _. IsSatop (subcommand_rows_of matches.now)) }
+    ensures none { IfNone result (¬ IsSatop (subcommand_rows_of matches.now)) }
+{
+    let (name, _) = matches.subcommand()?;
+    match name {
+        "satop" => Some(()),
+        _ => None,
+    }
+}
+
 /// What the matches ask for.
 pub fn request_of(matches: &ArgMatches<'_>) -> Option<Request>
     ensures found { IfSome result (IsRequest (subcommand_rows_of matches.now)) }
@@ -228,6 +243,9 @@ pub fn request_of(matches: &ArgMatches<'_>) -> Option<Request>
     }
     if trunk_of(matches).is_some() {
         return Some(Request::Trunk);
+    }
+    if satop_of(matches).is_some() {
+        return Some(Request::Satop);
     }
     let job = job_of(matches)?;
     Some(Request::Job(job))
@@ -356,4 +374,62 @@ pub fn records_over(matches: &ArgMatches<'_>) -> bool {
         Some(("serve" | "trunk", options)) => options.get_flag("record-over"),
         _ => false,
     }
+}
+
+/// The host and port of the socket that the matches name.
+pub fn satop_local_of<'m>(matches: &'m ArgMatches<'_>) -> Option<&'m str>
+    ensures { option_map (λ text. text.now) result ≡ text_in (codes "local") (subcommand_rows_of matches.now) }
+{
+    text_of(matches, "local")
+}
+
+/// The host and port of the far end that the matches name.
+pub fn satop_peer_of<'m>(matches: &'m ArgMatches<'_>) -> Option<&'m str>
+    ensures { option_map (λ text. text.now) result ≡ text_in (codes "peer") (subcommand_rows_of matches.now) }
+{
+    text_of(matches, "peer")
+}
+
+/// What replaces lost packets, as the matches name it.
+pub fn fill_of<'m>(matches: &'m ArgMatches<'_>) -> Option<&'m str>
+    ensures { option_map (λ text. text.now) result ≡ text_in (codes "fill") (subcommand_rows_of matches.now) }
+{
+    text_of(matches, "fill")
+}
+
+/// What times the packets, as the matches name it.
+pub fn clock_of<'m>(matches: &'m ArgMatches<'_>) -> Option<&'m str>
+    ensures { option_map (λ text. text.now) result ≡ text_in (codes "clock") (subcommand_rows_of matches.now) }
+{
+    text_of(matches, "clock")
+}
+
+/// The octets of a packet that the matches name.
+pub fn size_of(matches: &ArgMatches<'_>) -> Option<u16>
+    ensures found { IfSome result (SaysNumberIn 16 (codes "size") (subcommand_rows_of matches.now)) }
+    ensures none { IfNone result ((n : ℕ)
+        → ¬ SaysNumberIn 16 (codes "size") (subcommand_rows_of matches.now) n) }
+{
+    let (_, options) = matches.subcommand()?;
+    options.get_one("size")
+}
+
+/// How many later packets are waited for, by the matches.
+pub fn jitter_of(matches: &ArgMatches<'_>) -> Option<u16>
+    ensures found { IfSome result (SaysNumberIn 16 (codes "jitter") (subcommand_rows_of matches.now)) }
+    ensures none { IfNone result ((n : ℕ)
+        → ¬ SaysNumberIn 16 (codes "jitter") (subcommand_rows_of matches.now) n) }
+{
+    let (_, options) = matches.subcommand()?;
+    options.get_one("jitter")
+}
+
+/// The payload type of the RTP header that the matches ask for, if they do.
+pub fn rtp_of(matches: &ArgMatches<'_>) -> Option<u8>
+    ensures found { IfSome result (SaysNumberIn 8 (codes "rtp") (subcommand_rows_of matches.now)) }
+    ensures none { IfNone result ((n : ℕ)
+        → ¬ SaysNumberIn 8 (codes "rtp") (subcommand_rows_of matches.now) n) }
+{
+    let (_, options) = matches.subcommand()?;
+    options.get_one("rtp")
 }

@@ -6,4 +6,4 @@ mod through;
 
 pub use filters::{Checked, align_stream, crc4_check_stream, crc4_stream};
 pub use g704_crc4::Tally;
-pub use through::{OctetFilter, octets_through};
+pub use through::{OctetFilter, filter_all, octets_through};

@@ -26,8 +26,8 @@ pub trait OctetFilter {
             → has_taken self.new (history ++ octet ∷ []) };
 }
 
-// Replaces the next octets of the stream by those that the filter returns.
-fn filter_all<F: OctetFilter>(filter: &mut F, octets: &mut [u8])
+/// Replaces the next octets of the stream by those that the filter returns.
+pub fn filter_all<F: OctetFilter>(filter: &mut F, octets: &mut [u8])
     ensures len { length octets.new ≡ length octets.old }
     ensures replies { (history : List ℕ) → F.has_taken filter.old history
         → octets.new ≡ replies_after F.reply_after history octets.old }

@@ -75,6 +75,15 @@ were errored, and how often CRC multiframe alignment was found and lost.
 
 Example: e1gw crc4 < trunk.raw > crc4.raw";
 
+const SATOP_HELP: &str = "\
+From the socket at LOCAL come SAToP packets (RFC 4553) of the far end at PEER,
+each a host and a port. To standard output go the octets of the time slots,
+ordered, with others in place of lost packets. From standard input come octets,
+as many as went; packets of them go to the far end. Counts go to standard error,
+at most once a second.
+
+Example: e1gw satop 0.0.0.0:5000 192.0.2.2:5000 < trunk.in > trunk.out";
+
 const CRC4_CHECK_TEXT: &str = "Pass octets as they come, and count errored submultiframes";
 
 const CODEC_TEXT: &str =
@@ -105,6 +114,18 @@ const CONTROL_TEXT: &str =
 const TELL_TEXT: &str =
     "Unix socket at which clients are told how the trunk stands and\nwhat changes";
 
+const SIZE_TEXT: &str = "Octets of the trunk in a packet, 32 to 1280, a multiple of 32";
+
+const JITTER_TEXT: &str = "Packets that are waited for after one that is due, 0 to 500";
+
+const RTP_TEXT: &str = "Payload type of an RTP header in each packet, 0 to 127; none\nwithout it";
+
+const FILL_TEXT: &str =
+    "What replaces lost packets: again, the octets one multiframe\nbefore; or ones";
+
+const CLOCK_TEXT: &str =
+    "What times the packets: packets, those that come; or own, this\nmachine's clock";
+
 // The options.
 #[derive(Clone, Copy)]
 enum Opt {
@@ -127,6 +148,13 @@ enum Opt {
     Control,
     Tell,
     Crc4Check,
+    Local,
+    Peer,
+    Size,
+    Jitter,
+    Rtp,
+    Fill,
+    Clock,
 }
 
 // A subcommand, and the options that it takes, in the order of its help.
@@ -189,7 +217,18 @@ const OF_TRUNK: &[Opt] = &[
     Opt::Control,
 ];
 
-const SUBCOMMANDS: [Subcommand; 8] = [
+// The options of an emulated circuit.
+const OF_SATOP: &[Opt] = &[
+    Opt::Local,
+    Opt::Peer,
+    Opt::Size,
+    Opt::Jitter,
+    Opt::Rtp,
+    Opt::Fill,
+    Opt::Clock,
+];
+
+const SUBCOMMANDS: [Subcommand; 9] = [
     Subcommand {
         name: "encode",
         about: "Octets of speech to records of RTP datagrams",
@@ -237,6 +276,12 @@ const SUBCOMMANDS: [Subcommand; 8] = [
         about: "A trunk as it is sent to the same with CRC-4 multiframes",
         after_help: CRC4_HELP,
         options: &[Opt::Crc4Check, Opt::Totals],
+    },
+    Subcommand {
+        name: "satop",
+        about: "A trunk as SAToP packets over UDP, its octets on the other side",
+        after_help: SATOP_HELP,
+        options: OF_SATOP,
     },
 ];
 
@@ -381,6 +426,53 @@ fn tell_option<'a>(alloc: Global) -> Arg<'a> {
     option(alloc, "tell", TELL_TEXT).value_name("SOCKET")
 }
 
+// A place that has to be named, without a word before it.
+fn place<'a>(alloc: Global, name: &'a str, value: &'a str, help: &'a str) -> Arg<'a> {
+    Arg::new(alloc, name)
+        .value_name(value)
+        .help(help)
+        .required(true)
+}
+
+// The octets of a packet.
+fn size_option<'a>(alloc: Global) -> Arg<'a> {
+    option(alloc, "size", SIZE_TEXT)
+        .value_name("OCTETS")
+        .value_parser(value_parser!(u16).range(32..=1280))
+        .default_value("256")
+}
+
+// The depth of the jitter buffer.
+fn jitter_option<'a>(alloc: Global) -> Arg<'a> {
+    option(alloc, "jitter", JITTER_TEXT)
+        .value_name("PACKETS")
+        .value_parser(value_parser!(u16).range(0..=500))
+        .default_value("4")
+}
+
+// The payload type of the RTP header.
+fn rtp_option<'a>(alloc: Global) -> Arg<'a> {
+    option(alloc, "rtp", RTP_TEXT)
+        .value_name("TYPE")
+        .value_parser(value_parser!(u8).range(0..=127))
+}
+
+// What replaces lost packets.
+fn fill_option<'a>(alloc: Global) -> Arg<'a> {
+    option(alloc, "fill", FILL_TEXT)
+        .value_parser(["again", "ones"].as_slice())
+        .default_value("again")
+        .hide_possible_values(true)
+}
+
+// What times the circuit.
+fn clock_option<'a>(alloc: Global) -> Arg<'a> {
+    option(alloc, "clock", CLOCK_TEXT)
+        .value_parser(["packets", "own"].as_slice())
+        .default_value("packets")
+        .hide_possible_values(true)
+}
+
 // The option that is meant.
 fn declared<'a>(alloc: Global, option: Opt) -> Arg<'a> {
     match option {
@@ -403,6 +495,23 @@ fn declared<'a>(alloc: Global, option: Opt) -> Arg<'a> {
         Opt::Control => control_option(alloc),
         Opt::Tell => tell_option(alloc),
         Opt::Crc4Check => flag(alloc, "check", CRC4_CHECK_TEXT),
+        Opt::Local => place(
+            alloc,
+            "local",
+            "LOCAL:PORT",
+            "Address and port of the socket",
+        ),
+        Opt::Peer => place(
+            alloc,
+            "peer",
+            "PEER:PORT",
+            "Address and port of the far end",
+        ),
+        Opt::Size => size_option(alloc),
+        Opt::Jitter => jitter_option(alloc),
+        Opt::Rtp => rtp_option(alloc),
+        Opt::Fill => fill_option(alloc),
+        Opt::Clock => clock_option(alloc),
     }
 }
 

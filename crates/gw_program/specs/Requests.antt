@@ -17,6 +17,7 @@ use Rattle.gw_program.specs.declared.trouble.Trouble.TheVariants as troubles
 use Rattle.gw_program.specs.Filters.{DoesFilter, DoesFilterUntil, HasChecked, HasCheckedUntil}
 use Rattle.gw_program.specs.Jobs.{Does, DoesUntil}
 use Rattle.gw_program.specs.Performing.{Ended, EndedSaved, NotBegun, HasConfig, by_session}
+use Rattle.gw_program.specs.Satop.{DoesSatop}
 use Rattle.gw_program.specs.Sessions.{HasGateway, Runs, Serves, Checks}
 use Rattle.gw_program.specs.State.{BeginsWaiting, IsSaved}
 use Rattle.gw_trunk.specs.Serving.{Traffic}
@@ -31,15 +32,17 @@ Command = Option (List ℕ × List Row)
 abbrev pub AsksCheck : Command → Type 0
 AsksCheck command = text_in (codes "check") command ≡ Some (codes "true")
 
--- what a request does, of what jobs, filters, the check of CRC-4 multiframes, sessions and the trunk do
-abbrev pub by_request : (Job → Type 0) → (Filter → Type 0) → Type 0 → (Session → Type 0) → Type 0
+-- what a request does, of what jobs, filters, the check of CRC-4 multiframes, sessions, the trunk and the circuit
+-- do
+abbrev pub by_request : (Job → Type 0) → (Filter → Type 0) → Type 0 → (Session → Type 0) → Type 0 → Type 0
     → Command → Request → Type 0
-by_request jobs filters checks sessions trunk command (requests.Job job) = jobs job
-by_request jobs filters checks sessions trunk command (requests.Filter Align) = filters Align
-by_request jobs filters checks sessions trunk command (requests.Filter Crc4) =
+by_request jobs filters checks sessions trunk satop command (requests.Job job) = jobs job
+by_request jobs filters checks sessions trunk satop command (requests.Filter Align) = filters Align
+by_request jobs filters checks sessions trunk satop command (requests.Filter Crc4) =
     (AsksCheck command × checks) ⊎ ((¬ AsksCheck command) × filters Crc4)
-by_request jobs filters checks sessions trunk command (requests.Session session) = sessions session
-by_request jobs filters checks sessions trunk command requests.Trunk = trunk
+by_request jobs filters checks sessions trunk satop command (requests.Session session) = sessions session
+by_request jobs filters checks sessions trunk satop command requests.Trunk = trunk
+by_request jobs filters checks sessions trunk satop command requests.Satop = satop
 
 -- what the command asks for was done
 pub record HasRequest (command : Command) (does : Command → Request → Type 0) : Type 0 where
@@ -133,5 +136,5 @@ abbrev pub Performs : Command → Result Totals Trouble → Type 0
 Performs command told = HasRequest command (by_request (λ job. DoesJob job told)
     (λ filter. RunsFilter filter told) (ChecksCrc4 told)
     (λ session. DoesSession (load_in command) (save_in command) (AsksWait command) session told)
-    (ServesTrunk (load_in command) (save_in command) (AsksWait command) told))
+    (ServesTrunk (load_in command) (save_in command) (AsksWait command) told) (DoesSatop command told))
     ⊎ NoRequest command told

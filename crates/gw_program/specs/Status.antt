@@ -37,6 +37,8 @@ load_status (loads.Refused kind place) = 2
 abbrev pub trouble_status : Trouble → ℕ
 trouble_status (troubles.Session fault) = fault_status fault
 trouble_status (troubles.Socket circuit) = 1
+trouble_status troubles.FarEnd = 1
+trouble_status troubles.PacketSize = 2
 trouble_status troubles.Trunk = 1
 trouble_status troubles.NotText = 2
 trouble_status troubles.Nothing = 2

@@ -1,5 +1,5 @@
-//! What the program does: jobs on streams, filters of a trunk, sessions of a gateway by a configuration, and
-//! what it says of them.
+//! What the program does: jobs on streams, filters of a trunk, sessions of a gateway by a configuration,
+//! trunks, and what it says of them.
 #![tactic(auto)]
 
 mod filters;
@@ -9,6 +9,7 @@ mod performing;
 mod recording;
 mod report;
 mod requests;
+mod satop;
 mod sealed;
 mod sessions;
 mod setup;
@@ -23,6 +24,7 @@ pub use performing::{System, perform_job, perform_session};
 pub use recording::{Recording, Tape, begin, tell_end};
 pub use report::{PassedOver, passed_over, print_discarded, print_tally, print_totals};
 pub use requests::{Commands, perform};
+pub use satop::perform_satop;
 pub use sessions::{check, replay, replay_watched, serve_through};
 pub use setup::read_config;
 pub use standard::{Held, hold};

@@ -34,6 +34,9 @@ pub trait Commands {
     /// Holds of what is told where a trunk was served.
     ghost does_trunk: { Self → Result Totals Trouble → Type 0 };
 
+    /// Holds of what is told where a trunk was carried over SAToP.
+    ghost does_satop: { Self → Result Totals Trouble → Type 0 };
+
     /// Does a job on a stream of speech.
     fn job(&self, job: &Job) -> Result<Totals, Trouble>
         ensures { does_job self.now job.now result };
@@ -53,6 +56,10 @@ pub trait Commands {
     /// Serves a trunk.
     fn trunk(&self) -> Result<Totals, Trouble>
         ensures { does_trunk self.now result };
+
+    /// Carries a trunk over SAToP.
+    fn satop(&self) -> Result<Totals, Trouble>
+        ensures { does_satop self.now result };
 }
 
 /// Does what the matches of the command line ask for.
@@ -64,7 +71,7 @@ pub fn perform<C: Commands>(commands: &C, matches: &ArgMatches<'_>) -> Result<To
     ensures { HasRequest (subcommand_rows_of matches.now) (by_request
         (λ job. C.does_job commands.now job result) (λ filter. C.does_filter commands.now filter result)
         (C.does_check commands.now result) (λ session. C.does_session commands.now session result)
-        (C.does_trunk commands.now result))
+        (C.does_trunk commands.now result) (C.does_satop commands.now result))
         ⊎ NoRequest (subcommand_rows_of matches.now) result }
 {
     let Some(request) = request_of(matches) else {
@@ -76,5 +83,6 @@ pub fn perform<C: Commands>(commands: &C, matches: &ArgMatches<'_>) -> Result<To
         Request::Filter(filter) => commands.filter(filter),
         Request::Session(session) => commands.session(session),
         Request::Trunk => commands.trunk(),
+        Request::Satop => commands.satop(),
     }
 }

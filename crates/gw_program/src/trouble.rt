@@ -30,6 +30,12 @@ pub enum Trouble {
     /// The socket of the circuit of this number can't be opened.
     #[error("socket {0}")]
     Socket(u8),
+    /// The socket of an emulated circuit can't be opened.
+    #[error("cannot open the socket of the circuit")]
+    FarEnd,
+    /// The octets of a packet are no whole frames.
+    #[error("error: --size is not a multiple of 32")]
+    PacketSize,
     /// The streams of a trunk can't be waited for.
     #[error("cannot wait for the trunk")]
     Trunk,
@@ -92,8 +98,13 @@ impl Trouble {
             | Trouble::Config(ConfigFault::OutOfMemory)
             | Trouble::State(LoadFault::OutOfMemory)
             | Trouble::OutOfMemory => NO_MEMORY,
-            Trouble::Session(_) | Trouble::Socket(_) | Trouble::Trunk | Trouble::NotSaved => FAULT,
+            Trouble::Session(_)
+            | Trouble::Socket(_)
+            | Trouble::FarEnd
+            | Trouble::Trunk
+            | Trouble::NotSaved => FAULT,
             Trouble::NotText
+            | Trouble::PacketSize
             | Trouble::Nothing
             | Trouble::File
             | Trouble::Recording

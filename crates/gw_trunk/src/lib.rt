@@ -19,4 +19,5 @@ pub use in_time::InTime;
 pub use serving::serve_trunk;
 pub use sink::TrunkSink;
 pub use source::TrunkSource;
+pub use waiting::Waiting;
 pub use with_clients::{WithClients, open_clients};

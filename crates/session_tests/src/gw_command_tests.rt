@@ -120,6 +120,7 @@ fn subcommands_are_named(rt: HostRuntime) -> Result<(), Fail> {
         ("e1gw crc4 --totals", Request::Filter(Filter::Crc4)),
         ("e1gw crc4 --check", Request::Filter(Filter::Crc4)),
         ("e1gw trunk --config serve", Request::Trunk),
+        ("e1gw satop 192.0.2.1:5000 trunk:5000", Request::Satop),
         (
             "e1gw check --config align",
             Request::Session(Session::Check),

@@ -14,6 +14,8 @@ fn prints_troubles(rt: HostRuntime) -> Result<(), Fail> {
         (Trouble::Session(RunFault::Write), "fault 6 Write"),
         (Trouble::Session(RunFault::OutOfMemory), "out of memory"),
         (Trouble::Socket(3), "socket 3"),
+        (Trouble::FarEnd, "cannot open the socket of the circuit"),
+        (Trouble::PacketSize, "error: --size is not a multiple of 32"),
         (Trouble::Trunk, "cannot wait for the trunk"),
         (Trouble::Tell, "cannot open the socket of --tell"),
         (Trouble::File, "cannot read the configuration"),

@@ -1,0 +1,24 @@
+use Rattle.std.specs.Prelude.{codes}
+use Rattle.std.proofs.Common.{refl, ℕ, Option, Some, None, IfSome, IfNone, MatchOption}
+use Rattle.clap.specs.Words.{subcommand_rows_of}
+use Rattle.gw_command.specs.Command.{SaysNumberIn}
+use Rattle.gateway_main.proofs.open_circuit.Goals as goal
+
+-- What holds of a value, and of none.
+matched : {A : Type 0} (N : Type 0) (F : A → Type 0) (o : Option A) → IfSome o F → IfNone o N → MatchOption o N F
+matched N F (Some x) found none = found
+matched N F None found none = none
+
+pub returns-clause-ok : goal.returns-clause-ok
+returns-clause-ok c =
+    rw (c.new-circuit.ensures.receiver, c.new-circuit.ensures.sender) (record {
+      size = rw c.in_ok-receiver.ensures.settings c.in_ok-settings.ensures.size;
+      sizes = rw (c.new-sender.ensures.start, c.start_at_random.ensures.size, c.in_ok-receiver.ensures.settings) refl;
+      rtp = rw (c.new-sender.ensures.start, c.start_at_random.ensures.rtp)
+          (matched ((n : ℕ) → ¬ SaysNumberIn 8 (codes "rtp") (subcommand_rows_of c.args.matches.now) n)
+          (SaysNumberIn 8 (codes "rtp") (subcommand_rows_of c.args.matches.now)) c.rtp_of-rtp.result c.rtp_of-rtp.ensures.found c.rtp_of-rtp.ensures.none);
+      expects = rw (c.in_ok-receiver.ensures.rtp, c.new-sender.ensures.start, c.start_at_random.ensures.rtp)
+          c.is_some.ensures;
+      ones = rw c.in_ok-receiver.ensures.settings c.in_ok-settings.ensures.ones;
+      again = rw c.in_ok-receiver.ensures.settings c.in_ok-settings.ensures.again;
+    })

@@ -1,0 +1,44 @@
+use Rattle.std.proofs.Common.{◌≡◌, ◌≤◌, ◌+◌, ◌-◌, ◌++◌, length, take, drop, ◌∙◌, sym, ap, arith, append_assoc, refl, ℕ, List}
+use Rattle.std.proofs.Math.Seq.{take-add}
+use Rattle.std.proofs.lemmas.Bool.{leb-false}
+use Rattle.std.proofs.lemmas.List.{length-drop, take_all}
+use Rattle.gw_satop.proofs.circuit.send_all.Goals as goal
+
+-- The octets from a place on.
+from-place : (octets : List ℕ) (at : ℕ) → take (length octets - at) (drop at octets) ≡ drop at octets
+from-place octets at =
+    take_all (length octets - at) (drop at octets) (rw (length-drop at octets) (omega arith))
+
+-- Octets came, then some of those behind a place.
+more-came : (before came there octets : List ℕ) (at n : ℕ) → there ≡ before ++ take at octets
+    → came ≡ there ++ take n (take (length octets - at) (drop at octets)) → came ≡ before ++ take (at + n) octets
+more-came before came there octets at n so-far here =
+    here ∙ rw (so-far, from-place octets at, take-add at n octets)
+    (append_assoc before (take at octets) (take n (drop at octets)))
+
+-- A place stays within the octets.
+stays-within : (octets : List ℕ) (at n : ℕ) → at ≤ length octets
+    → n ≤ length (take (length octets - at) (drop at octets)) → at + n ≤ length octets
+stays-within octets at n within bound =
+    omega (arith, ap length (from-place octets at), length-drop at octets)
+
+pub loop-at-preserved-then-packet : goal.loop-at-preserved-then-packet
+loop-at-preserved-then-packet g c = record {
+  rest = rw (c.if-packet.ensures.empty refl) (omega (arith, c.packet.new.self.size_is.0));
+  sent = rw (c.send.ensures.sent, c.loop-at.invariant.sent, ← c.fill-at.ensures.sent, c.as_slice.ensures.value)
+      (sym (c.if-packet.ensures.sent refl));
+  came = c.packet.ensures.came ∙ more-came _ _ _ _ _ _ c.loop-at.invariant.came c.fill-at.ensures.came;
+  within = stays-within _ _ _ c.loop-at.invariant.within c.fill-at.ensures.bound;
+  received = c.send.ensures.received ∙ c.loop-at.invariant.received;
+  start = c.packet.ensures.start ∙ c.fill-at.ensures.start ∙ c.loop-at.invariant.start;
+}
+
+pub loop-at-preserved : goal.loop-at-preserved
+loop-at-preserved g c = record {
+  rest = rw (c.if-packet.ensures.none refl) (leb-false _ _ (sym (c.if-packet.ensures.whole)));
+  sent = rw (c.if-packet.ensures.none refl) (c.loop-at.invariant.sent ∙ sym c.fill-at.ensures.sent);
+  came = c.packet.ensures.came ∙ more-came _ _ _ _ _ _ c.loop-at.invariant.came c.fill-at.ensures.came;
+  within = stays-within _ _ _ c.loop-at.invariant.within c.fill-at.ensures.bound;
+  received = c.loop-at.invariant.received;
+  start = c.packet.ensures.start ∙ c.fill-at.ensures.start ∙ c.loop-at.invariant.start;
+}

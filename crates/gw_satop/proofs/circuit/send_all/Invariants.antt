@@ -1,0 +1,17 @@
+use Rattle.std.proofs.Common.{length, take, ◌-◌, ◌≡◌, ◌++◌, ◌<◌, ◌≤◌}
+use Rattle.gw_satop.specs.Sending.{packets_of}
+use Rattle.gw_satop.proofs.circuit.send_all.Given as goal
+
+-- The octets before this place were taken, and the packets of all that came were sent.
+abbrev pub invariant-loop-at : goal.invariant-loop-at
+invariant-loop-at g l = record {
+  rest : length l.sender.held.items < l.sender.start.size;
+  sent : g.P.Peer.sent l.peer ≡ packets_of l.sender.start l.sender.log.flags l.sender.came.octets;
+  came : l.sender.came.octets ≡ l.initial.sender.came.octets ++ take l.at l.octets;
+  within : l.at ≤ length l.octets;
+  received : g.P.Peer.received l.peer ≡ g.P.Peer.received l.initial.peer;
+  start : l.sender.start ≡ l.initial.sender.start;
+}
+
+abbrev pub decreases-loop-at : goal.decreases-loop-at
+decreases-loop-at g l = length l.octets - l.at

@@ -1,0 +1,114 @@
+-- When packets are played, and when a stream begins (module `pace`). Times are in microseconds.
+use Rattle.std.specs.Prelude.{ℕ, ◌+◌, ◌-◌, ◌*◌, ◌/◌, ◌%◌, ◌^◌, ◌==◌, ◌&&◌, ◌||◌, not}
+use Rattle.std.specs.Prelude.{nat_le, nat_lt, min, max, Bool, false, if◌then◌else◌, Option, Some, None}
+use Rattle.satop_playout.specs.declared.ArrivalFault.{ArrivalFault}
+use Rattle.satop_playout.specs.declared.ArrivalFault.TheVariants.{OtherSize, NotBegun, Late, TooFar, Repeat}
+use Rattle.gw_satop.specs.declared.pace.Pace.{Pace}
+use Rattle.gw_satop.specs.declared.pace.Run.{Run}
+use Rattle.gw_satop.specs.declared.timing.Timing.{Timing}
+
+-- the number of the packet that is played next if a stream begins with this one: by this machine's clock the
+-- one so many packets before it, so that the jitter buffer fills
+abbrev pub first_number : Timing → ℕ → ℕ
+first_number t sequence =
+    if t.own_clock then (sequence + (2 ^ 16 - t.jitter % 2 ^ 16)) % 2 ^ 16 else sequence
+
+-- a run of one packet
+abbrev pub new_run : ℕ → ℕ → Run
+new_run sequence now = record { since = now; last = sequence; packets = 1 }
+
+-- the run of packets outside the window with one more packet: consecutive numbers go on
+abbrev pub run_with : Option Run → ℕ → ℕ → Run
+run_with None sequence now = new_run sequence now
+run_with (Some r) sequence now = if (r.last + 1) % 2 ^ 16 == sequence
+    then record { since = r.since; last = sequence; packets = min (r.packets + 1) (2 ^ 32 - 1) }
+    else new_run sequence now
+
+-- at least 8 packets came over at least 50 ms
+abbrev pub is_long : Run → ℕ → Bool
+is_long r now = nat_le 8 r.packets && nat_le 50000 (now - r.since)
+
+-- they came at no more than one and a half times the rate of the trunk; faster ones were held back
+abbrev pub is_in_step : ℕ → Run → ℕ → Bool
+is_in_step packet r now = nat_le (2 * (r.packets * packet) / 3) (now - r.since)
+
+-- a run is a stream that began anew
+abbrev pub is_stream : ℕ → Run → ℕ → Bool
+is_stream packet r now = is_long r now && is_in_step packet r now
+
+-- the number at which a stream begins, if one does, with a packet outside the window
+abbrev pub anew : Pace → ℕ → ℕ → Option ℕ
+anew p sequence now = if is_stream p.timing.packet (run_with p.run sequence now) now
+    then Some (first_number p.timing sequence) else None
+
+-- the number at which a stream begins, if one does, with a packet that is refused: at first with any packet,
+-- later with one outside the window
+abbrev pub beginning : Pace → ArrivalFault → ℕ → ℕ → Option ℕ
+beginning p NotBegun sequence now = Some (first_number p.timing sequence)
+beginning p Late sequence now = anew p sequence now
+beginning p TooFar sequence now = anew p sequence now
+beginning p OtherSize sequence now = None
+beginning p Repeat sequence now = None
+
+-- the run that is left of one with a packet outside the window: one that is too fast begins again
+abbrev pub run_left : ℕ → Run → ℕ → Option Run
+run_left packet r now = if is_stream packet r now then None
+    else if is_long r now then Some (new_run r.last now) else Some r
+
+-- the pace after a packet is refused
+abbrev pub after_refusal : Pace → ArrivalFault → ℕ → ℕ → Pace
+after_refusal p NotBegun sequence now = p
+after_refusal p Late sequence now =
+    record p { run = run_left p.timing.packet (run_with p.run sequence now) now }
+after_refusal p TooFar sequence now =
+    record p { run = run_left p.timing.packet (run_with p.run sequence now) now }
+after_refusal p OtherSize sequence now = p
+after_refusal p Repeat sequence now = p
+
+-- the pace after a packet of the stream has come: there is no silence. By packets, this machine's clock
+-- counts from it
+abbrev pub after_packet : Pace → ℕ → Pace
+after_packet p now = record p {
+  heard = now;
+  silent = false;
+  run = None;
+  reached = if p.timing.own_clock then p.reached else now;
+}
+
+-- this machine's clock plays: it is to, or no packet comes
+abbrev pub by_clock : Pace → Bool
+by_clock p = p.silent || p.timing.own_clock
+
+-- A packet is due. By packets, once `jitter` later ones have come, and within the rate. By this machine's
+-- clock, each time of a packet; before all that came was read, only those behind which `jitter` others wait.
+abbrev pub is_due : Pace → ℕ → ℕ → Bool → Bool
+is_due p now reach read_all = if by_clock p
+    then nat_le p.timing.packet (now - p.reached) && (read_all || nat_lt p.timing.jitter reach)
+    else nat_lt p.timing.jitter reach && nat_le (1000 * p.timing.packet) p.credit
+
+-- the pace after a play
+abbrev pub after_play : Pace → Pace
+after_play p = if by_clock p then record p { reached = min (p.reached + p.timing.packet) (2 ^ 64 - 1) }
+    else record p { credit = p.credit - 1000 * p.timing.packet }
+
+-- The pace at a time. In thousandths of a microsecond, the credit grows by a thousandth more than time
+-- passes, up to a second: so a thousandth above the rate of the trunk is played at most, except after a stall
+-- of a second at most. If this machine's process itself came so late, what came may still be on its way.
+abbrev pub at_time : Pace → ℕ → Pace
+at_time p now = record p {
+  credit = min (p.credit + 1001 * min (now - p.counted) 1000000) 1000000000;
+  counted = now;
+  reached = max p.reached (now - 1000000);
+  patient = if nat_lt 20000 (now - p.planned) then min (now + 20000) (2 ^ 64 - 1) else p.patient;
+}
+
+-- no packet of the stream has come for 100 ms, and all that may be on its way had time to come
+abbrev pub falls_silent : Pace → ℕ → Bool
+falls_silent p now = not p.silent && (nat_le 100000 (now - p.heard) && nat_le p.patient now)
+
+-- when something is due if no packet comes
+abbrev pub next_time : Pace → ℕ → ℕ → ℕ
+next_time p now reach = if by_clock p then min (p.reached + p.timing.packet) (2 ^ 64 - 1)
+    else if nat_lt p.timing.jitter reach
+    then min (now + ((1000 * p.timing.packet - p.credit) / 1001 + 1)) (2 ^ 64 - 1)
+    else max (min (p.heard + 100000) (2 ^ 64 - 1)) p.patient

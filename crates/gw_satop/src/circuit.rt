@@ -1,0 +1,274 @@
+//! An emulated circuit between a trunk and its far end.
+
+ghost use Rattle.std.specs.Prelude.{◌≡◌, ◌++◌, ◌<◌, ◌≤◌, [], ℕ, List, length, drop, true, IfOk};
+ghost use Rattle.gw_satop.specs.Session.{HasSettings, PlaysAll, SendsAll};
+ghost use Rattle.gw_satop.specs.Line.{HasPlayed};
+ghost use Rattle.gw_satop.specs.Sending.{packets_of};
+
+use crate::counts::Counts;
+use crate::line::Receiver;
+use crate::pace::Pace;
+use crate::peer::Peer;
+use crate::sender::Sender;
+use arrayvec::ArrayVec;
+use gw_trunk::{DeviceFault, Incoming, Outgoing, Taken};
+use satop_playout::MAX_SIZE;
+
+// Room for a datagram, and for a read of the trunk: 8 ms.
+const ROOM_LEN: usize = 2_048;
+
+// The datagrams of one turn.
+const MOST_DATAGRAMS: usize = 1_000;
+
+// The plays of one turn.
+const MOST_PLAYS: usize = 8_192;
+
+/// An emulated circuit: the octets of a trunk on one side, packets to and from the far end on the other.
+#[derive(Drop)]
+pub struct Circuit<I: Incoming, O: Outgoing, P: Peer> {
+    incoming: I,
+    outgoing: O,
+    peer: P,
+    receiver: Receiver,
+    sender: Sender,
+    pace: Pace,
+    counts: Counts,
+    // played, and not taken by the trunk yet
+    left: ArrayVec<u8, 1280>,
+    ghost plays: { ∥ PlaysAll receiver (P.received peer) (O.went outgoing ++ left.items) ∥₁ },
+    ghost sends: { SendsAll sender (P.sent peer) (I.came incoming) },
+}
+
+// Drops the first octets.
+fn drop_first(left: &mut ArrayVec<u8, 1280>, len: usize)
+    requires { len ≤ length left.old.items }
+    ensures { left.new.items ≡ drop len left.old.items }
+{
+    let mut rest = ArrayVec::new();
+    let _ = rest.try_extend_from_slice(&left.as_slice()[len..]);
+    *left = rest;
+}
+
+// Gives the trunk what is left for it, all of it; it waits until the trunk takes it.
+fn put_out<O: Outgoing>(outgoing: &mut O, left: &mut ArrayVec<u8, 1280>) -> Result<(), DeviceFault>
+    ensures went { O.went outgoing.new ++ left.new.items ≡ O.went outgoing.old ++ left.old.items }
+    ensures all { IfOk result (λ _. left.new.items ≡ []) }
+{
+    for _turn in 0..u64::MAX {
+        if left.is_empty() {
+            return Ok(());
+        }
+        match outgoing.write(left.as_slice()) {
+            Ok(Some(n)) if n > 0 => drop_first(left, n),
+            Ok(None) => outgoing.wait(),
+            _ => return Err(DeviceFault),
+        }
+    }
+    Err(DeviceFault)
+}
+
+// Plays the next packet by a room of its size; it is then left for the trunk. Returns whether it was there.
+fn play_into(receiver: &mut Receiver, room: &mut [u8], left: &mut ArrayVec<u8, 1280>) -> bool
+    requires room { length room.old ≡ receiver.old.settings.size }
+    requires left { left.old.items ≡ [] }
+    ensures settings { receiver.new.settings ≡ receiver.old.settings }
+    ensures rtp { receiver.new.rtp ≡ receiver.old.rtp }
+    ensures plays { (received : List (List ℕ)) (went : List ℕ)
+        → PlaysAll receiver.old received (went ++ left.old.items)
+        → PlaysAll receiver.new received (went ++ left.new.items) }
+{
+    let is_there = receiver.play(room);
+    let _ = left.try_extend_from_slice(room);
+    is_there
+}
+
+// Sends octets of the trunk as packets. `missing` is whether packets are missing at this end.
+fn send_all<P: Peer>(
+    sender: &mut Sender,
+    peer: &mut P,
+    counts: &mut Counts,
+    missing: bool,
+    octets: &[u8],
+)
+    requires rest { length sender.old.held.items < sender.old.start.size }
+    requires sent { P.sent peer.old
+        ≡ packets_of sender.old.start sender.old.log.flags sender.old.came.octets }
+    ensures rest { length sender.new.held.items < sender.new.start.size }
+    ensures sent { P.sent peer.new
+        ≡ packets_of sender.new.start sender.new.log.flags sender.new.came.octets }
+    ensures came { sender.new.came.octets ≡ sender.old.came.octets ++ octets.now }
+    ensures received { P.received peer.new ≡ P.received peer.old }
+    ensures start { sender.new.start ≡ sender.old.start }
+{
+    let mut packet = ArrayVec::new();
+    let mut at = 0;
+    while at < octets.len() {
+        at += sender.fill(&octets[at..]);
+        if sender.packet(missing, &mut packet) {
+            counts.send(peer.send(packet.as_slice()));
+        }
+    }
+}
+
+impl<I: Incoming, O: Outgoing, P: Peer> Circuit<I, O, P> {
+    /// A circuit before any octet and datagram.
+    pub fn new(
+        incoming: I,
+        outgoing: O,
+        peer: P,
+        receiver: Receiver,
+        sender: Sender,
+        pace: Pace,
+    ) -> Circuit<I, O, P>
+        requires came { I.came incoming ≡ [] }
+        requires went { O.went outgoing ≡ [] }
+        requires received { P.received peer ≡ [] }
+        requires sent { P.sent peer ≡ [] }
+        requires receiver { HasPlayed receiver [] }
+        requires sender { (sender.came.octets ≡ []) × (sender.log.flags ≡ [])
+            × (length sender.held.items < sender.start.size) }
+        ensures receiver { result.receiver ≡ receiver }
+        ensures sender { result.sender ≡ sender }
+    {
+        Circuit {
+            incoming,
+            outgoing,
+            peer,
+            receiver,
+            sender,
+            pace,
+            counts: Counts::default(),
+            left: ArrayVec::new(),
+        }
+    }
+
+    /// Whether the trunk has taken all that was played.
+    pub fn is_whole(&self) -> bool
+        ensures yes { result ≡ true → self.now.left.items ≡ [] }
+        ensures no { self.now.left.items ≡ [] → result ≡ true }
+    {
+        self.left.is_empty()
+    }
+
+    /// What was counted.
+    pub fn counts(&self) -> Counts
+        ensures { result ≡ self.now.counts }
+    {
+        self.counts
+    }
+
+    // Receives a datagram, if one waits.
+    fn hear(&mut self, now: u64) -> bool
+        ensures same { HasSettings self.old.receiver self.new.receiver self.old.sender self.new.sender }
+    {
+        let mut room = [0u8; ROOM_LEN];
+        let Some(n) = self.peer.receive(&mut room) else {
+            return false;
+        };
+        let receipt = self.receiver.receive(&mut self.pace, now, &room[..n]);
+        self.counts.receive(receipt);
+        true
+    }
+
+    /// Gives the trunk what is left for it.
+    pub fn flush(&mut self) -> Result<(), DeviceFault>
+        ensures all { IfOk result (λ _. self.new.left.items ≡ []) }
+        ensures same { HasSettings self.old.receiver self.new.receiver self.old.sender self.new.sender }
+        ensures incoming { self.new.incoming ≡ self.old.incoming }
+    {
+        put_out(&mut self.outgoing, &mut self.left)
+    }
+
+    // Plays the next packet, which is then left for the trunk.
+    fn play_next(&mut self)
+        requires { self.old.left.items ≡ [] }
+        ensures same { HasSettings self.old.receiver self.new.receiver self.old.sender self.new.sender }
+    {
+        let mut room = [0u8; MAX_SIZE];
+        let size = self.receiver.size();
+        let later = self.receiver.reach() > 0;
+        let is_there = play_into(&mut self.receiver, &mut room[..size], &mut self.left);
+        self.counts.play(is_there, later, self.pace.is_silent());
+        self.pace.play();
+    }
+
+    // Plays the next packet to the trunk.
+    fn play(&mut self) -> Result<(), DeviceFault>
+        ensures same { HasSettings self.old.receiver self.new.receiver self.old.sender self.new.sender }
+    {
+        self.flush()?;
+        self.play_next();
+        self.flush()
+    }
+
+    // Plays the packets that are due.
+    fn play_due(&mut self, now: u64, read_all: bool) -> Result<(), DeviceFault>
+        ensures same { HasSettings self.old.receiver self.new.receiver self.old.sender self.new.sender }
+    {
+        for _play in 0..MOST_PLAYS {
+            if !self.pace.is_due(now, self.receiver.reach(), read_all) {
+                return Ok(());
+            }
+            self.play()?;
+        }
+        Ok(())
+    }
+
+    // Takes octets of the trunk that have come, and sends them. Returns whether no octet will come any more.
+    fn take(&mut self) -> Result<bool, DeviceFault>
+        ensures same { HasSettings self.old.receiver self.new.receiver self.old.sender self.new.sender }
+        ensures ended { IfOk result (λ ended. ended ≡ true → I.has_ended self.new.incoming) }
+    {
+        let mut room = [0u8; ROOM_LEN];
+        match self.incoming.read(&mut room)? {
+            Taken::Octets(n) => {
+                send_all(
+                    &mut self.sender,
+                    &mut self.peer,
+                    &mut self.counts,
+                    self.pace.is_silent(),
+                    &room[..n],
+                );
+                Ok(false)
+            }
+            Taken::NoneNow => Ok(false),
+            Taken::Ended => Ok(true),
+        }
+    }
+
+    // Receives all that waits, and plays what is due meanwhile.
+    fn hear_all(&mut self, now: u64) -> Result<(), DeviceFault>
+        ensures same { HasSettings self.old.receiver self.new.receiver self.old.sender self.new.sender }
+    {
+        for _datagram in 0..MOST_DATAGRAMS {
+            if !self.hear(now) {
+                return Ok(());
+            }
+            self.play_due(now, false)?;
+        }
+        Ok(())
+    }
+
+    /// One turn at a time: receives what waits, plays what is due and sends what came from the trunk. Returns
+    /// whether no octet will come from the trunk any more.
+    pub fn turn(&mut self, now: u64) -> Result<bool, DeviceFault>
+        ensures same { HasSettings self.old.receiver self.new.receiver self.old.sender self.new.sender }
+        ensures ended { IfOk result (λ ended. ended ≡ true → I.has_ended self.new.incoming) }
+    {
+        self.pace.advance(now);
+        self.hear_all(now)?;
+        if self.pace.listen(now) {
+            self.counts.silence();
+        }
+        self.play_due(now, true)?;
+        self.take()
+    }
+
+    /// When something is due if nothing comes.
+    pub fn plan(&mut self, now: u64) -> u64
+        ensures same { HasSettings self.old.receiver self.new.receiver self.old.sender self.new.sender }
+        ensures incoming { self.new.incoming ≡ self.old.incoming }
+    {
+        self.pace.plan(now, self.receiver.reach())
+    }
+}

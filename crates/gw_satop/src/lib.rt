@@ -1,0 +1,27 @@
+//! An emulated circuit: a trunk as SAToP packets over UDP (RFC 4553), its octets on the other side.
+#![tactic(auto)]
+
+mod carrying;
+mod circuit;
+mod counts;
+mod line;
+mod log;
+mod pace;
+mod packet;
+mod peer;
+mod ready;
+mod sender;
+mod system;
+mod timing;
+
+pub use carrying::{Moments, carry_satop};
+pub use circuit::Circuit;
+pub use counts::Counts;
+pub use line::{Receipt, Receiver};
+pub use pace::Pace;
+pub use packet::Malformed;
+pub use peer::{Peer, UdpPeer};
+pub use ready::WhenReady;
+pub use sender::{Sender, Start};
+pub use system::SystemMoments;
+pub use timing::Timing;

@@ -1,0 +1,104 @@
+//! The far end of an emulated circuit.
+
+ghost use Rattle.std.specs.Prelude.{◌≡◌, ◌≤◌, ◌++◌, ◌∷◌, ℕ, List, [], length, take, IfSome, IfNone, IfOk};
+
+use crate::log::History;
+use gw_udp::Socket;
+use mio::{Registry, Token};
+use std::io;
+use std::io::{Error, ErrorKind};
+use std::net::{Net, SocketAddr, ToSocketAddrs};
+
+/// The far end of an emulated circuit.
+///
+/// What came from it and what was sent to it is the type's own: a caller that does not know the type has it
+/// of its calls alone.
+pub trait Peer {
+    /// The datagrams that came from the far end, in order.
+    ghost received: { Self → List (List ℕ) };
+
+    /// The datagrams that the system was given for the far end, in order.
+    ghost sent: { Self → List (List ℕ) };
+
+    /// Receives the first datagram that waits to the front of `room`, and returns its length; None if none
+    /// waits. It never waits for one.
+    fn receive(&mut self, room: &mut [u8]) -> Option<usize>
+        ensures bound { IfSome result (λ n. n ≤ length room.new) }
+        ensures received { IfSome result (λ n.
+            received self.new ≡ received self.old ++ take n room.new ∷ []) }
+        ensures none { IfNone result (received self.new ≡ received self.old) }
+        ensures sent { sent self.new ≡ sent self.old };
+
+    /// Gives the system a datagram for the far end, and returns whether it took it. One that it did not take
+    /// the far end misses, like one that the network lost.
+    fn send(&mut self, datagram: &[u8]) -> bool
+        ensures sent { sent self.new ≡ sent self.old ++ datagram.now ∷ [] }
+        ensures received { received self.new ≡ received self.old };
+}
+
+/// The far end at a UDP address, by a socket that takes datagrams from there alone. What came and was sent is
+/// what the calls of the socket gave and took.
+#[derive(Drop)]
+pub struct UdpPeer<S> {
+    socket: S,
+    address: SocketAddr,
+    received: History,
+    sent: History,
+}
+
+impl<S: Socket> UdpPeer<S> {
+    /// The far end at the address of `peer`, by a socket at that of `local`; each text is a host and a port.
+    /// The error is the system's, or says that one has no address.
+    pub fn open<N: Net>(net: &N, local: &str, peer: &str) -> io::Result<UdpPeer<S>>
+        ensures received { IfOk result (λ p. p.received.datagrams ≡ []) }
+        ensures sent { IfOk result (λ p. p.sent.datagrams ≡ []) }
+    {
+        let address = address_of(net, peer)?;
+        let socket = S::bind(net, address_of(net, local)?)?;
+        socket.connect(address)?;
+        Ok(UdpPeer {
+            socket,
+            address,
+            received: History::new(),
+            sent: History::new(),
+        })
+    }
+
+    /// Has the system say what comes to the socket, by this token. False if it does not.
+    pub fn watch(&mut self, registry: &Registry, token: Token) -> bool
+        ensures received { self.new.received ≡ self.old.received }
+        ensures sent { self.new.sent ≡ self.old.sent }
+    {
+        self.socket.watch(registry, token)
+    }
+}
+
+// The first address of a host and a port.
+fn address_of<N: Net>(net: &N, text: &str) -> io::Result<SocketAddr> {
+    match text.to_socket_addrs(net)?.next() {
+        Some(address) => Ok(address),
+        None => Err(Error::from(ErrorKind::NotFound)),
+    }
+}
+
+impl<S: Socket> Peer for UdpPeer<S> {
+    ghost received = { λ p. p.received.datagrams };
+
+    ghost sent = { λ p. p.sent.datagrams };
+
+    fn receive(&mut self, room: &mut [u8]) -> Option<usize> {
+        match self.socket.receive_any(room) {
+            Ok(Some(n)) => {
+                self.received.datagram(room, n);
+                Some(n)
+            }
+            _ => None,
+        }
+    }
+
+    fn send(&mut self, datagram: &[u8]) -> bool {
+        let taken = self.socket.send(datagram, self.address).is_ok();
+        self.sent.datagram(datagram, datagram.len());
+        taken
+    }
+}

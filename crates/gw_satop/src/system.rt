@@ -1,0 +1,97 @@
+//! What an emulated circuit has of this system: its clock, what is waited for, and standard error.
+
+ghost use Rattle.std.specs.Prelude.{◌≡◌};
+
+use crate::carrying::Moments;
+use crate::counts::Counts;
+use crate::peer::UdpPeer;
+use gw_trunk::Waiting;
+use gw_udp::Socket;
+use mio::unix::SourceFd;
+use mio::{Events, Interest, Poll, Token};
+use std::io;
+use std::time::{Duration, Instant};
+
+const TRUNK: usize = 0;
+
+const FAR_END: usize = 1;
+
+// The descriptor of standard error.
+const STDERR: i32 = 2;
+
+/// The clock of this system, the descriptor that the trunk's octets come from, the socket, and standard
+/// error.
+#[derive(Drop)]
+pub struct SystemMoments<'r> {
+    rt: &'r HostRuntime,
+    started: Instant,
+    now: u64,
+    poll: Poll,
+    events: Events,
+    descriptor: i32,
+    errors: Waiting,
+}
+
+impl<'r> SystemMoments<'r> {
+    /// Waits for the socket of the far end and for a descriptor. The error is the system's.
+    pub fn open<S: Socket>(
+        rt: &'r HostRuntime,
+        descriptor: i32,
+        peer: &mut UdpPeer<S>,
+    ) -> io::Result<SystemMoments<'r>>
+        ensures received { peer.new.received ≡ peer.old.received }
+        ensures sent { peer.new.sent ≡ peer.old.sent }
+    {
+        let poll = Poll::new(rt)?;
+        let events = Events::with_capacity(rt.alloc(), 4)?;
+        // (A regular file can't be waited for, and never has to be.)
+        let trunk = &mut SourceFd(&descriptor);
+        let _ = poll
+            .registry()
+            .register(trunk, Token(TRUNK), Interest::READABLE);
+        let _ = peer.watch(poll.registry(), Token(FAR_END));
+        Ok(SystemMoments {
+            rt,
+            started: Instant::now(rt)?,
+            now: 0,
+            poll,
+            events,
+            descriptor,
+            errors: Waiting::open(rt, STDERR, Interest::WRITABLE)?,
+        })
+    }
+}
+
+// The whole microseconds of a time.
+fn micros_of(time: Duration) -> u64 {
+    time.as_secs()
+        .saturating_mul(1_000_000)
+        .saturating_add(u64::from(time.subsec_micros()))
+}
+
+impl Moments for SystemMoments<'_> {
+    fn now(&mut self) -> u64 {
+        if let Ok(passed) = self.started.elapsed(self.rt) {
+            self.now = micros_of(passed);
+        }
+        self.now
+    }
+
+    fn wait(&mut self, until: u64) {
+        let left = until.saturating_sub(self.now());
+        // (It is registered again each time, so that the system reports what came before.)
+        let trunk = &mut SourceFd(&self.descriptor);
+        let registry = self.poll.registry();
+        let ready = registry.reregister(trunk, Token(TRUNK), Interest::READABLE);
+        let limit = if ready.is_ok() { left } else { 0 };
+        let _ = self
+            .poll
+            .poll(&mut self.events, Some(Duration::from_micros(limit)));
+    }
+
+    fn report(&mut self, counts: &Counts) {
+        if self.errors.wait_for(Duration::ZERO) {
+            let _ = eprintln!(self.rt; "{}", counts);
+        }
+    }
+}
