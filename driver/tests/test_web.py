@@ -57,7 +57,10 @@ class Picture(unittest.TestCase):
             def get(path: str) -> tuple[str, str]:
                 with urllib.request.urlopen(f'http://127.0.0.1:{port}{path}', timeout=SECONDS) as page:
                     return page.headers['Content-Type'], page.read().decode()
-            kind, page = get('/')
+            until = time.monotonic() + SECONDS
+            while '1 answered' not in (found := get('/'))[1] and time.monotonic() < until:
+                time.sleep(1)           # what is kept may be late on a busy machine
+            kind, page = found
             self.assertEqual((kind, '</html>' in page, 'west' in page), ('text/html; charset=utf-8', True, True))
             self.assertIn('1 answered', page)
             self.assertEqual(get('/table')[0], 'text/plain; charset=utf-8')
