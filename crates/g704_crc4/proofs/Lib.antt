@@ -17,3 +17,4 @@ pub mod Blocks
 pub mod Followings
 pub mod Searched
 pub mod Tallies
+pub mod Reports

@@ -6,6 +6,8 @@ use Rattle.g704_crc4.specs.Remainder.{remainder_of, sent_bits}
 use Rattle.g704_crc4.specs.Submultiframes.{each_at, submultiframe}
 use Rattle.g704_crc4.specs.Receiving.{si_of, remainder_in}
 use Rattle.g704_crc4.specs.Searching.{has_signal, begins_multiframe}
+use Rattle.g704_crc4.specs.Reporting.{Arrival, Octet, Errored, octet_count, has_e_bit}
+use Rattle.g704_crc4.specs.Reporting.{unreported_after, unreported, octet_with_e}
 use Rattle.g704_crc4.specs.Aligning.{searched_octets, multiframe_in, count_in}
 
 -- Octets that count up from this one.
@@ -46,3 +48,23 @@ signal_once = refl
 counted : count_in (λ number. nat_le (number % 2) 0) 5 4 ≡ 2
 unfolding count_in
 counted = refl
+
+-- Octets without a report.
+octets_only : ℕ → List Arrival
+octets_only zero = []
+octets_only (suc count) = Octet 223 ∷ octets_only count
+
+-- Bit 1 of frame 13 is the first E bit: 11011111 in its time slot 0 is sent as 01011111 for an errored one.
+first_e_bit : octet_with_e (Errored 1 ∷ octets_only 416) 223 ≡ 95
+unfolding octet_with_e octet_count unreported_after has_e_bit octets_only
+first_e_bit = refl
+
+-- The second, in frame 15, is 1 again, because one E bit reports one errored submultiframe.
+second_e_bit : octet_with_e (Errored 1 ∷ octets_only 480) 223 ≡ 223
+unfolding octet_with_e octet_count unreported_after has_e_bit octets_only
+second_e_bit = refl
+
+-- A multiframe reports two of three.
+two_reported : unreported (Errored 3 ∷ octets_only 512) ≡ 1
+unfolding unreported_after has_e_bit octets_only
+two_reported = refl

@@ -9,3 +9,4 @@ pub mod Searching
 pub mod Aligning
 pub mod Tally
 pub mod Receivers
+pub mod Reporting

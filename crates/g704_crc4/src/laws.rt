@@ -2,6 +2,7 @@
 
 ghost use Rattle.g704_crc4.specs.Polynomials.{RemainderIsLeft};
 ghost use Rattle.g704_crc4.specs.Checking.{SentIsRight, OneErrorIsFound};
+ghost use Rattle.g704_crc4.specs.Reporting.{EachIsReported, NoneIsReported};
 ghost use Rattle.g704_crc4.specs.Receiving.{LengthIsKept, OthersAreKept, CheckBitsAreRight, SignalIsSent};
 
 /// The four bits are the remainder of the bits' polynomial, multiplied by x^4 and divided modulo 2 by the
@@ -38,4 +39,14 @@ pub fn sent_is_right()
 /// A submultiframe with a single bit error has another remainder.
 pub fn one_error_is_found()
     ensures { OneErrorIsFound }
+{}
+
+/// Each errored submultiframe is reported by one E bit sent as 0 or is not yet reported.
+pub fn each_is_reported()
+    ensures { EachIsReported }
+{}
+
+/// Without an errored submultiframe each E bit is sent as 1.
+pub fn none_is_reported()
+    ensures { NoneIsReported }
 {}

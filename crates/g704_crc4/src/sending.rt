@@ -96,7 +96,7 @@ fn signal_bit(number: u16) -> bool
 }
 
 // An octet with a bit 1.
-fn with_si(octet: u8, si: bool) -> u8
+pub(crate) fn with_si(octet: u8, si: bool) -> u8
     ensures { result ≡ with_si si octet }
 {
     if si {

@@ -1,0 +1,141 @@
+-- What is reported by E bits, one arrival more.
+use Rattle.std.proofs.Common.{◌≡◌, ℕ, ◌+◌, ◌-◌, ◌%◌, ◌^◌, ◌≤◌, Bool, true, false, List, [], ◌∷◌, ◌++◌}
+use Rattle.std.proofs.Common.{refl, sym, ap, ◌∙◌, arith, append_assoc, append-nil, inl, inr}
+use Rattle.std.specs.Prelude.{◌≢◌, min, cond, not, ◌&&◌, ◌==◌}
+use Rattle.std.proofs.lemmas.Bool.{cases_eq, eq-eqb, ne_eqb}
+use Rattle.g704_crc4.specs.declared.reporting.ErrorBits.{ErrorBits}
+use Rattle.g704_crc4.specs.Remainder.{bit_number}
+use Rattle.g704_crc4.specs.Multiframe.{with_si}
+use Rattle.g704_crc4.specs.Reporting.{Arrival, Octet, Errored, octet_count, errored_in_all, has_e_bit}
+use Rattle.g704_crc4.specs.Reporting.{unreported_after, unreported, octet_with_e, is_reported_by, zeros_after}
+use Rattle.g704_crc4.specs.Reporting.{EachIsReported, NoneIsReported, ReportsAfter}
+
+-- One octet more is one place more.
+pub octets-octet : (h : List Arrival) (x : ℕ) → octet_count (h ++ Octet x ∷ []) ≡ octet_count h + 1
+unfolding octet_count
+octets-octet [] x = refl
+octets-octet (Octet y ∷ h) x = omega (arith, octets-octet h x)
+octets-octet (Errored n ∷ h) x = octets-octet h x
+
+-- A report takes no place.
+pub octets-errored : (h : List Arrival) (n : ℕ) → octet_count (h ++ Errored n ∷ []) ≡ octet_count h
+unfolding octet_count
+octets-errored [] n = refl
+octets-errored (Octet y ∷ h) n = omega (arith, octets-errored h n)
+octets-errored (Errored m ∷ h) n = octets-errored h n
+
+-- What is left after one octet more.
+left-octet : (left place : ℕ) (h : List Arrival) (x : ℕ) → unreported_after left place (h ++ Octet x ∷ [])
+    ≡ cond (has_e_bit (place + octet_count h)) (unreported_after left place h - 1) (unreported_after left place h)
+unfolding octet_count unreported_after
+left-octet left place [] x =
+    let e : place + 0 ≡ place = omega arith in
+    ap (λ p. cond (has_e_bit p) (left - 1) left) (sym e)
+left-octet left place (Octet y ∷ h) x =
+    let e : place + 1 + octet_count h ≡ place + (octet_count h + 1) = omega arith in
+    let now = cond (has_e_bit place) (left - 1) left in
+    let after = unreported_after now (place + 1) h in
+    left-octet now (place + 1) h x ∙ ap (λ p. cond (has_e_bit p) (after - 1) after) e
+left-octet left place (Errored n ∷ h) x = left-octet (min (left + n) (2 ^ 32 - 1)) place h x
+
+-- What is left after one report more.
+left-errored : (left place : ℕ) (h : List Arrival) (n : ℕ) → unreported_after left place (h ++ Errored n ∷ [])
+    ≡ min (unreported_after left place h + n) (2 ^ 32 - 1)
+unfolding unreported_after
+left-errored left place [] n = refl
+left-errored left place (Octet y ∷ h) n = left-errored (cond (has_e_bit place) (left - 1) left) (place + 1) h n
+left-errored left place (Errored m ∷ h) n = left-errored (min (left + m) (2 ^ 32 - 1)) place h n
+
+-- What is not yet reported after one octet more: an E bit reports one.
+pub unreported-octet : (h : List Arrival) (x : ℕ) → unreported (h ++ Octet x ∷ [])
+    ≡ cond (has_e_bit (octet_count h)) (unreported h - 1) (unreported h)
+unreported-octet h x =
+    let none : 0 + octet_count h ≡ octet_count h = omega arith in
+    left-octet 0 0 h x ∙ ap (λ p. cond (has_e_bit p) (unreported h - 1) (unreported h)) none
+
+-- What is not yet reported with more to report.
+pub unreported-errored : (h : List Arrival) (n : ℕ) → unreported (h ++ Errored n ∷ [])
+    ≡ min (unreported h + n) (2 ^ 32 - 1)
+unreported-errored h n = left-errored 0 0 h n
+
+-- An octet reports one, or none.
+one-less : (has : Bool) (left : ℕ) → bit_number (has && not (left == 0)) + cond has (left - 1) left ≡ left
+one-less false left = omega arith
+one-less true left = elim (cases_eq left 0) [
+  | inl e ↦ rw (eq-eqb left 0 e) omega (arith, e)
+  | inr ne ↦ rw (ne_eqb left 0 ne) omega (arith, ne)
+]
+
+-- Reports and what is left, after more arrivals.
+reported-from : (before rest : List Arrival) → unreported before + errored_in_all rest ≤ 2 ^ 32 - 1
+    → zeros_after before rest + unreported (before ++ rest) ≡ unreported before + errored_in_all rest
+unfolding zeros_after errored_in_all is_reported_by
+reported-from before [] le = omega (arith, ap unreported (append-nil before))
+reported-from before (Octet x ∷ rest) le =
+    let now = one-less (has_e_bit (octet_count before)) (unreported before) in
+    let next = unreported-octet before x in
+    let later = reported-from (before ++ Octet x ∷ []) rest (omega (arith, now, next)) in
+    omega (arith, now, next, later, ap unreported (append_assoc before (Octet x ∷ []) rest))
+reported-from before (Errored n ∷ rest) le =
+    let next = unreported-errored before n in
+    let later = reported-from (before ++ Errored n ∷ []) rest (omega (arith, next)) in
+    omega (arith, next, later, ap unreported (append_assoc before (Errored n ∷ []) rest))
+
+-- Each errored submultiframe is reported or not yet.
+pub each-reported : EachIsReported
+unfolding unreported_after
+each-reported arrivals le =
+    let start : unreported [] ≡ 0 = refl in
+    omega (arith, start, reported-from [] arrivals (omega (arith, le, start)))
+
+-- Without any there is nothing to report.
+pub none-reported : NoneIsReported
+none-reported arrivals e = omega (arith, each-reported arrivals (omega (arith, e)), e)
+
+-- The first E bit of a multiframe.
+pub e-bit-first : (place : ℕ) → place % 512 ≡ 416 → has_e_bit place ≡ true
+unfolding has_e_bit
+e-bit-first place e = rw (eq-eqb (place % 512) 416 e) refl
+
+-- The second one.
+pub e-bit-second : (place : ℕ) → place % 512 ≢ 416 → has_e_bit place ≡ (place % 512 == 480)
+unfolding has_e_bit
+e-bit-second place ne = rw (ne_eqb (place % 512) 416 ne) refl
+
+-- The place of an E bit is the same modulo 2^16.
+pub e-bit-place : (p n : ℕ) → p ≡ n % 65536 → has_e_bit p ≡ has_e_bit n
+unfolding has_e_bit
+e-bit-place p n e = let same : p % 512 ≡ n % 512 = omega (arith, e) in rw same refl
+
+-- One octet more that has no E bit.
+pub without-bit : (bits : ErrorBits) (h : List Arrival) (x : ℕ) → ReportsAfter bits h → has_e_bit bits.place ≡ false
+    → (x ≡ octet_with_e h x)
+    × ReportsAfter (record { place = (bits.place + 1) % 65536; unreported = bits.unreported }) (h ++ Octet x ∷ [])
+unfolding octet_with_e
+without-bit bits h x s other =
+    let p = s.place in
+    let none = sym (e-bit-place bits.place (octet_count h) p) ∙ other in (
+      rw none refl,
+      record {
+        place = omega (arith, octets-octet h x);
+        unreported = s.unreported
+            ∙ sym (unreported-octet h x ∙ ap (λ b. cond b (unreported h - 1) (unreported h)) none);
+      },
+    )
+
+-- One octet more that has one.
+pub with-bit : (bits : ErrorBits) (h : List Arrival) (x left : ℕ) → ReportsAfter bits h → has_e_bit bits.place ≡ true
+    → left ≡ bits.unreported - 1
+    → (with_si (bits.unreported == 0) x ≡ octet_with_e h x)
+    × ReportsAfter (record { place = (bits.place + 1) % 65536; unreported = left }) (h ++ Octet x ∷ [])
+unfolding octet_with_e
+with-bit bits h x left s has less =
+    let p = s.place in
+    let one = sym (e-bit-place bits.place (octet_count h) p) ∙ has in (
+      rw one (ap (λ n. with_si (n == 0) x) s.unreported),
+      record {
+        place = omega (arith, octets-octet h x);
+        unreported = less ∙ ap (λ n. n - 1) s.unreported
+            ∙ sym (unreported-octet h x ∙ ap (λ b. cond b (unreported h - 1) (unreported h)) one);
+      },
+    )
