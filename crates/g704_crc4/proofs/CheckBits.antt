@@ -49,7 +49,8 @@ at-check-bit bits place x e =
     let frame = place / 32 % 16 in
     ap (λ o. o % 128) (at-frame bits place x (omega arith)) ∙ with-low (si_at bits frame) x
     ∙ sym (at-frame no_remainder place x (omega arith)
-    ∙ ap (λ si. with_si si x) (at-even no_remainder frame (frame / 2 % 4) (omega arith) refl ∙ all-zeros (frame / 2 % 4)))
+    ∙ ap (λ si. with_si si x) (at-even no_remainder frame (frame / 2 % 4) (omega arith) refl
+    ∙ all-zeros (frame / 2 % 4)))
 
 -- What is sent, its check bit replaced by zero, is what the sender counts.
 clear-one : (bits : Remainder) (place : ℕ) (x : ℕ)

@@ -132,7 +132,8 @@ module _ (m : Checker) (h : List ℕ) (x : ℕ) (s : ChecksAfter m h) where
 
   -- What is learned with the last octet of a submultiframe.
   pub block-event-is : (place : ℕ) → place ≡ (m.place + 1) % 512 → place % 256 ≡ 0
-      → block_event m.begun (same (check_bits_with m.check_bits m.place (nat_le 128 x)) m.before) ≡ event_of (h ++ x ∷ [])
+      → block_event m.begun (same (check_bits_with m.check_bits m.place (nat_le 128 x)) m.before)
+      ≡ event_of (h ++ x ∷ [])
   unfolding event_of is_right
   block-event-is place at e =
       let p = s.place in

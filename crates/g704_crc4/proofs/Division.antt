@@ -96,7 +96,8 @@ case-4 false false false false e = refl
 -- One bit more of the dividend.
 one-more : (p q : List Bool) (left : Remainder) (bit : Bool)
     → HaveSameCoefficients (x4 p) (sum (times generator q) (of_remainder left))
-    → HaveSameCoefficients (x4 (bit ∷ p)) (sum (times generator (add left.c1 bit ∷ q)) (of_remainder (with_bit left bit)))
+    → HaveSameCoefficients (x4 (bit ∷ p)) (sum (times generator (add left.c1 bit ∷ q)) (of_remainder
+    (with_bit left bit)))
 unfolding sum
 one-more p q left bit h zero = case-0 (add left.c1 bit) ∙ sym (at-zero (add left.c1 bit ∷ q) (with_bit left bit))
 one-more p q left bit h (suc zero) =

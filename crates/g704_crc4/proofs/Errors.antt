@@ -54,7 +54,8 @@ not-same false e = false≢true e
 pub one-error : OneErrorIsFound
 one-error before after bit e =
     let left = after_bits no_remainder before in
-    let same = sym (after-append no_remainder before (bit ∷ after)) ∙ e ∙ after-append no_remainder before (not bit ∷ after) in
+    let same = sym (after-append no_remainder before (bit ∷ after)) ∙ e
+    ∙ after-append no_remainder before (not bit ∷ after) in
     not-same bit (add-cancel_left left.c1 bit (not bit) (ap (λ (r : Remainder). r.c4)
     (after-left after (with_bit left bit) (with_bit left (not bit)) same)))
 

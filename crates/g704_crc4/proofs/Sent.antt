@@ -38,7 +38,8 @@ at-other bits place x ne = rw (ne_eqb (place % 32) 0 ne) refl
 
 -- Each octet that is sent, by those before it.
 sent-at : (before octets : List ℕ) (i : ℕ) → i < length octets
-    → slice_index (replies_after sent_octet before octets) i ≡ sent_octet (before ++ take i octets) (slice_index octets i)
+    → slice_index (replies_after sent_octet before octets) i
+    ≡ sent_octet (before ++ take i octets) (slice_index octets i)
 unfolding replies_after
 sent-at before [] i lt = absurd (omega arith)
 sent-at before (x ∷ octets) zero lt = ap (λ b. sent_octet b x) (sym (append-nil before))
@@ -52,7 +53,8 @@ sent-place : (octets : List ℕ) (i : ℕ) → i < length octets
 unfolding sent_octet
 sent-place octets i lt =
     sent-at [] octets i lt
-    ∙ ap (λ n. octet_at (check_bits_after (take i octets)) n (slice_index octets i)) (length-take-le i octets (omega arith))
+    ∙ ap (λ n. octet_at (check_bits_after (take i octets)) n (slice_index octets i)) (length-take-le i octets
+    (omega arith))
 
 -- The Si bit of a frame as it is sent.
 pub si-sent : (octets : List ℕ) (frame : ℕ) → 32 * frame < length octets

@@ -87,7 +87,8 @@ module _ (change : ℕ → ℕ → ℕ) where
   -- The remainder of the last submultiframe takes the next octet.
   pub remainder-grows : (octets : List ℕ) (x : ℕ)
       → remainder_of (submultiframe (length octets / 256) (each_at change 0 (octets ++ x ∷ [])))
-      ≡ after_octet (remainder_of (submultiframe (length octets / 256) (each_at change 0 octets))) (change (length octets) x)
+      ≡ after_octet (remainder_of (submultiframe (length octets / 256) (each_at change 0 octets))) (change
+      (length octets) x)
   remainder-grows octets x =
       let l = length-each change 0 octets in
       let number = length octets / 256 in

@@ -52,7 +52,11 @@ errors_with count right = if right then count else min (count + 1) (2 ^ 64 - 1)
 abbrev pub counts_with : Counts → Option Event → Counts
 counts_with counts None = counts
 counts_with counts (Some (Block right)) =
-    record counts { blocks = min (counts.blocks + 1) (2 ^ 64 - 1); errored = errors_with counts.errored right }
+    record counts {
+      blocks = min (counts.blocks + 1)
+          (2 ^ 64 - 1);
+      errored = errors_with counts.errored right;
+    }
 counts_with counts (Some (FarEnd right)) =
     record counts { far_end_errored = errors_with counts.far_end_errored right }
 

@@ -45,7 +45,8 @@ of_remainder left = left.c4 ∷ left.c3 ∷ left.c2 ∷ left.c1 ∷ []
 
 -- A polynomial has this remainder: it is a multiple of the generator, plus the remainder.
 abbrev pub Leaves : List Bool → Remainder → Type 0
-Leaves p left = (quotient : List Bool) × HaveSameCoefficients p (sum (times generator quotient) (of_remainder left))
+Leaves p left = (quotient : List Bool)
+    × HaveSameCoefficients p (sum (times generator quotient) (of_remainder left))
 
 -- x^4 times the polynomial of the bits has the remainder that is sent; its degree is below 4.
 abbrev pub RemainderIsLeft : Type 0

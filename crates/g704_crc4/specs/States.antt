@@ -13,7 +13,8 @@ pub record SendsAfter (multiframer : Multiframer) (history : List ℕ) : Type 0 
   pub place : multiframer.place ≡ length history % 65536
   pub before : length history % 256 ≢ 0 → multiframer.before ≡ crc_number (check_bits_after history)
   pub running :
-      multiframer.running ≡ crc_number (remainder_of (submultiframe ((length history - 1) / 256) (zeroed history)))
+      multiframer.running ≡ crc_number (remainder_of (submultiframe ((length history - 1) / 256)
+      (zeroed history)))
 
 -- A multiframer ready for the octet after these: the remainders of that octet's submultiframe so far, and of
 -- the one before it.
@@ -29,7 +30,8 @@ pub record ChecksAfter (checker : Checker) (history : List ℕ) : Type 0 where
   pub place : checker.place ≡ length history % 512
   pub begun : checker.begun ≡ nat_le 256 (length history)
   pub before : 256 ≤ length history → checker.before ≡ remainder_in history (length history / 256 - 1)
-  pub running : checker.running ≡ crc_number (remainder_of (submultiframe (length history / 256) (cleared history)))
+  pub running : checker.running
+      ≡ crc_number (remainder_of (submultiframe (length history / 256) (cleared history)))
   pub c1 : 0 < length history % 256 → checker.check_bits.c1 ≡ si_of history (8 * (length history / 256))
   pub c2 : 64 < length history % 256 → checker.check_bits.c2 ≡ si_of history (8 * (length history / 256) + 2)
   pub c3 : 128 < length history % 256 → checker.check_bits.c3 ≡ si_of history (8 * (length history / 256) + 4)

@@ -13,7 +13,8 @@ abbrev pub filter_totals : ℕ → Totals
 filter_totals count = record nothing_counted { octets = at_most count }
 
 -- The source gave octets to its end, and the sink took a reply for each of them.
-pub record Filters (reply : List ℕ → ℕ → ℕ) (source source' : SourceState) (sink sink' : SinkState) (totals : Totals)
+pub record Filters (reply : List ℕ → ℕ
+    → ℕ) (source source' : SourceState) (sink sink' : SinkState) (totals : Totals)
     : Type 0 where
   pub octets : List ℕ
   pub gives : Gives source source' octets
@@ -48,7 +49,8 @@ pub record FiltersUntilWrite (reply : List ℕ → ℕ → ℕ) (source source' 
   pub no_read : source'.failures ≡ source.failures
 
 -- The end of a filter before that of the source: by a read or a write, and by no other fault.
-abbrev pub FiltersUntil : (List ℕ → ℕ → ℕ) → SourceState → SourceState → SinkState → SinkState → RunFault → Type 0
+abbrev pub FiltersUntil : (List ℕ → ℕ → ℕ) → SourceState → SourceState → SinkState → SinkState → RunFault
+    → Type 0
 FiltersUntil reply source source' sink sink' Read = FiltersUntilRead reply source source' sink sink'
 FiltersUntil reply source source' sink sink' Write = FiltersUntilWrite reply source source' sink sink'
 FiltersUntil reply source source' sink sink' _ = ⊥

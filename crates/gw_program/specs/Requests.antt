@@ -32,7 +32,8 @@ Command = Option (List ℕ × List Row)
 abbrev pub AsksCheck : Command → Type 0
 AsksCheck command = text_in (codes "check") command ≡ Some (codes "true")
 
--- what a request does, of what jobs, filters, the check of CRC-4 multiframes, sessions, the trunk and the circuit
+-- what a request does, of what jobs, filters, the check of CRC-4 multiframes, sessions, the trunk and the
+-- circuit
 -- do
 abbrev pub by_request : (Job → Type 0) → (Filter → Type 0) → Type 0 → (Session → Type 0) → Type 0 → Type 0
     → Command → Request → Type 0

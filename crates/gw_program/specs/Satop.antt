@@ -28,7 +28,8 @@ pub record CarriesSatop (receiver : Receiver) (sender : Sender) (received sent :
   pub told_is : MatchResult told (λ _. left ≡ []) (IsDeviceTrouble left)
 
 -- both halves are set up as the command says
-pub record IsSetUp (command : Option (List ℕ × List Row)) (receiver : Receiver) (sender : Sender) : Type 0 where
+pub record IsSetUp (command : Option (List ℕ
+    × List Row)) (receiver : Receiver) (sender : Sender) : Type 0 where
   pub size : SaysNumberIn 16 (codes "size") command receiver.settings.size
   pub sizes : sender.start.size ≡ receiver.settings.size
   pub rtp : MatchOption sender.start.rtp ((n : ℕ) → ¬ SaysNumberIn 8 (codes "rtp") command n)

@@ -39,7 +39,8 @@ pub record WasLoaded (config : GatewayConfig) (source source' : SourceState) (lo
   pub is : IsLoaded config octets loaded
 
 -- what a source gave was refused
-pub record WasRefused (config : GatewayConfig) (source source' : SourceState) (fault : LoadFault) : Type 0 where
+pub record WasRefused (config : GatewayConfig) (source source' : SourceState)
+    (fault : LoadFault) : Type 0 where
   pub octets : List ℕ
   pub read : WasRead source source' octets
   pub refuses : Refuses config octets fault

@@ -172,7 +172,8 @@ fn perform_replay<Y: System, S: Source, K: Sink>(
     requires { CanBegin (S.tells source.old) (K.tells sink.old) }
     ensures { NotBegun (S.tells source.old) (S.tells source.new) (K.tells sink.old) (K.tells sink.new)
         (Y.lacks_watch system.now) result
-        ⊎ EndedSaved (λ end. Runs (S.tells source.old) (S.tells source.new) (K.tells sink.old) (K.tells sink.new)
+        ⊎ EndedSaved (λ end. Runs (S.tells source.old) (S.tells source.new) (K.tells sink.old)
+        (K.tells sink.new)
         end gateway.old gateway.new) (Y.saves system.now config.now gateway.new) result }
 {
     let mut watch = system.open_watch(config, gateway)?;
@@ -194,7 +195,8 @@ fn perform_serve<Y: System, S: Source, K: Sink>(
     requires { CanBegin (S.tells source.old) (K.tells sink.old) }
     ensures { NotBegun (S.tells source.old) (S.tells source.new) (K.tells sink.old) (K.tells sink.new)
         (LacksTapeOrPorts (Y.lacks_tape system.now) (Y.lacks_ports system.now config.now)) result
-        ⊎ HasServed (Y.opens system.now config.now) (Y.begins system.now) (λ ports ports' tape tape'. EndedSaved
+        ⊎ HasServed (Y.opens system.now config.now) (Y.begins system.now)
+        (λ ports ports' tape tape'. EndedSaved
         (λ end. Serves
         (around (S.tells source.old) (K.tells sink.old) (Y.Ports.tells ports) (Y.Tape.tells tape))
         (around (S.tells source.new) (K.tells sink.new) (Y.Ports.tells ports') (Y.Tape.tells tape'))
@@ -226,9 +228,11 @@ pub fn perform_session<Y: System, S: Source + StandardInput, K: Sink + StandardO
         ⊎ HasGateway (Y.starts system.now config) (λ gateway gateway'. by_session session
         (NotBegun (S.tells source.old) (S.tells source.new) (K.tells sink.old) (K.tells sink.new)
         (Y.lacks_watch system.now) result
-        ⊎ EndedSaved (λ end. Runs (S.tells source.old) (S.tells source.new) (K.tells sink.old) (K.tells sink.new)
+        ⊎ EndedSaved (λ end. Runs (S.tells source.old) (S.tells source.new) (K.tells sink.old)
+        (K.tells sink.new)
         end gateway gateway') (Y.saves system.now config gateway') result)
-        (EndedSaved (λ end. Checks (S.tells source.old) (S.tells source.new) (K.tells sink.old) (K.tells sink.new)
+        (EndedSaved (λ end. Checks (S.tells source.old) (S.tells source.new) (K.tells sink.old)
+        (K.tells sink.new)
         end gateway gateway') (Y.saves system.now config gateway') result)
         (NotBegun (S.tells source.old) (S.tells source.new) (K.tells sink.old) (K.tells sink.new)
         (LacksTapeOrPorts (Y.lacks_tape system.now) (Y.lacks_ports system.now config)) result

@@ -53,7 +53,8 @@ fn perform_carry<Y: System, I: Incoming, O: Outgoing, A: Outgoing>(
     requires sink { (sink.old.failed ≡ 0) × (sink.old.log.octets ≡ []) }
     ensures { NotBegun source.old source.new sink.old sink.new
         (LacksTapeOrPorts (Y.lacks_tape system.now) (Y.lacks_ports system.now config.now)) result
-        ⊎ HasServed (Y.opens system.now config.now) (Y.begins system.now) (λ ports ports' tape tape'. EndedSaved
+        ⊎ HasServed (Y.opens system.now config.now) (Y.begins system.now)
+        (λ ports ports' tape tape'. EndedSaved
         (λ end. CarriesTrunk
         (around (⟦<TrunkSource<I> as Source>⟧.tells source.old) (⟦<TrunkSink<O, A> as Sink>⟧.tells sink.old)
         (Y.Ports.tells ports) (Y.Tape.tells tape))

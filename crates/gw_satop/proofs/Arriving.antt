@@ -1,5 +1,6 @@
 -- The packets of datagrams, as they arrive at the playout.
-use Rattle.std.proofs.Common.{◌≡◌, ℕ, Bool, List, [], ◌∷◌, ◌++◌, refl, sym, ap, ◌∙◌, append_assoc, append-nil, Ok, Err, Result}
+use Rattle.std.proofs.Common.{◌≡◌, ℕ, Bool, List, [], ◌∷◌, ◌++◌, refl, sym, ap, ◌∙◌, append_assoc, append-nil, Ok, Err}
+use Rattle.std.proofs.Common.{Result}
 use Rattle.satop_packet.specs.Satop.{Content}
 use Rattle.satop_playout.specs.Calls.{Call, Begins, Arrives, Plays}
 use Rattle.satop_playout.specs.Laws.{arrivals_of}
@@ -35,14 +36,16 @@ pub arrivals-more : (rtp : Bool) (size : ℕ) (datagrams : List (List ℕ)) (dat
     ≡ arrivals_in rtp size datagrams ++ arrival_of size (packet_in rtp size datagram)
 arrivals-more rtp size [] datagram = append-nil (arrival_of size (packet_in rtp size datagram))
 arrivals-more rtp size (d ∷ datagrams) datagram =
-    ap (λ (s : List (ℕ × List ℕ)). arrival_of size (packet_in rtp size d) ++ s) (arrivals-more rtp size datagrams datagram)
+    ap (λ (s : List (ℕ × List ℕ)). arrival_of size (packet_in rtp size d) ++ s)
+    (arrivals-more rtp size datagrams datagram)
     ∙ sym (append_assoc (arrival_of size (packet_in rtp size d)) (arrivals_in rtp size datagrams)
     (arrival_of size (packet_in rtp size datagram)))
 
 -- One more datagram is received.
 pub heard : (receiver receiver' : Receiver) (received : List (List ℕ)) (datagram went : List ℕ) (receipt : Receipt)
     → PlaysAll receiver received went → receiver'.settings ≡ receiver.settings → receiver'.rtp ≡ receiver.rtp
-    → ((calls : List Call) → HasPlayed receiver calls → HasPlayed receiver' (calls ++ calls_for receiver.settings.size receipt
+    → ((calls : List Call) → HasPlayed receiver calls
+    → HasPlayed receiver' (calls ++ calls_for receiver.settings.size receipt
     (packet_in receiver.rtp receiver.settings.size datagram)))
     → ((calls : List Call) → given_octets receiver.settings (calls ++ calls_for receiver.settings.size receipt
     (packet_in receiver.rtp receiver.settings.size datagram)) ≡ given_octets receiver.settings calls)
@@ -74,6 +77,12 @@ pub played-more : (receiver receiver' : Receiver) (received : List (List ℕ)) (
 played-more receiver receiver' received went octets k settings rtp stands given = record {
   calls = k.calls ++ Plays ∷ [];
   stands = stands k.calls k.stands;
-  arrivals_are = rw (settings, rtp, arrivals-append k.calls (Plays ∷ []), append-nil (arrivals_of k.calls)) k.arrivals_are;
+  arrivals_are = rw (
+    settings,
+    rtp,
+    arrivals-append k.calls (Plays ∷ []),
+    append-nil
+        (arrivals_of k.calls),
+  ) k.arrivals_are;
   went_are = rw (given k.calls k.stands, k.went_are) refl;
 }

@@ -43,8 +43,18 @@ fn spell(room: &mut TrunkRecord, head: Head, body: &[u8])
 fn write_records<K: Sink>(sink: &mut K, ended: &mut bool, octets: &[u8])
     requires { ended.old ≡ false → CanCount (K.tells sink.old).failures }
     ensures written { WritesRecords
-        (record { ended = ended.old; failures = (K.tells sink.old).failures; taken = (K.tells sink.old).taken })
-        (record { ended = ended.new; failures = (K.tells sink.new).failures; taken = (K.tells sink.new).taken })
+        (record {
+          ended = ended.old;
+          failures = (K.tells sink.old).failures;
+          taken =
+              (K.tells sink.old).taken;
+        })
+        (record {
+          ended = ended.new;
+          failures = (K.tells sink.new).failures;
+          taken =
+              (K.tells sink.new).taken;
+        })
         octets.now }
     ensures counts { ended.new ≡ false → CanCount (K.tells sink.new).failures }
 {

@@ -55,7 +55,8 @@ more-of course sent left left' xs t short e =
         last = record { octets = last.octets ++ xs; is_discarded = last.is_discarded };
         whole = t.thinned.whole;
         short = omega (arith, long, short);
-        sent_are = rw (t.thinned.sent_are) (append_assoc (flat_map multiframe_octets t.thinned.multiframes) last.octets xs);
+        sent_are = rw (t.thinned.sent_are) (append_assoc
+            (flat_map multiframe_octets t.thinned.multiframes) last.octets xs);
         left_are = e ∙ rw (t.thinned.left_are, t.discards_is)
             (left-goes last.is_discarded (flat_map left_of t.thinned.multiframes) last.octets xs);
         discarded_is = t.thinned.discarded_is;

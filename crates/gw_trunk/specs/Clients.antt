@@ -83,7 +83,8 @@ OnlyAt place places places' = (k : ℕ) → k ≢ place → at places' k ≡ at 
 
 -- What came as an answer went to the client whose record was the last one, if it is still there. The clients
 -- at all other places are as they were, and if no record waits for its answer nothing came.
-pub record HasAnswered (asker : Option ℕ) (places places' : List (Option Client)) (answered answered' : List ℕ)
+pub record HasAnswered (asker : Option ℕ) (places places' : List (Option Client))
+    (answered answered' : List ℕ)
     : Type 0 where
   pub octets : List ℕ
   pub answered_are : answered' ≡ answered ++ octets
@@ -96,7 +97,8 @@ abbrev pub AllKeep : List (Option Client) → List (Option Client) → Type 0
 AllKeep places places' = (k : ℕ) → Keeps (at places k) (at places' k)
 
 -- A client gave one more record: the answer to it is for this client. The others stay or are let go.
-pub record HasGiven (places places' : List (Option Client)) (asker : Option ℕ) (octets : List ℕ) : Type 0 where
+pub record HasGiven (places places' : List (Option Client)) (asker : Option ℕ)
+    (octets : List ℕ) : Type 0 where
   pub place : ℕ
   pub asker_is : asker ≡ Some place
   pub gives : GaveAt (at places place) (at places' place) octets

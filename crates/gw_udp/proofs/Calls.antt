@@ -65,7 +65,8 @@ pub are_bound : {S : Type 0} (is_bound : Bound S) (looks_up : LookUp) (host : Li
 are_bound is_bound looks_up host senders ports endpoints n len has = λ i. go i (nat_lt i n) refl
   where
     go : (i : ℕ) (b : Bool) → nat_lt i n ≡ b → IsBoundTo is_bound (slice_index_or endpoints i None)
-    go i true below = bound_to is_bound looks_up host senders (slice_index_or ports i None) _ (has i None None (ltb-true i n below))
+    go i true below = bound_to is_bound looks_up host senders (slice_index_or ports i None) _ (has i None None
+        (ltb-true i n below))
     go i false past =
         let none : slice_index_or endpoints i None ≡ None =
         get_or-eq_default endpoints None (omega (arith, len, ltb-false i n past)) in

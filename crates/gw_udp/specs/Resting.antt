@@ -28,7 +28,8 @@ pub record Rests {S : Type 0} (old new : Resting S) (r : Result (Option (ℕ × 
 -- A receive asked the socket inside, or rested; either way as many receives may rest as before. (So at least
 -- one of `most` and 1 receives asks.)
 abbrev pub RestingReceives : {S : Type 0} → Received S → Received (Resting S)
-RestingReceives receives old new r room = (Asks receives old new r room ⊎ Rests old new r) × (new.most ≡ old.most)
+RestingReceives receives old new r room = (Asks receives old new r room ⊎ Rests old new r)
+    × (new.most ≡ old.most)
 
 -- the socket inside is bound to the address, and no rest is left
 abbrev pub RestingIsBound : {S : Type 0} → Bound S → Bound (Resting S)

@@ -16,7 +16,8 @@ loop-octet-preserved c =
       stands = subst (ChecksAfter c.octet.new.self) (next-octet octets i c.loop-octet-test.true)
           (c.octet.ensures.stands (take i octets) so.stands);
       counted = ap (λ k. counts_after k (take (i + 1) octets) (drop (i + 1) octets))
-          (c.counts_with-counts.ensures ∙ ap (counts_with c.loop-octet.counts) (c.octet.ensures.reply (take i octets) so.stands))
+          (c.counts_with-counts.ensures
+          ∙ ap (counts_with c.loop-octet.counts) (c.octet.ensures.reply (take i octets) so.stands))
           ∙ count-more octets i c.loop-octet.counts c.loop-octet-test.true ∙ so.counted;
     }
 

@@ -9,5 +9,10 @@ returns g c = inr (record {
   tape' = c.serve_through-ended.new.tape;
   opened = c.in_ok-ports.ensures.ok;
   begun = c.in_ok-tape.ensures.ok;
-  done = record { end = c.serve_through-ended.result; done = c.serve_through-ended.ensures; tells = c.end_session.ensures };
+  done = record {
+    end = c.serve_through-ended.result;
+    done = c.serve_through-ended.ensures;
+    tells =
+        c.end_session.ensures;
+  };
 })

@@ -13,7 +13,8 @@ pub returns-then-make_room : goal.returns-then-make_room
 returns-then-make_room g c =
     let circuit = c.get.ensures.value in
     batches_join _ _ _ [] _ c.make_room.ensures.batches
-    (batches_more _ _ _ (Record.Datagram c.args.circuit c.args.octets.now) (search rules) (rw circuit at c.append.ensures))
+    (batches_more _ _ _ (Record.Datagram c.args.circuit c.args.octets.now) (search rules)
+    (rw circuit at c.append.ensures))
 
 pub returns-else-make_room : goal.returns-else-make_room
 returns-else-make_room g c =

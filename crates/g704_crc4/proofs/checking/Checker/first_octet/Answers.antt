@@ -6,7 +6,8 @@ pub returns-clause-reply : goal.returns-clause-reply
 returns-clause-reply c history s e =
     let p = s.place in
     c.far_end_event.ensures
-    ∙ far-end-event-is c.args.self.now history c.args.octet s ((c.args.self.now.place + 1) % 512) refl (λ z. absurd (omega (arith, z, e)))
+    ∙ far-end-event-is c.args.self.now history c.args.octet s ((c.args.self.now.place + 1) % 512) refl (λ z. absurd
+    (omega (arith, z, e)))
 
 pub returns-clause-stands : goal.returns-clause-stands
 returns-clause-stands c history s e =
