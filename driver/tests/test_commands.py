@@ -20,26 +20,40 @@ def ran(*words: str, **around: str) -> tuple[int, str, str]:
 
 
 class Commands(support.Folder):
-    def links(self) -> dict[str, str]:
-        """The paths in the clone that lead to the launcher, by the command's name."""
+    def starters(self) -> dict[str, str]:
+        """The programs in the clone that start a command, by its name."""
         paths = [os.path.join(support.TOP, folder, name) for folder in ('driver', 'tools', 'examples')
                  for name in os.listdir(os.path.join(support.TOP, folder))]
-        launcher = os.path.join(DRIVER, 'launch')
-        return {os.path.basename(path).removeprefix('e1gw-'): path for path in paths
-                if os.path.islink(path) and os.path.realpath(path) == launcher}
+        found = {}
+        for path in filter(os.path.isfile, paths):
+            with open(path, encoding='utf-8') as file:
+                if 'from e1gw.__main__ import launch' in file.read() and os.path.basename(path) != 'launch':
+                    found[os.path.basename(path).removeprefix('e1gw-')] = path
+        return found
 
-    def test_each_command_has_a_link_and_an_entry_point(self) -> None:
+    def test_one_text_finds_the_package(self) -> None:
+        """The toolchain takes no links, so each folder with scripts has the same file."""
+        found = [os.path.join(folder, 'paths.py') for folder, _, names in os.walk(support.TOP)
+                 if 'paths.py' in names and os.sep + 'out' + os.sep not in folder + os.sep]
+        texts = set()
+        for path in found:
+            with open(path, encoding='utf-8') as file:
+                texts.add(file.read())
+        self.assertGreater(len(found), 1)
+        self.assertEqual(len(texts), 1)
+
+    def test_each_command_has_a_program_and_an_entry_point(self) -> None:
         with open(os.path.join(support.TOP, 'pyproject.toml'), 'rb') as file:
             project = tomllib.load(file)
-        self.assertEqual(sorted(self.links()), sorted(COMMANDS))
+        self.assertEqual(sorted(self.starters()), sorted(COMMANDS))
         self.assertEqual(project['project']['scripts'], {f'e1gw-{name}': 'e1gw.__main__:launch' for name in COMMANDS})
         folders = {path[len(DRIVER) + 1:].replace('/', '.') for path, _, names in os.walk(os.path.join(DRIVER, 'e1gw'))
                    if '__init__.py' in names}
         self.assertEqual(set(project['tool']['setuptools']['packages']), folders - {'e1gw.testing'})
 
-    def test_each_link_runs_its_command(self) -> None:
+    def test_each_program_runs_its_command(self) -> None:
         """The help names the command, and is that of python3 -m e1gw."""
-        for name, path in sorted(self.links().items()):
+        for name, path in sorted(self.starters().items()):
             with self.subTest(name):
                 status, said, _ = ran(path, '--help')
                 self.assertEqual((status, name in said), (0, True))
