@@ -7,8 +7,9 @@ import tempfile
 from typing import Any
 
 TOP, PROGRAM = sys.argv[1:3]
-SUBCOMMANDS = ['encode', 'decode', 'align', 'crc4', 'replay', 'check', 'serve', 'trunk']
-STREAMS = ['encode', 'decode']
+SUBCOMMANDS = ['encode', 'decode', 'align', 'crc4', 'replay', 'check', 'serve', 'trunk', 'satop']
+STREAMS = [['encode'], ['decode']]
+SATOP = ['satop', '127.0.0.1:0', '127.0.0.1:9']     # a circuit whose far end sends nothing
 SPEECH = bytes(range(256)) * 3
 
 failures: list[str] = []
@@ -98,7 +99,9 @@ def compare_options(lines: list[str]) -> None:
 
 
 def compare_values(option: str, lines: list[str]) -> None:
-    """The values of an option of a stream are those that the program takes, and its default is the program's."""
+    """The values of an option of a stream or a circuit are those that the program takes, and its default is the
+    program's."""
+    runs = [SATOP] if option in helped('satop') else STREAMS
     text = ' '.join(line.removeprefix('.Cm ') for line in lines)
     default = re.search(r'The default is (\S+?) ?\.', text)
     bounds = re.search(r'(\d+) to (\d+)\.', text)
@@ -106,14 +109,14 @@ def compare_values(option: str, lines: list[str]) -> None:
         good, bad = [bounds[1], bounds[2]], str(int(bounds[2]) + 1)
     else:
         good, bad = sorted(values(lines)), 'none'
-        expect(f'completion of --{option}', completed('encode', f'--{option}', ''), set(good))
-    for name in STREAMS:
+        expect(f'completion of --{option}', completed(runs[0][0], f'--{option}', ''), set(good))
+    for words in runs:
         for value in good:
-            expect(f'{name} --{option} {value}', run(name, f'--{option}', value)[0], 0)
-        expect(f'status of {name} --{option} {bad}', run(name, f'--{option}', bad)[0], 2)
+            expect(f'{words[0]} --{option} {value}', run(*words, f'--{option}', value)[0], 0)
+        expect(f'status of {words[0]} --{option} {bad}', run(*words, f'--{option}', bad)[0], 2)
     if default:
-        expect(f'encode --{option} {default[1]}', run('encode', f'--{option}', default[1], given=SPEECH),
-               run('encode', given=SPEECH))
+        expect(f'{runs[0][0]} --{option} {default[1]}', run(*runs[0], f'--{option}', default[1], given=SPEECH),
+               run(*runs[0], given=SPEECH))
 
 
 def compare_senders(folder: str) -> None:

@@ -114,7 +114,7 @@ const CONTROL_TEXT: &str =
 const TELL_TEXT: &str =
     "Unix socket at which clients are told how the trunk stands and\nwhat changes";
 
-const SIZE_TEXT: &str = "Octets of the trunk in a packet, 32 to 1280, a multiple of 32";
+const SIZE_TEXT: &str = "Octets in a packet, 32 to 1280, a multiple of 32";
 
 const JITTER_TEXT: &str = "Packets that are waited for after one that is due, 0 to 500";
 
