@@ -289,7 +289,8 @@ class Service(unittest.TestCase):
         world.step(100)
         heard = bytes(world.heard[begun:])
         self.assertEqual(checked(heard, world.alignment_of(heard)).count(False), 0)
-        self.assertEqual((world.status()['trunk_up'], world.state(1)), (True, 'answered'))
+        world.until(lambda: bool(world.status()['trunk_up']))
+        self.assertEqual(world.state(1), 'answered')
 
     def test_a_file_from_end_to_end(self) -> None:
         """What is written is what `e1gw crc4` makes of what a driver without --crc4 writes, up to the last octet."""

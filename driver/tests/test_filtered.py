@@ -258,7 +258,8 @@ class Service(unittest.TestCase):
                 world.take(door)
             world.step(50)
             world.connected()
-            self.assertEqual((world.status()['trunk_up'], world.state(1)), (True, 'answered'))
+            world.until(lambda: bool(world.status()['trunk_up']))
+            self.assertEqual(world.state(1), 'answered')
             status, said = world.quit()
             self.assertEqual((status, said.count(f'trunk lost: {ENDED}')),
                              (0, 1))

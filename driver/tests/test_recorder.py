@@ -202,7 +202,7 @@ class Ring(Recorded):
         for front in self.files():
             with open(f'{front}.json', encoding='utf-8') as file:
                 self.assertEqual(json.load(file)['config'], self.config)
-            status, said = run_last([os.path.join(support.TOP, 'scripts', 'records'), f'{front}.e1gw'])
+            status, said = run_last([os.path.join(support.TOP, 'tools', 'records'), f'{front}.e1gw'])
             self.assertEqual(status, 0, said)
 
 

@@ -11,9 +11,11 @@ import tempfile
 import time
 import unittest
 import unittest.mock
+from functools import partial
 from typing import Any, Sequence, TypeVar
 
 from . import support
+from .flowing import is_seized
 from .world import ANSWERED, IDLE, LAUNCHER, SECONDS, SEIZED, World, config_of, descendant, free_ports
 from e1gw import session
 from e1gw.trunk import options_of, parts_of
@@ -56,7 +58,7 @@ def is_there(pid: int) -> bool:
 
 def call(world: World, circuit: int) -> None:
     """A call that is answered."""
-    assert world.ask(f'seize {circuit}') == f'seize {circuit}: done'
+    world.until(partial(is_seized, world, circuit))
     world.step(60)
     assert world.state(circuit) == 'answered'
 

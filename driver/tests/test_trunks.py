@@ -118,7 +118,8 @@ class Service(unittest.TestCase):
             self.assertEqual(world.ask_at_once('seize 2'), 'seize 2: no connection to the program')
             world.comes_again()
             world.step(50)
-            self.assertEqual((world.status()['trunk_up'], world.state(1)), (True, 'answered'))
+            world.until(lambda: bool(world.status()['trunk_up']))
+            self.assertEqual(world.state(1), 'answered')
 
     def test_a_trunk_that_takes_nothing_holds_nobody_else(self) -> None:
         with World(config_of(FOUR)) as world:
