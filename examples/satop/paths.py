@@ -1,5 +1,5 @@
-"""Lets the scripts of this folder import the packages of driver/, and the modules beside them; they import it first. TOP
-is the top of the repository. (Each folder has this file: the toolchain takes no links.)"""
+"""Lets the scripts of this folder import the packages of driver/, and what stands beside them; they import it first.
+TOP is the top of the repository. (Each folder has this file: the toolchain takes no links.)"""
 import os
 import sys
 
