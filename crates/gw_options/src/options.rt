@@ -116,7 +116,7 @@ const TELL_TEXT: &str =
 
 const SIZE_TEXT: &str = "Octets in a packet, 32 to 1280, a multiple of 32";
 
-const JITTER_TEXT: &str = "Packets that are waited for after one that is due, 0 to 500";
+const JITTER_TEXT: &str = "Packets waited for after one that is due, 0 to 500";
 
 const RTP_TEXT: &str = "Payload type of an RTP header in each packet, 0 to 127; none\nwithout it";
 
