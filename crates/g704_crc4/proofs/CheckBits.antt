@@ -1,7 +1,7 @@
 -- The check bits and the signal that a receiver finds in what is sent.
 use Rattle.std.proofs.Common.{◌≡◌, ℕ, zero, suc, ◌+◌, ◌*◌, ◌<◌, ◌≤◌, ◌/◌, ◌%◌, Bool, false, List, [], ◌∷◌}
 use Rattle.std.proofs.Common.{◌++◌, length, take, drop, refl, sym, ap, ◌∙◌, arith, inl, inr}
-use Rattle.std.specs.Prelude.{◌≢◌, ◌==◌, cond}
+use Rattle.std.specs.Prelude.{nat_le, ◌≢◌, ◌==◌, cond}
 use Rattle.std.proofs.lemmas.Bool.{cases_eq, eq-eqb, ne_eqb}
 use Rattle.std.proofs.lemmas.List.{length-take-le, length_push, take-append-drop}
 use Rattle.g704_framing.specs.Replies.{replies_after}
@@ -17,13 +17,13 @@ use Rattle.g704_crc4.proofs.Sent.{with-low, at-frame, at-other, si-sent}
 use Rattle.g704_crc4.proofs.Steps.{check-bits-are}
 
 -- In frames of odd number no check bit is sent.
-at-odd : (a b : Remainder) (frame : ℕ) → frame % 2 ≢ 0 → si_at a frame ≡ si_at b frame
-at-odd a b frame odd = rw (ne_eqb (frame % 2) 0 odd) refl
+at-odd : (a b : Remainder) (frame : ℕ) (came : Bool) → frame % 2 ≢ 0 → si_at a frame came ≡ si_at b frame came
+at-odd a b frame came odd = rw (ne_eqb (frame % 2) 0 odd) refl
 
 -- In frames of even number the check bits are sent in turn.
-at-even : (bits : Remainder) (frame number : ℕ) → frame % 2 ≡ 0 → frame / 2 % 4 ≡ number
-    → si_at bits frame ≡ check_bit bits number
-at-even bits frame number even is = rw (eq-eqb (frame % 2) 0 even, is) refl
+at-even : (bits : Remainder) (frame number : ℕ) (came : Bool) → frame % 2 ≡ 0 → frame / 2 % 4 ≡ number
+    → si_at bits frame came ≡ check_bit bits number
+at-even bits frame number came even is = rw (eq-eqb (frame % 2) 0 even, is) refl
 
 -- Check bits of no remainder are zeros.
 all-zeros : (number : ℕ) → check_bit no_remainder number ≡ false
@@ -37,7 +37,7 @@ all-zeros (suc (suc (suc (suc n)))) = refl
 at-same : (a b : Remainder) (place : ℕ) (x : ℕ) → place % 64 ≢ 0 → octet_at a place x ≡ octet_at b place x
 at-same a b place x ne = elim (cases_eq (place % 32) 0) [
   | inl e ↦ at-frame a place x e
-      ∙ ap (λ si. with_si si x) (at-odd a b (place / 32 % 16) (λ z. ne (omega (arith, e, z))))
+      ∙ ap (λ si. with_si si x) (at-odd a b (place / 32 % 16) (nat_le 128 x) (λ z. ne (omega (arith, e, z))))
       ∙ sym (at-frame b place x e)
   | inr other ↦ at-other a place x other ∙ sym (at-other b place x other)
 ]
@@ -47,10 +47,10 @@ at-check-bit : (bits : Remainder) (place : ℕ) (x : ℕ) → place % 64 ≡ 0
     → octet_at bits place x % 128 ≡ octet_at no_remainder place x
 at-check-bit bits place x e =
     let frame = place / 32 % 16 in
-    ap (λ o. o % 128) (at-frame bits place x (omega arith)) ∙ with-low (si_at bits frame) x
+    ap (λ o. o % 128) (at-frame bits place x (omega arith)) ∙ with-low (si_at bits frame (nat_le 128 x)) x
     ∙ sym (at-frame no_remainder place x (omega arith)
-    ∙ ap (λ si. with_si si x) (at-even no_remainder frame (frame / 2 % 4) (omega arith) refl
-    ∙ all-zeros (frame / 2 % 4)))
+    ∙ ap (λ si. with_si si x) (at-even no_remainder frame (frame / 2 % 4) (nat_le 128 x) (omega arith) refl
+        ∙ all-zeros (frame / 2 % 4)))
 
 -- What is sent, its check bit replaced by zero, is what the sender counts.
 clear-one : (bits : Remainder) (place : ℕ) (x : ℕ)
@@ -94,8 +94,10 @@ check-bit-sent : (octets : List ℕ) (n number : ℕ) → number < 4 → 256 * (
 check-bit-sent octets n number lt le =
     let frame = 8 * (n + 1) + 2 * number in
     si-sent octets frame (omega arith)
-    ∙ ap (λ w. si_at w (frame % 16)) (check-bits-there octets n (32 * frame) (omega arith) (omega arith) (omega arith))
-    ∙ at-even (remainder_of (submultiframe n (zeroed octets))) (frame % 16) number (omega arith) (omega arith)
+    ∙ ap (λ w. si_at w (frame % 16) (si_of octets frame))
+        (check-bits-there octets n (32 * frame) (omega arith) (omega arith) (omega arith))
+    ∙ at-even (remainder_of (submultiframe n (zeroed octets))) (frame % 16) number (si_of octets frame)
+        (omega arith) (omega arith)
 
 -- A receiver finds every whole submultiframe right.
 pub right-check-bits : CheckBitsAreRight
@@ -112,21 +114,25 @@ right-check-bits octets n le =
 -- The Si bit of a frame of a whole multiframe.
 in-multiframe : (octets : List ℕ) (n frame : ℕ) → frame < 16 → 512 * (n + 1) ≤ length octets
     → si_of (sent_octets octets) (16 * n + frame)
-    ≡ si_at (check_bits_after (take (32 * (16 * n + frame)) octets)) frame
+    ≡ si_at (check_bits_after (take (32 * (16 * n + frame)) octets)) frame (si_of octets (16 * n + frame))
 in-multiframe octets n frame lt le =
     let e : (16 * n + frame) % 16 ≡ frame = omega arith in
     si-sent octets (16 * n + frame) (omega arith)
-    ∙ ap (si_at (check_bits_after (take (32 * (16 * n + frame)) octets))) e
+    ∙ ap (λ k. si_at (check_bits_after (take (32 * (16 * n + frame)) octets)) k (si_of octets (16 * n + frame))) e
 
 -- A receiver finds the multiframe alignment signal in every whole multiframe.
 pub right-signal : SignalIsSent
-right-signal octets n le = record {
-  bit_1 = in-multiframe octets n 1 (omega arith) le;
-  bit_2 = in-multiframe octets n 3 (omega arith) le;
-  bit_3 = in-multiframe octets n 5 (omega arith) le;
-  bit_4 = in-multiframe octets n 7 (omega arith) le;
-  bit_5 = in-multiframe octets n 9 (omega arith) le;
-  bit_6 = in-multiframe octets n 11 (omega arith) le;
-  e_1 = in-multiframe octets n 13 (omega arith) le;
-  e_2 = in-multiframe octets n 15 (omega arith) le;
-}
+right-signal octets n le = (
+  record {
+    bit_1 = in-multiframe octets n 1 (omega arith) le;
+    bit_2 = in-multiframe octets n 3 (omega arith) le;
+    bit_3 = in-multiframe octets n 5 (omega arith) le;
+    bit_4 = in-multiframe octets n 7 (omega arith) le;
+    bit_5 = in-multiframe octets n 9 (omega arith) le;
+    bit_6 = in-multiframe octets n 11 (omega arith) le;
+  },
+  record {
+    e_1 = in-multiframe octets n 13 (omega arith) le;
+    e_2 = in-multiframe octets n 15 (omega arith) le;
+  },
+)

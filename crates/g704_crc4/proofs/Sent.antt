@@ -27,7 +27,7 @@ with-high false x = lt-leb 128 (x % 128) (omega arith)
 
 -- The first octet of a frame is sent with its Si bit.
 pub at-frame : (bits : Remainder) (place : ℕ) (x : ℕ) → place % 32 ≡ 0
-    → octet_at bits place x ≡ with_si (si_at bits (place / 32 % 16)) x
+    → octet_at bits place x ≡ with_si (si_at bits (place / 32 % 16) (nat_le 128 x)) x
 unfolding octet_at
 at-frame bits place x e = rw (eq-eqb (place % 32) 0 e) refl
 
@@ -58,20 +58,21 @@ sent-place octets i lt =
 
 -- The Si bit of a frame as it is sent.
 pub si-sent : (octets : List ℕ) (frame : ℕ) → 32 * frame < length octets
-    → si_of (sent_octets octets) frame ≡ si_at (check_bits_after (take (32 * frame) octets)) (frame % 16)
+    → si_of (sent_octets octets) frame
+        ≡ si_at (check_bits_after (take (32 * frame) octets)) (frame % 16) (si_of octets frame)
 unfolding si_of
 si-sent octets frame lt =
     let bits = check_bits_after (take (32 * frame) octets) in
     let x = slice_index octets (32 * frame) in
     let n : 32 * frame / 32 % 16 ≡ frame % 16 = omega arith in
     ap (nat_le 128) (sent-place octets (32 * frame) lt ∙ at-frame bits (32 * frame) x (omega arith))
-    ∙ with-high (si_at bits (32 * frame / 32 % 16)) x
-    ∙ ap (si_at bits) n
+    ∙ with-high (si_at bits (32 * frame / 32 % 16) (nat_le 128 x)) x
+    ∙ ap (λ k. si_at bits k (nat_le 128 x)) n
 
 -- The other bits of an octet stay as they are.
 low-kept : (bits : Remainder) (place : ℕ) (x : ℕ) → octet_at bits place x % 128 ≡ x % 128
 low-kept bits place x = elim (cases_eq (place % 32) 0) [
-  | inl e ↦ ap (λ o. o % 128) (at-frame bits place x e) ∙ with-low (si_at bits (place / 32 % 16)) x
+  | inl e ↦ ap (λ o. o % 128) (at-frame bits place x e) ∙ with-low (si_at bits (place / 32 % 16) (nat_le 128 x)) x
   | inr ne ↦ ap (λ o. o % 128) (at-other bits place x ne)
 ]
 

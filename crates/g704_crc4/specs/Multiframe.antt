@@ -2,7 +2,7 @@
 -- octet; even frames carry the frame alignment signal. A multiframe has sixteen frames, a submultiframe
 -- eight.
 use Rattle.std.specs.Prelude.{ℕ, ◌+◌, ◌-◌, ◌/◌, ◌%◌, Bool, true, false, ◌==◌, if◌then◌else◌}
-use Rattle.std.specs.Prelude.{List, [], ◌∷◌, length, slice_index_or}
+use Rattle.std.specs.Prelude.{List, [], ◌∷◌, length, slice_index_or, nat_le}
 use Rattle.g704_framing.specs.Replies.{stream_replies}
 use Rattle.g704_crc4.specs.declared.remainder.Remainder.{Remainder}
 use Rattle.g704_crc4.specs.Remainder.{no_remainder, remainder_of}
@@ -17,18 +17,20 @@ abbrev pub check_bit : Remainder → ℕ → Bool
 check_bit bits number = slice_index_or (bits.c1 ∷ bits.c2 ∷ bits.c3 ∷ bits.c4 ∷ []) number false
 
 -- The Si bits of the eight frames without the frame alignment signal: the CRC multiframe alignment signal
--- 001011, and both E bits, 1 for "no error".
-abbrev pub signal_bit : ℕ → Bool
-signal_bit number =
-    slice_index_or (false ∷ false ∷ true ∷ false ∷ true ∷ true ∷ true ∷ true ∷ []) number false
+-- 001011, and both E bits as they come.
+abbrev pub signal_bit : ℕ → Bool → Bool
+signal_bit number came =
+    slice_index_or (false ∷ false ∷ true ∷ false ∷ true ∷ true ∷ came ∷ came ∷ []) number false
 
--- The Si bit of a frame of a multiframe.
-abbrev pub si_at : Remainder → ℕ → Bool
-si_at bits frame = if frame % 2 == 0 then check_bit bits (frame / 2 % 4) else signal_bit (frame / 2)
+-- The Si bit of a frame of a multiframe, by the one that comes.
+abbrev pub si_at : Remainder → ℕ → Bool → Bool
+si_at bits frame came =
+    if frame % 2 == 0 then check_bit bits (frame / 2 % 4) else signal_bit (frame / 2) came
 
 -- The octet sent at a place of the stream, with these check bits.
 unfoldable pub octet_at : Remainder → ℕ → ℕ → ℕ
-octet_at bits place octet = if place % 32 == 0 then with_si (si_at bits (place / 32 % 16)) octet else octet
+octet_at bits place octet =
+    if place % 32 == 0 then with_si (si_at bits (place / 32 % 16) (nat_le 128 octet)) octet else octet
 
 -- The octets of a stream as sent, with check bits replaced by zeros.
 abbrev pub zeroed : List ℕ → List ℕ

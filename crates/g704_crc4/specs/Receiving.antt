@@ -34,7 +34,7 @@ unfoldable pub remainder_in : List ℕ → ℕ → Remainder
 remainder_in octets number = remainder_of (submultiframe number (cleared octets))
 
 -- A multiframe has the CRC multiframe alignment signal 001011 in the frames without the frame alignment
--- signal, and both E bits report no error.
+-- signal.
 pub record HasSignal (octets : List ℕ) (number : ℕ) : Type 0 where
   pub bit_1 : si_of octets (16 * number + 1) ≡ false
   pub bit_2 : si_of octets (16 * number + 3) ≡ false
@@ -42,8 +42,11 @@ pub record HasSignal (octets : List ℕ) (number : ℕ) : Type 0 where
   pub bit_4 : si_of octets (16 * number + 7) ≡ false
   pub bit_5 : si_of octets (16 * number + 9) ≡ true
   pub bit_6 : si_of octets (16 * number + 11) ≡ true
-  pub e_1 : si_of octets (16 * number + 13) ≡ true
-  pub e_2 : si_of octets (16 * number + 15) ≡ true
+
+-- A multiframe has the E bits that came.
+pub record KeepsErrorBits (octets sent : List ℕ) (number : ℕ) : Type 0 where
+  pub e_1 : si_of sent (16 * number + 13) ≡ si_of octets (16 * number + 13)
+  pub e_2 : si_of sent (16 * number + 15) ≡ si_of octets (16 * number + 15)
 
 -- One octet is sent for each received.
 abbrev pub LengthIsKept : Type 0
@@ -60,7 +63,7 @@ abbrev pub CheckBitsAreRight : Type 0
 CheckBitsAreRight = (octets : List ℕ) (number : ℕ) → 256 * (number + 2) ≤ length octets
     → check_bits_in (sent_octets octets) (number + 1) ≡ remainder_in (sent_octets octets) number
 
--- In what is sent each whole multiframe has the signal.
+-- In what is sent each whole multiframe has the signal, and the E bits that came.
 abbrev pub SignalIsSent : Type 0
 SignalIsSent = (octets : List ℕ) (number : ℕ) → 512 * (number + 1) ≤ length octets
-    → HasSignal (sent_octets octets) number
+    → HasSignal (sent_octets octets) number × KeepsErrorBits octets (sent_octets octets) number

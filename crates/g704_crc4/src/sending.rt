@@ -11,7 +11,8 @@ use crate::{BIT_1, FRAME, SUBMULTIFRAME};
 
 /// Puts CRC-4 multiframes into bit 1 of time slot 0.
 ///
-/// The frames begin at the first octet, which carries the frame alignment signal. No other bit changes.
+/// The frames begin at the first octet, which carries the frame alignment signal. No other bit changes,
+/// nor do the E bits (see [`crate::ErrorBits`]).
 #[derive(Clone, Copy, Debug, PartialEq, Eq)]
 pub struct Multiframer {
     // The octets so far, modulo 2^16, a whole number of multiframes.
@@ -62,8 +63,9 @@ impl Multiframer {
         self.begin_submultiframe();
         let frame = self.place / FRAME % 16;
         self.place = self.place.wrapping_add(1);
-        self.running = number_after(self.running, with_si(octet, si_at(0, frame)));
-        with_si(octet, si_at(self.before, frame))
+        let came = octet >= BIT_1;
+        self.running = number_after(self.running, with_si(octet, si_at(0, frame, came)));
+        with_si(octet, si_at(self.before, frame, came))
     }
 
     // Begins the next submultiframe if the last one has ended.
@@ -77,22 +79,26 @@ impl Multiframer {
     }
 }
 
-// The Si bit of a frame of a multiframe.
-fn si_at(number: u8, frame: u16) -> bool
-    ensures { (bits : Remainder) → number ≡ crc_number bits → result ≡ si_at bits frame }
+// The Si bit of a frame of a multiframe, by the one that comes.
+fn si_at(number: u8, frame: u16, came: bool) -> bool
+    ensures { (bits : Remainder) → number ≡ crc_number bits → result ≡ si_at bits frame came }
 {
     if frame % 2 == 0 {
         check_bit(number, frame / 2 % 4)
     } else {
-        signal_bit(frame / 2)
+        signal_bit(frame / 2, came)
     }
 }
 
-// The multiframe alignment signal and both E bits, by number from 0.
-fn signal_bit(number: u16) -> bool
-    ensures { result ≡ signal_bit number }
+// The multiframe alignment signal, and both E bits as they come, by number from 0.
+fn signal_bit(number: u16, came: bool) -> bool
+    ensures { result ≡ signal_bit number came }
 {
-    matches!(number, 2 | 4 | 5 | 6 | 7)
+    match number {
+        2 | 4 | 5 => true,
+        6 | 7 => came,
+        _ => false,
+    }
 }
 
 // An octet with a bit 1.

@@ -1,18 +1,16 @@
 //! The filters of the program.
 
-ghost use Rattle.std.specs.Prelude.{IfOk, IfErr};
+ghost use Rattle.std.specs.Prelude.{[], IfOk, IfErr};
 ghost use Rattle.g704_bits.specs.Standing.{StandsAfter};
-ghost use Rattle.g704_crc4.specs.States.{SendsAfter};
-ghost use Rattle.g704_crc4.specs.Multiframe.{sent_octet};
 ghost use Rattle.gw_records.specs.Streams.{CanBegin};
 ghost use Rattle.gw_filter.specs.Align.{align_reply, Aligns, AlignsUntil};
 ghost use Rattle.g704_crc4.specs.Receivers.{ChecksTrunk};
 ghost use Rattle.gw_filter.specs.Check.{same_octet, ChecksMultiframes, ChecksMultiframesUntil};
-ghost use Rattle.gw_filter.specs.Crc4.{SendsMultiframes, SendsMultiframesUntil};
+ghost use Rattle.gw_filter.specs.Crc4.{SendsCrc4, crc4_octet, SendsMultiframes, SendsMultiframesUntil};
 
 use crate::through::{OctetFilter, octets_through};
 use g704_bits::BitAligner;
-use g704_crc4::{Multiframer, Tally, TrunkChecker};
+use g704_crc4::{ErrorBits, Multiframer, Tally, TrunkChecker};
 use gw_records::{RunFault, Sink, Source, Totals};
 
 impl OctetFilter for BitAligner {
@@ -25,13 +23,33 @@ impl OctetFilter for BitAligner {
     }
 }
 
-impl OctetFilter for Multiframer {
-    ghost has_taken = { SendsAfter };
+// Puts CRC-4 multiframes with E bits into a trunk.
+#[derive(Clone, Copy, Debug, PartialEq, Eq)]
+struct Crc4Sender {
+    error_bits: ErrorBits,
+    multiframer: Multiframer,
+}
 
-    ghost reply_after = { sent_octet };
+impl Crc4Sender {
+    // A sender at the start of a stream.
+    fn new() -> Self
+        ensures { SendsCrc4 result [] }
+    {
+        Crc4Sender {
+            error_bits: ErrorBits::new(),
+            multiframer: Multiframer::new(),
+        }
+    }
+}
+
+impl OctetFilter for Crc4Sender {
+    ghost has_taken = { SendsCrc4 };
+
+    ghost reply_after = { crc4_octet };
 
     fn next_octet(&mut self, octet: u8) -> u8 {
-        self.octet(octet)
+        let with_bit = self.error_bits.octet(octet);
+        self.multiframer.octet(with_bit)
     }
 }
 
@@ -83,9 +101,9 @@ pub fn align_stream<S: Source, K: Sink>(source: &mut S, sink: &mut K) -> Result<
 
 /// Writes a trunk's octets with CRC-4 multiframes.
 ///
-/// It writes one octet for each octet of the source, as `g704_crc4::Multiframer` returns it. The frames begin
-/// at the first octet, as those of a gateway. All are written before the source is read again. The octets are
-/// counted. No memory is taken.
+/// It writes one octet for each octet of the source, as `g704_crc4::Multiframer` returns it. E bits are 1.
+/// The frames begin at the first octet, as those of a gateway. All are written before the source is
+/// read again. The octets are counted. No memory is taken.
 ///
 /// # Errors
 ///
@@ -97,7 +115,7 @@ pub fn crc4_stream<S: Source, K: Sink>(source: &mut S, sink: &mut K) -> Result<T
     ensures fault { IfErr result (SendsMultiframesUntil
         (S.tells source.old) (S.tells source.new) (K.tells sink.old) (K.tells sink.new)) }
 {
-    octets_through(&mut Multiframer::new(), source, sink)
+    octets_through(&mut Crc4Sender::new(), source, sink)
 }
 
 /// Writes a trunk's octets unchanged and counts its CRC-4 multiframes.
