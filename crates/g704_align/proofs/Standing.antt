@@ -18,7 +18,7 @@ use Rattle.g704_align.specs.declared.alignment.Phase.{Phase}
 use Rattle.g704_align.specs.declared.alignment.Phase.TheVariants.{Searching, Candidate, Aligned}
 use Rattle.g704_align.specs.Loss.{frame_alignment, is_third_wrong}
 use Rattle.g704_align.specs.Placing.{place_of, number_of, frames, place, alarm_after}
-use Rattle.g704_align.specs.Aligner.{IsAlignment, Describes, Follows, Stands}
+use Rattle.g704_align.specs.Aligner.{IsAlignment, Describes, Follows, HasHistory}
 use Rattle.g704_align.proofs.Searches.{frame_is_framing, search-found}
 
 -- the age of an octet of a present alignment
@@ -101,7 +101,7 @@ pub place-unless_aligned : (phase : Phase) (b : Option ℕ) (c : List ℕ) (x : 
 place-unless_aligned phase b c x f unless = subst IsNoSpeech (place-unless_before phase b c x f unless) refl
 
 -- the same in the whole history
-pub place-left : (phase : Phase) (history : List ℕ) (octet : ℕ) (h : Stands (record { phase = phase }) history)
+pub place-left : (phase : Phase) (history : List ℕ) (octet : ℕ) (h : HasHistory (record { phase = phase }) history)
     → IsNoSpeech (place_since frames (last_of None h.earlier) (h.since ++ octet ∷ []) (length h.since))
     → number_of (place (history ++ octet ∷ []) (length history)) % 16 ≡ 0
 place-left phase history octet h is =
@@ -110,7 +110,7 @@ place-left phase history octet h is =
 -- the aligner has the history with one more octet
 pub stands-follows : (phase : Phase) (history earlier since : List ℕ) (x : ℕ) → history ≡ earlier ++ since
     → IsOver frame_alignment None earlier → Follows phase (last_of None earlier) (since ++ x ∷ [])
-    → Stands (record { phase = phase }) (history ++ x ∷ [])
+    → HasHistory (record { phase = phase }) (history ++ x ∷ [])
 stands-follows Searching history earlier since x e over f =
     since-anew frame_alignment _ history earlier since x e over f refl
 stands-follows (Candidate age) history earlier since x e over f =
@@ -119,7 +119,7 @@ stands-follows (Aligned age ws wd) history earlier since x e over f =
     since-more frame_alignment _ history earlier since x e over f
 
 -- an aligner that has seen nothing
-pub stands-new : Stands (record { phase = Searching }) []
+pub stands-new : HasHistory (record { phase = Searching }) []
 stands-new = since-nothing frame_alignment _ refl
 
 -- the alarm, by the phase
@@ -142,11 +142,11 @@ alarm-after (Aligned age ws wd) earlier since over f =
     ∙ alarm-since frames earlier since over (omega arith)
 
 -- the alarm, in each phase
-alarm-stands : (phase : Phase) (history : List ℕ) → Stands (record { phase = phase }) history
+alarm-stands : (phase : Phase) (history : List ℕ) → HasHistory (record { phase = phase }) history
     → alarm_of phase ≡ alarm_after history
 alarm-stands phase history h = rw h.whole (alarm-after phase h.earlier h.since h.over h.fields)
 
 -- the same, if the phase is known
-pub alarm-in : (phase is : Phase) (history : List ℕ) → phase ≡ is → Stands (record { phase = phase }) history
+pub alarm-in : (phase is : Phase) (history : List ℕ) → phase ≡ is → HasHistory (record { phase = phase }) history
     → alarm_of is ≡ alarm_after history
 alarm-in phase is history e h = sym (ap alarm_of e) ∙ alarm-stands phase history h

@@ -1,7 +1,6 @@
 -- The history of an aligner: the octets that it received, by its fields.
 use Rattle.std.specs.Prelude.{◌≡◌, ℕ, ◌+◌, ◌-◌, ◌%◌, ◌<◌, ◌≤◌, Bool, true, false, not, ◌&&◌, ◌||◌, ◌==◌}
-use Rattle.std.specs.Prelude.{nat_lt, if◌then◌else◌}
-use Rattle.std.specs.Prelude.{List, [], length, slice_index, Option, Some, None}
+use Rattle.std.specs.Prelude.{nat_lt, if◌then◌else◌, List, [], length, slice_index, Option, Some, None}
 use Rattle.g704_framing.specs.Restart.{IsOver, HoldsSince}
 use Rattle.g704_align.specs.declared.alignment.Aligner.{Aligner}
 use Rattle.g704_align.specs.declared.alignment.Phase.{Phase}
@@ -61,5 +60,6 @@ Follows (Candidate age) before octets = IsCandidate age octets
 Follows (Aligned age wrong_fas wrong_nfas) before octets = IsAlignment age wrong_fas wrong_nfas octets
 
 -- the aligner has this history: its fields describe the octets since the last restart
-abbrev pub Stands : Aligner → List ℕ → Type 0
-Stands aligner history = HoldsSince frame_alignment (λ before since. Describes aligner.phase since) history
+abbrev pub HasHistory : Aligner → List ℕ → Type 0
+HasHistory aligner history = HoldsSince frame_alignment
+    (λ before since. Describes aligner.phase since) history

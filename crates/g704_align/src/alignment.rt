@@ -7,7 +7,7 @@ ghost use Rattle.g704_align.specs.Search.{is_fas, is_nfas};
 ghost use Rattle.g704_framing.specs.Places.{place_since};
 ghost use Rattle.g704_align.specs.Placing.{frames, place, alarm_after, number_of};
 ghost use Rattle.g704_align.specs.Aligner.{IsCandidate, is_refuted, IsAlignment, count_after, Describes};
-ghost use Rattle.g704_align.specs.Aligner.{Follows, Stands};
+ghost use Rattle.g704_align.specs.Aligner.{Follows, HasHistory};
 
 mod saving;
 
@@ -82,7 +82,7 @@ pub struct Aligner {
 impl Aligner {
     /// An aligner at the start of a stream.
     pub fn new() -> Self
-        ensures { Stands result [] }
+        ensures { HasHistory result [] }
     {
         Aligner {
             phase: Phase::Searching,
@@ -91,10 +91,10 @@ impl Aligner {
 
     /// Takes the next octet and returns its place.
     pub fn octet(&mut self, octet: u8) -> Place
-        ensures placed { (history : List ℕ) → Stands self.old history
+        ensures placed { (history : List ℕ) → HasHistory self.old history
             → result ≡ place (history ++ octet ∷ []) (length history) }
-        ensures stands { (history : List ℕ) → Stands self.old history
-            → Stands self.new (history ++ octet ∷ []) }
+        ensures stands { (history : List ℕ) → HasHistory self.old history
+            → HasHistory self.new (history ++ octet ∷ []) }
         ensures in_frame { number_of result < 32 }
     {
         match self.pass() {
@@ -109,12 +109,12 @@ impl Aligner {
     /// nothing changes, and the octet is for `octet`.
     #[inline]
     pub fn pass(&mut self) -> Option<Place>
-        ensures placed { (history : List ℕ) (octet : ℕ) → Stands self.old history
+        ensures placed { (history : List ℕ) (octet : ℕ) → HasHistory self.old history
             → IfSome result (λ p. p ≡ place (history ++ octet ∷ []) (length history)) }
-        ensures stands { (history : List ℕ) (octet : ℕ) → Stands self.old history
-            → IfSome result (λ _. Stands self.new (history ++ octet ∷ [])) }
+        ensures stands { (history : List ℕ) (octet : ℕ) → HasHistory self.old history
+            → IfSome result (λ _. HasHistory self.new (history ++ octet ∷ [])) }
         ensures none { IfNone result (self.new ≡ self.old) }
-        ensures left { (history : List ℕ) (octet : ℕ) → Stands self.old history
+        ensures left { (history : List ℕ) (octet : ℕ) → HasHistory self.old history
             → IfNone result (number_of (place (history ++ octet ∷ []) (length history)) % 16 ≡ 0) }
         ensures in_frame { IfSome result (λ p. number_of p < 32) }
         ensures speech { IfSome result (λ p. number_of p % 16 ≢ 0) }
@@ -131,10 +131,10 @@ impl Aligner {
 
     // Does the work of `octet` for an octet that may be a signal.
     fn follow(&mut self, octet: u8) -> Place
-        ensures placed { (history : List ℕ) → Stands self.old history
+        ensures placed { (history : List ℕ) → HasHistory self.old history
             → result ≡ place (history ++ octet ∷ []) (length history) }
-        ensures stands { (history : List ℕ) → Stands self.old history
-            → Stands self.new (history ++ octet ∷ []) }
+        ensures stands { (history : List ℕ) → HasHistory self.old history
+            → HasHistory self.new (history ++ octet ∷ []) }
         ensures in_frame { number_of result < 32 }
     {
         let before = self.phase;
@@ -144,7 +144,7 @@ impl Aligner {
 
     /// Whether there is no alignment, as before the first octet.
     pub fn alarm(&self) -> bool
-        ensures { (history : List ℕ) → Stands self.now history → result ≡ alarm_after history }
+        ensures { (history : List ℕ) → HasHistory self.now history → result ≡ alarm_after history }
     {
         match self.phase {
             Phase::Searching | Phase::Candidate { .. } => true,

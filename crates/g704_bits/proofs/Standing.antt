@@ -11,7 +11,7 @@ use Rattle.g704_bits.specs.Loss.{is_lost_at, bit_alignment}
 use Rattle.g704_bits.specs.Bits.{offset_of, offset_after}
 use Rattle.g704_bits.specs.declared.aligner.Phase.{Phase}
 use Rattle.g704_bits.specs.declared.aligner.Phase.TheVariants.{Hunting, Aligned}
-use Rattle.g704_bits.specs.Aligner.{IsHunting, IsAlignment, Describes, FollowsAlignment, Stands}
+use Rattle.g704_bits.specs.Aligner.{IsHunting, IsAlignment, Describes, FollowsAlignment, HasHistory}
 use Rattle.g704_bits.specs.Aligner.{next_seen, confirms}
 use Rattle.g704_bits.proofs.Framing.{confirmed-append}
 use Rattle.g704_bits.proofs.Spans.{none-yet, one-stands, one-lost, over-lost, offset-since}
@@ -64,7 +64,7 @@ one_more history earlier since x e =
 
 -- no window came
 pub stands-new : (memory : List ℕ) → length memory ≡ 512
-    → Stands (record { phase = Hunting 0; offset = 7; memory = memory }) []
+    → HasHistory (record { phase = Hunting 0; offset = 7; memory = memory }) []
 unfolding offset_after alignments_from
 stands-new memory l = record {
   since = since-nothing bit_alignment (λ before windows. Describes (Hunting 0) memory windows)
@@ -75,9 +75,9 @@ stands-new memory l = record {
 
 -- nothing is found by the window
 pub stands-hunting : (seen o : ℕ) (memory history : List ℕ) (x : ℕ)
-    → Stands (record { phase = Hunting seen; offset = o; memory = memory }) history
+    → HasHistory (record { phase = Hunting seen; offset = o; memory = memory }) history
     → confirms seen memory x ≡ false
-    → Stands (record { phase = Hunting (next_seen seen); offset = o; memory = slice_set memory (seen % 512) x })
+    → HasHistory (record { phase = Hunting (next_seen seen); offset = o; memory = slice_set memory (seen % 512) x })
     (history ++ x ∷ [])
 stands-hunting seen o memory history x s quiet =
     let h = s.since in
@@ -94,9 +94,9 @@ stands-hunting seen o memory history x s quiet =
 
 -- alignment is found by it
 pub stands-found : (seen o bit : ℕ) (memory history : List ℕ) (x : ℕ)
-    → Stands (record { phase = Hunting seen; offset = o; memory = memory }) history
+    → HasHistory (record { phase = Hunting seen; offset = o; memory = memory }) history
     → confirms seen memory x ≡ true → bit ≡ length history % 8
-    → Stands (record { phase = Aligned 1 0 0; offset = bit; memory = memory }) (history ++ x ∷ [])
+    → HasHistory (record { phase = Aligned 1 0 0; offset = bit; memory = memory }) (history ++ x ∷ [])
 stands-found seen o bit memory history x s sure at =
     let h = s.since in
     let found = aligned-found seen memory h.since x h.fields sure in
@@ -118,9 +118,9 @@ stands-found seen o bit memory history x s sure at =
 
 -- an alignment goes on, or is lost
 pub stands-aligned : (age ws wd o : ℕ) (memory history : List ℕ) (x : ℕ) (after : Phase)
-    → Stands (record { phase = Aligned age ws wd; offset = o; memory = memory }) history
+    → HasHistory (record { phase = Aligned age ws wd; offset = o; memory = memory }) history
     → ((windows : List ℕ) → IsAlignment age ws wd windows → FollowsAlignment after windows x)
-    → Stands (record { phase = after; offset = o; memory = memory }) (history ++ x ∷ [])
+    → HasHistory (record { phase = after; offset = o; memory = memory }) (history ++ x ∷ [])
 stands-aligned age ws wd o memory history x (Aligned age' ws' wd') s follows =
     let h = s.since in
     let a = h.fields in

@@ -1,7 +1,6 @@
 -- The history of an aligner: the windows that it received, by its fields.
 use Rattle.std.specs.Prelude.{◌≡◌, ℕ, ◌+◌, ◌%◌, ◌<◌, ◌≤◌, Bool, true, false, ◌&&◌, nat_lt, nat_le}
-use Rattle.std.specs.Prelude.{if◌then◌else◌}
-use Rattle.std.specs.Prelude.{List, [], ◌∷◌, ◌++◌, length, slice_index}
+use Rattle.std.specs.Prelude.{if◌then◌else◌, List, [], ◌∷◌, ◌++◌, length, slice_index}
 use Rattle.g704_framing.specs.Restart.{HoldsSince}
 use Rattle.g704_bits.specs.declared.aligner.Aligner.{Aligner}
 use Rattle.g704_bits.specs.declared.aligner.Phase.{Phase}
@@ -62,7 +61,7 @@ FollowsAlignment (Aligned age wrong_fas wrong_nfas) windows window =
     IsAlignment age wrong_fas wrong_nfas (windows ++ window ∷ [])
 
 -- The aligner has this history of windows.
-pub record Stands (aligner : Aligner) (history : List ℕ) : Type 0 where
+pub record HasHistory (aligner : Aligner) (history : List ℕ) : Type 0 where
   pub since : HoldsSince bit_alignment
       (λ before windows. Describes aligner.phase aligner.memory windows) history
   pub offset : aligner.offset ≡ offset_after history

@@ -2,7 +2,7 @@
 
 ghost use Rattle.std.specs.Prelude.{◌≡◌, ◌+◌, ◌%◌, ◌<◌, ◌≤◌, ◌&&◌, ℕ, nat_le, List, Option, [], ◌∷◌, ◌++◌};
 ghost use Rattle.std.specs.Prelude.{length, slice_index};
-ghost use Rattle.g704_bits.specs.Aligner.{Stands, IsAlignment, FollowsAlignment, confirms, next_seen};
+ghost use Rattle.g704_bits.specs.Aligner.{HasHistory, IsAlignment, FollowsAlignment, confirms, next_seen};
 
 use g704_align::{count_after, is_fas, is_nfas};
 
@@ -49,7 +49,7 @@ pub(crate) struct Aligner {
 impl Aligner {
     // An aligner at the start of a stream.
     pub(crate) fn new() -> Self
-        ensures { Stands result [] }
+        ensures { HasHistory result [] }
     {
         Aligner {
             phase: Phase::Hunting { seen: 0 },
@@ -67,8 +67,8 @@ impl Aligner {
 
     // Takes the window that ends at the next bit, which is this one of its octet.
     pub(crate) fn window(&mut self, window: u8, bit: u8)
-        ensures stands { (history : List ℕ) → Stands self.old history → bit ≡ length history % 8
-            → Stands self.new (history ++ window ∷ []) }
+        ensures stands { (history : List ℕ) → HasHistory self.old history → bit ≡ length history % 8
+            → HasHistory self.new (history ++ window ∷ []) }
     {
         match self.phase {
             Phase::Hunting { seen } => self.hunt(seen, window, bit),
@@ -83,8 +83,8 @@ impl Aligner {
     // Takes a window without alignment.
     fn hunt(&mut self, seen: u16, window: u8, bit: u8)
         requires { self.old.phase ≡ Phase.Hunting seen }
-        ensures stands { (history : List ℕ) → Stands self.old history → bit ≡ length history % 8
-            → Stands self.new (history ++ window ∷ []) }
+        ensures stands { (history : List ℕ) → HasHistory self.old history → bit ≡ length history % 8
+            → HasHistory self.new (history ++ window ∷ []) }
     {
         if self.confirms(seen, window) {
             self.offset = bit;

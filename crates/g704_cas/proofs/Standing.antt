@@ -15,7 +15,7 @@ use Rattle.g704_cas.specs.declared.alignment.Phase.TheVariants.{Searching, Align
 use Rattle.g704_cas.specs.Search.{is_not_zero}
 use Rattle.g704_cas.specs.Loss.{multiframe_alignment}
 use Rattle.g704_cas.specs.Placing.{multiframes, alarm_after}
-use Rattle.g704_cas.specs.Aligner.{IsAlignment, Describes, Follows, Stands}
+use Rattle.g704_cas.specs.Aligner.{IsAlignment, Describes, Follows, HasHistory}
 use Rattle.g704_cas.proofs.Searches.{multiframe_is_framing, search-found}
 
 -- the age of an octet of a present alignment
@@ -46,7 +46,7 @@ place-next b c x frame frame' wrong wrong' h g =
 -- the aligner has the history with one more octet
 pub stands-follows : (phase : Phase) (history earlier since : List ℕ) (x : ℕ) → history ≡ earlier ++ since
     → IsOver multiframe_alignment None earlier → Follows phase (last_of None earlier) (since ++ x ∷ [])
-    → Stands (record { phase = phase }) (history ++ x ∷ [])
+    → HasHistory (record { phase = phase }) (history ++ x ∷ [])
 stands-follows (Searching after) history earlier since x e over f =
     since-anew multiframe_alignment _ history earlier since x e over f.0
     (refl, f.1 ∙ ap is_not_zero (sym (last_of-append None earlier (since ++ x ∷ []))))
@@ -54,12 +54,12 @@ stands-follows (Aligned frame wrong) history earlier since x e over f =
     since-more multiframe_alignment _ history earlier since x e over f
 
 -- an aligner that has seen nothing, or forgot it
-pub stands-new : Stands (record { phase = Searching false }) []
+pub stands-new : HasHistory (record { phase = Searching false }) []
 stands-new = since-nothing multiframe_alignment _ (refl, refl)
 
 -- the alarm while it hunts
 pub alarm-searching : (phase : Phase) (history : List ℕ) (after : Bool) → phase ≡ Searching after
-    → Stands (record { phase = phase }) history → true ≡ alarm_after history
+    → HasHistory (record { phase = phase }) history → true ≡ alarm_after history
 alarm-searching phase history after e h =
     let d : Describes (Searching after) (last_of None h.earlier) h.since
     = subst (λ p. Describes p (last_of None h.earlier) h.since) e h.fields in
@@ -67,7 +67,7 @@ alarm-searching phase history after e h =
 
 -- and while it is aligned
 pub alarm-aligned : (phase : Phase) (history : List ℕ) (frame : ℕ) (wrong : Bool) → phase ≡ Aligned frame wrong
-    → Stands (record { phase = phase }) history → false ≡ alarm_after history
+    → HasHistory (record { phase = phase }) history → false ≡ alarm_after history
 alarm-aligned phase history frame wrong e h =
     let d : IsAlignment (last_of None h.earlier) frame wrong h.since
     = subst (λ p. Describes p (last_of None h.earlier) h.since) e h.fields in

@@ -1,7 +1,6 @@
 -- The history of a multiframe aligner: the octets that it received, by its fields.
 use Rattle.std.specs.Prelude.{◌≡◌, ℕ, ◌+◌, ◌-◌, ◌%◌, ◌<◌, ◌≤◌, Bool, true, false, List, [], length}
-use Rattle.std.specs.Prelude.{slice_index}
-use Rattle.std.specs.Prelude.{Option}
+use Rattle.std.specs.Prelude.{slice_index, Option}
 use Rattle.g704_framing.specs.Restart.{IsOver, last_of, HoldsSince}
 use Rattle.g704_cas.specs.declared.alignment.MfAligner.{MfAligner}
 use Rattle.g704_cas.specs.declared.alignment.Phase.{Phase}
@@ -32,5 +31,5 @@ Follows (Searching after_nonzero) before octets =
 Follows (Aligned frame wrong) before octets = IsAlignment before frame wrong octets
 
 -- The aligner has this history: the octets since it was made, or since a loss of frame alignment.
-abbrev pub Stands : MfAligner → List ℕ → Type 0
-Stands aligner history = HoldsSince multiframe_alignment (Describes aligner.phase) history
+abbrev pub HasHistory : MfAligner → List ℕ → Type 0
+HasHistory aligner history = HoldsSince multiframe_alignment (Describes aligner.phase) history

@@ -4,7 +4,7 @@ ghost use Rattle.std.specs.Prelude.{◌≡◌, ◌+◌, ◌%◌, ◌<◌, ℕ, L
 ghost use Rattle.g704_cas.specs.Search.{is_mfas, is_not_zero};
 ghost use Rattle.g704_framing.specs.Places.{place_since};
 ghost use Rattle.g704_cas.specs.Placing.{multiframes, place, alarm_after, frame_of};
-ghost use Rattle.g704_cas.specs.Aligner.{IsAlignment, Describes, Follows, Stands};
+ghost use Rattle.g704_cas.specs.Aligner.{IsAlignment, Describes, Follows, HasHistory};
 
 mod saving;
 
@@ -47,17 +47,17 @@ pub struct MfAligner {
 impl MfAligner {
     /// An aligner at the start of a stream.
     pub fn new() -> Self
-        ensures { Stands result [] }
+        ensures { HasHistory result [] }
     {
         MfAligner { phase: AT_FIRST }
     }
 
     /// Takes the next octet of time slot 16 and returns its place.
     pub fn slot16(&mut self, octet: u8) -> MfPlace
-        ensures placed { (history : List ℕ) → Stands self.old history
+        ensures placed { (history : List ℕ) → HasHistory self.old history
             → result ≡ place (history ++ octet ∷ []) (length history) }
-        ensures stands { (history : List ℕ) → Stands self.old history
-            → Stands self.new (history ++ octet ∷ []) }
+        ensures stands { (history : List ℕ) → HasHistory self.old history
+            → HasHistory self.new (history ++ octet ∷ []) }
         ensures in_multiframe { frame_of result < 16 }
     {
         let before = self.phase;
@@ -67,14 +67,14 @@ impl MfAligner {
 
     /// Restarts after a loss of frame alignment.
     pub fn lost(&mut self)
-        ensures { Stands self.new [] }
+        ensures { HasHistory self.new [] }
     {
         self.phase = AT_FIRST;
     }
 
     /// Whether there is no alignment, as before the first octet.
     pub fn alarm(&self) -> bool
-        ensures { (history : List ℕ) → Stands self.now history → result ≡ alarm_after history }
+        ensures { (history : List ℕ) → HasHistory self.now history → result ≡ alarm_after history }
     {
         match self.phase {
             Phase::Searching { .. } => true,

@@ -10,8 +10,7 @@ use Rattle.g704_crc4.specs.Remainder.{no_remainder, remainder_of}
 use Rattle.g704_crc4.specs.Submultiframes.{each_at, submultiframe}
 use Rattle.g704_crc4.specs.Multiframe.{with_si, check_bit, si_at, octet_at, zeroed}
 use Rattle.g704_crc4.specs.Multiframe.{check_bits_after, sent_octet, sent_octets}
-use Rattle.g704_crc4.specs.Receiving.{si_of, check_bits_in, cleared_at, remainder_in}
-use Rattle.g704_crc4.specs.Receiving.{CheckBitsAreRight, SignalIsSent}
+use Rattle.g704_crc4.specs.Receiving.{si_of, check_bits_in, cleared_at, remainder_in, CheckBitsAreRight, SignalIsSent}
 use Rattle.g704_crc4.proofs.Submultiframes.{part-stays}
 use Rattle.g704_crc4.proofs.Sent.{with-low, at-frame, at-other, si-sent}
 use Rattle.g704_crc4.proofs.Steps.{check-bits-are}
@@ -50,7 +49,7 @@ at-check-bit bits place x e =
     ap (λ o. o % 128) (at-frame bits place x (omega arith)) ∙ with-low (si_at bits frame (nat_le 128 x)) x
     ∙ sym (at-frame no_remainder place x (omega arith)
     ∙ ap (λ si. with_si si x) (at-even no_remainder frame (frame / 2 % 4) (nat_le 128 x) (omega arith) refl
-        ∙ all-zeros (frame / 2 % 4)))
+    ∙ all-zeros (frame / 2 % 4)))
 
 -- What is sent, its check bit replaced by zero, is what the sender counts.
 clear-one : (bits : Remainder) (place : ℕ) (x : ℕ)
@@ -95,9 +94,9 @@ check-bit-sent octets n number lt le =
     let frame = 8 * (n + 1) + 2 * number in
     si-sent octets frame (omega arith)
     ∙ ap (λ w. si_at w (frame % 16) (si_of octets frame))
-        (check-bits-there octets n (32 * frame) (omega arith) (omega arith) (omega arith))
+    (check-bits-there octets n (32 * frame) (omega arith) (omega arith) (omega arith))
     ∙ at-even (remainder_of (submultiframe n (zeroed octets))) (frame % 16) number (si_of octets frame)
-        (omega arith) (omega arith)
+    (omega arith) (omega arith)
 
 -- A receiver finds every whole submultiframe right.
 pub right-check-bits : CheckBitsAreRight

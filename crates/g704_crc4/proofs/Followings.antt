@@ -7,13 +7,13 @@ use Rattle.std.proofs.lemmas.List.{length_push, drop-append-le, take-append-le, 
 use Rattle.g704_crc4.specs.declared.checking.Checker.{Checker}
 use Rattle.g704_crc4.specs.declared.checking.Event.{Event}
 use Rattle.g704_crc4.specs.declared.checking.Event.TheVariants.{Block}
-use Rattle.g704_crc4.specs.declared.receiving.Following.{Following}
-use Rattle.g704_crc4.specs.declared.receiving.Learned.TheVariants.{GivenUp, Received}
+use Rattle.g704_crc4.specs.declared.receiving.SubmultiframeCheck.{SubmultiframeCheck}
+use Rattle.g704_crc4.specs.declared.receiving.ReceiverEvent.TheVariants.{GivenUp, Received}
 use Rattle.g704_crc4.specs.Checking.{is_right, event_of}
 use Rattle.g704_crc4.specs.States.{ChecksAfter}
 use Rattle.g704_crc4.specs.Aligning.{searched_octets, multiframe_in, octets_from, checked_octets}
 use Rattle.g704_crc4.specs.Aligning.{known_blocks, errored_in, is_excessive, followed}
-use Rattle.g704_crc4.specs.Tally.{tells_given_up}
+use Rattle.g704_crc4.specs.ReceiverCounts.{tells_given_up}
 use Rattle.g704_crc4.specs.Receivers.{IsFollowed}
 use Rattle.g704_crc4.proofs.Blocks.{errored-stays, errored-more, errored-none, block-came, excessive-is}
 
@@ -64,7 +64,7 @@ tells-excess octets = elim (cases_Bool (is_excessive (checked_octets octets))) [
     no_end (Some event) = refl
 
 -- What is held, and the next octet of the frame alignment.
-module _ (m : Following) (octets : List ℕ) (x : ℕ) (s : IsFollowed m octets) where
+module _ (m : SubmultiframeCheck) (octets : List ℕ) (x : ℕ) (s : IsFollowed m octets) where
   -- Where multiframes begin does not change.
   found : multiframe_in (octets ++ x ∷ []) ≡ Some s.number
   found = multiframe-stays octets x s.past ∙ s.found
@@ -105,7 +105,7 @@ module _ (m : Following) (octets : List ℕ) (x : ℕ) (s : IsFollowed m octets)
       }
 
   -- What is held with an octet that is checked.
-  pub checks-on : (after : Following) → m.to_come ≡ 0 → after.to_come ≡ 0
+  pub checks-on : (after : SubmultiframeCheck) → m.to_come ≡ 0 → after.to_come ≡ 0
       → ChecksAfter after.checker (checked_octets octets ++ x ∷ [])
       → after.known ≡ known_blocks (checked_octets octets ++ x ∷ []) % 1000
       → after.errored ≡ errored_in (checked_octets octets ++ x ∷ [])
@@ -133,7 +133,7 @@ module _ (m : Following) (octets : List ℕ) (x : ℕ) (s : IsFollowed m octets)
   e = checked_octets octets ++ x ∷ []
 
   -- An octet without a known submultiframe.
-  pub no-block : (after : Following) → m.to_come ≡ 0 → after.to_come ≡ 0 → ChecksAfter after.checker e
+  pub no-block : (after : SubmultiframeCheck) → m.to_come ≡ 0 → after.to_come ≡ 0 → ChecksAfter after.checker e
       → (length e % 256 ≡ 0 → length e ≤ 256) → after.known ≡ m.known → after.errored ≡ m.errored
       → IsFollowed after (octets ++ x ∷ [])
   no-block after z to checks none known errored =
@@ -176,7 +176,8 @@ module _ (m : Following) (octets : List ℕ) (x : ℕ) (s : IsFollowed m octets)
       (total right is)
 
   -- An octet with one.
-  pub block : (after : Following) (right : Bool) → m.to_come ≡ 0 → after.to_come ≡ 0 → ChecksAfter after.checker e
+  pub block : (after : SubmultiframeCheck) (right : Bool) → m.to_come ≡ 0 → after.to_come ≡ 0
+      → ChecksAfter after.checker e
       → Some (Block right) ≡ event_of e → after.known ≡ (m.known + 1) % 1000
       → after.errored ≡ (if after.known == 0 then 0 else cond right m.errored (m.errored + 1))
       → is_excessive e ≡ false → IsFollowed after (octets ++ x ∷ [])

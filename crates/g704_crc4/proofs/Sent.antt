@@ -7,8 +7,7 @@ use Rattle.std.proofs.lemmas.List.{append-nil, get_or_past, length-take-le}
 use Rattle.g704_framing.specs.Replies.{replies_after}
 use Rattle.g704_framing.proofs.Replies.{length-replies}
 use Rattle.g704_crc4.specs.declared.remainder.Remainder.{Remainder}
-use Rattle.g704_crc4.specs.Multiframe.{with_si, si_at, octet_at}
-use Rattle.g704_crc4.specs.Multiframe.{check_bits_after, sent_octet, sent_octets}
+use Rattle.g704_crc4.specs.Multiframe.{with_si, si_at, octet_at, check_bits_after, sent_octet, sent_octets}
 use Rattle.g704_crc4.specs.Receiving.{si_of, LengthIsKept, OthersAreKept}
 
 -- One octet is sent for each that comes.
@@ -59,7 +58,7 @@ sent-place octets i lt =
 -- The Si bit of a frame as it is sent.
 pub si-sent : (octets : List ℕ) (frame : ℕ) → 32 * frame < length octets
     → si_of (sent_octets octets) frame
-        ≡ si_at (check_bits_after (take (32 * frame) octets)) (frame % 16) (si_of octets frame)
+    ≡ si_at (check_bits_after (take (32 * frame) octets)) (frame % 16) (si_of octets frame)
 unfolding si_of
 si-sent octets frame lt =
     let bits = check_bits_after (take (32 * frame) octets) in

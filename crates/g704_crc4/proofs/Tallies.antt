@@ -2,15 +2,15 @@
 use Rattle.std.proofs.Common.{◌≡◌, ℕ, ◌+◌, ◌-◌, ◌^◌, Bool, true, false, List, [], ◌∷◌, ◌++◌, Option, None, sym, ap, ◌∙◌}
 use Rattle.std.proofs.Common.{arith, append_assoc, append-nil}
 use Rattle.std.specs.Prelude.{min}
-use Rattle.g704_crc4.specs.declared.receiving.Learned.{Learned}
-use Rattle.g704_crc4.specs.declared.tallying.Tally.{Tally}
+use Rattle.g704_crc4.specs.declared.receiving.ReceiverEvent.{ReceiverEvent}
+use Rattle.g704_crc4.specs.declared.tallying.ReceiverCounts.{ReceiverCounts}
 use Rattle.g704_crc4.specs.Remainder.{bit_number}
 use Rattle.g704_crc4.specs.Aligning.{learned}
-use Rattle.g704_crc4.specs.Tally.{tells_block, tells_errored, tells_far_end, tells_found, tells_lost, tells_given_up}
-use Rattle.g704_crc4.specs.Tally.{times_after, times, count_with, tally_with, tally_of}
+use Rattle.g704_crc4.specs.ReceiverCounts.{tells_block, tells_errored, tells_far_end, tells_found, tells_lost}
+use Rattle.g704_crc4.specs.ReceiverCounts.{tells_given_up, times_after, times, count_with, tally_with, tally_of}
 
 -- How many octets have an event, with one more octet.
-times-push : (passes : Option Learned → Bool) (before octets : List ℕ) (x : ℕ)
+times-push : (passes : Option ReceiverEvent → Bool) (before octets : List ℕ) (x : ℕ)
     → times_after passes before (octets ++ x ∷ [])
     ≡ times_after passes before octets + bit_number (passes (learned (before ++ octets) x))
 unfolding times_after
@@ -24,7 +24,7 @@ times-push passes before (y ∷ octets) x =
     )
 
 -- The same as a count.
-counted-is : (passes : Option Learned → Bool) (history : List ℕ) (x : ℕ)
+counted-is : (passes : Option ReceiverEvent → Bool) (history : List ℕ) (x : ℕ)
     → count_with (times passes history) (passes (learned history x)) ≡ times passes (history ++ x ∷ [])
 counted-is passes history x =
     clamped (times_after passes [] history) (passes (learned history x))
@@ -36,7 +36,7 @@ counted-is passes history x =
 
 -- Counts are the same that are so one by one.
 same_tally : (a b c d e f a' b' c' d' e' f' : ℕ) → a ≡ a' → b ≡ b' → c ≡ c' → d ≡ d' → e ≡ e' → f ≡ f'
-    → ◌≡◌ {A = Tally}
+    → ◌≡◌ {A = ReceiverCounts}
     (record { submultiframes = a; errored = b; far_end_errored = c; found = d; lost = e; given_up = f })
     (record { submultiframes = a'; errored = b'; far_end_errored = c'; found = d'; lost = e'; given_up = f' })
 same_tally a b c d e f a' b' c' d' e' f' p q r s t u = cc

@@ -7,8 +7,8 @@ use Rattle.g704_framing.specs.Least.{least}
 use Rattle.g704_framing.specs.Alignment.{Framing, alignments_of}
 use Rattle.g704_framing.specs.Age.{age_in}
 use Rattle.g704_align.specs.Loss.{frame_alignment}
-use Rattle.g704_crc4.specs.declared.receiving.Learned.{Learned}
-use Rattle.g704_crc4.specs.declared.receiving.Learned.TheVariants.{Found, Lost, GivenUp, Received}
+use Rattle.g704_crc4.specs.declared.receiving.ReceiverEvent.{ReceiverEvent}
+use Rattle.g704_crc4.specs.declared.receiving.ReceiverEvent.TheVariants.{Found, Lost, GivenUp, Received}
 use Rattle.g704_crc4.specs.Searching.{begins_multiframe}
 use Rattle.g704_crc4.specs.Checking.{is_right, event_of}
 
@@ -119,20 +119,20 @@ unfoldable pub part_before : List ℕ → List ℕ
 part_before octets = since_start parts 0 octets
 
 -- The event of submultiframes at the last octet of a frame alignment.
-unfoldable pub followed : List ℕ → Option Learned
+unfoldable pub followed : List ℕ → Option ReceiverEvent
 followed octets =
     if is_excessive (checked_octets octets)
     then Some GivenUp
     else option_map (λ event. Received event) (event_of (checked_octets octets))
 
 -- The event of an octet, by the octets of the frame alignment before it and with it.
-unfoldable pub learned_of : List ℕ → List ℕ → Option Learned
+unfoldable pub learned_of : List ℕ → List ℕ → Option ReceiverEvent
 learned_of before octets =
     if is_multiframe_found octets
     then Some Found
     else (if has_multiframes before && not (has_multiframes octets) then Some Lost else followed octets)
 
 -- The event of the octet after these.
-unfoldable pub learned : List ℕ → ℕ → Option Learned
+unfoldable pub learned : List ℕ → ℕ → Option ReceiverEvent
 learned before octet =
     learned_of (aligned_octets (part_before before)) (aligned_octets (part_before before ++ octet ∷ []))

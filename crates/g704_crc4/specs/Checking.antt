@@ -53,8 +53,7 @@ abbrev pub counts_with : Counts → Option Event → Counts
 counts_with counts None = counts
 counts_with counts (Some (Block right)) =
     record counts {
-      blocks = min (counts.blocks + 1)
-          (2 ^ 64 - 1);
+      blocks = min (counts.blocks + 1) (2 ^ 64 - 1);
       errored = errors_with counts.errored right;
     }
 counts_with counts (Some (FarEnd right)) =

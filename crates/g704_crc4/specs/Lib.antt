@@ -7,6 +7,6 @@ pub mod Checking
 pub mod States
 pub mod Searching
 pub mod Aligning
-pub mod Tally
+pub mod ReceiverCounts
 pub mod Receivers
 pub mod Reporting

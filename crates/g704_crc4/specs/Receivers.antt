@@ -4,14 +4,15 @@ use Rattle.std.specs.Prelude.{length, slice_index, take, drop, Some}
 use Rattle.g704_framing.specs.Restart.{HoldsSince}
 use Rattle.g704_align.specs.Aligner as frames
 use Rattle.g704_crc4.specs.declared.receiving.Receiver.{Receiver}
-use Rattle.g704_crc4.specs.declared.receiving.Stage.{Stage}
-use Rattle.g704_crc4.specs.declared.receiving.Stage.TheVariants.{Hunting, Searching, Following}
-use Rattle.g704_crc4.specs.declared.receiving.Following as followings
+use Rattle.g704_crc4.specs.declared.receiving.MultiframeSync.{MultiframeSync}
+use Rattle.g704_crc4.specs.declared.receiving.MultiframeSync.TheVariants.{Hunting, Searching}
+use Rattle.g704_crc4.specs.declared.receiving.MultiframeSync.TheVariants.{SubmultiframeCheck}
+use Rattle.g704_crc4.specs.declared.receiving.SubmultiframeCheck as followings
 use Rattle.g704_crc4.specs.declared.tallying.TrunkChecker.{TrunkChecker}
 use Rattle.g704_crc4.specs.States.{ChecksAfter}
 use Rattle.g704_crc4.specs.Aligning.{aligned_octets, multiframe_in, checked_octets, known_blocks}
 use Rattle.g704_crc4.specs.Aligning.{errored_in, parts}
-use Rattle.g704_crc4.specs.Tally.{tally_of}
+use Rattle.g704_crc4.specs.ReceiverCounts.{tally_of}
 
 -- During the 8 ms: the number of their octets received, and these octets.
 pub record IsSearched (count : ℕ) (searched octets : List ℕ) : Type 0 where
@@ -22,7 +23,7 @@ pub record IsSearched (count : ℕ) (searched octets : List ℕ) : Type 0 where
 
 -- After the 8 ms, in a frame alignment with CRC multiframes: the octets before the first to check, the
 -- checker, and how many submultiframes of the present thousand are known, and errored.
-pub record IsFollowed (following : followings.Following) (octets : List ℕ) : Type 0 where
+pub record IsFollowed (following : followings.SubmultiframeCheck) (octets : List ℕ) : Type 0 where
   pub number : ℕ
   pub found : multiframe_in octets ≡ Some number
   pub past : 2112 ≤ length octets
@@ -35,11 +36,12 @@ pub record IsFollowed (following : followings.Following) (octets : List ℕ) : T
 
 -- The octets of the frame alignment, by the stage. If there are none, the last octet of this part of the
 -- stream is kept.
-abbrev pub IsStage : Stage → List ℕ → List ℕ → List ℕ → Type 0
+abbrev pub IsStage : MultiframeSync → List ℕ → List ℕ → List ℕ → Type 0
 IsStage Hunting searched part octets =
     (octets ≡ []) × (0 < length part → slice_index searched 0 ≡ slice_index part (length part - 1))
 IsStage (Searching count) searched part octets = IsSearched count searched octets
-IsStage (Following following) searched part octets = (2112 < length octets) × IsFollowed following octets
+IsStage (SubmultiframeCheck following) searched part octets = (2112 < length octets)
+    × IsFollowed following octets
 
 -- The octets of a frame alignment after one more octet with a time slot: the first such, or the next.
 pub record GoesOn (part : List ℕ) (octet : ℕ) (before octets : List ℕ) : Type 0 where
@@ -49,12 +51,12 @@ pub record GoesOn (part : List ℕ) (octet : ℕ) (before octets : List ℕ) : T
 
 -- A receiver whose frame alignment is given up is like a new one.
 pub record BeginsAnew (receiver : Receiver) : Type 0 where
-  pub aligner : frames.Stands receiver.aligner []
+  pub aligner : frames.HasHistory receiver.aligner []
   pub stage : receiver.stage ≡ Hunting
 
 -- A receiver after the octets of a part of the stream that is not given up.
 pub record ReceivesPart (receiver : Receiver) (part : List ℕ) : Type 0 where
-  pub aligner : frames.Stands receiver.aligner part
+  pub aligner : frames.HasHistory receiver.aligner part
   pub room : length receiver.searched ≡ 2048
   pub stage : IsStage receiver.stage receiver.searched part (aligned_octets part)
   pub kept : (position : ℕ) → position < length part → parts.is_lost part position ≡ false

@@ -15,12 +15,12 @@ mod table;
 mod tallying;
 
 pub use checking::{Checker, Counts, Event, check};
-pub use receiving::{Learned, Receiver};
+pub use receiving::{Receiver, ReceiverEvent};
 pub use remainder::Remainder;
 pub use reporting::ErrorBits;
 pub use searching::find_multiframe;
 pub use sending::Multiframer;
-pub use tallying::{Tally, TrunkChecker};
+pub use tallying::{ReceiverCounts, TrunkChecker};
 
 // Octets of a frame, a double frame, a submultiframe and a multiframe.
 const FRAME: u16 = 32;

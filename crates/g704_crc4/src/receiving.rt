@@ -2,10 +2,10 @@
 
 ghost use Rattle.std.specs.Prelude.{◌≡◌, ◌∷◌, ◌++◌, ◌+◌, ◌%◌, ◌<◌, ◌==◌, ℕ, Bool, true, false, List, []};
 ghost use Rattle.std.specs.Prelude.{length, slice_index, nat_le, if◌then◌else◌, Some};
-ghost use Rattle.g704_crc4.specs.declared.receiving.Stage.TheVariants.{Hunting};
+ghost use Rattle.g704_crc4.specs.declared.receiving.MultiframeSync.TheVariants.{Hunting};
 ghost use Rattle.g704_crc4.specs.Aligning.{learned, learned_of, followed, multiframe_in, checked_octets};
 ghost use Rattle.g704_crc4.specs.Aligning.{is_given_up, is_excessive};
-ghost use Rattle.g704_crc4.specs.Tally.{tells_given_up};
+ghost use Rattle.g704_crc4.specs.ReceiverCounts.{tells_given_up};
 ghost use Rattle.g704_crc4.specs.Receivers.{ReceivesAfter, IsSearched, IsStage, IsFollowed};
 ghost use Rattle.g704_crc4.specs.Receivers.{GoesOn, BeginsAnew};
 
@@ -23,7 +23,7 @@ const EXCESS: u16 = 915;
 
 /// What a receiver learns from an octet of a trunk.
 #[derive(Clone, Copy, Debug, PartialEq, Eq)]
-pub enum Learned {
+pub enum ReceiverEvent {
     /// CRC multiframe alignment is found.
     Found,
     /// CRC multiframe alignment is lost with frame alignment.
@@ -36,18 +36,18 @@ pub enum Learned {
 
 // The state of CRC multiframe alignment.
 #[derive(Clone, Copy, Debug, PartialEq, Eq)]
-enum Stage {
+enum MultiframeSync {
     // There is no frame alignment.
     Hunting,
     // CRC multiframe alignment is searched for in these 8 ms.
     Searching { count: u16 },
     // CRC multiframes are aligned.
-    Following(Following),
+    SubmultiframeCheck(SubmultiframeCheck),
 }
 
 // Received submultiframes, in a frame alignment with CRC multiframes.
 #[derive(Clone, Copy, Debug, PartialEq, Eq)]
-struct Following {
+struct SubmultiframeCheck {
     // Octets before the first to check.
     to_come: u16,
     checker: Checker,
@@ -60,7 +60,7 @@ struct Following {
 #[derive(Clone, Copy, Debug, PartialEq, Eq)]
 pub struct Receiver {
     aligner: Aligner,
-    stage: Stage,
+    stage: MultiframeSync,
     // The octets of the 8 ms; before them, the last octet.
     searched: [u8; 2048],
 }
@@ -72,13 +72,13 @@ impl Receiver {
     {
         Receiver {
             aligner: Aligner::new(),
-            stage: Stage::Hunting,
+            stage: MultiframeSync::Hunting,
             searched: [0; 2048],
         }
     }
 
     /// Takes the next octet of the trunk and returns what it shows.
-    pub fn octet(&mut self, octet: u8) -> Option<Learned>
+    pub fn octet(&mut self, octet: u8) -> Option<ReceiverEvent>
         ensures reply { (history : List ℕ) → ReceivesAfter self.old history
             → result ≡ learned history octet }
         ensures stands { (history : List ℕ) → ReceivesAfter self.old history
@@ -92,7 +92,7 @@ impl Receiver {
 
     // Takes an octet without a time slot.
     #[inline(never)]
-    fn hunt(&mut self, octet: u8) -> Option<Learned>
+    fn hunt(&mut self, octet: u8) -> Option<ReceiverEvent>
         ensures reply { (part octets : List ℕ) → IsStage self.old.stage self.old.searched part octets
             → result ≡ learned_of octets [] }
         ensures stage { self.new.stage ≡ Hunting }
@@ -100,14 +100,18 @@ impl Receiver {
         ensures aligner { self.new.aligner ≡ self.old.aligner }
         ensures room { length self.new.searched ≡ length self.old.searched }
     {
-        let lost = matches!(self.stage, Stage::Following(_));
+        let lost = matches!(self.stage, MultiframeSync::SubmultiframeCheck(_));
         self.searched[0] = octet;
-        self.stage = Stage::Hunting;
-        if lost { Some(Learned::Lost) } else { None }
+        self.stage = MultiframeSync::Hunting;
+        if lost {
+            Some(ReceiverEvent::Lost)
+        } else {
+            None
+        }
     }
 
     // Takes an octet with a time slot.
-    fn follow(&mut self, octet: u8) -> Option<Learned>
+    fn follow(&mut self, octet: u8) -> Option<ReceiverEvent>
         ensures reply { (part before octets : List ℕ) → IsStage self.old.stage self.old.searched part before
             → GoesOn part octet before octets → length self.old.searched ≡ 2048
             → result ≡ learned_of before octets }
@@ -121,20 +125,20 @@ impl Receiver {
         ensures room { length self.new.searched ≡ length self.old.searched }
     {
         match &mut self.stage {
-            Stage::Following(following) => {
+            MultiframeSync::SubmultiframeCheck(following) => {
                 let learned = following.octet(octet);
                 if gives_up(learned) {
                     self.begin_anew();
                 }
                 learned
             }
-            Stage::Searching { count } => {
+            MultiframeSync::Searching { count } => {
                 let count = *count;
                 self.search(count, octet)
             }
-            Stage::Hunting => {
+            MultiframeSync::Hunting => {
                 self.searched[1] = octet;
-                self.stage = Stage::Searching { count: 2 };
+                self.stage = MultiframeSync::Searching { count: 2 };
                 None
             }
         }
@@ -142,7 +146,7 @@ impl Receiver {
 
     // Takes an octet of the 8 ms, or the one behind them.
     #[inline(never)]
-    fn search(&mut self, count: u16, octet: u8) -> Option<Learned>
+    fn search(&mut self, count: u16, octet: u8) -> Option<ReceiverEvent>
         ensures reply { (octets : List ℕ) → IsSearched count self.old.searched octets
             → length self.old.searched ≡ 2048 → result ≡ learned_of octets (octets ++ octet ∷ []) }
         ensures goes_on { (part octets : List ℕ) → IsSearched count self.old.searched octets
@@ -156,12 +160,14 @@ impl Receiver {
     {
         if count < SEARCHED {
             self.searched[usize::from(count)] = octet;
-            self.stage = Stage::Searching { count: count + 1 };
+            self.stage = MultiframeSync::Searching { count: count + 1 };
             return None;
         }
         if let Some(number) = find_multiframe(&self.searched) {
-            self.stage = Stage::Following(Following::begun(number, octet));
-            Some(Learned::Found)
+            self.stage = MultiframeSync::SubmultiframeCheck(SubmultiframeCheck::begun(
+                number, octet,
+            ));
+            Some(ReceiverEvent::Found)
         } else {
             self.begin_anew();
             None
@@ -174,24 +180,24 @@ impl Receiver {
         ensures searched { self.new.searched ≡ self.old.searched }
     {
         self.aligner = Aligner::new();
-        self.stage = Stage::Hunting;
+        self.stage = MultiframeSync::Hunting;
     }
 }
 
 // Whether frame alignment is given up.
-fn gives_up(learned: Option<Learned>) -> bool
+fn gives_up(learned: Option<ReceiverEvent>) -> bool
     ensures { result ≡ tells_given_up learned }
 {
-    matches!(learned, Some(Learned::GivenUp))
+    matches!(learned, Some(ReceiverEvent::GivenUp))
 }
 
-impl Following {
+impl SubmultiframeCheck {
     // Follows multiframes, one of which begins at this double frame of the 8 ms, from the octet behind them.
     fn begun(number: usize, octet: u8) -> Self
         ensures { (octets : List ℕ) → length octets ≡ 2112 → multiframe_in octets ≡ Some number
             → IsFollowed result (octets ++ octet ∷ []) }
     {
-        let mut following = Following {
+        let mut following = SubmultiframeCheck {
             to_come: 64 * (number % 8) as u16,
             checker: Checker::new(),
             known: 0,
@@ -202,7 +208,7 @@ impl Following {
     }
 
     // Takes the next octet of the frame alignment.
-    fn octet(&mut self, octet: u8) -> Option<Learned>
+    fn octet(&mut self, octet: u8) -> Option<ReceiverEvent>
         ensures reply { (octets : List ℕ) → IsFollowed self.old octets
             → result ≡ followed (octets ++ octet ∷ []) }
         ensures stands { (octets : List ℕ) → IsFollowed self.old octets
@@ -216,12 +222,12 @@ impl Following {
         match self.checker.octet(octet) {
             Some(Event::Block { right }) => {
                 if self.is_excess(right) {
-                    Some(Learned::GivenUp)
+                    Some(ReceiverEvent::GivenUp)
                 } else {
-                    Some(Learned::Received(Event::Block { right }))
+                    Some(ReceiverEvent::Received(Event::Block { right }))
                 }
             }
-            Some(Event::FarEnd { right }) => Some(Learned::Received(Event::FarEnd { right })),
+            Some(Event::FarEnd { right }) => Some(ReceiverEvent::Received(Event::FarEnd { right })),
             None => None,
         }
     }

@@ -2,16 +2,16 @@
 
 ghost use Rattle.std.specs.Prelude.{◌≡◌, ◌∷◌, ◌++◌, ℕ, List, [], Some};
 ghost use Rattle.g704_crc4.specs.Receivers.{ChecksTrunk};
-ghost use Rattle.g704_crc4.specs.Tally.{tally_of, tally_with, count_with};
+ghost use Rattle.g704_crc4.specs.ReceiverCounts.{tally_of, tally_with, count_with};
 
 use crate::checking::Event;
-use crate::receiving::{Learned, Receiver};
+use crate::receiving::{Receiver, ReceiverEvent};
 
 /// The counts of a trunk.
 ///
 /// They saturate.
 #[derive(Clone, Copy, Debug, PartialEq, Eq)]
-pub struct Tally {
+pub struct ReceiverCounts {
     /// Submultiframes that were checked.
     pub submultiframes: u64,
     /// Errored submultiframes.
@@ -30,7 +30,7 @@ pub struct Tally {
 #[derive(Clone, Copy, Debug, PartialEq, Eq)]
 pub struct TrunkChecker {
     receiver: Receiver,
-    tally: Tally,
+    tally: ReceiverCounts,
 }
 
 impl TrunkChecker {
@@ -40,7 +40,7 @@ impl TrunkChecker {
     {
         TrunkChecker {
             receiver: Receiver::new(),
-            tally: Tally {
+            tally: ReceiverCounts {
                 submultiframes: 0,
                 errored: 0,
                 far_end_errored: 0,
@@ -62,7 +62,7 @@ impl TrunkChecker {
     }
 
     /// The counts so far.
-    pub fn tally(&self) -> Tally
+    pub fn tally(&self) -> ReceiverCounts
         ensures { (history : List ℕ) → ChecksTrunk self.now history → result ≡ tally_of history }
     {
         self.tally
@@ -71,31 +71,31 @@ impl TrunkChecker {
 
 // The counts after one more octet's event.
 #[inline(never)]
-fn tally_with(tally: Tally, learned: Learned) -> Tally
+fn tally_with(tally: ReceiverCounts, learned: ReceiverEvent) -> ReceiverCounts
     ensures { result ≡ tally_with tally (Some learned) }
 {
     match learned {
-        Learned::Found => Tally {
+        ReceiverEvent::Found => ReceiverCounts {
             found: count_with(tally.found, true),
             ..tally
         },
-        Learned::Lost => Tally {
+        ReceiverEvent::Lost => ReceiverCounts {
             lost: count_with(tally.lost, true),
             ..tally
         },
-        Learned::GivenUp => Tally {
+        ReceiverEvent::GivenUp => ReceiverCounts {
             submultiframes: count_with(tally.submultiframes, true),
             errored: count_with(tally.errored, true),
             lost: count_with(tally.lost, true),
             given_up: count_with(tally.given_up, true),
             ..tally
         },
-        Learned::Received(Event::Block { right }) => Tally {
+        ReceiverEvent::Received(Event::Block { right }) => ReceiverCounts {
             submultiframes: count_with(tally.submultiframes, true),
             errored: count_with(tally.errored, !right),
             ..tally
         },
-        Learned::Received(Event::FarEnd { right }) => Tally {
+        ReceiverEvent::Received(Event::FarEnd { right }) => ReceiverCounts {
             far_end_errored: count_with(tally.far_end_errored, !right),
             ..tally
         },

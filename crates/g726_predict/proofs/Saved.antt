@@ -25,7 +25,8 @@ pub listed : {A : Type 0} (d : A) (n : ℕ) (xs : List A) → length xs ≡ n �
 listed {A = A} d n xs long =
     let item : ℕ → A = λ i. get_or xs i d in
     ext_get_or d (first n item) xs (length-map-range_with_len item 0 n ∙ sym long)
-    (λ i less. get_or-map-range_with_len item 0 n i i d (omega (arith, length-map-range_with_len item 0 n)) (omega arith))
+    (λ i less. get_or-map-range_with_len item 0 n i i d (omega (arith, length-map-range_with_len item 0 n))
+    (omega arith))
 
 -- a number below 2048 is that of its word
 pub packed-unpacked : (n : ℕ) → n < 2048 → word_number (unpacked n) ≡ n
@@ -117,9 +118,27 @@ pub is-varied : (s : Prediction) → PredictionFits s
     → varied (λ i. get_or s.b i (pos 0)) s.a1 s.a2 (λ i. get_or s.dq i (unpacked 0))
     (λ i. get_or s.sr i (unpacked 0)) s.pk1 s.pk2 ≡ s
 is-varied s fits =
-    ap (λ (b : List ℤ). record { a1 = s.a1; a2 = s.a2; b = b; dq = first 6 (λ i. get_or s.dq i (unpacked 0)); sr = first 2 (λ i. get_or s.sr i (unpacked 0)); pk1 = s.pk1; pk2 = s.pk2 })
+    ap (λ (b : List ℤ). record {
+      a1 = s.a1;
+      a2 = s.a2;
+      b = b;
+      dq = first 6 (λ i. get_or s.dq i
+          (unpacked 0));
+      sr = first 2 (λ i. get_or s.sr i (unpacked 0));
+      pk1 = s.pk1;
+      pk2 = s.pk2;
+    })
     (listed (pos 0) 6 s.b fits.b_count)
-    ∙ ap (λ (dq : List FloatWord). record { a1 = s.a1; a2 = s.a2; b = s.b; dq = dq; sr = first 2 (λ i. get_or s.sr i (unpacked 0)); pk1 = s.pk1; pk2 = s.pk2 })
+    ∙ ap (λ (dq : List FloatWord). record {
+      a1 = s.a1;
+      a2 = s.a2;
+      b = s.b;
+      dq = dq;
+      sr = first 2 (λ i. get_or s.sr i
+          (unpacked 0));
+      pk1 = s.pk1;
+      pk2 = s.pk2;
+    })
     (listed (unpacked 0) 6 s.dq fits.dq_count)
     ∙ ap (λ (sr : List FloatWord). record { a1 = s.a1; a2 = s.a2; b = s.b; dq = s.dq; sr = sr; pk1 = s.pk1; pk2 = s.pk2 })
     (listed (unpacked 0) 2 s.sr fits.sr_count)

@@ -8,7 +8,7 @@ use Rattle.gw_circuit.specs.declared.circuit.Circuit.{Circuit}
 use Rattle.gw_circuit.specs.Items.{Item, Wait, Configure}
 use Rattle.gw_circuit.specs.Lives.{next_config, config_after, next_since, items_since}
 use Rattle.gw_circuit.specs.Spells.{line_items}
-use Rattle.gw_circuit.specs.Standing.{Stands, StandsSince}
+use Rattle.gw_circuit.specs.Standing.{HasHistory, StandsSince}
 
 -- the items since the circuit began as new, after one item more
 since-next : (items : List Item) (item : Item)
@@ -21,9 +21,9 @@ pub config-next : (config : CircuitConfig) (items : List Item) (item : Item)
 config-next config items item = fold-append next_config config items (item ∷ [])
 
 -- a circuit stands by what came since it was configured last
-pub since-of : (c : Circuit) (law : Law) (config : CircuitConfig) (items : List Item) → Stands c law config items
+pub since-of : (c : Circuit) (law : Law) (config : CircuitConfig) (items : List Item) → HasHistory c law config items
     → StandsSince c law (config_after config items) (items_since items)
-unfolding Stands
+unfolding HasHistory
 since-of c law config items stands = stands
 
 -- What takes a circuit one item on since it was configured last takes it on among all items, if the item configures
@@ -33,9 +33,9 @@ pub lifts : (old new : Circuit) (item : Item)
     → ((config : CircuitConfig) → next_config config item ≡ config)
     → ((law : Law) (config : CircuitConfig) (items : List Item) → StandsSince old law config items
     → StandsSince new law config (items ++ item ∷ []))
-    → (law : Law) (config : CircuitConfig) (items : List Item) → Stands old law config items
-    → Stands new law config (items ++ item ∷ [])
-unfolding Stands
+    → (law : Law) (config : CircuitConfig) (items : List Item) → HasHistory old law config items
+    → HasHistory new law config (items ++ item ∷ [])
+unfolding HasHistory
 lifts old new item more same goes law config items stands =
     let same_config = same (config_after config items) in
     rw (since-next items item, more (items_since items), config-next config items item, same_config)
@@ -43,15 +43,15 @@ lifts old new item more same goes law config items stands =
 
 -- a circuit that begins stands before its first item
 pub begins-anew : (c : Circuit) (law : Law) (config : CircuitConfig) → StandsSince c law config []
-    → Stands c law config []
-unfolding Stands
+    → HasHistory c law config []
+unfolding HasHistory
 begins-anew c law config stands = stands
 
 -- a new circuit of this configuration that was given the wait stands after the items with which another one was
 -- configured so
 pub stands-configured : (c : Circuit) (law : Law) (config other : CircuitConfig) (items : List Item) (signals : ℕ)
-    → signals ≡ wait_after (line_items (items_since items)) → Stands c law other (Wait signals ∷ [])
-    → Stands c law config (items ++ Configure other ∷ [])
-unfolding Stands
+    → signals ≡ wait_after (line_items (items_since items)) → HasHistory c law other (Wait signals ∷ [])
+    → HasHistory c law config (items ++ Configure other ∷ [])
+unfolding HasHistory
 stands-configured c law config other items signals kept stands =
     rw (since-next items (Configure other), config-next config items (Configure other), ← kept) stands

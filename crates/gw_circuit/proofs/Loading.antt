@@ -1,7 +1,6 @@
 -- Speech and circuits as octets, and back.
 use Rattle.std.proofs.Common.{◌≡◌, ◌<◌, ◌≤◌, ◌*◌, ◌%◌, ◌^◌, ℕ, true, List, [], ◌∷◌, ◌++◌, length, refl, sym, ap, ◌∙◌}
-use Rattle.std.proofs.Common.{append_assoc}
-use Rattle.std.proofs.Common.{All, OnOk}
+use Rattle.std.proofs.Common.{append_assoc, All, OnOk}
 use mathlib.Core.HLevel.{is_prop→PathP}
 use Rattle.std.proofs.Props.{props}
 use Rattle.std.proofs.Common.{Option, Some, None, Bool, false, is_some, not, IfSome, IfNone, subst}
@@ -143,7 +142,7 @@ same-circuit one other law config line speech clock sequence sent received dropp
 
 -- a circuit with a new line, and speech that begins anew, stands before its first item
 pub stands-cleared : (c : Circuit) (law : Law) (config : CircuitConfig) (items : List Item) (l : Line) (s : Speech)
-    → StandsSince c law config items → line.Stands l c.config.role []
+    → StandsSince c law config items → line.HasHistory l c.config.role []
     → Speaks s c.law (record { kind = c.config.codec; payload_type = c.config.payload_type }) (packet_size c.config)
     c.config.prefill [] [] → c.config.sequence < 2 ^ 16
     → StandsSince (record {
@@ -163,7 +162,7 @@ stands-cleared c law config items l s stands at speaks small =
 
 -- so does a circuit that stands there, with these parts
 with-parts : (c : Circuit) (law : Law) (config : CircuitConfig) (l : Line) (s : Speech) → StandsSince c law config []
-    → line.Stands l config.role []
+    → line.HasHistory l config.role []
     → Speaks s law (coding_after law config []) (packet_size config) config.prefill [] []
     → StandsSince (with_parts c l s) law config []
 unfolding StandsSince
@@ -182,7 +181,7 @@ with-parts c law config l s keeps at speaks = record {
 
 -- the same where its line was read already
 pub stands-reset : (k c : Circuit) (law : Law) (config : CircuitConfig) (l : Line) (s : Speech)
-    → k ≡ record c { line = k.line } → StandsSince c law config [] → line.Stands l k.config.role []
+    → k ≡ record c { line = k.line } → StandsSince c law config [] → line.HasHistory l k.config.role []
     → Speaks s k.law (coding_after law config []) (packet_size config) config.prefill [] []
     → StandsSince (with_parts k l s) law config []
 stands-reset k c law config l s is stands at speaks =

@@ -15,8 +15,8 @@ use Rattle.gw_command.specs.declared.command.Filter.{Filter}
 use Rattle.gw_command.specs.declared.command.Filter.TheVariants.{Align, Crc4}
 use Rattle.gw_command.specs.declared.command.Request.{Request}
 use Rattle.gw_command.specs.declared.command.Request.TheVariants as requests
-use Rattle.gw_command.specs.declared.command.Job.{Job}
-use Rattle.gw_command.specs.declared.command.Job.TheVariants.{Encode, Decode}
+use Rattle.gw_command.specs.declared.command.SpeechJob.{SpeechJob}
+use Rattle.gw_command.specs.declared.command.SpeechJob.TheVariants.{Encode, Decode}
 use Rattle.gw_command.specs.declared.command.Session.{Session}
 use Rattle.gw_command.specs.declared.command.Session.TheVariants.{Replay, Check, Serve}
 
@@ -34,12 +34,12 @@ codec_name G32 = text_of names.G32
 codec_name G40 = text_of names.G40
 
 -- the name of a job
-abbrev pub job_name : Job → List ℕ
+abbrev pub job_name : SpeechJob → List ℕ
 job_name (Encode spec) = codes "encode"
 job_name (Decode spec) = codes "decode"
 
 -- the stream of a job
-abbrev pub job_spec : Job → StreamSpec
+abbrev pub job_spec : SpeechJob → StreamSpec
 job_spec (Encode spec) = spec
 job_spec (Decode spec) = spec
 
@@ -72,7 +72,7 @@ pub record IsStream (options : List Row) (s : StreamSpec) : Type 0 where
   pub ptime : SaysNumber 8 (one_of (codes "ptime") options) s.ptime
 
 -- the job that a subcommand and its options name
-pub record IsJob (command : Option (List ℕ × List Row)) (job : Job) : Type 0 where
+pub record IsJob (command : Option (List ℕ × List Row)) (job : SpeechJob) : Type 0 where
   pub options : List Row
   pub named : command ≡ Some (job_name job, options)
   pub stream : IsStream options (job_spec job)
@@ -110,7 +110,7 @@ pub record IsSatop (command : Option (List ℕ × List Row)) : Type 0 where
 
 -- what a subcommand and its options ask for
 abbrev pub IsRequest : Option (List ℕ × List Row) → Request → Type 0
-IsRequest command (requests.Job job) = IsJob command job
+IsRequest command (requests.SpeechJob job) = IsJob command job
 IsRequest command (requests.Session session) = IsSession command session
 IsRequest command (requests.Filter filter) = IsFilter command filter
 IsRequest command requests.Trunk = IsTrunk command

@@ -9,7 +9,7 @@ ghost use Rattle.gw_command.specs.Command.{IsStream, IsJob, IsSession, session_n
 ghost use Rattle.gw_command.specs.Command.{IsFilter, filter_name, IsTrunk, IsSatop, IsRequest, text_in};
 ghost use Rattle.gw_command.specs.Command.{SaysNumberIn, IsWaitOf, SaysWait};
 ghost use Rattle.gw_command.specs.declared.command.Filter.{Filter};
-ghost use Rattle.gw_command.specs.declared.command.Job.{Job};
+ghost use Rattle.gw_command.specs.declared.command.SpeechJob.{SpeechJob};
 ghost use Rattle.gw_command.specs.declared.command.Request.{Request};
 ghost use Rattle.gw_command.specs.declared.command.Session.{Session};
 
@@ -27,7 +27,7 @@ use std::{env, io};
 #[derive(Clone, Copy, Debug, PartialEq, Eq)]
 pub enum Request {
     /// A job on a stream of speech.
-    Job(Job),
+    SpeechJob(SpeechJob),
     /// A session of a gateway.
     Session(Session),
     /// A filter of a trunk.
@@ -40,7 +40,7 @@ pub enum Request {
 
 /// A job on a stream of speech.
 #[derive(Clone, Copy, Debug, PartialEq, Eq)]
-pub enum Job {
+pub enum SpeechJob {
     /// Octets of speech to records of datagrams.
     Encode(StreamSpec),
     /// Records of datagrams to octets of speech.
@@ -110,13 +110,13 @@ fn codec_named(name: &str) -> Option<CodecKind>
 }
 
 // The job of this name on a stream.
-fn job_named(name: &str, spec: StreamSpec) -> Option<Job>
+fn job_named(name: &str, spec: StreamSpec) -> Option<SpeechJob>
     ensures found { IfSome result (λ job. (name.now ≡ job_name job) × (job_spec job ≡ spec)) }
-    ensures none { IfNone result ((job : Job) → name.now ≢ job_name job) }
+    ensures none { IfNone result ((job : SpeechJob) → name.now ≢ job_name job) }
 {
     match name {
-        "encode" => Some(Job::Encode(spec)),
-        "decode" => Some(Job::Decode(spec)),
+        "encode" => Some(SpeechJob::Encode(spec)),
+        "decode" => Some(SpeechJob::Decode(spec)),
         _ => None,
     }
 }
@@ -152,9 +152,9 @@ fn stream_spec(matches: &ArgMatches<'_>) -> Option<StreamSpec>
 
 /// The job that the matches ask for. The parsers of the options let no other value through than a stream can
 /// have.
-pub fn job_of(matches: &ArgMatches<'_>) -> Option<Job>
+pub fn job_of(matches: &ArgMatches<'_>) -> Option<SpeechJob>
     ensures found { IfSome result (IsJob (subcommand_rows_of matches.now)) }
-    ensures none { IfNone result ((job : Job) → ¬ IsJob (subcommand_rows_of matches.now) job) }
+    ensures none { IfNone result ((job : SpeechJob) → ¬ IsJob (subcommand_rows_of matches.now) job) }
 {
     let (name, options) = matches.subcommand()?;
     job_named(name, stream_spec(options)?)
@@ -248,7 +248,7 @@ pub fn request_of(matches: &ArgMatches<'_>) -> Option<Request>
         return Some(Request::Satop);
     }
     let job = job_of(matches)?;
-    Some(Request::Job(job))
+    Some(Request::SpeechJob(job))
 }
 
 // The text of an option of the subcommand, the first where there are more.

@@ -4,14 +4,14 @@ use Rattle.std.proofs.Math.Seq.{take-append_seam}
 use Rattle.std.specs.Io.KnownBytes.{Appends}
 use Rattle.g704_framing.specs.Replies.{replies_after, stream_replies}
 use Rattle.g704_framing.proofs.Replies.{replies-append}
-use Rattle.gw_records.specs.Streams.{SourceState, SinkState, Gives, Refills}
+use Rattle.gw_records.specs.Streams.{SourceState, SinkState, Yields, Refills}
 
 -- The source gave octets, which the filter took, and a reply to each of them is written.
 pub record Stage {F : Type 0} (Has : F → List ℕ → Type 0) (reply : List ℕ → ℕ → ℕ)
     (source source' : SourceState) (sink sink' : SinkState) (filter : F) : Type 0 where
   pub given : List ℕ
   pub stands : Has filter given
-  pub gives : Gives source source' given
+  pub gives : Yields source source' given
   pub took : Appends sink.taken sink'.taken (stream_replies reply given)
   pub no_read : source'.failures ≡ source.failures
   pub no_write : sink'.failures ≡ sink.failures

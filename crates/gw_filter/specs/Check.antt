@@ -1,9 +1,9 @@
 -- The octets of a trunk, unchanged from a source to a sink, and the counts of its CRC-4 multiframes.
 use Rattle.std.specs.Prelude.{◌≡◌, ℕ, List, length}
 use Rattle.std.specs.Io.KnownBytes.{Appends, IsAtEnd}
-use Rattle.g704_crc4.specs.Tally.{tally_of}
+use Rattle.g704_crc4.specs.ReceiverCounts.{tally_of}
 use Rattle.gw_records.specs.declared.outcome.RunFault.{RunFault}
-use Rattle.gw_records.specs.Streams.{SourceState, SinkState, Gives}
+use Rattle.gw_records.specs.Streams.{SourceState, SinkState, Yields}
 use Rattle.gw_filter.specs.declared.filters.Checked.{Checked}
 use Rattle.gw_filter.specs.Filter.{FiltersUntil, filter_totals}
 
@@ -15,7 +15,7 @@ same_octet before octet = octet
 pub record ChecksMultiframes (source source' : SourceState) (sink sink' : SinkState) (checked : Checked)
     : Type 0 where
   pub octets : List ℕ
-  pub gives : Gives source source' octets
+  pub gives : Yields source source' octets
   pub ended : IsAtEnd source'.to_come
   pub took : Appends sink.taken sink'.taken octets
   pub totals_are : checked.totals ≡ filter_totals (length octets)

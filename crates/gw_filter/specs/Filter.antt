@@ -5,7 +5,7 @@ use Rattle.g704_framing.specs.Replies.{stream_replies}
 use Rattle.gw_records.specs.declared.outcome.Totals.{Totals}
 use Rattle.gw_records.specs.declared.outcome.RunFault.{RunFault}
 use Rattle.gw_records.specs.declared.outcome.RunFault.TheVariants.{Read, Write}
-use Rattle.gw_records.specs.Streams.{SourceState, SinkState, Gives, GivesUp, Breaks, at_most}
+use Rattle.gw_records.specs.Streams.{SourceState, SinkState, Yields, GivesUp, StopsInWrite, at_most}
 use Rattle.gw_records.specs.Outcome.{nothing_counted}
 
 -- The totals after so many octets.
@@ -13,11 +13,10 @@ abbrev pub filter_totals : ℕ → Totals
 filter_totals count = record nothing_counted { octets = at_most count }
 
 -- The source gave octets to its end, and the sink took a reply for each of them.
-pub record Filters (reply : List ℕ → ℕ
-    → ℕ) (source source' : SourceState) (sink sink' : SinkState) (totals : Totals)
-    : Type 0 where
+pub record Filters (reply : List ℕ → ℕ → ℕ) (source source' : SourceState) (sink sink' : SinkState)
+    (totals : Totals) : Type 0 where
   pub octets : List ℕ
-  pub gives : Gives source source' octets
+  pub gives : Yields source source' octets
   pub ended : IsAtEnd source'.to_come
   pub took : Appends sink.taken sink'.taken (stream_replies reply octets)
   pub totals_are : totals ≡ filter_totals (length octets)
@@ -35,7 +34,7 @@ pub record HasTakenAll (Has : List ℕ → Type 0) (reply : List ℕ → ℕ →
 pub record FiltersUntilRead (reply : List ℕ → ℕ → ℕ) (source source' : SourceState) (sink sink' : SinkState)
     : Type 0 where
   pub octets : List ℕ
-  pub gives : Gives source source' octets
+  pub gives : Yields source source' octets
   pub took : Appends sink.taken sink'.taken (stream_replies reply octets)
   pub cause : GivesUp source source' octets
   pub no_write : sink'.failures ≡ sink.failures
@@ -44,8 +43,8 @@ pub record FiltersUntilRead (reply : List ℕ → ℕ → ℕ) (source source' :
 pub record FiltersUntilWrite (reply : List ℕ → ℕ → ℕ) (source source' : SourceState) (sink sink' : SinkState)
     : Type 0 where
   pub octets : List ℕ
-  pub gives : Gives source source' octets
-  pub breaks : Breaks sink sink' (stream_replies reply octets)
+  pub gives : Yields source source' octets
+  pub breaks : StopsInWrite sink sink' (stream_replies reply octets)
   pub no_read : source'.failures ≡ source.failures
 
 -- The end of a filter before that of the source: by a read or a write, and by no other fault.

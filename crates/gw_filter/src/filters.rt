@@ -10,7 +10,7 @@ ghost use Rattle.gw_filter.specs.Crc4.{SendsCrc4, crc4_octet, SendsMultiframes, 
 
 use crate::through::{OctetFilter, octets_through};
 use g704_bits::BitAligner;
-use g704_crc4::{ErrorBits, Multiframer, Tally, TrunkChecker};
+use g704_crc4::{ErrorBits, Multiframer, ReceiverCounts, TrunkChecker};
 use gw_records::{RunFault, Sink, Source, Totals};
 
 impl OctetFilter for BitAligner {
@@ -70,7 +70,7 @@ pub struct Checked {
     /// The octets.
     pub totals: Totals,
     /// The counts of the multiframes.
-    pub tally: Tally,
+    pub tally: ReceiverCounts,
 }
 
 /// Writes the octets of the time slots of an unaligned trunk.

@@ -128,7 +128,7 @@ const CLOCK_TEXT: &str =
 
 // The options.
 #[derive(Clone, Copy)]
-enum Opt {
+enum OptionName {
     Law,
     Codec,
     Payload,
@@ -162,70 +162,75 @@ struct Subcommand {
     name: &'static str,
     about: &'static str,
     after_help: &'static str,
-    options: &'static [Opt],
+    options: &'static [OptionName],
 }
 
 // The options of a stream of speech.
-const OF_A_STREAM: &[Opt] = &[
-    Opt::Law,
-    Opt::Codec,
-    Opt::Payload,
-    Opt::Ptime,
-    Opt::Ssrc,
-    Opt::Sequence,
-    Opt::Timestamp,
-    Opt::Totals,
+const OF_A_STREAM: &[OptionName] = &[
+    OptionName::Law,
+    OptionName::Codec,
+    OptionName::Payload,
+    OptionName::Ptime,
+    OptionName::Ssrc,
+    OptionName::Sequence,
+    OptionName::Timestamp,
+    OptionName::Totals,
 ];
 
 // The options of a session from records to records.
-const OF_REPLAY: &[Opt] = &[
-    Opt::Config,
-    Opt::Load,
-    Opt::Save,
-    Opt::Totals,
-    Opt::SeizureWait,
-    Opt::Tell,
+const OF_REPLAY: &[OptionName] = &[
+    OptionName::Config,
+    OptionName::Load,
+    OptionName::Save,
+    OptionName::Totals,
+    OptionName::SeizureWait,
+    OptionName::Tell,
 ];
 
 // The options of a session whose answers are not written.
-const OF_CHECK: &[Opt] = &[Opt::Config, Opt::Load, Opt::Totals, Opt::SeizureWait];
+const OF_CHECK: &[OptionName] = &[
+    OptionName::Config,
+    OptionName::Load,
+    OptionName::Totals,
+    OptionName::SeizureWait,
+];
 
 // The options of a session over UDP.
-const OF_SERVE: &[Opt] = &[
-    Opt::Record,
-    Opt::RecordOver,
-    Opt::Config,
-    Opt::Load,
-    Opt::Save,
-    Opt::Totals,
-    Opt::Senders,
-    Opt::Repeat,
-    Opt::SeizureWait,
+const OF_SERVE: &[OptionName] = &[
+    OptionName::Record,
+    OptionName::RecordOver,
+    OptionName::Config,
+    OptionName::Load,
+    OptionName::Save,
+    OptionName::Totals,
+    OptionName::Senders,
+    OptionName::Repeat,
+    OptionName::SeizureWait,
 ];
 
 // The options of a trunk in service.
-const OF_TRUNK: &[Opt] = &[
-    Opt::Record,
-    Opt::RecordOver,
-    Opt::Config,
-    Opt::Load,
-    Opt::Save,
-    Opt::Totals,
-    Opt::Senders,
-    Opt::Repeat,
-    Opt::SeizureWait,
-    Opt::Control,
+const OF_TRUNK: &[OptionName] = &[
+    OptionName::Record,
+    OptionName::RecordOver,
+    OptionName::Config,
+    OptionName::Load,
+    OptionName::Save,
+    OptionName::Totals,
+    OptionName::Senders,
+    OptionName::Repeat,
+    OptionName::SeizureWait,
+    OptionName::Control,
 ];
 
 // The options of an emulated circuit.
-const OF_SATOP: &[Opt] = &[
-    Opt::Local,
-    Opt::Peer,
-    Opt::Size,
-    Opt::Jitter,
-    Opt::Rtp,
-    Opt::Fill,
-    Opt::Clock,
+const OF_SATOP: &[OptionName] = &[
+    OptionName::Local,
+    OptionName::Peer,
+    OptionName::Size,
+    OptionName::Jitter,
+    OptionName::Rtp,
+    OptionName::Fill,
+    OptionName::Clock,
 ];
 
 const SUBCOMMANDS: [Subcommand; 9] = [
@@ -269,13 +274,13 @@ const SUBCOMMANDS: [Subcommand; 9] = [
         name: "align",
         about: "A trunk at any bit offset to the octets of its time slots",
         after_help: ALIGN_HELP,
-        options: &[Opt::Totals],
+        options: &[OptionName::Totals],
     },
     Subcommand {
         name: "crc4",
         about: "A trunk as it is sent to the same with CRC-4 multiframes",
         after_help: CRC4_HELP,
-        options: &[Opt::Crc4Check, Opt::Totals],
+        options: &[OptionName::Crc4Check, OptionName::Totals],
     },
     Subcommand {
         name: "satop",
@@ -474,44 +479,44 @@ fn clock_option<'a>(alloc: Global) -> Arg<'a> {
 }
 
 // The option that is meant.
-fn declared<'a>(alloc: Global, option: Opt) -> Arg<'a> {
+fn declared<'a>(alloc: Global, option: OptionName) -> Arg<'a> {
     match option {
-        Opt::Law => law_option(alloc),
-        Opt::Codec => codec_option(alloc),
-        Opt::Payload => payload_option(alloc),
-        Opt::Ptime => ptime_option(alloc),
-        Opt::Ssrc => ssrc_option(alloc),
-        Opt::Sequence => sequence_option(alloc),
-        Opt::Timestamp => timestamp_option(alloc),
-        Opt::Totals => totals_option(alloc),
-        Opt::Config => config_option(alloc),
-        Opt::Load => load_option(alloc),
-        Opt::Save => save_option(alloc),
-        Opt::Record => record_option(alloc),
-        Opt::RecordOver => over_option(alloc),
-        Opt::Senders => senders_option(alloc),
-        Opt::Repeat => repeat_option(alloc),
-        Opt::SeizureWait => seizure_wait_option(alloc),
-        Opt::Control => control_option(alloc),
-        Opt::Tell => tell_option(alloc),
-        Opt::Crc4Check => flag(alloc, "check", CRC4_CHECK_TEXT),
-        Opt::Local => place(
+        OptionName::Law => law_option(alloc),
+        OptionName::Codec => codec_option(alloc),
+        OptionName::Payload => payload_option(alloc),
+        OptionName::Ptime => ptime_option(alloc),
+        OptionName::Ssrc => ssrc_option(alloc),
+        OptionName::Sequence => sequence_option(alloc),
+        OptionName::Timestamp => timestamp_option(alloc),
+        OptionName::Totals => totals_option(alloc),
+        OptionName::Config => config_option(alloc),
+        OptionName::Load => load_option(alloc),
+        OptionName::Save => save_option(alloc),
+        OptionName::Record => record_option(alloc),
+        OptionName::RecordOver => over_option(alloc),
+        OptionName::Senders => senders_option(alloc),
+        OptionName::Repeat => repeat_option(alloc),
+        OptionName::SeizureWait => seizure_wait_option(alloc),
+        OptionName::Control => control_option(alloc),
+        OptionName::Tell => tell_option(alloc),
+        OptionName::Crc4Check => flag(alloc, "check", CRC4_CHECK_TEXT),
+        OptionName::Local => place(
             alloc,
             "local",
             "LOCAL:PORT",
             "Address and port of the socket",
         ),
-        Opt::Peer => place(
+        OptionName::Peer => place(
             alloc,
             "peer",
             "PEER:PORT",
             "Address and port of the far end",
         ),
-        Opt::Size => size_option(alloc),
-        Opt::Jitter => jitter_option(alloc),
-        Opt::Rtp => rtp_option(alloc),
-        Opt::Fill => fill_option(alloc),
-        Opt::Clock => clock_option(alloc),
+        OptionName::Size => size_option(alloc),
+        OptionName::Jitter => jitter_option(alloc),
+        OptionName::Rtp => rtp_option(alloc),
+        OptionName::Fill => fill_option(alloc),
+        OptionName::Clock => clock_option(alloc),
     }
 }
 

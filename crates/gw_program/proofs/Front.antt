@@ -12,8 +12,8 @@ use Rattle.gw_config.specs.declared.fault.Kind.TheVariants as kinds
 use Rattle.gw_config.specs.Octets.{meaning_of_octets, at_top}
 use Rattle.gw_program.specs.Setup.{Says, FailsToRead}
 use Rattle.gw_program.specs.Status.{trouble_of}
-use Rattle.gw_program.specs.declared.trouble.Trouble.{Trouble}
-use Rattle.gw_program.specs.declared.trouble.Trouble.TheVariants as troubles
+use Rattle.gw_program.specs.declared.trouble.ProgramFault.{ProgramFault}
+use Rattle.gw_program.specs.declared.trouble.ProgramFault.TheVariants as troubles
 
 -- what is too long is refused, whatever it is
 pub too_long : (octets : List ℕ) → nat_lt 65536 (length octets) ≡ true
@@ -36,7 +36,7 @@ meaning_of_front octets = go (nat_lt 65536 (length octets)) refl
         ap meaning_of_octets (take_all 65537 octets short)
 
 -- what is said of the octets that came up to a limit is said of all
-pub said_of_all : (known : Option (List ℕ)) (before items slice : List ℕ) (r : Result Config Trouble)
+pub said_of_all : (known : Option (List ℕ)) (before items slice : List ℕ) (r : Result Config ProgramFault)
     → before ≡ [] → IfSome (option_map (take 65537) known) (λ xs. items ≡ before ++ xs) → slice ≡ items
     → Says r (meaning_of_octets slice) → IfSome known (λ octets. Says r (meaning_of_octets octets))
 said_of_all None before items slice r empty came is said = tt
@@ -46,7 +46,7 @@ said_of_all (Some octets) before items slice r empty came is said =
     rw (← front) said
 
 -- where no reading failed nothing is said of one
-pub read_whole : (fails : Error → Type 0) (r : Result Config Trouble) → IfErr r (FailsToRead (λ _. ⊥))
+pub read_whole : (fails : Error → Type 0) (r : Result Config ProgramFault) → IfErr r (FailsToRead (λ _. ⊥))
     → IfErr r (FailsToRead fails)
 read_whole fails (Ok config) h = tt
 read_whole fails (Err troubles.File) h = absurd h.1

@@ -1,6 +1,5 @@
 -- Commands on new streams.
-use Rattle.std.proofs.Common.{◌≡◌, ◌⊎◌, inl, inr, ℕ, Bool, List, [], Option, None, Some, Result, Err, refl, sym}
-use Rattle.std.proofs.Common.{subst}
+use Rattle.std.proofs.Common.{◌≡◌, ◌⊎◌, inl, inr, ℕ, Bool, List, [], Option, None, Some, Result, Err, refl, sym, subst}
 use Rattle.std.specs.Prelude.{⊤, option_map}
 use Rattle.gw_config.specs.declared.config.Config.{Config}
 use Rattle.gw_records.specs.declared.outcome.Totals.{Totals}
@@ -9,12 +8,12 @@ use Rattle.gw_switch.specs.declared.gateway.Gateway.{Gateway}
 use Rattle.gw_records.specs.declared.outcome.RunFault.{RunFault}
 use Rattle.gw_records.specs.Ports.{PortsState}
 use Rattle.gw_records.specs.Streams.{SourceState, SinkState}
-use Rattle.gw_session.specs.Outlet.{no_ports}
+use Rattle.gw_session.specs.PacketPorts.{no_ports}
 use Rattle.gw_session.specs.Serve.{Around, around}
 use Rattle.gw_session.specs.Tape.{TapeState, no_tape}
 use Rattle.gw_command.specs.declared.command.Session.{Session}
 use Rattle.gw_command.specs.declared.command.Session.TheVariants.{Replay, Check, Serve}
-use Rattle.gw_program.specs.declared.trouble.Trouble.{Trouble}
+use Rattle.gw_program.specs.declared.trouble.ProgramFault.{ProgramFault}
 use Rattle.gw_program.specs.Performing.{EndedSaved, NotBegun, HasServed, HasConfig, by_session}
 use Rattle.gw_program.specs.Sessions.{HasGateway, Runs, Serves, Checks}
 use Rattle.gw_program.specs.State.{HasBegun, BeginsWaiting, IsSaved}
@@ -36,7 +35,7 @@ on_new s s' k k' done reads given failures writes = record {
 
 -- a trouble is told of streams that nothing was done with
 pub untouched : (load : Option (List ℕ)) (asks : Option ℕ → Type 0)
-    (does : Around → Around → Gateway → Gateway → Type 0) (trouble : Trouble)
+    (does : Around → Around → Gateway → Gateway → Type 0) (trouble : ProgramFault)
     → OnNewStreams (λ a a'. ByGateway a a' (Err trouble) load asks (does a a'))
 untouched load asks does trouble =
     let source : SourceState = record { failures = 0; reads = 0; given = Some []; to_come = None } in
@@ -44,7 +43,7 @@ untouched load asks does trouble =
     (inl (record { trouble = trouble; why = tt; told_is = refl; unread = refl; unwritten = refl })) refl refl refl refl
 
 -- why nothing was begun is left out, and what the streams are beside what they tell
-told_untouched : {S K : Type 0} {x x' : S} {y y' : K} {why : Trouble → Type 0} {told : Result Totals Trouble}
+told_untouched : {S K : Type 0} {x x' : S} {y y' : K} {why : ProgramFault → Type 0} {told : Result Totals ProgramFault}
     {s s' : SourceState} {k k' : SinkState} → (x' ≡ x → s' ≡ s) → (y' ≡ y → k' ≡ k) → NotBegun x x' y y' why told
     → NotBegun s s' k k' (λ _. ⊤) told
 told_untouched f g n = record {
@@ -74,20 +73,21 @@ waiting_at f path wait asks config gateway is b = record {
 }
 
 -- where nothing is to be saved is told as its text
-pub saved_at : {X : Type 0} (f : X → List ℕ) (path : Option X) (saved : Result (Unit {0}) Trouble)
+pub saved_at : {X : Type 0} (f : X → List ℕ) (path : Option X) (saved : Result (Unit {0}) ProgramFault)
     → IsSaved path saved → IsSaved (option_map f path) saved
 saved_at f None saved is = is
 saved_at f (Some path) saved is = is
 
-module _ (s s' : SourceState) (k k' : SinkState) {P T : Type 0} (reads : Config → Type 0) (lacks : Trouble → Type 0)
-    (lacks_gateway lacks_more : Config → Trouble → Type 0) (load save : Option (List ℕ)) (asks : Option ℕ → Type 0)
-    (starts : Config → Gateway → Type 0) (saves : Config → Gateway → Result (Unit {0}) Trouble → Type 0)
+module _ (s s' : SourceState) (k k' : SinkState) {P T : Type 0} (reads : Config → Type 0) (lacks : ProgramFault
+    → Type 0)
+    (lacks_gateway lacks_more : Config → ProgramFault → Type 0) (load save : Option (List ℕ)) (asks : Option ℕ → Type 0)
+    (starts : Config → Gateway → Type 0) (saves : Config → Gateway → Result (Unit {0}) ProgramFault → Type 0)
     (begun : (config : Config) (gateway : Gateway) → starts config gateway
     → BeginsWaiting config.gateway load asks gateway)
-    (is_saved : (config : Config) (gateway : Gateway) (saved : Result (Unit {0}) Trouble)
+    (is_saved : (config : Config) (gateway : Gateway) (saved : Result (Unit {0}) ProgramFault)
     → saves config gateway saved → IsSaved save saved)
     (opens : Config → P → Type 0) (begins : T → Type 0)
-    (ports_tell : P → PortsState) (tape_tells : T → TapeState) {told : Result Totals Trouble}
+    (ports_tell : P → PortsState) (tape_tells : T → TapeState) {told : Result Totals ProgramFault}
   where
     -- how the state was saved is told of its path
     saved_told : {ends : Result Totals RunFault → Type 0} (config : Config) (gateway : Gateway)
@@ -103,7 +103,7 @@ module _ (s s' : SourceState) (k k' : SinkState) {P T : Type 0} (reads : Config 
     }
 
     -- a session that was done on new streams
-    pub session_done : (lacks_watch : Trouble → Type 0) (session : Session) → NotBegun s s' k k' lacks told
+    pub session_done : (lacks_watch : ProgramFault → Type 0) (session : Session) → NotBegun s s' k k' lacks told
         ⊎ HasConfig reads (λ config. NotBegun s s' k k' (lacks_gateway config) told
         ⊎ HasGateway (starts config) (λ gateway gateway'. by_session session
         (NotBegun s s' k k' lacks_watch told

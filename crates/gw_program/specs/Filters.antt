@@ -6,8 +6,8 @@ use Rattle.gw_filter.specs.Align.{Aligns, AlignsUntil}
 use Rattle.gw_filter.specs.Crc4.{SendsMultiframes, SendsMultiframesUntil}
 use Rattle.gw_filter.specs.Check.{ChecksMultiframes, ChecksMultiframesUntil}
 use Rattle.gw_filter.specs.declared.filters.Checked.{Checked}
-use Rattle.gw_program.specs.declared.trouble.Trouble.{Trouble}
-use Rattle.gw_program.specs.declared.trouble.Trouble.TheVariants as troubles
+use Rattle.gw_program.specs.declared.trouble.ProgramFault.{ProgramFault}
+use Rattle.gw_program.specs.declared.trouble.ProgramFault.TheVariants as troubles
 use Rattle.std.specs.Prelude.{◌≡◌}
 use Rattle.gw_command.specs.declared.command.Filter.{Filter}
 use Rattle.gw_command.specs.declared.command.Filter.TheVariants.{Align, Crc4}
@@ -29,7 +29,7 @@ pub record HasChecked (source source' : SourceState) (sink sink' : SinkState) (t
   pub totals_are : totals ≡ checked.totals
 
 -- Checking ended with this trouble, which tells the fault.
-pub record HasCheckedUntil (source source' : SourceState) (sink sink' : SinkState) (trouble : Trouble)
+pub record HasCheckedUntil (source source' : SourceState) (sink sink' : SinkState) (trouble : ProgramFault)
     : Type 0 where
   pub fault : RunFault
   pub done : ChecksMultiframesUntil source source' sink sink' fault

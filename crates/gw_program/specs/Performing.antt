@@ -6,51 +6,52 @@ use Rattle.gw_records.specs.declared.outcome.RunFault.{RunFault}
 use Rattle.gw_session.specs.Tape.{TapeState, no_tape}
 use Rattle.gw_command.specs.declared.command.Session.{Session}
 use Rattle.gw_command.specs.declared.command.Session.TheVariants.{Replay, Check, Serve}
-use Rattle.gw_program.specs.declared.trouble.Trouble.{Trouble}
-use Rattle.gw_program.specs.declared.trouble.Trouble.TheVariants as troubles
+use Rattle.gw_program.specs.declared.trouble.ProgramFault.{ProgramFault}
+use Rattle.gw_program.specs.declared.trouble.ProgramFault.TheVariants as troubles
 
 -- what is told of how a job or a session ended
-abbrev pub told_as : Result Totals RunFault → Result Totals Trouble
+abbrev pub told_as : Result Totals RunFault → Result Totals ProgramFault
 told_as (Ok totals) = Ok totals
 told_as (Err fault) = Err (troubles.Session fault)
 
 -- a job or a session ended so, and this is told
-pub record Ended (ends : Result Totals RunFault → Type 0) (told : Result Totals Trouble) : Type 0 where
+pub record Ended (ends : Result Totals RunFault → Type 0) (told : Result Totals ProgramFault) : Type 0 where
   pub end : Result Totals RunFault
   pub done : ends end
   pub told_is : told ≡ told_as end
 
 -- what is told of how a session ended and of the saving of its state: a saving that failed is told in any
 -- case
-abbrev pub told_after : Result Totals RunFault → Result (Unit {0}) Trouble → Result Totals Trouble
+abbrev pub told_after : Result Totals RunFault → Result (Unit {0}) ProgramFault → Result Totals ProgramFault
 told_after end (Ok u) = told_as end
 told_after end (Err trouble) = Err trouble
 
 -- the state was saved so, or was not, and this is told of a session that ended so
-pub record IsTold (Saves : Result (Unit {0}) Trouble → Type 0) (end : Result Totals RunFault)
-    (told : Result Totals Trouble) : Type 0 where
-  pub saved : Result (Unit {0}) Trouble
+pub record IsTold (Saves : Result (Unit {0}) ProgramFault → Type 0) (end : Result Totals RunFault)
+    (told : Result Totals ProgramFault) : Type 0 where
+  pub saved : Result (Unit {0}) ProgramFault
   pub saves : Saves saved
   pub told_is : told ≡ told_after end saved
 
 -- a session ended so, and this is told of it and of the saving of its state
-pub record EndedSaved (ends : Result Totals RunFault → Type 0) (Saves : Result (Unit {0}) Trouble → Type 0)
-    (told : Result Totals Trouble) : Type 0 where
+pub record EndedSaved (ends : Result Totals RunFault → Type 0) (Saves : Result (Unit {0}) ProgramFault
+    → Type 0)
+    (told : Result Totals ProgramFault) : Type 0 where
   pub end : Result Totals RunFault
   pub done : ends end
   pub tells : IsTold Saves end told
 
 -- a trouble is told for a reason, and nothing was read or written
-pub record NotBegun {S K : Type 0} (source source' : S) (sink sink' : K) (Why : Trouble → Type 0)
-    (told : Result Totals Trouble) : Type 0 where
-  pub trouble : Trouble
+pub record NotBegun {S K : Type 0} (source source' : S) (sink sink' : K) (Why : ProgramFault → Type 0)
+    (told : Result Totals ProgramFault) : Type 0 where
+  pub trouble : ProgramFault
   pub why : Why trouble
   pub told_is : told ≡ Err trouble
   pub unread : source' ≡ source
   pub unwritten : sink' ≡ sink
 
 -- no tape was begun, or no ports were opened
-abbrev pub LacksTapeOrPorts : (Trouble → Type 0) → (Trouble → Type 0) → Trouble → Type 0
+abbrev pub LacksTapeOrPorts : (ProgramFault → Type 0) → (ProgramFault → Type 0) → ProgramFault → Type 0
 LacksTapeOrPorts lacks_tape lacks_ports trouble = lacks_tape trouble ⊎ lacks_ports trouble
 
 -- this was done with ports that were opened so and a tape that was begun so

@@ -8,12 +8,12 @@ use Rattle.gw_session.specs.Serve.{Around}
 use Rattle.gw_command.specs.Command.{IsRequest, text_in, SaysWait}
 use Rattle.gw_command.specs.declared.command.Filter.{Filter}
 use Rattle.gw_command.specs.declared.command.Filter.TheVariants.{Align, Crc4}
-use Rattle.gw_command.specs.declared.command.Job.{Job}
+use Rattle.gw_command.specs.declared.command.SpeechJob.{SpeechJob}
 use Rattle.gw_command.specs.declared.command.Request.{Request}
 use Rattle.gw_command.specs.declared.command.Request.TheVariants as requests
 use Rattle.gw_command.specs.declared.command.Session.{Session}
-use Rattle.gw_program.specs.declared.trouble.Trouble.{Trouble}
-use Rattle.gw_program.specs.declared.trouble.Trouble.TheVariants as troubles
+use Rattle.gw_program.specs.declared.trouble.ProgramFault.{ProgramFault}
+use Rattle.gw_program.specs.declared.trouble.ProgramFault.TheVariants as troubles
 use Rattle.gw_program.specs.Filters.{DoesFilter, DoesFilterUntil, HasChecked, HasCheckedUntil}
 use Rattle.gw_program.specs.Jobs.{Does, DoesUntil}
 use Rattle.gw_program.specs.Performing.{Ended, EndedSaved, NotBegun, HasConfig, by_session}
@@ -35,9 +35,10 @@ AsksCheck command = text_in (codes "check") command ≡ Some (codes "true")
 -- what a request does, of what jobs, filters, the check of CRC-4 multiframes, sessions, the trunk and the
 -- circuit
 -- do
-abbrev pub by_request : (Job → Type 0) → (Filter → Type 0) → Type 0 → (Session → Type 0) → Type 0 → Type 0
+abbrev pub by_request : (SpeechJob → Type 0) → (Filter → Type 0) → Type 0 → (Session → Type 0) → Type 0
+    → Type 0
     → Command → Request → Type 0
-by_request jobs filters checks sessions trunk satop command (requests.Job job) = jobs job
+by_request jobs filters checks sessions trunk satop command (requests.SpeechJob job) = jobs job
 by_request jobs filters checks sessions trunk satop command (requests.Filter Align) = filters Align
 by_request jobs filters checks sessions trunk satop command (requests.Filter Crc4) =
     (AsksCheck command × checks) ⊎ ((¬ AsksCheck command) × filters Crc4)
@@ -52,7 +53,7 @@ pub record HasRequest (command : Command) (does : Command → Request → Type 0
   pub done : does command request
 
 -- the command asks for nothing, and this is told
-pub record NoRequest (command : Command) (told : Result Totals Trouble) : Type 0 where
+pub record NoRequest (command : Command) (told : Result Totals ProgramFault) : Type 0 where
   pub nothing : (request : Request) → ¬ IsRequest command request
   pub told_is : told ≡ Err troubles.Nothing
 
@@ -71,24 +72,24 @@ pub record OnNewStreams (does : Around → Around → Type 0) : Type 0 where
   pub done : does before after
 
 -- what the job told when it was done
-abbrev pub DoesJob : Job → Result Totals Trouble → Type 0
+abbrev pub DoesJob : SpeechJob → Result Totals ProgramFault → Type 0
 DoesJob job told = OnNewStreams (λ a a'. Ended (λ end. MatchResult end
     (Does job a.source a'.source a.sink a'.sink) (DoesUntil job a.source a'.source a.sink a'.sink)) told)
 
 -- what the filter told when it had run
-abbrev pub RunsFilter : Filter → Result Totals Trouble → Type 0
+abbrev pub RunsFilter : Filter → Result Totals ProgramFault → Type 0
 RunsFilter filter told = OnNewStreams (λ a a'. Ended (λ end. MatchResult end
     (DoesFilter filter a.source a'.source a.sink a'.sink)
     (DoesFilterUntil filter a.source a'.source a.sink a'.sink)) told)
 
 -- what was told when CRC-4 multiframes had been checked
-abbrev pub ChecksCrc4 : Result Totals Trouble → Type 0
+abbrev pub ChecksCrc4 : Result Totals ProgramFault → Type 0
 ChecksCrc4 told = OnNewStreams (λ a a'. IfOk told (HasChecked a.source a'.source a.sink a'.sink)
     × IfErr told (HasCheckedUntil a.source a'.source a.sink a'.sink))
 
 -- a trouble is told, and nothing was read or written; or this was done with a gateway that was begun by a
 -- configuration, from a state if one is named, and with the wait that is asked for
-abbrev pub ByGateway : Around → Around → Result Totals Trouble → Option (List ℕ) → (Option ℕ → Type 0)
+abbrev pub ByGateway : Around → Around → Result Totals ProgramFault → Option (List ℕ) → (Option ℕ → Type 0)
     → (Gateway → Gateway → Type 0) → Type 0
 ByGateway a a' told load asks does = NotBegun a.source a'.source a.sink a'.sink (λ _. ⊤) told
     ⊎ HasConfig (λ _. ⊤) (λ config. HasGateway (BeginsWaiting config.gateway load asks) does)
@@ -96,7 +97,7 @@ ByGateway a a' told load asks does = NotBegun a.source a'.source a.sink a'.sink 
 -- what the session told when it was done, by the states to load and to save if they are named, and the wait
 -- that is asked for
 abbrev pub DoesSession : Option (List ℕ) → Option (List ℕ) → (Option ℕ → Type 0) → Session
-    → Result Totals Trouble → Type 0
+    → Result Totals ProgramFault → Type 0
 DoesSession load save asks session told = OnNewStreams (λ a a'. ByGateway a a' told load asks
     (λ gateway gateway'. by_session session
     (EndedSaved (λ end. Runs a.source a'.source a.sink a'.sink end gateway gateway') (IsSaved save) told)
@@ -115,7 +116,7 @@ pub record HasTrunk (does : Traffic → Type 0) : Type 0 where
 
 -- what was told when the trunk had been served, by the states to load and to save if they are named, and the
 -- wait that is asked for
-abbrev pub ServesTrunk : Option (List ℕ) → Option (List ℕ) → (Option ℕ → Type 0) → Result Totals Trouble
+abbrev pub ServesTrunk : Option (List ℕ) → Option (List ℕ) → (Option ℕ → Type 0) → Result Totals ProgramFault
     → Type 0
 ServesTrunk load save asks told = OnNewStreams (λ a a'. ByGateway a a' told load asks (λ gateway gateway'.
     HasTrunk (λ passed. EndedSaved (λ end. CarriesTrunk a a' passed end gateway gateway')
@@ -133,7 +134,7 @@ abbrev pub AsksWait : Command → Option ℕ → Type 0
 AsksWait command wait = MatchOption wait ((signals : ℕ) → ¬ SaysWait command signals) (SaysWait command)
 
 -- what the command asks for was done, and this is told
-abbrev pub Performs : Command → Result Totals Trouble → Type 0
+abbrev pub Performs : Command → Result Totals ProgramFault → Type 0
 Performs command told = HasRequest command (by_request (λ job. DoesJob job told)
     (λ filter. RunsFilter filter told) (ChecksCrc4 told)
     (λ session. DoesSession (load_in command) (save_in command) (AsksWait command) session told)

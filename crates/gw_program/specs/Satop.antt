@@ -8,28 +8,28 @@ use Rattle.gw_command.specs.Command.{SaysNumberIn, text_in}
 use Rattle.gw_satop.specs.declared.line.Receiver.{Receiver}
 use Rattle.gw_satop.specs.declared.sender.Sender.{Sender}
 use Rattle.gw_satop.specs.Session.{PlaysAll, SendsAll}
-use Rattle.satop_playout.specs.declared.Fill.TheVariants as fills
-use Rattle.gw_program.specs.declared.trouble.Trouble.{Trouble}
-use Rattle.gw_program.specs.declared.trouble.Trouble.TheVariants as troubles
+use Rattle.satop_playout.specs.declared.Replacement.TheVariants as fills
+use Rattle.gw_program.specs.declared.trouble.ProgramFault.{ProgramFault}
+use Rattle.gw_program.specs.declared.trouble.ProgramFault.TheVariants as troubles
 
 -- a read of the trunk failed, and all that was played had gone; or a write failed
-abbrev pub IsDeviceTrouble : List ℕ → Trouble → Type 0
-IsDeviceTrouble left (troubles.Session faults.Read) = left ≡ []
-IsDeviceTrouble left (troubles.Session faults.Write) = ⊤
-IsDeviceTrouble left _ = ⊥
+abbrev pub IsDeviceFault : List ℕ → ProgramFault → Type 0
+IsDeviceFault left (troubles.Session faults.Read) = left ≡ []
+IsDeviceFault left (troubles.Session faults.Write) = ⊤
+IsDeviceFault left _ = ⊥
 
 -- A circuit was carried: what went to the trunk is what is played for the datagrams that came, but for what
 -- is left, and what was sent to the far end are the packets of the octets that came. Nothing is left at the
 -- end of the trunk.
 pub record CarriesSatop (receiver : Receiver) (sender : Sender) (received sent : List (List ℕ))
-    (came went left : List ℕ) (told : Result Totals Trouble) : Type 0 where
+    (came went left : List ℕ) (told : Result Totals ProgramFault) : Type 0 where
   pub plays : ∥ PlaysAll receiver received (went ++ left) ∥₁
   pub sends : SendsAll sender sent came
-  pub told_is : MatchResult told (λ _. left ≡ []) (IsDeviceTrouble left)
+  pub told_is : MatchResult told (λ _. left ≡ []) (IsDeviceFault left)
 
 -- both halves are set up as the command says
-pub record IsSetUp (command : Option (List ℕ
-    × List Row)) (receiver : Receiver) (sender : Sender) : Type 0 where
+pub record IsSetUp (command : Option (List ℕ × List Row)) (receiver : Receiver)
+    (sender : Sender) : Type 0 where
   pub size : SaysNumberIn 16 (codes "size") command receiver.settings.size
   pub sizes : sender.start.size ≡ receiver.settings.size
   pub rtp : MatchOption sender.start.rtp ((n : ℕ) → ¬ SaysNumberIn 8 (codes "rtp") command n)
@@ -39,16 +39,17 @@ pub record IsSetUp (command : Option (List ℕ
   pub again : receiver.settings.fill ≡ fills.Ones → text_in (codes "fill") command ≡ Some (codes "ones")
 
 -- the circuit could not be opened
-abbrev pub IsOpeningTrouble : Trouble → Type 0
-IsOpeningTrouble troubles.Nothing = ⊤
-IsOpeningTrouble troubles.PacketSize = ⊤
-IsOpeningTrouble troubles.FarEnd = ⊤
-IsOpeningTrouble troubles.Trunk = ⊤
-IsOpeningTrouble troubles.OutOfMemory = ⊤
-IsOpeningTrouble _ = ⊥
+abbrev pub IsOpeningFault : ProgramFault → Type 0
+IsOpeningFault troubles.Nothing = ⊤
+IsOpeningFault troubles.PacketSize = ⊤
+IsOpeningFault troubles.FarEnd = ⊤
+IsOpeningFault troubles.Trunk = ⊤
+IsOpeningFault troubles.OutOfMemory = ⊤
+IsOpeningFault _ = ⊥
 
 -- the circuit that the command asks for was carried
-pub record HasCircuit (command : Option (List ℕ × List Row)) (told : Result Totals Trouble) : Type 0 where
+pub record HasCircuit (command : Option (List ℕ
+    × List Row)) (told : Result Totals ProgramFault) : Type 0 where
   pub receiver : Receiver
   pub sender : Sender
   pub set_up : IsSetUp command receiver sender
@@ -60,5 +61,5 @@ pub record HasCircuit (command : Option (List ℕ × List Row)) (told : Result T
   pub carried : CarriesSatop receiver sender received sent came went left told
 
 -- what was told: the circuit could not be opened, or it was carried
-abbrev pub DoesSatop : Option (List ℕ × List Row) → Result Totals Trouble → Type 0
-DoesSatop command told = MatchResult told (λ _. ⊥) IsOpeningTrouble ⊎ HasCircuit command told
+abbrev pub DoesSatop : Option (List ℕ × List Row) → Result Totals ProgramFault → Type 0
+DoesSatop command told = MatchResult told (λ _. ⊥) IsOpeningFault ⊎ HasCircuit command told

@@ -4,11 +4,11 @@ use Rattle.std.specs.Io.KnownBytes.{Appends}
 use Rattle.gw_switch.specs.declared.GatewayConfig.{GatewayConfig}
 use Rattle.gw_switch.specs.declared.gateway.Gateway.{Gateway}
 use Rattle.gw_switch.specs.Events.{Event}
-use Rattle.gw_switch.specs.Standing.{Stands}
+use Rattle.gw_switch.specs.Standing.{HasHistory}
 use Rattle.gw_records.specs.declared.outcome.Totals.{Totals}
 use Rattle.gw_records.specs.declared.outcome.RunFault.{RunFault}
 use Rattle.gw_records.specs.declared.outcome.RunFault.TheVariants as faults
-use Rattle.gw_records.specs.Streams.{SourceState, SinkState, Breaks}
+use Rattle.gw_records.specs.Streams.{SourceState, SinkState, StopsInWrite}
 use Rattle.gw_session.specs.Running.{RunsAll, RunsUntil}
 use Rattle.gw_session.specs.Serve.{Around, ServesAll, ServesUntil}
 use Rattle.gw_program.specs.Listing.{listing}
@@ -42,11 +42,11 @@ checked (Ok totals) (Ok u) = Ok totals
 pub record Lists (gateway : Gateway) (ended : Result Totals RunFault) (sink sink' : SinkState)
     (end : Result Totals RunFault) : Type 0 where
   pub text : List ℕ
-  pub text_is : (config : GatewayConfig) (events : List Event) → Stands config gateway events
+  pub text_is : (config : GatewayConfig) (events : List Event) → HasHistory config gateway events
       → text ≡ listing config events
   pub listed : Result (Unit {0}) RunFault
   pub wrote : OnOk listed (Appends sink.taken sink'.taken text)
-  pub broke : IfErr listed (λ e. (e ≡ faults.Write) × Breaks sink sink' text)
+  pub broke : IfErr listed (λ e. (e ≡ faults.Write) × StopsInWrite sink sink' text)
   pub end_is : end ≡ checked ended listed
 
 -- a sink that takes all octets and tells nothing

@@ -5,29 +5,29 @@ use Rattle.std.specs.Io.KnownBytes.{IsAtEnd}
 use Rattle.gw_switch.specs.declared.GatewayConfig.{GatewayConfig}
 use Rattle.gw_switch.specs.declared.gateway.Gateway.{Gateway}
 use Rattle.gw_switch.specs.Events.{Event}
-use Rattle.gw_switch.specs.Standing.{Stands}
-use Rattle.gw_records.specs.Streams.{SourceState, SinkState, Gives, Breaks}
+use Rattle.gw_switch.specs.Standing.{HasHistory}
+use Rattle.gw_records.specs.Streams.{SourceState, SinkState, Yields, StopsInWrite}
 use Rattle.gw_state.specs.declared.fault.LoadFault.{LoadFault}
 use Rattle.gw_state.specs.declared.fault.LoadFault.TheVariants as loads
 use Rattle.gw_state.specs.Faults.{Refuses}
 use Rattle.gw_state.specs.declared.loading.Loaded.{Loaded}
 use Rattle.gw_state.specs.Loaded.{IsLoaded}
-use Rattle.gw_program.specs.declared.trouble.Trouble.{Trouble}
-use Rattle.gw_program.specs.declared.trouble.Trouble.TheVariants as troubles
+use Rattle.gw_program.specs.declared.trouble.ProgramFault.{ProgramFault}
+use Rattle.gw_program.specs.declared.trouble.ProgramFault.TheVariants as troubles
 
 -- a source gave these octets up to its end
 pub record WasRead (source source' : SourceState) (octets : List ℕ) : Type 0 where
-  pub gives : Gives source source' octets
+  pub gives : Yields source source' octets
   pub ended : IsAtEnd source'.to_come
 
 -- a source gave more octets than any state has
 pub record IsTooLong (source source' : SourceState) : Type 0 where
   pub octets : List ℕ
-  pub gives : Gives source source' octets
+  pub gives : Yields source source' octets
   pub many : 2 ^ 20 ≤ length octets
 
 -- why a source was not read up to its end
-abbrev pub FailsToRead : SourceState → SourceState → Trouble → Type 0
+abbrev pub FailsToRead : SourceState → SourceState → ProgramFault → Type 0
 FailsToRead source source' troubles.NoState = (source.failures < source'.failures) ⊎ IsTooLong source source'
 FailsToRead source source' troubles.OutOfMemory = ⊤
 FailsToRead source source' _ = ⊥
@@ -46,18 +46,18 @@ pub record WasRefused (config : GatewayConfig) (source source' : SourceState)
   pub refuses : Refuses config octets fault
 
 -- why no gateway was loaded from a source
-abbrev pub FailsToLoad : GatewayConfig → SourceState → SourceState → Trouble → Type 0
+abbrev pub FailsToLoad : GatewayConfig → SourceState → SourceState → ProgramFault → Type 0
 FailsToLoad config source source' (troubles.State fault) = WasRefused config source source' fault
 FailsToLoad config source source' trouble = FailsToRead source source' trouble
 
 -- what is told where octets are not loaded
-abbrev pub load_trouble : LoadFault → Trouble
+abbrev pub load_trouble : LoadFault → ProgramFault
 load_trouble loads.OutOfMemory = troubles.OutOfMemory
 load_trouble fault = troubles.State fault
 
 -- why octets were not saved: a write failed, or memory was refused before one
-abbrev pub FailsToSave : SinkState → SinkState → List ℕ → Trouble → Type 0
-FailsToSave sink sink' octets troubles.NotSaved = Breaks sink sink' octets
+abbrev pub FailsToSave : SinkState → SinkState → List ℕ → ProgramFault → Type 0
+FailsToSave sink sink' octets troubles.NotSaved = StopsInWrite sink sink' octets
 FailsToSave sink sink' octets troubles.OutOfMemory = sink' ≡ sink
 FailsToSave sink sink' octets _ = ⊥
 
@@ -70,13 +70,14 @@ pub record IsFromState (config : GatewayConfig) (gateway : Gateway) : Type 0 whe
 
 -- a session begins with a new gateway, or if a file is named with the gateway of a state
 abbrev pub HasBegun : {X : Type 0} → GatewayConfig → Option X → Gateway → Type 0
-HasBegun config None gateway = Stands config gateway []
+HasBegun config None gateway = HasHistory config gateway []
 HasBegun config (Some path) gateway = IsFromState config gateway
 
 -- a gateway is given this wait: one event more, however it was configured at first
 abbrev pub WasGiven : ℕ → Gateway → Gateway → Type 0
-WasGiven signals first gateway = (config : GatewayConfig) (events : List Event) → Stands config first events
-    → Stands config gateway (events ++ Event.Wait signals ∷ [])
+WasGiven signals first gateway = (config : GatewayConfig) (events : List Event)
+    → HasHistory config first events
+    → HasHistory config gateway (events ++ Event.Wait signals ∷ [])
 
 -- a gateway is given the wait that is asked for, and is as it was if none is
 abbrev pub Waits : Option ℕ → Gateway → Gateway → Type 0
@@ -98,13 +99,13 @@ pub record AreRefused (config : GatewayConfig) (fault : LoadFault) : Type 0 wher
   pub refuses : Refuses config octets fault
 
 -- why there is no gateway to begin with
-abbrev pub LacksGateway : {X : Type 0} → GatewayConfig → Option X → Trouble → Type 0
+abbrev pub LacksGateway : {X : Type 0} → GatewayConfig → Option X → ProgramFault → Type 0
 LacksGateway config path troubles.OutOfMemory = ⊤
 LacksGateway config (Some path) troubles.NoState = ⊤
 LacksGateway config (Some path) (troubles.State fault) = AreRefused config fault
 LacksGateway config _ _ = ⊥
 
 -- where no file is named nothing is saved, and that does not fail
-abbrev pub IsSaved : {X : Type 0} → Option X → Result (Unit {0}) Trouble → Type 0
+abbrev pub IsSaved : {X : Type 0} → Option X → Result (Unit {0}) ProgramFault → Type 0
 IsSaved None saved = saved ≡ Ok tt
 IsSaved (Some path) saved = ⊤

@@ -10,11 +10,11 @@ use Rattle.gw_records.specs.declared.outcome.RunFault.{RunFault}
 use Rattle.gw_records.specs.declared.outcome.RunFault.TheVariants as faults
 use Rattle.gw_state.specs.declared.fault.LoadFault.{LoadFault}
 use Rattle.gw_state.specs.declared.fault.LoadFault.TheVariants as loads
-use Rattle.gw_program.specs.declared.trouble.Trouble.{Trouble}
-use Rattle.gw_program.specs.declared.trouble.Trouble.TheVariants as troubles
+use Rattle.gw_program.specs.declared.trouble.ProgramFault.{ProgramFault}
+use Rattle.gw_program.specs.declared.trouble.ProgramFault.TheVariants as troubles
 
 -- what a failed call of the system comes to: want of memory, or else this
-abbrev pub trouble_of : kinds.ErrorKind → Trouble → Trouble
+abbrev pub trouble_of : kinds.ErrorKind → ProgramFault → ProgramFault
 trouble_of errors.OutOfMemory otherwise = troubles.OutOfMemory
 trouble_of _ otherwise = otherwise
 
@@ -34,7 +34,7 @@ load_status loads.OutOfMemory = 3
 load_status (loads.Refused kind place) = 2
 
 -- the status at any trouble
-abbrev pub trouble_status : Trouble → ℕ
+abbrev pub trouble_status : ProgramFault → ℕ
 trouble_status (troubles.Session fault) = fault_status fault
 trouble_status (troubles.Socket circuit) = 1
 trouble_status troubles.FarEnd = 1

@@ -5,7 +5,7 @@ use Rattle.gw_switch.specs.declared.gateway.Gateway.{Gateway}
 use Rattle.gw_records.specs.declared.outcome.Totals.{Totals}
 use Rattle.gw_records.specs.declared.outcome.RunFault.{RunFault}
 use Rattle.gw_switch.specs.Events.{Event}
-use Rattle.gw_switch.specs.Standing.{Stands}
+use Rattle.gw_switch.specs.Standing.{HasHistory}
 use Rattle.gw_session.specs.Serve.{Around}
 use Rattle.gw_trunk.specs.Serving.{Carried, Traffic}
 use Rattle.gw_program.specs.Sessions.{Serves}
@@ -15,5 +15,5 @@ use Rattle.gw_program.specs.Sessions.{Serves}
 pub record CarriesTrunk (a a' : Around) (t : Traffic) (end : Result Totals RunFault)
     (gateway gateway' : Gateway) : Type 0 where
   pub served : Serves a a' end gateway gateway'
-  pub carried : (config : GatewayConfig) (before : List Event) → Stands config gateway before
+  pub carried : (config : GatewayConfig) (before : List Event) → HasHistory config gateway before
       → ∥ Carried config before gateway' a.tape a'.tape t end ∥₁

@@ -6,7 +6,7 @@ ghost use Rattle.gw_program.specs.Filters.{DoesFilter, DoesFilterUntil, HasCheck
 
 use crate::report::print_tally;
 use crate::sealed::{StandardInput, StandardOutput};
-use crate::trouble::Trouble;
+use crate::trouble::ProgramFault;
 use gw_command::Filter;
 use gw_filter::{align_stream, crc4_check_stream, crc4_stream};
 use gw_session::{RunFault, Sink, Source, Totals};
@@ -36,7 +36,7 @@ pub fn perform_crc4_check<S: Source + StandardInput, K: Sink + StandardOutput>(
     rt: &impl Eprint,
     source: &mut S,
     sink: &mut K,
-) -> Result<Totals, Trouble>
+) -> Result<Totals, ProgramFault>
     requires { CanBegin (S.tells source.old) (K.tells sink.old) }
     ensures ok { IfOk result (HasChecked
         (S.tells source.old) (S.tells source.new) (K.tells sink.old) (K.tells sink.new)) }
@@ -48,6 +48,6 @@ pub fn perform_crc4_check<S: Source + StandardInput, K: Sink + StandardOutput>(
             print_tally(rt, &checked.tally);
             Ok(checked.totals)
         }
-        Err(fault) => Err(Trouble::Session(fault)),
+        Err(fault) => Err(ProgramFault::Session(fault)),
     }
 }

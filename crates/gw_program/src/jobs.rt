@@ -4,14 +4,14 @@ ghost use Rattle.std.specs.Prelude.{◌-◌, ◌^◌, ◌<◌, IfOk, IfErr};
 ghost use Rattle.gw_records.specs.Streams.{CanBegin};
 ghost use Rattle.gw_program.specs.Jobs.{Does, DoesUntil};
 
-use gw_command::Job;
+use gw_command::SpeechJob;
 use gw_session::{RunFault, Sink, Source, Totals, decode_stream, encode_stream};
 use std::alloc::Global;
 
 /// Does a job on a source and a sink.
 pub fn do_job<S: Source, K: Sink>(
     alloc: Global,
-    job: &Job,
+    job: &SpeechJob,
     source: &mut S,
     sink: &mut K,
 ) -> Result<Totals, RunFault>
@@ -22,7 +22,7 @@ pub fn do_job<S: Source, K: Sink>(
         (S.tells source.old) (S.tells source.new) (K.tells sink.old) (K.tells sink.new)) }
 {
     match job {
-        Job::Encode(spec) => encode_stream(spec, source, sink),
-        Job::Decode(spec) => decode_stream(alloc, spec, source, sink),
+        SpeechJob::Encode(spec) => encode_stream(spec, source, sink),
+        SpeechJob::Decode(spec) => decode_stream(alloc, spec, source, sink),
     }
 }

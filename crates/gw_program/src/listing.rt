@@ -3,7 +3,7 @@
 ghost use Rattle.std.specs.Prelude.{◌≡◌, ◌≤◌, ◌+◌, ◌++◌, List, length};
 ghost use Rattle.gw_switch.specs.declared.GatewayConfig.{GatewayConfig};
 ghost use Rattle.gw_switch.specs.Events.{Event};
-ghost use Rattle.gw_switch.specs.Standing.{Stands};
+ghost use Rattle.gw_switch.specs.Standing.{HasHistory};
 ghost use Rattle.gw_program.specs.Listing.{line_of, listing};
 
 use arrayvec::ArrayVec;
@@ -16,7 +16,7 @@ type Listing = ArrayVec<u8, 2_250>;
 // Puts the line of a circuit, with a line feed, after those that are there.
 fn put_line(gateway: &Gateway, circuit: CircuitNo, text: &mut Listing)
     requires { length text.old.items + 75 ≤ 2250 }
-    ensures line { (config : GatewayConfig) (events : List Event) → Stands config gateway.now events
+    ensures line { (config : GatewayConfig) (events : List Event) → HasHistory config gateway.now events
         → text.new.items ≡ text.old.items ++ line_of config events circuit }
     ensures len { length text.new.items ≡ length text.old.items + 75 }
 {
@@ -28,7 +28,7 @@ fn put_line(gateway: &Gateway, circuit: CircuitNo, text: &mut Listing)
 
 /// The lines of all circuits, each with a line feed.
 pub fn listing(gateway: &Gateway) -> Listing
-    ensures { (config : GatewayConfig) (events : List Event) → Stands config gateway.now events
+    ensures { (config : GatewayConfig) (events : List Event) → HasHistory config gateway.now events
         → result.items ≡ listing config events }
 {
     let mut text = Listing::new();

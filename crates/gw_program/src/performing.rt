@@ -12,8 +12,8 @@ use crate::jobs::do_job;
 use crate::report::passed_over;
 use crate::sealed::{StandardInput, StandardOutput};
 use crate::sessions::{check, replay_watched, serve_through};
-use crate::trouble::Trouble;
-use gw_command::{Job, Session};
+use crate::trouble::ProgramFault;
+use gw_command::{Session, SpeechJob};
 use gw_config::Config;
 use gw_session::{Ports, RunFault, Sink, Source, Tape, Totals, Watch};
 use gw_switch::Gateway;
@@ -25,7 +25,7 @@ pub trait System {
     ghost use Rattle.std.specs.Prelude.{Result};
     ghost use Rattle.gw_config.specs.declared.config.Config.{Config};
     ghost use Rattle.gw_switch.specs.declared.gateway.Gateway.{Gateway};
-    ghost use Rattle.gw_program.specs.declared.trouble.Trouble.{Trouble};
+    ghost use Rattle.gw_program.specs.declared.trouble.ProgramFault.{ProgramFault};
 
     /// Where the datagrams of circuits come from, and where they go.
     type Ports: Ports + Drop;
@@ -40,58 +40,58 @@ pub trait System {
     ghost reads: { Self → Config → Type 0 };
 
     /// Holds of why no configuration was read.
-    ghost lacks_config: { Self → Trouble → Type 0 };
+    ghost lacks_config: { Self → ProgramFault → Type 0 };
 
     /// Holds of a configuration and a gateway that a session begins with.
     ghost starts: { Self → Config → Gateway → Type 0 };
 
     /// Holds of a configuration and why there is no gateway for it.
-    ghost lacks_gateway: { Self → Config → Trouble → Type 0 };
+    ghost lacks_gateway: { Self → Config → ProgramFault → Type 0 };
 
     /// Holds of a configuration, a gateway of it, and what came of the saving of its state.
-    ghost saves: { Self → Config → Gateway → Result (Unit {0}) Trouble → Type 0 };
+    ghost saves: { Self → Config → Gateway → Result (Unit {0}) ProgramFault → Type 0 };
 
     /// Holds of a tape that was begun.
     ghost begins: { Self → Self.Tape → Type 0 };
 
     /// Holds of why no tape was begun.
-    ghost lacks_tape: { Self → Trouble → Type 0 };
+    ghost lacks_tape: { Self → ProgramFault → Type 0 };
 
     /// Holds of ports that were opened for a configuration.
     ghost opens: { Self → Config → Self.Ports → Type 0 };
 
     /// Holds of a configuration and why no ports were opened for it.
-    ghost lacks_ports: { Self → Config → Trouble → Type 0 };
+    ghost lacks_ports: { Self → Config → ProgramFault → Type 0 };
 
     /// Holds of why nothing was opened that the records of a replay are shown to.
-    ghost lacks_watch: { Self → Trouble → Type 0 };
+    ghost lacks_watch: { Self → ProgramFault → Type 0 };
 
     /// Reads the configuration.
-    fn read_config(&self) -> Result<Config, Trouble>
+    fn read_config(&self) -> Result<Config, ProgramFault>
         ensures ok { IfOk result (λ config. reads self.now config) }
         ensures err { IfErr result (λ trouble. lacks_config self.now trouble) };
 
     /// The gateway that a session begins with.
-    fn begin_gateway(&self, config: &Config) -> Result<Gateway, Trouble>
+    fn begin_gateway(&self, config: &Config) -> Result<Gateway, ProgramFault>
         ensures ok { IfOk result (λ gateway. starts self.now config.now gateway) }
         ensures err { IfErr result (λ trouble. lacks_gateway self.now config.now trouble) };
 
     /// Saves the state of a gateway, if that is asked for.
-    fn save_gateway(&self, config: &Config, gateway: &Gateway) -> Result<(), Trouble>
+    fn save_gateway(&self, config: &Config, gateway: &Gateway) -> Result<(), ProgramFault>
         ensures { saves self.now config.now gateway.now result };
 
     /// Begins the recording, if one is asked for.
-    fn begin_tape(&self) -> Result<Self::Tape, Trouble>
+    fn begin_tape(&self) -> Result<Self::Tape, ProgramFault>
         ensures ok { IfOk result (λ tape. begins self.now tape) }
         ensures err { IfErr result (λ trouble. lacks_tape self.now trouble) };
 
     /// Opens the ports of a configuration.
-    fn open_ports(&self, config: &Config) -> Result<Self::Ports, Trouble>
+    fn open_ports(&self, config: &Config) -> Result<Self::Ports, ProgramFault>
         ensures ok { IfOk result (λ ports. opens self.now config.now ports) }
         ensures err { IfErr result (λ trouble. lacks_ports self.now config.now trouble) };
 
     /// Opens what the records of a replay are shown to, which begins with this gateway.
-    fn open_watch(&self, config: &Config, gateway: &Gateway) -> Result<Self::Watch, Trouble>
+    fn open_watch(&self, config: &Config, gateway: &Gateway) -> Result<Self::Watch, ProgramFault>
         ensures { IfErr result (λ trouble. lacks_watch self.now trouble) };
 
     /// Ends what the records of a replay were shown to.
@@ -101,18 +101,18 @@ pub trait System {
     fn tell_end(&self, tape: &Self::Tape);
 
     /// Tells how a session ended, where more is to be told.
-    fn tell(&self, trouble: &Trouble);
+    fn tell(&self, trouble: &ProgramFault);
 }
 
 // What is told of how a job or a session ended.
-fn told_as(ended: Result<Totals, RunFault>) -> Result<Totals, Trouble>
+fn told_as(ended: Result<Totals, RunFault>) -> Result<Totals, ProgramFault>
     ensures { result ≡ told_as ended }
 {
-    ended.map_err(Trouble::Session)
+    ended.map_err(ProgramFault::Session)
 }
 
 // Tells what a job passed over, if anything.
-fn tell_passed_over(rt: &impl Eprint, job: &Job, totals: &Totals) {
+fn tell_passed_over(rt: &impl Eprint, job: &SpeechJob, totals: &Totals) {
     if let Some(passed) = passed_over(job, totals) {
         let _ = eprintln!(rt; "{}", passed);
     }
@@ -122,10 +122,10 @@ fn tell_passed_over(rt: &impl Eprint, job: &Job, totals: &Totals) {
 #[inline(never)]
 pub fn perform_job<S: Source + StandardInput, K: Sink + StandardOutput>(
     rt: &HostRuntime,
-    job: &Job,
+    job: &SpeechJob,
     source: &mut S,
     sink: &mut K,
-) -> Result<Totals, Trouble>
+) -> Result<Totals, ProgramFault>
     requires { CanBegin (S.tells source.old) (K.tells sink.old) }
     ensures { Ended (λ end. MatchResult end
         (Does job.now (S.tells source.old) (S.tells source.new) (K.tells sink.old) (K.tells sink.new))
@@ -146,14 +146,14 @@ pub(crate) fn end_session<Y: System>(
     config: &Config,
     gateway: &Gateway,
     ended: Result<Totals, RunFault>,
-) -> Result<Totals, Trouble>
+) -> Result<Totals, ProgramFault>
     ensures { IsTold (Y.saves system.now config.now gateway.now) ended result }
 {
     match system.save_gateway(config, gateway) {
         Ok(()) => told_as(ended),
         Err(trouble) => {
             if let Err(fault) = ended {
-                system.tell(&Trouble::Session(fault));
+                system.tell(&ProgramFault::Session(fault));
             }
             Err(trouble)
         }
@@ -168,7 +168,7 @@ fn perform_replay<Y: System, S: Source, K: Sink>(
     gateway: &mut Gateway,
     source: &mut S,
     sink: &mut K,
-) -> Result<Totals, Trouble>
+) -> Result<Totals, ProgramFault>
     requires { CanBegin (S.tells source.old) (K.tells sink.old) }
     ensures { NotBegun (S.tells source.old) (S.tells source.new) (K.tells sink.old) (K.tells sink.new)
         (Y.lacks_watch system.now) result
@@ -191,7 +191,7 @@ fn perform_serve<Y: System, S: Source, K: Sink>(
     gateway: &mut Gateway,
     source: &mut S,
     sink: &mut K,
-) -> Result<Totals, Trouble>
+) -> Result<Totals, ProgramFault>
     requires { CanBegin (S.tells source.old) (K.tells sink.old) }
     ensures { NotBegun (S.tells source.old) (S.tells source.new) (K.tells sink.old) (K.tells sink.new)
         (LacksTapeOrPorts (Y.lacks_tape system.now) (Y.lacks_ports system.now config.now)) result
@@ -218,7 +218,7 @@ pub fn perform_session<Y: System, S: Source + StandardInput, K: Sink + StandardO
     session: Session,
     source: &mut S,
     sink: &mut K,
-) -> Result<Totals, Trouble>
+) -> Result<Totals, ProgramFault>
     requires { CanBegin (S.tells source.old) (K.tells sink.old) }
     ensures { NotBegun (S.tells source.old) (S.tells source.new) (K.tells sink.old) (K.tells sink.new)
         (Y.lacks_config system.now) result

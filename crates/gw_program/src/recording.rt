@@ -3,7 +3,7 @@
 ghost use Rattle.std.specs.Prelude.{IfOk};
 ghost use Rattle.gw_program.specs.Performing.{IsBegun};
 
-use crate::trouble::Trouble;
+use crate::trouble::ProgramFault;
 use gw_session::{Recorder, ToWrite, TrunkRecord};
 use std::fs::{self, File, OpenOptions};
 use std::io;
@@ -54,30 +54,33 @@ fn create(rt: &HostRuntime, path: &str) -> io::Result<File> {
 }
 
 // Opens a file that is there: a regular one only where it may be written over, and it is emptied then.
-fn open_old(rt: &HostRuntime, recording: Recording<'_>) -> Result<File, Trouble> {
+fn open_old(rt: &HostRuntime, recording: Recording<'_>) -> Result<File, ProgramFault> {
     let found = fs::metadata(rt, recording.path);
-    let found = found.map_err(|error| Trouble::of(&error, Trouble::Recording))?;
+    let found = found.map_err(|error| ProgramFault::of(&error, ProgramFault::Recording))?;
     if found.is_file() && !recording.over {
-        return Err(Trouble::OldRecording);
+        return Err(ProgramFault::OldRecording);
     }
     let opened = if found.is_file() {
         create(rt, recording.path)
     } else {
         append(rt, recording.path)
     };
-    opened.map_err(|error| Trouble::of(&error, Trouble::Recording))
+    opened.map_err(|error| ProgramFault::of(&error, ProgramFault::Recording))
 }
 
 // Opens the file of a recording: a new one, or what is there already.
-fn open(rt: &HostRuntime, recording: Recording<'_>) -> Result<File, Trouble> {
+fn open(rt: &HostRuntime, recording: Recording<'_>) -> Result<File, ProgramFault> {
     if recording.path.starts_with("/dev/fd/") {
-        return append(rt, recording.path).map_err(|error| Trouble::of(&error, Trouble::Recording));
+        return append(rt, recording.path).map_err(|error| ProgramFault::of(
+            &error,
+            ProgramFault::Recording,
+        ));
     }
     match create_new(rt, recording.path) {
         Ok(file) => Ok(file),
         Err(error) => match error.kind() {
             io::ErrorKind::AlreadyExists => open_old(rt, recording),
-            _ => Err(Trouble::of(&error, Trouble::Recording)),
+            _ => Err(ProgramFault::of(&error, ProgramFault::Recording)),
         },
     }
 }
@@ -90,19 +93,19 @@ fn never_wait(file: &File) -> io::Result<()> {
 }
 
 // Opens the file of a recording, whose writes wait only if they are to.
-fn open_as_asked(rt: &HostRuntime, recording: Recording<'_>) -> Result<File, Trouble> {
+fn open_as_asked(rt: &HostRuntime, recording: Recording<'_>) -> Result<File, ProgramFault> {
     let file = open(rt, recording)?;
     if recording.waits {
         return Ok(file);
     }
     match never_wait(&file) {
         Ok(()) => Ok(file),
-        Err(error) => Err(Trouble::of(&error, Trouble::Recording)),
+        Err(error) => Err(ProgramFault::of(&error, ProgramFault::Recording)),
     }
 }
 
 /// Begins a recording, where one is asked for.
-pub fn begin(rt: &HostRuntime, recording: Option<Recording<'_>>) -> Result<Tape, Trouble>
+pub fn begin(rt: &HostRuntime, recording: Option<Recording<'_>>) -> Result<Tape, ProgramFault>
     ensures { IfOk result (λ tape. IsBegun recording.entry
         (⟦<Option<Recorder<ToWrite<File>>> as gw_session::Tape>⟧.tells tape)) }
 {
@@ -111,7 +114,7 @@ pub fn begin(rt: &HostRuntime, recording: Option<Recording<'_>>) -> Result<Tape,
     };
     // (It is on the heap, since the frames of a session are large.)
     let Ok(room) = Box::new(rt.alloc(), TrunkRecord::new()) else {
-        return Err(Trouble::OutOfMemory);
+        return Err(ProgramFault::OutOfMemory);
     };
     let file = open_as_asked(rt, recording)?;
     Ok(Some(Recorder::new(ToWrite::new(file), room)))

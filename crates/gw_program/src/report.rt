@@ -3,15 +3,15 @@
 ghost use Rattle.std.specs.Prelude.{◌≡◌};
 ghost use Rattle.gw_program.specs.Report.{passed_over};
 
-use gw_command::Job;
-use gw_filter::Tally;
+use gw_command::SpeechJob;
+use gw_filter::ReceiverCounts;
 use gw_session::Totals;
 use thiserror::Error;
 
 /// How many of the datagrams of a stream were passed over, being none of it. It prints as its line.
 #[derive(Clone, Copy, Debug, PartialEq, Eq, Error)]
 #[error("passed over {dropped} of {datagrams} datagrams")]
-pub struct PassedOver {
+pub struct Skipped {
     /// The datagrams that were passed over.
     pub dropped: u64,
     /// All that came.
@@ -19,11 +19,11 @@ pub struct PassedOver {
 }
 
 /// What `decode` passed over, if anything. The other jobs pass over nothing.
-pub fn passed_over(job: &Job, totals: &Totals) -> Option<PassedOver>
+pub fn passed_over(job: &SpeechJob, totals: &Totals) -> Option<Skipped>
     ensures { result ≡ passed_over job.now totals.now }
 {
     match job {
-        Job::Decode(_) if totals.dropped > 0 => Some(PassedOver {
+        SpeechJob::Decode(_) if totals.dropped > 0 => Some(Skipped {
             dropped: totals.dropped,
             datagrams: totals.records,
         }),
@@ -46,7 +46,7 @@ pub fn print_discarded(rt: &impl Eprint, discarded: u64) {
 }
 
 /// Prints what was counted of CRC-4 multiframes on standard error, one name and value a line.
-pub fn print_tally(rt: &impl Eprint, tally: &Tally) {
+pub fn print_tally(rt: &impl Eprint, tally: &ReceiverCounts) {
     let _ = eprintln!(rt; "submultiframes {}", tally.submultiframes);
     let _ = eprintln!(rt; "errored {}", tally.errored);
     let _ = eprintln!(rt; "far_end_errored {}", tally.far_end_errored);

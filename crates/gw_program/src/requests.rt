@@ -4,9 +4,9 @@ ghost use Rattle.std.specs.Prelude.{◌⊎◌};
 ghost use Rattle.clap.specs.Words.{subcommand_rows_of};
 ghost use Rattle.gw_program.specs.Requests.{HasRequest, NoRequest, by_request};
 
-use crate::trouble::Trouble;
+use crate::trouble::ProgramFault;
 use clap::ArgMatches;
-use gw_command::{Filter, Job, Request, Session, asks_check, request_of};
+use gw_command::{Filter, Request, Session, SpeechJob, asks_check, request_of};
 use gw_session::Totals;
 
 /// What the program does for its subcommands, a method each. The relations are the type's own: a caller that
@@ -14,51 +14,51 @@ use gw_session::Totals;
 pub trait Commands {
     ghost use Rattle.std.specs.Prelude.{Result};
     ghost use Rattle.gw_command.specs.declared.command.Filter.{Filter};
-    ghost use Rattle.gw_command.specs.declared.command.Job.{Job};
+    ghost use Rattle.gw_command.specs.declared.command.SpeechJob.{SpeechJob};
     ghost use Rattle.gw_command.specs.declared.command.Session.{Session};
     ghost use Rattle.gw_records.specs.declared.outcome.Totals.{Totals};
-    ghost use Rattle.gw_program.specs.declared.trouble.Trouble.{Trouble};
+    ghost use Rattle.gw_program.specs.declared.trouble.ProgramFault.{ProgramFault};
 
     /// Holds of a job that was done, and of what is told of its end.
-    ghost does_job: { Self → Job → Result Totals Trouble → Type 0 };
+    ghost does_job: { Self → SpeechJob → Result Totals ProgramFault → Type 0 };
 
     /// Holds of a filter that was run, and of what is told of its end.
-    ghost does_filter: { Self → Filter → Result Totals Trouble → Type 0 };
+    ghost does_filter: { Self → Filter → Result Totals ProgramFault → Type 0 };
 
-    /// Holds of what is told where CRC-4 multiframes were checked.
-    ghost does_check: { Self → Result Totals Trouble → Type 0 };
+    /// Holds of the result of checking CRC-4 multiframes.
+    ghost does_check: { Self → Result Totals ProgramFault → Type 0 };
 
     /// Holds of a session that was done, and of what is told of its end.
-    ghost does_session: { Self → Session → Result Totals Trouble → Type 0 };
+    ghost does_session: { Self → Session → Result Totals ProgramFault → Type 0 };
 
-    /// Holds of what is told where a trunk was served.
-    ghost does_trunk: { Self → Result Totals Trouble → Type 0 };
+    /// Holds of the result of serving a trunk.
+    ghost does_trunk: { Self → Result Totals ProgramFault → Type 0 };
 
-    /// Holds of what is told where a trunk was carried over SAToP.
-    ghost does_satop: { Self → Result Totals Trouble → Type 0 };
+    /// Holds of the result of carrying a trunk over SAToP.
+    ghost does_satop: { Self → Result Totals ProgramFault → Type 0 };
 
     /// Does a job on a stream of speech.
-    fn job(&self, job: &Job) -> Result<Totals, Trouble>
+    fn job(&self, job: &SpeechJob) -> Result<Totals, ProgramFault>
         ensures { does_job self.now job.now result };
 
     /// Runs a filter of a trunk.
-    fn filter(&self, filter: Filter) -> Result<Totals, Trouble>
+    fn filter(&self, filter: Filter) -> Result<Totals, ProgramFault>
         ensures { does_filter self.now filter result };
 
     /// Checks the CRC-4 multiframes of a trunk.
-    fn check(&self) -> Result<Totals, Trouble>
+    fn check(&self) -> Result<Totals, ProgramFault>
         ensures { does_check self.now result };
 
     /// Does a session of a gateway.
-    fn session(&self, session: Session) -> Result<Totals, Trouble>
+    fn session(&self, session: Session) -> Result<Totals, ProgramFault>
         ensures { does_session self.now session result };
 
     /// Serves a trunk.
-    fn trunk(&self) -> Result<Totals, Trouble>
+    fn trunk(&self) -> Result<Totals, ProgramFault>
         ensures { does_trunk self.now result };
 
     /// Carries a trunk over SAToP.
-    fn satop(&self) -> Result<Totals, Trouble>
+    fn satop(&self) -> Result<Totals, ProgramFault>
         ensures { does_satop self.now result };
 }
 
@@ -66,8 +66,8 @@ pub trait Commands {
 ///
 /// # Errors
 ///
-/// `Trouble::Nothing` where they ask for nothing that the program does, else what the command tells.
-pub fn perform<C: Commands>(commands: &C, matches: &ArgMatches<'_>) -> Result<Totals, Trouble>
+/// `ProgramFault::Nothing` where they ask for nothing that the program does, else what the command tells.
+pub fn perform<C: Commands>(commands: &C, matches: &ArgMatches<'_>) -> Result<Totals, ProgramFault>
     ensures { HasRequest (subcommand_rows_of matches.now) (by_request
         (λ job. C.does_job commands.now job result) (λ filter. C.does_filter commands.now filter result)
         (C.does_check commands.now result) (λ session. C.does_session commands.now session result)
@@ -75,10 +75,10 @@ pub fn perform<C: Commands>(commands: &C, matches: &ArgMatches<'_>) -> Result<To
         ⊎ NoRequest (subcommand_rows_of matches.now) result }
 {
     let Some(request) = request_of(matches) else {
-        return Err(Trouble::Nothing);
+        return Err(ProgramFault::Nothing);
     };
     match request {
-        Request::Job(job) => commands.job(&job),
+        Request::SpeechJob(job) => commands.job(&job),
         Request::Filter(Filter::Crc4) if asks_check(matches) => commands.check(),
         Request::Filter(filter) => commands.filter(filter),
         Request::Session(session) => commands.session(session),

@@ -3,17 +3,17 @@
 ghost use Rattle.gw_program.specs.Satop.{CarriesSatop};
 ghost use Rattle.gw_satop.specs.Session.{HasSettings};
 
-use crate::trouble::Trouble;
+use crate::trouble::ProgramFault;
 use gw_records::NO_TOTALS;
-use gw_satop::{Circuit, Moments, Peer, carry_satop};
+use gw_satop::{Circuit, Clock, Peer, carry_satop};
 use gw_session::{RunFault, Totals};
 use gw_trunk::{Incoming, Outgoing};
 
 /// Carries an emulated circuit until no octet comes from the trunk any more.
-pub fn perform_satop<I: Incoming, O: Outgoing, P: Peer, M: Moments>(
+pub fn perform_satop<I: Incoming, O: Outgoing, P: Peer, M: Clock>(
     circuit: &mut Circuit<I, O, P>,
     moments: &mut M,
-) -> Result<Totals, Trouble>
+) -> Result<Totals, ProgramFault>
     ensures carries { CarriesSatop circuit.new.receiver circuit.new.sender
         (P.received circuit.new.peer) (P.sent circuit.new.peer) (I.came circuit.new.incoming)
         (O.went circuit.new.outgoing) circuit.new.left.items result }
@@ -24,7 +24,7 @@ pub fn perform_satop<I: Incoming, O: Outgoing, P: Peer, M: Moments>(
         return Ok(NO_TOTALS);
     }
     if circuit.is_whole() {
-        return Err(Trouble::Session(RunFault::Read));
+        return Err(ProgramFault::Session(RunFault::Read));
     }
-    Err(Trouble::Session(RunFault::Write))
+    Err(ProgramFault::Session(RunFault::Write))
 }

@@ -5,7 +5,7 @@ ghost use Rattle.std.specs.declared.io.Error.{Error};
 ghost use Rattle.gw_config.specs.Octets.{meaning_of_octets};
 ghost use Rattle.gw_program.specs.Setup.{Says, FailsToRead};
 
-use crate::trouble::Trouble;
+use crate::trouble::ProgramFault;
 use gw_config::Config;
 use std::alloc::Global;
 use std::io::Read;
@@ -15,11 +15,11 @@ use std::{fs, io};
 const MOST_OCTETS: u64 = 65_537;
 
 // The configuration that these octets say.
-fn meaning_of(alloc: Global, octets: &[u8]) -> Result<Config, Trouble>
+fn meaning_of(alloc: Global, octets: &[u8]) -> Result<Config, ProgramFault>
     ensures says { Says result (meaning_of_octets octets.now) }
     ensures read { IfErr result (FailsToRead (λ _. ⊥)) }
 {
-    gw_config::read(alloc, octets).map_err(Trouble::Config)
+    gw_config::read(alloc, octets).map_err(ProgramFault::Config)
 }
 
 /// What a configuration is read from. The relation is the type's own: a caller that knows nothing of the type
@@ -50,22 +50,22 @@ impl<R: Read + Drop> Text for R {
 }
 
 // The configuration that the octets of a text say, up to its end.
-fn config_of<T: Text>(alloc: Global, text: T) -> Result<Config, Trouble>
+fn config_of<T: Text>(alloc: Global, text: T) -> Result<Config, ProgramFault>
     ensures says { IfSome (T.holds text) (λ octets. Says result (meaning_of_octets octets)) }
     ensures unread { IfErr result (FailsToRead (T.fails text)) }
 {
     let mut octets = Vec::new(alloc);
     match text.read_up_to(MOST_OCTETS, &mut octets) {
         Ok(()) => meaning_of(alloc, octets.as_slice()),
-        Err(error) => Err(Trouble::of(&error, Trouble::File)),
+        Err(error) => Err(ProgramFault::of(&error, ProgramFault::File)),
     }
 }
 
 /// The configuration that a file says.
 #[inline(never)]
-pub fn read_config(rt: &HostRuntime, path: &str) -> Result<Config, Trouble> {
+pub fn read_config(rt: &HostRuntime, path: &str) -> Result<Config, ProgramFault> {
     match fs::open(rt, path) {
         Ok(file) => config_of(rt.alloc(), file),
-        Err(error) => Err(Trouble::of(&error, Trouble::File)),
+        Err(error) => Err(ProgramFault::of(&error, ProgramFault::File)),
     }
 }

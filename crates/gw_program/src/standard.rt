@@ -16,7 +16,7 @@ const NULL: &str = "/dev/null";
 /// What stands in the places of those that were closed. As with a closed one, a read of 0 fails, and so does
 /// a write to 1 and 2.
 #[derive(Drop)]
-pub struct Held {
+pub struct ReservedDescriptors {
     input: Option<File>,
     output: Option<File>,
     error: Option<File>,
@@ -36,12 +36,12 @@ fn up_to(most: RawFd, opened: io::Result<File>) -> Option<File>
 
 /// Holds 0, 1 and 2 open, each as it is where it is open. Where the system opens nothing, a closed one stays
 /// closed.
-pub fn hold(rt: &HostRuntime) -> Held
+pub fn reserve_descriptors(rt: &HostRuntime) -> ReservedDescriptors
     ensures input { IfSome result.input (λ file. file_raw_fd file ≤ℤ pos 0) }
     ensures output { IfSome result.output (λ file. file_raw_fd file ≤ℤ pos 2) }
     ensures error { IfSome result.error (λ file. file_raw_fd file ≤ℤ pos 2) }
 {
-    Held {
+    ReservedDescriptors {
         input: up_to(0, OpenOptions::new().write(true).open(rt, NULL)),
         output: up_to(2, fs::open(rt, NULL)),
         error: up_to(2, fs::open(rt, NULL)),

@@ -8,7 +8,7 @@ ghost use Rattle.gw_program.specs.State.{WasRead, FailsToRead, WasLoaded, FailsT
 ghost use Rattle.gw_program.specs.State.{IsFromState, HasBegun, Waits, BeginsWaiting, LacksGateway, IsSaved};
 ghost use Rattle.gw_program.specs.State.{load_trouble};
 
-use crate::trouble::Trouble;
+use crate::trouble::ProgramFault;
 use gw_records::read_behind;
 use gw_session::{FromRead, Sink, Source, ToWrite, write_all};
 use gw_state::{LoadFault, Loaded, load_gateway, state_file};
@@ -30,7 +30,7 @@ const MODE: u32 = 0o640;
 const UNFINISHED: &str = ".new";
 
 // Reads all that a source gives. It is given up where it is longer than any state.
-fn read_whole<S: Source>(source: &mut S, octets: &mut Vec<u8>) -> Result<(), Trouble>
+fn read_whole<S: Source>(source: &mut S, octets: &mut Vec<u8>) -> Result<(), ProgramFault>
     requires empty { octets.old.items ≡ [] }
     requires counts { CanCount (S.tells source.old).failures }
     ensures ok { OnOk result (WasRead (S.tells source.old) (S.tells source.new) octets.new.items) }
@@ -40,25 +40,25 @@ fn read_whole<S: Source>(source: &mut S, octets: &mut Vec<u8>) -> Result<(), Tro
     'reading: for turn in 0..MOST_OCTETS {
         prove!(turn < MOST_OCTETS);
         let Ok(n) = read_behind(source, &mut buffer, 0) else {
-            return Err(Trouble::NoState);
+            return Err(ProgramFault::NoState);
         };
         if n == 0 {
             return Ok(());
         }
         if octets.extend_from_slice(&buffer[..n]).is_err() {
-            return Err(Trouble::OutOfMemory);
+            return Err(ProgramFault::OutOfMemory);
         }
     }
-    Err(Trouble::NoState)
+    Err(ProgramFault::NoState)
 }
 
 // What is told where octets are not loaded.
-fn load_trouble(fault: LoadFault) -> Trouble
+fn load_trouble(fault: LoadFault) -> ProgramFault
     ensures { result ≡ load_trouble fault }
 {
     match fault {
-        LoadFault::OutOfMemory => Trouble::OutOfMemory,
-        LoadFault::Refused { .. } => Trouble::State(fault),
+        LoadFault::OutOfMemory => ProgramFault::OutOfMemory,
+        LoadFault::Refused { .. } => ProgramFault::State(fault),
     }
 }
 
@@ -67,13 +67,14 @@ fn load_trouble(fault: LoadFault) -> Trouble
 ///
 /// # Errors
 ///
-/// [`Trouble::NoState`] if a read failed or there are more octets than a state has, [`Trouble::State`] if the
-/// octets are no state that can be loaded, [`Trouble::OutOfMemory`].
+/// [`ProgramFault::NoState`] if a read failed or there are more octets than a state has,
+/// [`ProgramFault::State`] if the
+/// octets are no state that can be loaded, [`ProgramFault::OutOfMemory`].
 pub fn load_from<S: Source>(
     alloc: Global,
     config: &GatewayConfig,
     source: &mut S,
-) -> Result<Loaded, Trouble>
+) -> Result<Loaded, ProgramFault>
     requires { CanCount (S.tells source.old).failures }
     ensures ok { IfOk result (WasLoaded config.now (S.tells source.old) (S.tells source.new)) }
     ensures err { IfErr result (FailsToLoad config.now (S.tells source.old) (S.tells source.new)) }
@@ -90,14 +91,14 @@ pub fn load_from<S: Source>(
 ///
 /// # Errors
 ///
-/// [`Trouble::NotSaved`] if a write failed: the sink has taken a prefix of the octets.
-/// [`Trouble::OutOfMemory`]: it has taken none.
+/// [`ProgramFault::NotSaved`] if a write failed: the sink has taken a prefix of the octets.
+/// [`ProgramFault::OutOfMemory`]: it has taken none.
 pub fn save_to<K: Sink>(
     alloc: Global,
     config: &GatewayConfig,
     gateway: &Gateway,
     sink: &mut K,
-) -> Result<(), Trouble>
+) -> Result<(), ProgramFault>
     requires { CanCount (K.tells sink.old).failures }
     ensures ok { OnOk result
         (Appends (K.tells sink.old).taken (K.tells sink.new).taken (state_file config.now gateway.now)) }
@@ -105,11 +106,11 @@ pub fn save_to<K: Sink>(
         (FailsToSave (K.tells sink.old) (K.tells sink.new) (state_file config.now gateway.now)) }
 {
     let Ok(file) = state_file(alloc, config, gateway) else {
-        return Err(Trouble::OutOfMemory);
+        return Err(ProgramFault::OutOfMemory);
     };
     match write_all(sink, file.as_slice()) {
         Ok(()) => Ok(()),
-        Err(_) => Err(Trouble::NotSaved),
+        Err(_) => Err(ProgramFault::NotSaved),
     }
 }
 
@@ -123,7 +124,11 @@ fn tell_renewed(rt: &HostRuntime, old: &GatewayConfig, config: &GatewayConfig) {
 }
 
 // The gateway whose state a file has, with this configuration.
-fn loaded_gateway(rt: &HostRuntime, config: &GatewayConfig, path: &str) -> Result<Gateway, Trouble>
+fn loaded_gateway(
+    rt: &HostRuntime,
+    config: &GatewayConfig,
+    path: &str,
+) -> Result<Gateway, ProgramFault>
     ensures ok { IfOk result (IsFromState config.now) }
     ensures err { IfErr result (LacksGateway config.now (Some path)) }
 {
@@ -133,7 +138,7 @@ fn loaded_gateway(rt: &HostRuntime, config: &GatewayConfig, path: &str) -> Resul
             tell_renewed(rt, &loaded.old, config);
             Ok(loaded.gateway)
         }
-        Err(error) => Err(Trouble::of(&error, Trouble::NoState)),
+        Err(error) => Err(ProgramFault::of(&error, ProgramFault::NoState)),
     }
 }
 
@@ -142,13 +147,13 @@ fn first_gateway(
     rt: &HostRuntime,
     config: &GatewayConfig,
     path: Option<&str>,
-) -> Result<Gateway, Trouble>
+) -> Result<Gateway, ProgramFault>
     ensures ok { IfOk result (HasBegun config.now path.entry) }
     ensures err { IfErr result (LacksGateway config.now path.entry) }
 {
     match path {
         Some(path) => loaded_gateway(rt, config, path),
-        None => Gateway::open(rt.alloc(), config).map_err(|_| Trouble::OutOfMemory),
+        None => Gateway::open(rt.alloc(), config).map_err(|_| ProgramFault::OutOfMemory),
     }
 }
 
@@ -171,7 +176,7 @@ pub fn begin_gateway(
     config: &GatewayConfig,
     path: Option<&str>,
     wait: Option<u16>,
-) -> Result<Gateway, Trouble>
+) -> Result<Gateway, ProgramFault>
     ensures ok { IfOk result (BeginsWaiting config.now path.entry (λ asked. asked ≡ wait)) }
     ensures err { IfErr result (LacksGateway config.now path.entry) }
 {
@@ -180,13 +185,13 @@ pub fn begin_gateway(
 }
 
 // The name of a state while it is written.
-fn unfinished(alloc: Global, path: &str) -> Result<String, Trouble> {
+fn unfinished(alloc: Global, path: &str) -> Result<String, ProgramFault> {
     let name = String::from_str(alloc, path).and_then(|name| {
         let mut name = name;
         name.push_str(UNFINISHED)?;
         Ok(name)
     });
-    name.map_err(|_| Trouble::OutOfMemory)
+    name.map_err(|_| ProgramFault::OutOfMemory)
 }
 
 // Creates the file of a state, or empties one that was not finished.
@@ -205,12 +210,12 @@ fn write_new(
     config: &GatewayConfig,
     gateway: &Gateway,
     path: &str,
-) -> Result<(), Trouble> {
-    let file = create(rt, path).map_err(|error| Trouble::of(&error, Trouble::NotSaved))?;
+) -> Result<(), ProgramFault> {
+    let file = create(rt, path).map_err(|error| ProgramFault::of(&error, ProgramFault::NotSaved))?;
     save_to(rt.alloc(), config, gateway, &mut ToWrite::new(file))?;
     let file = OpenOptions::new().write(true).open(rt, path);
     file.and_then(|file| file.sync_all())
-        .map_err(|error| Trouble::of(&error, Trouble::NotSaved))
+        .map_err(|error| ProgramFault::of(&error, ProgramFault::NotSaved))
 }
 
 // Whether nothing is there, or a file that another may replace: no device and no folder.
@@ -228,20 +233,20 @@ pub fn keep_gateway(
     config: &GatewayConfig,
     gateway: &Gateway,
     path: Option<&str>,
-) -> Result<(), Trouble>
+) -> Result<(), ProgramFault>
     ensures { IsSaved path.entry result }
 {
     let Some(path) = path else {
         return Ok(());
     };
     if !is_replaced(rt, path) {
-        return Err(Trouble::NotSaved);
+        return Err(ProgramFault::NotSaved);
     }
     let new = unfinished(rt.alloc(), path)?;
     match write_new(rt, config, gateway, new.as_str()) {
-        Ok(()) => fs::rename(rt, new.as_str(), path).map_err(|error| Trouble::of(
+        Ok(()) => fs::rename(rt, new.as_str(), path).map_err(|error| ProgramFault::of(
             &error,
-            Trouble::NotSaved,
+            ProgramFault::NotSaved,
         )),
         Err(trouble) => {
             let _ = fs::remove_file(rt, new.as_str());

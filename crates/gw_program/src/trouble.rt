@@ -23,7 +23,7 @@ pub const NO_MEMORY: u8 = 3;
 
 /// Why the program did not do what was asked. It prints as the line on standard error.
 #[derive(Debug, Drop, Error)]
-pub enum Trouble {
+pub enum ProgramFault {
     /// A session ended with a fault.
     #[error("{0}")]
     Session(RunFault),
@@ -77,13 +77,13 @@ pub enum Trouble {
     OutOfMemory,
 }
 
-impl Trouble {
+impl ProgramFault {
     /// What a failed call of the system comes to: want of memory, or else `otherwise`.
-    pub fn of(error: &io::Error, otherwise: Trouble) -> Trouble
+    pub fn of(error: &io::Error, otherwise: ProgramFault) -> ProgramFault
         ensures { result ≡ trouble_of (error_kind error.now) otherwise }
     {
         match error.kind() {
-            io::ErrorKind::OutOfMemory => Trouble::OutOfMemory,
+            io::ErrorKind::OutOfMemory => ProgramFault::OutOfMemory,
             _ => otherwise,
         }
     }
@@ -94,26 +94,26 @@ impl Trouble {
         ensures { result ≡ trouble_status self.now }
     {
         match self {
-            Trouble::Session(RunFault::OutOfMemory)
-            | Trouble::Config(ConfigFault::OutOfMemory)
-            | Trouble::State(LoadFault::OutOfMemory)
-            | Trouble::OutOfMemory => NO_MEMORY,
-            Trouble::Session(_)
-            | Trouble::Socket(_)
-            | Trouble::FarEnd
-            | Trouble::Trunk
-            | Trouble::NotSaved => FAULT,
-            Trouble::NotText
-            | Trouble::PacketSize
-            | Trouble::Nothing
-            | Trouble::File
-            | Trouble::Recording
-            | Trouble::OldRecording
-            | Trouble::NoState
-            | Trouble::State(_)
-            | Trouble::Control
-            | Trouble::Tell
-            | Trouble::Config(_) => REFUSED,
+            ProgramFault::Session(RunFault::OutOfMemory)
+            | ProgramFault::Config(ConfigFault::OutOfMemory)
+            | ProgramFault::State(LoadFault::OutOfMemory)
+            | ProgramFault::OutOfMemory => NO_MEMORY,
+            ProgramFault::Session(_)
+            | ProgramFault::Socket(_)
+            | ProgramFault::FarEnd
+            | ProgramFault::Trunk
+            | ProgramFault::NotSaved => FAULT,
+            ProgramFault::NotText
+            | ProgramFault::PacketSize
+            | ProgramFault::Nothing
+            | ProgramFault::File
+            | ProgramFault::Recording
+            | ProgramFault::OldRecording
+            | ProgramFault::NoState
+            | ProgramFault::State(_)
+            | ProgramFault::Control
+            | ProgramFault::Tell
+            | ProgramFault::Config(_) => REFUSED,
         }
     }
 }

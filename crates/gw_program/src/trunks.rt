@@ -8,7 +8,7 @@ ghost use Rattle.gw_program.specs.Trunks.{CarriesTrunk};
 ghost use Rattle.gw_trunk.specs.Serving.{traffic};
 
 use crate::performing::{System, end_session};
-use crate::trouble::Trouble;
+use crate::trouble::ProgramFault;
 use gw_config::Config;
 use gw_session::{Ports, RunFault, Sink, Source, Tape, Totals};
 use gw_switch::Gateway;
@@ -48,7 +48,7 @@ fn perform_carry<Y: System, I: Incoming, O: Outgoing, A: Outgoing>(
     gateway: &mut Gateway,
     source: &mut TrunkSource<I>,
     sink: &mut TrunkSink<O, A>,
-) -> Result<Totals, Trouble>
+) -> Result<Totals, ProgramFault>
     requires source { (source.old.failed ≡ 0) × (source.old.reads ≡ 0) × (source.old.log.octets ≡ []) }
     requires sink { (sink.old.failed ≡ 0) × (sink.old.log.octets ≡ []) }
     ensures { NotBegun source.old source.new sink.old sink.new
@@ -78,7 +78,7 @@ pub fn perform_trunk<Y: System, I: Incoming, O: Outgoing, A: Outgoing>(
     alloc: Global,
     source: &mut TrunkSource<I>,
     sink: &mut TrunkSink<O, A>,
-) -> Result<Totals, Trouble>
+) -> Result<Totals, ProgramFault>
     requires source { (source.old.failed ≡ 0) × (source.old.reads ≡ 0) × (source.old.log.octets ≡ []) }
     requires sink { (sink.old.failed ≡ 0) × (sink.old.log.octets ≡ []) }
     ensures { NotBegun source.old source.new sink.old sink.new (Y.lacks_config system.now) result

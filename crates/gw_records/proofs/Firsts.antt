@@ -2,17 +2,17 @@
 use Rattle.gw_records.proofs.Common.{◌≡◌, ◌≢◌, ◌+◌, ◌*◌, ◌<◌, ◌≤◌, ◌^◌, ◌⊎◌, inl, inr, ℕ, suc, true, false, List, []}
 use Rattle.gw_records.proofs.Common.{◌∷◌, Bool, cond, Option, Some, None, nat_lt, ◌==◌, SomeIff, Ok, ok_or, length}
 use Rattle.gw_records.proofs.Common.{take, get_or, refl, sym, ◌∙◌, length-take-le, arith, slice_index, nat_tests}
-use Rattle.gw_records.proofs.Common.{common_steps, Kinds, spelled, IsGood, body_len, has_bad_kind, has_bad_circuit}
-use Rattle.gw_records.proofs.Common.{has_bad_length, has_bad_command, is_cut, end_of, IsCircuit, IsFirst, head_of}
-use Rattle.gw_records.proofs.Common.{named, Ending, command_of, codec_of}
+use Rattle.gw_records.proofs.Common.{common_steps, AcceptedKinds, spelled, IsGood, body_len, has_bad_kind}
+use Rattle.gw_records.proofs.Common.{has_bad_circuit, has_bad_length, has_bad_command, is_cut, end_of, IsCircuit}
+use Rattle.gw_records.proofs.Common.{IsFirst, head_of, named, EndOfRecords, command_of, codec_of}
 use Rattle.byteorder.specs.Endian.{big_bytes}
-use Rattle.gw_records.specs.declared.records.Head.{Head}
-use Rattle.gw_records.specs.declared.records.Head.TheVariants as heads
-use Rattle.gw_records.specs.declared.records.Ending.TheVariants as endings
+use Rattle.gw_records.specs.declared.records.RecordHeader.{RecordHeader}
+use Rattle.gw_records.specs.declared.records.RecordHeader.TheVariants as heads
+use Rattle.gw_records.specs.declared.records.EndOfRecords.TheVariants as endings
 use Rattle.gw_records.proofs.Again.{octet_of_command_again, octet_of_codec_again}
 
 -- what is known of the tests of end_of, by what they give
-abbrev pub Found : (none few kind circuit len cut command : Bool) → Option Ending → Type 0
+abbrev pub Found : (none few kind circuit len cut command : Bool) → Option EndOfRecords → Type 0
 Found none few kind circuit len cut command None =
     (few ≡ false) × (kind ≡ false) × (circuit ≡ false) × (len ≡ false) × (cut ≡ false) × (command ≡ false)
 Found none few kind circuit len cut command (Some endings.End) = none ≡ true
@@ -36,7 +36,7 @@ first_found false false false false false false true = (refl, inr refl)
 first_found false false false false false false false = (refl, refl, refl, refl, refl, refl)
 
 -- .. of octets that end so
-pub found_in : (kinds : Kinds) (octets : List ℕ) (o : Option Ending) → end_of kinds octets ≡ o
+pub found_in : (kinds : AcceptedKinds) (octets : List ℕ) (o : Option EndOfRecords) → end_of kinds octets ≡ o
     → Found (length octets == 0) (nat_lt (length octets) 4) (has_bad_kind kinds octets) (has_bad_circuit octets)
     (has_bad_length octets) (is_cut octets) (has_bad_command octets) o
 unfolding end_of
@@ -45,7 +45,7 @@ found_in kinds octets o e =
     (has_bad_circuit octets) (has_bad_length octets) (is_cut octets) (has_bad_command octets))
 
 -- the kind of a record that is not of a bad kind
-pub kinds_are : (kinds : Kinds) (octets : List ℕ) → has_bad_kind kinds octets ≡ false
+pub kinds_are : (kinds : AcceptedKinds) (octets : List ℕ) → has_bad_kind kinds octets ≡ false
     → ((slice_index octets 0 ≡ 84) × (kinds.trunk ≡ true)) ⊎ (((slice_index octets 0 ≡ 68)
     × (kinds.datagrams ≡ true)) ⊎ (((slice_index octets 0 ≡ 67) × (kinds.commands ≡ true))
     ⊎ ((slice_index octets 0 ≡ 75) × (kinds.codecs ≡ true))))
@@ -53,7 +53,8 @@ unfolding has_bad_kind
 kinds_are kinds octets h = grind (arith, nat_tests)
 
 -- a good kind that is no trunk, datagram or command is a codec
-pub kind_left : (kinds : Kinds) (octets : List ℕ) → has_bad_kind kinds octets ≡ false → slice_index octets 0 ≢ 84
+pub kind_left : (kinds : AcceptedKinds) (octets : List ℕ) → has_bad_kind kinds octets ≡ false
+    → slice_index octets 0 ≢ 84
     → slice_index octets 0 ≢ 68 → slice_index octets 0 ≢ 67 → slice_index octets 0 ≡ 75
 kind_left kinds octets h p q r = let k = kinds_are kinds octets h in grind arith
 
@@ -86,7 +87,7 @@ length_spelled : (h l n : ℕ) → h < 256 → l < 256 → n ≡ h * 256 + l →
 length_spelled h l n p q e = rw e (grind (arith, common_steps))
 
 -- a head of four octets, and a body
-firstly : (kinds : Kinds) (head : Head) (k c h l : ℕ) (rest : List ℕ) → h * 256 + l ≤ length rest
+firstly : (kinds : AcceptedKinds) (head : RecordHeader) (k c h l : ℕ) (rest : List ℕ) → h * 256 + l ≤ length rest
     → k ∷ c ∷ h ∷ l ∷ take (h * 256 + l) rest ≡ spelled (named head (take (h * 256 + l) rest))
     → IsGood kinds (named head (take (h * 256 + l) rest))
     → IsFirst kinds (record { head = head; len = 4 + (h * 256 + l) }) (k ∷ c ∷ h ∷ l ∷ rest)
@@ -100,14 +101,14 @@ first_octets : (n : ℕ) (rest : List ℕ) → n ≤ length rest → (n ≡ 1 �
 first_octets n rest h = (λ e. rw e (grind (arith, common_steps)), λ e. rw e (grind (arith, common_steps)))
 
 -- the head returned is that of the first octets, which have no bad command
-pub head_told : (octets : List ℕ) (o : Option Head) (head : Head)
+pub head_told : (octets : List ℕ) (o : Option RecordHeader) (head : RecordHeader)
     → SomeIff o (has_bad_command octets ≡ false) (head_of octets) → ok_or o endings.BadCommand ≡ Ok head
     → (has_bad_command octets ≡ false) × (head_of octets ≡ head)
 head_told octets None head h e = cc
 head_told octets (Some x) head h e = (h.0, let same : x ≡ head = cc in sym h.1 ∙ same)
 
 -- the first record is good if nothing is wrong with it
-pub good_first : (kinds : Kinds) (octets : List ℕ) → ((i : ℕ) → slice_index octets i < 256) → 4 ≤ length octets
+pub good_first : (kinds : AcceptedKinds) (octets : List ℕ) → ((i : ℕ) → slice_index octets i < 256) → 4 ≤ length octets
     → has_bad_kind kinds octets ≡ false → has_bad_circuit octets ≡ false → has_bad_length octets ≡ false
     → 4 + body_len octets ≤ length octets → has_bad_command octets ≡ false
     → IsFirst kinds (record { head = head_of octets; len = 4 + body_len octets }) octets

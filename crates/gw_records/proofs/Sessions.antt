@@ -2,15 +2,15 @@
 use Rattle.gw_records.proofs.Common.{◌≡◌, ◌+◌, ◌^◌, ◌<◌, ◌≤◌, inl, inr, ℕ, true, List, [], ◌∷◌, ◌++◌, length, drop}
 use Rattle.gw_records.proofs.Common.{refl, sym, ap, ◌∙◌, append_assoc, append-nil, length-append, arith}
 use Rattle.gw_records.proofs.Common.{take-append-drop, Some, Result, Ok, Err, IfOk, IfErr, IsErrAnd, flat_map}
-use Rattle.gw_records.proofs.Common.{AllByRecursion, IsAtEnd, Reader, Kinds, First, Ending, Record, spelled, IsGood}
-use Rattle.gw_records.proofs.Common.{IsFirst, record_at, end_of, is_open, SourceState, SinkState, Gives, GivesUp, held}
-use Rattle.gw_records.proofs.Common.{Brings, RunsOut, FailsToRead}
+use Rattle.gw_records.proofs.Common.{AllByRecursion, IsAtEnd, Reader, AcceptedKinds, ParsedRecord, EndOfRecords, Record}
+use Rattle.gw_records.proofs.Common.{spelled, IsGood, IsFirst, record_at, end_of, is_open, SourceState, SinkState}
+use Rattle.gw_records.proofs.Common.{Yields, GivesUp, held, Brings, RunsOut, FailsToRead}
 use Rattle.std.proofs.lemmas.List.Concat.{flat_map-append}
 use Rattle.gw_records.specs.declared.outcome.Totals.{Totals}
 use Rattle.gw_records.specs.declared.outcome.RunFault.{RunFault}
-use Rattle.gw_records.specs.declared.records.Ending.TheVariants as endings
+use Rattle.gw_records.specs.declared.records.EndOfRecords.TheVariants as endings
 use Rattle.gw_records.specs.Outcome.{answer_of, SessionTo, Ends, EndsAll, EndsUntil, FailsToWrite}
-use Rattle.gw_records.proofs.Writes.{Gives-none, Gives-join, Gives-end}
+use Rattle.gw_records.proofs.Writes.{Yields-none, Yields-join, Yields-end}
 
 abbrev pub made : ℕ → ℕ → ℕ → ℕ → ℕ → Totals
 made a b c d e = record { records = a; octets = b; datagrams = c; dropped = d; port_faults = e }
@@ -27,9 +27,9 @@ goes_up P (Ok x) f up met p = tt
 goes_up P (Err y) f up met p = rw (up, met) p
 
 -- a session between two records: what it has read are good records and what its reader holds
-pub record Stage (kinds : Kinds) (source source' : SourceState) (sink sink' : SinkState) (reader : Reader)
+pub record Stage (kinds : AcceptedKinds) (source source' : SourceState) (sink sink' : SinkState) (reader : Reader)
     (octets : List ℕ) (records : List Record) : Type 0 where
-  pub gives : Gives source source' octets
+  pub gives : Yields source source' octets
   pub whole : octets ≡ flat_map spelled records ++ held reader
   pub good : AllByRecursion (IsGood kinds) records
   pub no_read : source'.failures ≡ source.failures
@@ -38,10 +38,10 @@ pub record Stage (kinds : Kinds) (source source' : SourceState) (sink sink' : Si
   pub calls : source'.reads + reader.reads_left ≡ source.reads + 2 ^ 62
 
 -- before the first record
-pub starts : {kinds : Kinds} (a : SourceState) (c : SinkState) (reader : Reader) → held reader ≡ []
+pub starts : {kinds : AcceptedKinds} (a : SourceState) (c : SinkState) (reader : Reader) → held reader ≡ []
     → reader.reads_left ≡ 2 ^ 62 → Stage kinds a a c c reader [] []
 starts a c reader none left = record {
-  gives = Gives-none a;
+  gives = Yields-none a;
   whole = sym none;
   good = tt;
   no_read = refl;
@@ -51,7 +51,7 @@ starts a c reader none left = record {
 }
 
 -- the first record is taken
-take_record : (kinds : Kinds) (octets held : List ℕ) (records : List Record) (f : First)
+take_record : (kinds : AcceptedKinds) (octets held : List ℕ) (records : List Record) (f : ParsedRecord)
     → octets ≡ flat_map spelled records ++ held → IsFirst kinds f held
     → octets ≡ flat_map spelled (records ++ record_at f held ∷ []) ++ drop f.len held
 take_record kinds octets held records f e first =
@@ -65,13 +65,14 @@ All-join P [] ys p q = q
 All-join P (x ∷ xs) ys p q = (p.0, All-join P xs ys p.1 q)
 
 -- .. of a slice that is held
-pub first_held : {kinds : Kinds} {slice held : List ℕ} (f : First) → slice ≡ held → IsFirst kinds f slice
+pub first_held : {kinds : AcceptedKinds} {slice held : List ℕ} (f : ParsedRecord) → slice ≡ held → IsFirst kinds f slice
     → IsFirst kinds f held
 first_held f e first = rw e at first
 
 -- a record was acted on and passed
-pub record_taken : {kinds : Kinds} {a b : SourceState} {c d d' : SinkState} {reader reader' : Reader} {octets : List ℕ}
-    {records : List Record} (f : First) → Stage kinds a b c d reader octets records → IsFirst kinds f (held reader)
+pub record_taken : {kinds : AcceptedKinds} {a b : SourceState} {c d d' : SinkState} {reader reader' : Reader} {octets : List ℕ}
+    {records : List Record} (f : ParsedRecord) → Stage kinds a b c d reader octets records
+    → IsFirst kinds f (held reader)
     → held reader' ≡ drop f.len (held reader) → reader'.reads_left ≡ reader.reads_left → d'.failures ≡ d.failures
     → Stage kinds a b c d' reader' octets (records ++ record_at f (held reader) ∷ [])
 record_taken {kinds} {reader = reader} {octets = octets} {records = records} f w first passed left kept =
@@ -88,8 +89,9 @@ record_taken {kinds} {reader = reader} {octets = octets} {records = records} f w
     }
 
 -- a write failed in a record
-pub stops_in : {kinds : Kinds} {a b : SourceState} {c d e : SinkState} {reader : Reader} {octets : List ℕ}
-    {records : List Record} {Begun : List Record → Type 0} (f : First) → Stage kinds a b c d reader octets records
+pub stops_in : {kinds : AcceptedKinds} {a b : SourceState} {c d e : SinkState} {reader : Reader} {octets : List ℕ}
+    {records : List Record} {Begun : List Record → Type 0} (f : ParsedRecord)
+    → Stage kinds a b c d reader octets records
     → IsFirst kinds f (held reader) → d.failures < e.failures
     → Begun (records ++ record_at f (held reader) ∷ []) → FailsToWrite kinds a b c e Begun
 stops_in {kinds} {reader = reader} {octets = octets} {records = records} f w first failed begun = record {
@@ -107,7 +109,7 @@ stops_in {kinds} {reader = reader} {octets = octets} {records = records} f w fir
 }
 
 -- .. or behind the records
-pub stops_behind : {kinds : Kinds} {a b : SourceState} {c d e : SinkState} {reader : Reader} {octets : List ℕ}
+pub stops_behind : {kinds : AcceptedKinds} {a b : SourceState} {c d e : SinkState} {reader : Reader} {octets : List ℕ}
     {records : List Record} {Begun : List Record → Type 0} → Stage kinds a b c d reader octets records
     → d.failures < e.failures → Begun records → FailsToWrite kinds a b c e Begun
 stops_behind {reader = reader} {octets = octets} {records = records} w failed begun = record {
@@ -121,12 +123,12 @@ stops_behind {reader = reader} {octets = octets} {records = records} w failed be
 }
 
 -- the source gave more octets
-pub reads_more : {kinds : Kinds} {a b b' : SourceState} {c d d' : SinkState} {reader reader' : Reader}
+pub reads_more : {kinds : AcceptedKinds} {a b b' : SourceState} {c d d' : SinkState} {reader reader' : Reader}
     {octets : List ℕ} {records : List Record} → Stage kinds a b c d reader octets records
     → (r : Brings b b' reader reader') → a.reads < 2 ^ 63 → d'.failures ≡ d.failures
     → Stage kinds a b' c d' reader' (octets ++ r.octets) records
 reads_more {reader = reader} {octets = octets} {records = records} w r few kept = record {
-  gives = Gives-join _ _ _ octets r.octets w.gives r.gives;
+  gives = Yields-join _ _ _ octets r.octets w.gives r.gives;
   whole = rw (w.whole, r.holds) (append_assoc (flat_map spelled records) (held reader) r.octets);
   good = w.good;
   no_read = r.same ∙ w.no_read;
@@ -136,14 +138,14 @@ reads_more {reader = reader} {octets = octets} {records = records} w r few kept 
 }
 
 -- what is held ends so, and nothing came behind it
-unfoldable session_to : {kinds : Kinds} {a b b' : SourceState} {c d d' : SinkState} {reader : Reader}
-    {octets slice : List ℕ} {records : List Record} {ending : Ending} {Done : Totals → List Record → Type 0}
-    (totals : Totals) → Stage kinds a b c d reader octets records → Gives b b' [] → slice ≡ held reader
+unfoldable session_to : {kinds : AcceptedKinds} {a b b' : SourceState} {c d d' : SinkState} {reader : Reader}
+    {octets slice : List ℕ} {records : List Record} {ending : EndOfRecords} {Done : Totals → List Record → Type 0}
+    (totals : Totals) → Stage kinds a b c d reader octets records → Yields b b' [] → slice ≡ held reader
     → end_of kinds slice ≡ Some ending → d'.failures ≡ d.failures → Done totals records
     → SessionTo kinds a b' c d' Done ending
 session_to {kinds} {reader = reader} {octets = octets} {records = records} totals w gives same ends kept done = record {
   octets = octets;
-  gives = Gives-end _ _ _ _ [] refl w.gives gives;
+  gives = Yields-end _ _ _ _ [] refl w.gives gives;
   records = records;
   reads = record { rest = held reader; whole = w.whole; good = w.good; ends = rw same at ends };
   totals = totals;
@@ -152,8 +154,8 @@ session_to {kinds} {reader = reader} {octets = octets} {records = records} total
 }
 
 -- the records end so
-pub ended : {kinds : Kinds} {a b b' : SourceState} {c d d' : SinkState} {reader reader' : Reader}
-    {octets slice : List ℕ} {records : List Record} {ending : Ending} {Done : Totals → List Record → Type 0}
+pub ended : {kinds : AcceptedKinds} {a b b' : SourceState} {c d d' : SinkState} {reader reader' : Reader}
+    {octets slice : List ℕ} {records : List Record} {ending : EndOfRecords} {Done : Totals → List Record → Type 0}
     (totals : Totals) → Stage kinds a b c d reader octets records → RunsOut b b' reader reader' ending
     → slice ≡ held reader → end_of kinds slice ≡ Some ending → d'.failures ≡ d.failures → Done totals records
     → (e : Ends kinds a b' c d' Done ending) × (totals ≡ e.0.totals)
@@ -161,11 +163,12 @@ unfolding session_to
 ended totals w r same ends kept done = ((session_to totals w r.gives same ends kept done, r.same ∙ w.no_read), refl)
 
 -- a read failed, or there were too many
-pub gives_up : {kinds : Kinds} {a b b' : SourceState} {c d d' : SinkState} {reader reader' : Reader}
-    {octets slice : List ℕ} {records : List Record} {ending : Ending} {Done : Totals → List Record → Type 0}
+pub gives_up : {kinds : AcceptedKinds} {a b b' : SourceState} {c d d' : SinkState} {reader reader' : Reader}
+    {octets slice : List ℕ} {records : List Record} {ending : EndOfRecords} {Done : Totals → List Record → Type 0}
     (totals : Totals) → Stage kinds a b c d reader octets records → FailsToRead b b' reader reader' ending
     → slice ≡ held reader → end_of kinds slice ≡ Some ending → d'.failures ≡ d.failures → Done totals records
-    → (ending : Ending) × (s : SessionTo kinds a b' c d' Done ending) × GivesUp a b' s.octets × (is_open ending ≡ true)
+    → (ending : EndOfRecords) × (s : SessionTo kinds a b' c d' Done ending) × GivesUp a b' s.octets
+    × (is_open ending ≡ true)
 unfolding session_to
 gives_up totals w r same ends kept done = (
   _,
@@ -178,8 +181,8 @@ gives_up totals w r same ends kept done = (
 )
 
 -- a session ends if its records end so
-pub ends_so : {kinds : Kinds} {a b : SourceState} {c d : SinkState} {Done : Totals → List Record → Type 0}
-    (Begun : List Record → Type 0) (ending : Ending) (totals : Totals) (result : Result Totals RunFault)
+pub ends_so : {kinds : AcceptedKinds} {a b : SourceState} {c d : SinkState} {Done : Totals → List Record → Type 0}
+    (Begun : List Record → Type 0) (ending : EndOfRecords) (totals : Totals) (result : Result Totals RunFault)
     → (e : Ends kinds a b c d Done ending) → (is_open ending ≡ true → IsAtEnd b.to_come) → totals ≡ e.0.totals
     → result ≡ answer_of ending totals
     → (IfOk result (EndsAll kinds a b c d Done)) × (IfErr result (EndsUntil kinds a b c d Done Begun))

@@ -2,7 +2,8 @@
 use Rattle.gw_records.proofs.Common.{◌+◌, ◌≡◌, ◌-◌, ◌<◌, ◌≤◌, ◌^◌, ◌==◌, ◌&&◌, cond, ℕ, List, [], ◌∷◌, ◌++◌, length}
 use Rattle.gw_records.proofs.Common.{take, drop, Option, refl, sym, append_assoc, append-nil, nat_lt, arith}
 use Rattle.gw_records.proofs.Common.{Consumes-nil, Consumes-trans, common_steps, Appends, length-append, ap, ◌∙◌}
-use Rattle.gw_records.proofs.Common.{SourceState, SinkState, Gives, at_most, AppendsPrefix, AppendsBut, Passes, Breaks}
+use Rattle.gw_records.proofs.Common.{SourceState, SinkState, Yields, at_most, AppendsPrefix, AppendsBut, Forwards}
+use Rattle.gw_records.proofs.Common.{StopsInWrite}
 -- nothing appended and nothing lost, and two appends that are one
 pub use Rattle.std.proofs.KnownBytes.{Appends-nil as Appends-none, Appends-trans as Appends-join}
 
@@ -29,9 +30,9 @@ pub AppendsPrefix-same : (a b : Option (List ℕ)) (xs ys : List ℕ) → xs ≡
 AppendsPrefix-same a b xs ys e p = rw (← e) p
 
 -- .. of what passes
-pub Passes-same : (a b : Option (List ℕ)) (waiting xs ys : List ℕ) → xs ≡ ys → Passes a b waiting xs
-    → Passes a b waiting ys
-Passes-same a b waiting xs ys e p = rw (← e) p
+pub Forwards-same : (a b : Option (List ℕ)) (waiting xs ys : List ℕ) → xs ≡ ys → Forwards a b waiting xs
+    → Forwards a b waiting ys
+Forwards-same a b waiting xs ys e p = rw (← e) p
 
 -- an append, and then a prefix
 pub AppendsPrefix-join : (a b c : Option (List ℕ)) (xs ys all : List ℕ) → Appends a b xs → AppendsPrefix b c ys
@@ -55,13 +56,13 @@ AppendsPrefix-more a b octets more q = record {
 
 -- octets of which some are buffered, then a prefix of the buffered ones and of more
 pub AppendsPrefix-behind : (a b c : Option (List ℕ)) (waiting before more : List ℕ)
-    → Passes a b waiting before → AppendsPrefix b c (waiting ++ more) → AppendsPrefix a c (before ++ more)
+    → Forwards a b waiting before → AppendsPrefix b c (waiting ++ more) → AppendsPrefix a c (before ++ more)
 AppendsPrefix-behind a b c waiting before more p q =
     AppendsPrefix-join a b c p.written (waiting ++ more) (before ++ more) p.appended q (rw (p.whole, append_assoc) refl)
 
 -- octets of which few are buffered, then a prefix of the buffered ones and of more
 pub AppendsBut-behind : (late : ℕ) (a b c : Option (List ℕ)) (waiting before more : List ℕ) → length waiting ≤ late
-    → Passes a b waiting before → AppendsPrefix b c (waiting ++ more) → AppendsBut late a c before (before ++ more)
+    → Forwards a b waiting before → AppendsPrefix b c (waiting ++ more) → AppendsBut late a c before (before ++ more)
 unfolding AppendsPrefix-behind AppendsPrefix-join
 AppendsBut-behind late a b c waiting before more few p q =
     let len = ap length p.whole ∙ length-append p.written waiting in
@@ -90,76 +91,80 @@ AppendsBut-more more p = record {
 }
 
 -- what waited is written, and then other octets pass
-pub Passes-after : (a b c : Option (List ℕ)) (before waiting octets : List ℕ)
-    → Appends a b before → Passes b c waiting octets → Passes a c waiting (before ++ octets)
-Passes-after a b c before waiting octets p q = record {
+pub Forwards-after : (a b c : Option (List ℕ)) (before waiting octets : List ℕ)
+    → Appends a b before → Forwards b c waiting octets → Forwards a c waiting (before ++ octets)
+Forwards-after a b c before waiting octets p q = record {
   written = before ++ q.written;
   whole = rw (q.whole, append_assoc) refl;
   appended = Appends-join a b c before q.written p q.appended;
 }
 
 -- octets that pass behind others
-pub Passes-join : (a b c : Option (List ℕ)) (waiting waiting' before more : List ℕ)
-    → Passes a b waiting before → Passes b c waiting' (waiting ++ more) → Passes a c waiting' (before ++ more)
-Passes-join a b c waiting waiting' before more p q =
-    rw (p.whole, append_assoc) (Passes-after a b c p.written waiting' (waiting ++ more) p.appended q)
+pub Forwards-join : (a b c : Option (List ℕ)) (waiting waiting' before more : List ℕ)
+    → Forwards a b waiting before → Forwards b c waiting' (waiting ++ more) → Forwards a c waiting' (before ++ more)
+Forwards-join a b c waiting waiting' before more p q =
+    rw (p.whole, append_assoc) (Forwards-after a b c p.written waiting' (waiting ++ more) p.appended q)
 
 -- what was taken and what is buffered are all
-pub Passes-appended : (a b c : Option (List ℕ)) (waiting octets : List ℕ) → Passes a b waiting octets
+pub Forwards-appended : (a b c : Option (List ℕ)) (waiting octets : List ℕ) → Forwards a b waiting octets
     → Appends b c waiting → Appends a c octets
-Passes-appended a b c waiting octets p q = rw (p.whole) (Appends-join a b c p.written waiting p.appended q)
+Forwards-appended a b c waiting octets p q = rw (p.whole) (Appends-join a b c p.written waiting p.appended q)
 
 -- everything was taken, with nothing buffered
-pub Passes-empty : (a b : Option (List ℕ)) (waiting : List ℕ) {octets : List ℕ} → waiting ≡ [] → Appends a b octets
-    → Passes a b waiting octets
-Passes-empty a b waiting e p = rw e (record { written = _; whole = sym (append-nil _); appended = p })
+pub Forwards-empty : (a b : Option (List ℕ)) (waiting : List ℕ) {octets : List ℕ} → waiting ≡ [] → Appends a b octets
+    → Forwards a b waiting octets
+Forwards-empty a b waiting e p = rw e (record { written = _; whole = sym (append-nil _); appended = p })
 
 -- at the start nothing is buffered
-pub Passes-start : (a : Option (List ℕ)) (waiting : List ℕ) → waiting ≡ [] → Passes a a waiting []
-Passes-start a waiting e = Passes-empty a a waiting e (Appends-none a)
+pub Forwards-start : (a : Option (List ℕ)) (waiting : List ℕ) → waiting ≡ [] → Forwards a a waiting []
+Forwards-start a waiting e = Forwards-empty a a waiting e (Appends-none a)
 
 -- nothing was written, and everything is buffered
-pub Passes-none : (a : Option (List ℕ)) (waiting : List ℕ) → Passes a a waiting (waiting ++ [])
-Passes-none a waiting = record { written = []; whole = append-nil waiting; appended = Appends-none a }
+pub Forwards-none : (a : Option (List ℕ)) (waiting : List ℕ) → Forwards a a waiting (waiting ++ [])
+Forwards-none a waiting = record { written = []; whole = append-nil waiting; appended = Appends-none a }
 
 -- what waited is written, and then a write fails
-pub Breaks-after : (a b c : SinkState) (before octets : List ℕ)
-    → Appends a.taken b.taken before → b.failures ≡ a.failures → Breaks b c octets → Breaks a c (before ++ octets)
-Breaks-after a b c before octets p e q = record {
+pub StopsInWrite-after : (a b c : SinkState) (before octets : List ℕ)
+    → Appends a.taken b.taken before → b.failures ≡ a.failures → StopsInWrite b c octets
+    → StopsInWrite a c (before ++ octets)
+StopsInWrite-after a b c before octets p e q = record {
   counted = omega (arith, e, q.counted);
   took = AppendsPrefix-join _ _ _ before octets _ p q.took refl;
 }
 
 -- a prefix of octets is one of more octets
-pub Breaks-more : (a b : SinkState) (octets more : List ℕ) → Breaks a b octets → Breaks a b (octets ++ more)
-Breaks-more a b octets more q = record { counted = q.counted; took = AppendsPrefix-more _ _ octets more q.took }
+pub StopsInWrite-more : (a b : SinkState) (octets more : List ℕ) → StopsInWrite a b octets
+    → StopsInWrite a b (octets ++ more)
+StopsInWrite-more a b octets more q = record { counted = q.counted; took = AppendsPrefix-more _ _ octets more q.took }
 
 -- octets that break off behind others
-pub Breaks-join : (a b c : SinkState) (waiting before more : List ℕ)
-    → Passes a.taken b.taken waiting before → b.failures ≡ a.failures → Breaks b c (waiting ++ more)
-    → Breaks a c (before ++ more)
-Breaks-join a b c waiting before more p e q = record {
+pub StopsInWrite-join : (a b c : SinkState) (waiting before more : List ℕ)
+    → Forwards a.taken b.taken waiting before → b.failures ≡ a.failures → StopsInWrite b c (waiting ++ more)
+    → StopsInWrite a c (before ++ more)
+StopsInWrite-join a b c waiting before more p e q = record {
   counted = omega (arith, e, q.counted);
   took = AppendsPrefix-behind _ _ _ waiting before more p q.took;
 }
 
 -- writing the buffer fails
-pub Breaks-waiting : (a b c : SinkState) (waiting octets : List ℕ)
-    → Passes a.taken b.taken waiting octets → b.failures ≡ a.failures → Breaks b c waiting → Breaks a c octets
-Breaks-waiting a b c waiting octets p e q = rw (p.whole) (Breaks-after a b c p.written waiting p.appended e q)
+pub StopsInWrite-waiting : (a b c : SinkState) (waiting octets : List ℕ)
+    → Forwards a.taken b.taken waiting octets → b.failures ≡ a.failures → StopsInWrite b c waiting
+    → StopsInWrite a c octets
+StopsInWrite-waiting a b c waiting octets p e q = rw (p.whole)
+    (StopsInWrite-after a b c p.written waiting p.appended e q)
 
 -- a source that gives in turn
-pub Gives-none : (a : SourceState) → Gives a a []
-Gives-none a = record { gave = Appends-none a.given; consumed = Consumes-nil a.to_come }
+pub Yields-none : (a : SourceState) → Yields a a []
+Yields-none a = record { gave = Appends-none a.given; consumed = Consumes-nil a.to_come }
 
 -- a source that gave octets, and then more
-pub Gives-join : (a b c : SourceState) (xs ys : List ℕ) → Gives a b xs → Gives b c ys → Gives a c (xs ++ ys)
-Gives-join a b c xs ys p q = record {
+pub Yields-join : (a b c : SourceState) (xs ys : List ℕ) → Yields a b xs → Yields b c ys → Yields a c (xs ++ ys)
+Yields-join a b c xs ys p q = record {
   gave = Appends-join a.given b.given c.given xs ys p.gave q.gave;
   consumed = Consumes-trans a.to_come b.to_come c.to_come xs ys p.consumed q.consumed;
 }
 
 -- .. and then nothing
-pub Gives-end : (a b c : SourceState) (xs ys : List ℕ) → length ys ≡ 0 → Gives a b xs → Gives b c ys → Gives a c xs
-Gives-end a b c xs [] e p q = rw append-nil at (Gives-join a b c xs [] p q)
-Gives-end a b c xs (y ∷ ys) e p q = absurd (omega (arith, e))
+pub Yields-end : (a b c : SourceState) (xs ys : List ℕ) → length ys ≡ 0 → Yields a b xs → Yields b c ys → Yields a c xs
+Yields-end a b c xs [] e p q = rw append-nil at (Yields-join a b c xs [] p q)
+Yields-end a b c xs (y ∷ ys) e p q = absurd (omega (arith, e))

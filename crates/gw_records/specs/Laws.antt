@@ -1,23 +1,25 @@
 -- Laws of records.
 use Rattle.std.specs.Prelude.{◌≡◌, ◌<◌, ◌++◌, ℕ, List, slice_index}
-use Rattle.gw_records.specs.declared.records.Kinds.{Kinds}
-use Rattle.gw_records.specs.declared.records.Ending.{Ending}
+use Rattle.gw_records.specs.declared.records.AcceptedKinds.{AcceptedKinds}
+use Rattle.gw_records.specs.declared.records.EndOfRecords.{EndOfRecords}
 use Rattle.gw_records.specs.Records.{Record, Reads}
 
 -- octets are read as records in one way
 abbrev pub AtMostOneReading : Type 0
-AtMostOneReading = (kinds : Kinds) (octets : List ℕ) (records others : List Record) (ending other : Ending)
+AtMostOneReading = (kinds : AcceptedKinds) (octets : List ℕ) (records others : List Record)
+    (ending other : EndOfRecords)
     → Reads kinds octets records ending → Reads kinds octets others other
     → (records ≡ others) × (ending ≡ other)
 
 -- more octets keep the whole records that are there
 abbrev pub MoreKeepsRecords : Type 0
 MoreKeepsRecords =
-    (kinds : Kinds) (octets more : List ℕ) (records longer : List Record) (ending other : Ending)
+    (kinds : AcceptedKinds) (octets more : List ℕ) (records longer : List Record)
+    (ending other : EndOfRecords)
     → Reads kinds octets records ending → Reads kinds (octets ++ more) longer other
     → (others : List Record) × (longer ≡ records ++ others)
 
 -- any octets are read as records
 abbrev pub EachIsRead : Type 0
-EachIsRead = (kinds : Kinds) (octets : List ℕ) → ((i : ℕ) → slice_index octets i < 256)
-    → (records : List Record) × (ending : Ending) × Reads kinds octets records ending
+EachIsRead = (kinds : AcceptedKinds) (octets : List ℕ) → ((i : ℕ) → slice_index octets i < 256)
+    → (records : List Record) × (ending : EndOfRecords) × Reads kinds octets records ending

@@ -4,11 +4,11 @@ use Rattle.std.specs.Io.KnownBytes.{IsAtEnd}
 use Rattle.gw_records.specs.declared.outcome.Totals.{Totals}
 use Rattle.gw_records.specs.declared.outcome.RunFault.{RunFault}
 use Rattle.gw_records.specs.declared.outcome.RunFault.TheVariants as faults
-use Rattle.gw_records.specs.declared.records.Kinds.{Kinds}
-use Rattle.gw_records.specs.declared.records.Ending.{Ending}
-use Rattle.gw_records.specs.declared.records.Ending.TheVariants as endings
+use Rattle.gw_records.specs.declared.records.AcceptedKinds.{AcceptedKinds}
+use Rattle.gw_records.specs.declared.records.EndOfRecords.{EndOfRecords}
+use Rattle.gw_records.specs.declared.records.EndOfRecords.TheVariants as endings
 use Rattle.gw_records.specs.Records.{Record, Begins, Reads, is_open}
-use Rattle.gw_records.specs.Streams.{SourceState, SinkState, Gives, GivesUp}
+use Rattle.gw_records.specs.Streams.{SourceState, SinkState, Yields, GivesUp}
 
 -- the number of a fault
 unfoldable pub fault_number : RunFault → ℕ
@@ -21,7 +21,7 @@ fault_number faults.Write = 6
 fault_number faults.OutOfMemory = 7
 
 -- the result if the records end so
-abbrev pub answer_of : Ending → Totals → Result Totals RunFault
+abbrev pub answer_of : EndOfRecords → Totals → Result Totals RunFault
 answer_of endings.End totals = Ok totals
 answer_of endings.BadKind totals = Err faults.BadKind
 answer_of endings.BadCircuit totals = Err faults.BadCircuit
@@ -33,10 +33,10 @@ nothing_counted = record { records = 0; octets = 0; datagrams = 0; dropped = 0; 
 
 -- The source gave octets, which are good records with this end; this was done with the records, counted by
 -- these totals, and no write failed.
-pub record SessionTo (kinds : Kinds) (source source' : SourceState) (sink sink' : SinkState)
-    (Done : Totals → List Record → Type 0) (ending : Ending) : Type 0 where
+pub record SessionTo (kinds : AcceptedKinds) (source source' : SourceState) (sink sink' : SinkState)
+    (Done : Totals → List Record → Type 0) (ending : EndOfRecords) : Type 0 where
   pub octets : List ℕ
-  pub gives : Gives source source' octets
+  pub gives : Yields source source' octets
   pub records : List Record
   pub reads : Reads kinds octets records ending
   pub totals : Totals
@@ -44,23 +44,23 @@ pub record SessionTo (kinds : Kinds) (source source' : SourceState) (sink sink' 
   pub no_write : sink'.failures ≡ sink.failures
 
 -- .. and no read failed
-abbrev pub Ends : Kinds → SourceState → SourceState → SinkState → SinkState → (Totals → List Record → Type 0)
-    → Ending → Type 0
+abbrev pub Ends : AcceptedKinds → SourceState → SourceState → SinkState → SinkState
+    → (Totals → List Record → Type 0) → EndOfRecords → Type 0
 Ends kinds source source' sink sink' Done ending =
     SessionTo kinds source source' sink sink' Done ending × (source'.failures ≡ source.failures)
 
 -- .. to the end of the source, with these totals
-pub record EndsAll (kinds : Kinds) (source source' : SourceState) (sink sink' : SinkState)
+pub record EndsAll (kinds : AcceptedKinds) (source source' : SourceState) (sink sink' : SinkState)
     (Done : Totals → List Record → Type 0) (totals : Totals) : Type 0 where
   pub ends : Ends kinds source source' sink sink' Done endings.End
   pub ended : IsAtEnd source'.to_come
   pub totals_are : totals ≡ ends.0.totals
 
 -- A write failed: the octets given by the source begin with good records, and this was done with them.
-pub record FailsToWrite (kinds : Kinds) (source source' : SourceState) (sink sink' : SinkState)
+pub record FailsToWrite (kinds : AcceptedKinds) (source source' : SourceState) (sink sink' : SinkState)
     (Begun : List Record → Type 0) : Type 0 where
   pub octets : List ℕ
-  pub gives : Gives source source' octets
+  pub gives : Yields source source' octets
   pub records : List Record
   pub begins : Begins kinds octets records
   pub begun : Begun records
@@ -70,7 +70,7 @@ pub record FailsToWrite (kinds : Kinds) (source source' : SourceState) (sink sin
 -- The end of a session before that of its source: with the fault of an invalid record, cut only if the source
 -- is at its end; by a read, which failed, or there were 2 ^ 62 of them, each of which gave an octet, so no
 -- invalid record is first there; or by a write.
-abbrev pub EndsUntil : Kinds → SourceState → SourceState → SinkState → SinkState
+abbrev pub EndsUntil : AcceptedKinds → SourceState → SourceState → SinkState → SinkState
     → (Totals → List Record → Type 0) → (List Record → Type 0) → RunFault → Type 0
 EndsUntil kinds source source' sink sink' Done Begun faults.BadKind =
     Ends kinds source source' sink sink' Done endings.BadKind
@@ -80,7 +80,7 @@ EndsUntil kinds source source' sink sink' Done Begun faults.BadCommand =
     Ends kinds source source' sink sink' Done endings.BadCommand
 EndsUntil kinds source source' sink sink' Done Begun faults.Truncated =
     Ends kinds source source' sink sink' Done endings.Truncated × IsAtEnd source'.to_come
-EndsUntil kinds source source' sink sink' Done Begun faults.Read = (ending : Ending)
+EndsUntil kinds source source' sink sink' Done Begun faults.Read = (ending : EndOfRecords)
     × (s : SessionTo kinds source source' sink sink' Done ending) × GivesUp source source' s.octets
     × (is_open ending ≡ true)
 EndsUntil kinds source source' sink sink' Done Begun faults.Write =

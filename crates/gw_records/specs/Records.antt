@@ -4,12 +4,12 @@ use Rattle.std.specs.Prelude.{ℕ, Bool, true, false, not, nat_lt, List, [], len
 use Rattle.std.specs.Prelude.{Option, Some, None}
 use Rattle.std.specs.List.{flat_map, AllByRecursion}
 use Rattle.byteorder.specs.Endian.{big_bytes}
-use Rattle.gw_records.specs.declared.records.Kinds.{Kinds}
-use Rattle.gw_records.specs.declared.records.Head.{Head}
-use Rattle.gw_records.specs.declared.records.Head.TheVariants as heads
-use Rattle.gw_records.specs.declared.records.First.{First}
-use Rattle.gw_records.specs.declared.records.Ending.{Ending}
-use Rattle.gw_records.specs.declared.records.Ending.TheVariants as endings
+use Rattle.gw_records.specs.declared.records.AcceptedKinds.{AcceptedKinds}
+use Rattle.gw_records.specs.declared.records.RecordHeader.{RecordHeader}
+use Rattle.gw_records.specs.declared.records.RecordHeader.TheVariants as heads
+use Rattle.gw_records.specs.declared.records.ParsedRecord.{ParsedRecord}
+use Rattle.gw_records.specs.declared.records.EndOfRecords.{EndOfRecords}
+use Rattle.gw_records.specs.declared.records.EndOfRecords.TheVariants as endings
 use Rattle.gw_records.specs.Octets.{command_of, octet_of_command, codec_of, octet_of_codec}
 
 -- a kind, a circuit, a 16-bit length and the body
@@ -34,7 +34,7 @@ abbrev pub IsCircuit : ℕ → Type 0
 IsCircuit circuit = (1 ≤ circuit) × (circuit ≤ 30)
 
 -- a record of an accepted kind
-abbrev pub IsGood : Kinds → Record → Type 0
+abbrev pub IsGood : AcceptedKinds → Record → Type 0
 IsGood kinds (Record.Trunk octets) = (kinds.trunk ≡ true) × (length octets < 2 ^ 16)
 IsGood kinds (Record.Datagram circuit octets) =
     (kinds.datagrams ≡ true) × (length octets < 2 ^ 16) × IsCircuit circuit
@@ -54,7 +54,7 @@ abbrev pub is_codec : List ℕ → Bool
 is_codec octets = slice_index octets 0 == 0x4B
 
 -- the fault of the first record of octets, of which there are at least four
-unfoldable pub has_bad_kind : Kinds → List ℕ → Bool
+unfoldable pub has_bad_kind : AcceptedKinds → List ℕ → Bool
 has_bad_kind kinds octets = let kind = slice_index octets 0 in
     not (kinds.trunk && kind == 0x54 || kinds.datagrams && kind == 0x44 || kinds.commands && kind == 0x43
     || kinds.codecs && kind == 0x4B)
@@ -77,7 +77,7 @@ has_bad_command octets =
     || nat_lt 127 (slice_index octets 5))
 
 -- how octets end that do not begin with a whole good record
-unfoldable pub end_of : Kinds → List ℕ → Option Ending
+unfoldable pub end_of : AcceptedKinds → List ℕ → Option EndOfRecords
 end_of kinds octets =
     if length octets == 0 then Some endings.End
     else (if nat_lt (length octets) 4 then Some endings.Truncated
@@ -89,26 +89,27 @@ end_of kinds octets =
     else None))))))
 
 -- more octets may change this end
-abbrev pub is_open : Ending → Bool
+abbrev pub is_open : EndOfRecords → Bool
 is_open endings.End = true
 is_open endings.Truncated = true
 is_open _ = false
 
 -- the octets begin with these good records
-pub record Begins (kinds : Kinds) (octets : List ℕ) (records : List Record) : Type 0 where
+pub record Begins (kinds : AcceptedKinds) (octets : List ℕ) (records : List Record) : Type 0 where
   pub rest : List ℕ
   pub whole : octets ≡ flat_map spelled records ++ rest
   pub good : AllByRecursion (IsGood kinds) records
 
 -- the octets are these good records, and a rest with this end
-pub record Reads (kinds : Kinds) (octets : List ℕ) (records : List Record) (ending : Ending) : Type 0 where
+pub record Reads (kinds : AcceptedKinds) (octets : List ℕ) (records : List Record)
+    (ending : EndOfRecords) : Type 0 where
   pub rest : List ℕ
   pub whole : octets ≡ flat_map spelled records ++ rest
   pub good : AllByRecursion (IsGood kinds) records
   pub ends : end_of kinds rest ≡ Some ending
 
 -- the head of the first octets
-unfoldable pub head_of : List ℕ → Head
+unfoldable pub head_of : List ℕ → RecordHeader
 head_of octets =
     if slice_index octets 0 == 0x54 then heads.Trunk
     else (if slice_index octets 0 == 0x44 then heads.Datagram (slice_index octets 1)
@@ -117,18 +118,18 @@ head_of octets =
     else heads.Codec (slice_index octets 1) (codec_of (slice_index octets 4)) (slice_index octets 5)))
 
 -- the record with this head and body
-abbrev pub named : Head → List ℕ → Record
+abbrev pub named : RecordHeader → List ℕ → Record
 named heads.Trunk body = Record.Trunk body
 named (heads.Datagram circuit) body = Record.Datagram circuit body
 named (heads.Command circuit command) body = Record.Command circuit (octet_of_command command)
 named (heads.Codec circuit codec payload_type) body = Record.Codec circuit (octet_of_codec codec) payload_type
 
 -- the record that is first
-abbrev pub record_at : First → List ℕ → Record
+abbrev pub record_at : ParsedRecord → List ℕ → Record
 record_at f octets = named f.head (drop 4 (take f.len octets))
 
 -- the octets begin with a good record
-pub record IsFirst (kinds : Kinds) (f : First) (octets : List ℕ) : Type 0 where
+pub record IsFirst (kinds : AcceptedKinds) (f : ParsedRecord) (octets : List ℕ) : Type 0 where
   pub more : 4 ≤ f.len
   pub fits : f.len ≤ length octets
   pub whole : take f.len octets ≡ spelled (record_at f octets)

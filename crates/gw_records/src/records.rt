@@ -25,7 +25,7 @@ pub const CODEC: u8 = 0x4B;
 
 /// The kinds of record that are accepted.
 #[derive(Clone, Copy, Debug, PartialEq, Eq)]
-pub struct Kinds {
+pub struct AcceptedKinds {
     pub trunk: bool,
     pub datagrams: bool,
     pub commands: bool,
@@ -34,7 +34,7 @@ pub struct Kinds {
 
 /// The end of records.
 #[derive(Clone, Copy, Debug, PartialEq, Eq)]
-pub enum Ending {
+pub enum EndOfRecords {
     End,
     BadKind,
     BadCircuit,
@@ -44,7 +44,7 @@ pub enum Ending {
 
 /// A record without the octets of its body.
 #[derive(Clone, Copy, Debug, PartialEq, Eq)]
-pub enum Head {
+pub enum RecordHeader {
     Trunk,
     Datagram(CircuitNo),
     Command(CircuitNo, Cmd),
@@ -53,8 +53,8 @@ pub enum Head {
 
 /// A whole first record, and its length.
 #[derive(Clone, Copy, Debug, PartialEq, Eq)]
-pub struct First {
-    pub head: Head,
+pub struct ParsedRecord {
+    pub head: RecordHeader,
     pub len: usize,
 }
 
@@ -68,7 +68,7 @@ fn body_len(held: &[u8]) -> usize
 }
 
 #[tactic(auto, unfolding(crate::specs::Records::has_bad_kind))]
-fn has_bad_kind(kinds: &Kinds, held: &[u8]) -> bool
+fn has_bad_kind(kinds: &AcceptedKinds, held: &[u8]) -> bool
     requires { 4 ≤ length held.now }
     ensures { result ≡ has_bad_kind kinds.now held.now }
 {
@@ -108,7 +108,7 @@ fn has_bad_length(held: &[u8]) -> bool
 
 // The head of a whole record's first octets; `None` for an unknown command or codec.
 #[tactic(auto, unfolding(crate::specs::Records::has_bad_command, crate::specs::Records::head_of))]
-fn head_of(held: &[u8]) -> Option<Head>
+fn head_of(held: &[u8]) -> Option<RecordHeader>
     requires kind { slice_index held.now 0 ≢ 0x54 → slice_index held.now 0 ≢ 0x44
         → slice_index held.now 0 ≢ 0x43 → slice_index held.now 0 ≡ 0x4B }
     requires circuit { slice_index held.now 0 ≢ 0x54 → IsCircuit (slice_index held.now 1) }
@@ -118,11 +118,11 @@ fn head_of(held: &[u8]) -> Option<Head>
     ensures { SomeIff result (has_bad_command held.now ≡ false) (head_of held.now) }
 {
     match held[0] {
-        TRUNK => Some(Head::Trunk),
-        DATAGRAM => Some(Head::Datagram(CircuitNo::new(held[1])?)),
-        COMMAND => Some(Head::Command(CircuitNo::new(held[1])?, command_of(held[4])?)),
+        TRUNK => Some(RecordHeader::Trunk),
+        DATAGRAM => Some(RecordHeader::Datagram(CircuitNo::new(held[1])?)),
+        COMMAND => Some(RecordHeader::Command(CircuitNo::new(held[1])?, command_of(held[4])?)),
         _ if held[5] > 127 => None,
-        _ => Some(Head::Codec(CircuitNo::new(held[1])?, codec_of(held[4])?, held[5])),
+        _ => Some(RecordHeader::Codec(CircuitNo::new(held[1])?, codec_of(held[4])?, held[5])),
     }
 }
 
@@ -131,31 +131,31 @@ fn head_of(held: &[u8]) -> Option<Head>
 /// It is inlined, so that a session that accepts one kind tests for no other.
 #[inline(always)]
 #[tactic(auto, unfolding(crate::specs::Records::end_of, crate::specs::Records::is_cut))]
-pub fn first_record(kinds: &Kinds, held: &[u8]) -> Result<First, Ending>
+pub fn first_record(kinds: &AcceptedKinds, held: &[u8]) -> Result<ParsedRecord, EndOfRecords>
     ensures good { IfOk result (λ f. IsFirst kinds.now f held.now) }
     ensures end { IfErr result (λ e. end_of kinds.now held.now ≡ Some e) }
 {
     if held.is_empty() {
-        return Err(Ending::End);
+        return Err(EndOfRecords::End);
     }
     if held.len() < 4 {
-        return Err(Ending::Truncated);
+        return Err(EndOfRecords::Truncated);
     }
     if has_bad_kind(kinds, held) {
-        return Err(Ending::BadKind);
+        return Err(EndOfRecords::BadKind);
     }
     if has_bad_circuit(held) {
-        return Err(Ending::BadCircuit);
+        return Err(EndOfRecords::BadCircuit);
     }
     if has_bad_length(held) {
-        return Err(Ending::BadCommand);
+        return Err(EndOfRecords::BadCommand);
     }
     let len = 4 + body_len(held);
     if held.len() < len {
-        return Err(Ending::Truncated);
+        return Err(EndOfRecords::Truncated);
     }
-    let head = head_of(held).ok_or(Ending::BadCommand)?;
-    Ok(First { head, len })
+    let head = head_of(held).ok_or(EndOfRecords::BadCommand)?;
+    Ok(ParsedRecord { head, len })
 }
 
 /// The record of a datagram sent.

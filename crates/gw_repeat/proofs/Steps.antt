@@ -1,20 +1,19 @@
 -- What is held, and what went out, from call to call.
-use Rattle.std.proofs.Common.{◌≡◌, ℕ, zero, suc, ◌+◌, ◌-◌, ◌≤◌, ◌<◌, ◌++◌, ◌∷◌, [], List, Bool, true, false}
-use Rattle.std.proofs.Common.{Option, Some, None, Result, Ok, Err, refl, ap, inl, inr, arith, take, drop}
-use Rattle.std.proofs.Common.{sym, append-nil, length}
-use Rattle.std.proofs.Common.{append_assoc, slice_index, slice_index_or, map}
+use Rattle.std.proofs.Common.{◌≡◌, ℕ, zero, suc, ◌+◌, ◌-◌, ◌≤◌, ◌<◌, ◌++◌, ◌∷◌, [], List, Bool, true, false, Option}
+use Rattle.std.proofs.Common.{Some, None, Result, Ok, Err, refl, ap, inl, inr, arith, take, drop, sym, append-nil}
+use Rattle.std.proofs.Common.{length, append_assoc, slice_index, slice_index_or, map}
 use Rattle.std.proofs.lemmas.Bool.Decides.{eqb_tells}
 use Rattle.std.proofs.lemmas.List.{reverse-append}
 use Rattle.std.specs.Prelude.{reverse, flat_map, if◌then◌else◌, nat_eq}
 use Rattle.std.proofs.lemmas.Grind.{flat_map-append}
 use Rattle.std.specs.VecDeque.{deque_capacity}
 use Rattle.gw_records.specs.declared.ports.PortFault.{PortFault}
-use Rattle.gw_records.specs.Ports.{KeepsReceives, given_by_call, PortCall, PortsState, Receives, Sends, Grows}
+use Rattle.gw_records.specs.Ports.{KeepsReceives, given_by_call, PortCall, PortsState, Receives, Sends, Extends}
 use Rattle.gw_records.specs.Ports.{IfKnown, receive_call, send_call}
 use Rattle.gw_repeat.specs.Repetition.{has_room, continues, with_next, last_run, repetition}
 use Rattle.gw_repeat.specs.Ports.{held_octets, sent_by_call, sent_of, attempt, repeats_behind, words_at}
 use Rattle.gw_repeat.specs.Ports.{HasRepeated, IsHeld, AreHeld, SendsAgain, KeepsOthers, told}
-use Rattle.gw_repeat.specs.declared.held.Held.{Held}
+use Rattle.gw_repeat.specs.declared.held.RecentDatagrams.{RecentDatagrams}
 
 -- the first m of the first m + 1 are the first m
 take_less : {X : Type 0} (m : ℕ) (xs : List X) → take m (take (suc m) xs) ≡ take m xs
@@ -76,7 +75,7 @@ pub latest_first : {X : Type 0} (calls : List X) (call : X) → reverse (calls +
 latest_first calls call = reverse-append calls (call ∷ [])
 
 -- a call that sends nothing leaves what is held
-pub held_still : (n : ℕ) (words : List ℕ) (call : PortCall) (calls : List PortCall) (held : List Held)
+pub held_still : (n : ℕ) (words : List ℕ) (call : PortCall) (calls : List PortCall) (held : List RecentDatagrams)
     → ((c : ℕ) → sent_by_call c call ≡ []) → AreHeld n words calls held → AreHeld n words (calls ++ call ∷ []) held
 held_still n words call calls held quiet are = λ i d below.
     rw (latest_first calls call, quiet (i + 1)) (are i d below)
@@ -91,7 +90,7 @@ none_first : (n : ℕ) (run packets : List (List ℕ)) → n ≡ 0 → packets �
 none_first n run packets is empty = rw (empty, is) refl
 
 -- if none is held, none is after any calls
-pub held_none : (n : ℕ) (words : List ℕ) (calls more : List PortCall) (held : List Held) → n ≡ 0
+pub held_none : (n : ℕ) (words : List ℕ) (calls more : List PortCall) (held : List RecentDatagrams) → n ≡ 0
     → AreHeld n words calls held → AreHeld n words more held
 held_none n words calls more held is are = λ i d below. record {
   last = none_first n (last_run (slice_index words i) (sent_of (i + 1) (reverse more))) _ is
@@ -113,7 +112,7 @@ receive_quiet circuit (Ok None) room c = refl
 receive_quiet circuit (Err e) room c = refl
 
 -- what is held of the circuit of a send after it
-held_next : (n words : ℕ) (datagram : List ℕ) (datagrams : List (List ℕ)) (old new : Held) → 0 < n
+held_next : (n words : ℕ) (datagram : List ℕ) (datagrams : List (List ℕ)) (old new : RecentDatagrams) → 0 < n
     → IsHeld n words datagrams old
     → held_octets new.packets.items ≡ take n (with_next words datagram (held_octets old.packets.items))
     → n ≤ deque_capacity new.packets → IsHeld n words (datagram ∷ datagrams) new
@@ -124,11 +123,11 @@ held_next n words datagram datagrams old new some is next room = record {
 
 -- what is held of all circuits after a send
 pub held_more : (n : ℕ) (words : List ℕ) (circuit : ℕ) (datagram : List ℕ) (r : Result (Unit {0}) PortFault)
-    (calls : List PortCall) (old new : List Held) → 0 < n → 1 ≤ circuit → AreHeld n words calls old
-    → ((d : Held) → held_octets (slice_index_or new (circuit - 1) d).packets.items
+    (calls : List PortCall) (old new : List RecentDatagrams) → 0 < n → 1 ≤ circuit → AreHeld n words calls old
+    → ((d : RecentDatagrams) → held_octets (slice_index_or new (circuit - 1) d).packets.items
     ≡ take n (with_next (words_at words circuit) datagram
     (held_octets (slice_index_or old (circuit - 1) d).packets.items)))
-    → ((d : Held) → n ≤ deque_capacity (slice_index_or new (circuit - 1) d).packets)
+    → ((d : RecentDatagrams) → n ≤ deque_capacity (slice_index_or new (circuit - 1) d).packets)
     → KeepsOthers circuit old new → AreHeld n words (calls ++ send_call circuit datagram r ∷ []) new
 held_more n words circuit datagram r calls old new some from are own room others = λ i d below.
     rw (latest_first calls (send_call circuit datagram r), sent_here circuit datagram r (i + 1))
@@ -142,7 +141,7 @@ held_more n words circuit datagram r calls old new some from are own room others
 
 -- the sends behind one of a session, by what was due
 pub behind_send : (n : ℕ) (words : List ℕ) (circuit : ℕ) (datagram : List ℕ) (r : Result (Unit {0}) PortFault)
-    (calls again : List PortCall) (held : Held) → 0 < n
+    (calls again : List PortCall) (held : RecentDatagrams) → 0 < n
     → IsHeld n (words_at words circuit) (sent_of circuit (reverse calls)) held
     → map attempt again ≡ map (PortCall.Took circuit)
     (drop n (with_next (words_at words circuit) datagram (held_octets held.packets.items)))
@@ -187,7 +186,7 @@ repeated_lists n words calls call again old between new has grew sends = record 
 -- .. if the calls below are known
 pub repeated_more : (n : ℕ) (words : List ℕ) (calls : List PortCall) (call : PortCall) (again : List PortCall)
     (old between grown new : Option (List PortCall)) → IfKnown old between (HasRepeated n words calls)
-    → Grows between grown (call ∷ []) → Grows grown new again
+    → Extends between grown (call ∷ []) → Extends grown new again
     → map attempt again ≡ repeats_behind n (words_at words) call (reverse calls)
     → IfKnown old new (HasRepeated n words (calls ++ call ∷ []))
 repeated_more n words calls call again None between grown new has one more sends = tt
@@ -199,19 +198,19 @@ repeated_more n words calls call again (Some old) (Some between) (Some grown) (S
 
 -- a receive was one call
 receive_grew : (old new : PortsState) (circuit : ℕ) (r : Result (Option ℕ) PortFault) (room : List ℕ)
-    → Receives old new circuit r room → Grows old.calls new.calls (receive_call circuit r room ∷ [])
+    → Receives old new circuit r room → Extends old.calls new.calls (receive_call circuit r room ∷ [])
 receive_grew old new circuit (Ok (Some n)) room receives = receives.2
 receive_grew old new circuit (Ok None) room receives = receives.3
 receive_grew old new circuit (Err e) room receives = receives.1
 
 -- a send was one call
 send_grew : (old new : PortsState) (circuit : ℕ) (r : Result (Unit {0}) PortFault) (datagram : List ℕ)
-    → Sends old new circuit r datagram → Grows old.calls new.calls (send_call circuit datagram r ∷ [])
+    → Sends old new circuit r datagram → Extends old.calls new.calls (send_call circuit datagram r ∷ [])
 send_grew old new circuit (Ok x) datagram sends = sends.1
 send_grew old new circuit (Err e) datagram sends = sends.1
 
 -- calls that are known grew by none
-grew_none : (calls : Option (List PortCall)) → Grows calls calls []
+grew_none : (calls : Option (List PortCall)) → Extends calls calls []
 grew_none None = tt
 grew_none (Some calls) = sym (append-nil calls)
 
@@ -236,7 +235,8 @@ repeated_send n words calls circuit datagram r opened old new none has sends =
 
 -- .. and after one and what was due behind it
 pub repeated_due : (n : ℕ) (words : List ℕ) (calls : List PortCall) (circuit : ℕ) (datagram : List ℕ)
-    (r : Result (Unit {0}) PortFault) (opened : Option (List PortCall)) (old sent new : PortsState) (held : Held)
+    (r : Result (Unit {0}) PortFault) (opened : Option (List PortCall)) (old sent new : PortsState)
+    (held : RecentDatagrams)
     → 0 < n → IfKnown opened old.calls (HasRepeated n words calls) → Sends old sent circuit r datagram
     → IsHeld n (words_at words circuit) (sent_of circuit (reverse calls)) held
     → SendsAgain sent new circuit
@@ -248,7 +248,8 @@ repeated_due n words calls circuit datagram r opened old sent new held some has 
     (behind_send n words circuit datagram r calls again.again held some is again.sends)
 
 -- the circuit of a send is one of those that are held
-pub held_at : (n : ℕ) (words : List ℕ) (circuit : ℕ) (calls : List PortCall) (held : List Held) (d : Held)
+pub held_at : (n : ℕ) (words : List ℕ) (circuit : ℕ) (calls : List PortCall) (held : List RecentDatagrams)
+    (d : RecentDatagrams)
     → 1 ≤ circuit → circuit ≤ 30 → AreHeld n words calls held
     → IsHeld n (words_at words circuit) (sent_of circuit (reverse calls)) (slice_index_or held (circuit - 1) d)
 held_at n words circuit calls held d from to are =
@@ -256,7 +257,7 @@ held_at n words circuit calls held d from to are =
     rw same at (are (circuit - 1) d (omega (arith, from, to)))
 
 -- one of thirty that are held
-pub one_of : (held : List Held) → length held ≡ 30 → Held
+pub one_of : (held : List RecentDatagrams) → length held ≡ 30 → RecentDatagrams
 one_of [] none = absurd (omega (arith, none))
 one_of (held ∷ more) thirty = held
 

@@ -2,11 +2,10 @@
 use Rattle.std.specs.Prelude.{◌≡◌, ◌≢◌, ◌==◌, ◌+◌, ◌-◌, ◌≤◌, ◌<◌, ◌++◌, if◌then◌else◌, ℕ, List, [], ◌∷◌}
 use Rattle.std.specs.Prelude.{map, flat_map, reverse, take, slice_index, slice_index_or, Some}
 use Rattle.std.specs.VecDeque.{deque_capacity}
-use Rattle.gw_records.specs.Ports.{PortCall, PortsState, Grows, given_by_call, taken_by_call}
-use Rattle.gw_records.specs.Ports.{KeepsReceives}
+use Rattle.gw_records.specs.Ports.{PortCall, PortsState, Extends, given_by_call, taken_by_call, KeepsReceives}
 use Rattle.gw_repeat.specs.Repetition.{last_run, repetition, with_next}
 use Rattle.gw_repeat.specs.declared.packet.Packet.{Packet}
-use Rattle.gw_repeat.specs.declared.held.Held.{Held}
+use Rattle.gw_repeat.specs.declared.held.RecentDatagrams.{RecentDatagrams}
 
 -- the octets of datagrams in the queue
 abbrev pub held_octets : List Packet → List (List ℕ)
@@ -49,16 +48,17 @@ abbrev pub words_at : List ℕ → ℕ → ℕ
 words_at words circuit = slice_index words (circuit - 1)
 
 -- the octets of a circuit's datagrams in the queue, the latest first
-abbrev pub held_of : ℕ → List Held → Held → List (List ℕ)
+abbrev pub held_of : ℕ → List RecentDatagrams → RecentDatagrams → List (List ℕ)
 held_of circuit held d = held_octets (slice_index_or held (circuit - 1) d).packets.items
 
 -- .. with the next datagram in front of those that it follows
-abbrev pub run_with : List ℕ → ℕ → List ℕ → List Held → Held → List (List ℕ)
+abbrev pub run_with : List ℕ → ℕ → List ℕ → List RecentDatagrams → RecentDatagrams → List (List ℕ)
 run_with words circuit datagram held d = with_next (words_at words circuit) datagram (held_of circuit held d)
 
 -- the queue of a circuit has room for n datagrams
-abbrev pub HasRoom : ℕ → ℕ → List Held → Type 0
-HasRoom n circuit held = (d : Held) → n ≤ deque_capacity (slice_index_or held (circuit - 1) d).packets
+abbrev pub HasRoom : ℕ → ℕ → List RecentDatagrams → Type 0
+HasRoom n circuit held = (d : RecentDatagrams)
+    → n ≤ deque_capacity (slice_index_or held (circuit - 1) d).packets
 
 -- the calls below grew by those of one of the session's
 pub record HasRepeated (n : ℕ) (words : List ℕ) (calls old new : List PortCall) : Type 0 where
@@ -67,25 +67,25 @@ pub record HasRepeated (n : ℕ) (words : List ℕ) (calls old new : List PortCa
   pub repeats : Repeats n (words_at words) (reverse calls) (reverse more)
 
 -- the last n consecutive datagrams of a circuit are in the queue, the latest first
-pub record IsHeld (n words : ℕ) (datagrams : List (List ℕ)) (held : Held) : Type 0 where
+pub record IsHeld (n words : ℕ) (datagrams : List (List ℕ)) (held : RecentDatagrams) : Type 0 where
   pub last : held_octets held.packets.items ≡ take n (last_run words datagrams)
   pub room : n ≤ deque_capacity held.packets
 
 -- .. of each circuit, after these calls
-abbrev pub AreHeld : ℕ → List ℕ → List PortCall → List Held → Type 0
-AreHeld n words calls held = (i : ℕ) (d : Held) → i < 30
+abbrev pub AreHeld : ℕ → List ℕ → List PortCall → List RecentDatagrams → Type 0
+AreHeld n words calls held = (i : ℕ) (d : RecentDatagrams) → i < 30
     → IsHeld n (slice_index words i) (sent_of (i + 1) (reverse calls)) (slice_index_or held i d)
 
 -- ports sent these datagrams of a circuit and did nothing else
 pub record SendsAgain (old new : PortsState) (circuit : ℕ) (due : List (List ℕ)) : Type 0 where
   pub again : List PortCall
-  pub grew : Grows old.calls new.calls again
+  pub grew : Extends old.calls new.calls again
   pub sends : map attempt again ≡ map (PortCall.Took circuit) due
   pub stays : KeepsReceives old new
 
 -- all circuits except this one are unchanged
-abbrev pub KeepsOthers : ℕ → List Held → List Held → Type 0
-KeepsOthers circuit old new = (i : ℕ) (d : Held) → i ≢ circuit - 1
+abbrev pub KeepsOthers : ℕ → List RecentDatagrams → List RecentDatagrams → Type 0
+KeepsOthers circuit old new = (i : ℕ) (d : RecentDatagrams) → i ≢ circuit - 1
     → slice_index_or new i d ≡ slice_index_or old i d
 
 -- What ports over others report: receives as those below do, sends and calls as the session asked for them.

@@ -13,7 +13,7 @@ use std::collections::VecDeque;
 
 // The last consecutive datagrams of a circuit, the latest first.
 #[derive(Drop)]
-pub(crate) struct Held {
+pub(crate) struct RecentDatagrams {
     pub(crate) packets: VecDeque<Packet>,
 }
 
@@ -26,13 +26,13 @@ fn timestamp_of(datagram: &[u8]) -> u32
     BigEndian::read_u32(&datagram[4..8])
 }
 
-impl Held {
+impl RecentDatagrams {
     // An empty queue with room for so many datagrams.
-    pub(crate) fn open(alloc: Global, count: u8) -> Result<Held, AllocError>
+    pub(crate) fn open(alloc: Global, count: u8) -> Result<RecentDatagrams, AllocError>
         ensures { IfOk result (λ h. (h.packets.items ≡ []) × (count ≤ deque_capacity h.packets)) }
     {
         let packets = VecDeque::with_capacity(alloc, usize::from(count))?;
-        Ok(Held { packets })
+        Ok(RecentDatagrams { packets })
     }
 
     // Whether a datagram follows the latest in the queue.

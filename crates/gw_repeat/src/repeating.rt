@@ -3,12 +3,12 @@
 ghost use Rattle.std.specs.Prelude.{◌≡◌, ◌<◌, ◌≤◌, ◌-◌, ◌+◌, [], length, drop, vec_len, slice_index};
 ghost use Rattle.std.specs.Prelude.{slice_index_or, take, ℕ, IfOk, IfSome};
 ghost use Rattle.gw_records.specs.Ports.{Receives, Sends, CountsFault, KeepsSends, KeepsReceives, IfKnown};
-ghost use Rattle.gw_repeat.specs.declared.held.Held.{Held};
+ghost use Rattle.gw_repeat.specs.declared.held.RecentDatagrams.{RecentDatagrams};
 ghost use Rattle.gw_repeat.specs.Words.{HasPacketWords};
 ghost use Rattle.gw_repeat.specs.Ports.{HasRepeated, IsHeld, AreHeld, SendsAgain, KeepsOthers, held_of};
 ghost use Rattle.gw_repeat.specs.Ports.{HasRoom, run_with, told};
 
-use crate::held::Held;
+use crate::held::RecentDatagrams;
 use g704_cas::CircuitNo;
 use gw_circuit::CircuitConfig;
 use gw_records::{AtStart, Log, PortFault, Ports};
@@ -29,7 +29,7 @@ pub struct Repeating<P: Ports> {
     pub(crate) ports: P,
     pub(crate) count: u8,
     pub(crate) words: [u8; 30],
-    held: Vec<Held>,
+    held: Vec<RecentDatagrams>,
     send_failed: u64,
     pub(crate) opened: AtStart<P>,
     pub(crate) log: Log,
@@ -45,7 +45,7 @@ pub struct Repeating<P: Ports> {
 #[inline(never)]
 fn send_due<P: Ports>(
     ports: &mut P,
-    held: &mut Vec<Held>,
+    held: &mut Vec<RecentDatagrams>,
     count: u8,
     words: &[u8; 30],
     circuit: CircuitNo,
@@ -53,11 +53,12 @@ fn send_due<P: Ports>(
 )
     requires thirty { vec_len held.old ≡ 30 }
     requires some { 0 < count }
-    requires few { (d : Held) → length (slice_index_or held.old.items (circuit - 1) d).packets.items ≤ count }
+    requires few { (d : RecentDatagrams)
+        → length (slice_index_or held.old.items (circuit - 1) d).packets.items ≤ count }
     requires room { HasRoom count circuit held.old.items }
-    ensures sends { (d : Held) → SendsAgain (P.tells ports.old) (P.tells ports.new) circuit
+    ensures sends { (d : RecentDatagrams) → SendsAgain (P.tells ports.old) (P.tells ports.new) circuit
         (drop count (run_with words.now circuit datagram.now held.old.items d)) }
-    ensures own { (d : Held) → held_of circuit held.new.items d
+    ensures own { (d : RecentDatagrams) → held_of circuit held.new.items d
         ≡ take count (run_with words.now circuit datagram.now held.old.items d) }
     ensures room { HasRoom count circuit held.new.items }
     ensures others { KeepsOthers circuit held.old.items held.new.items }
@@ -97,7 +98,7 @@ impl<P: Ports + Drop> Repeating<P> {
     {
         let mut held = Vec::with_capacity(alloc, CIRCUITS)?;
         for _circuit in 0..CIRCUITS {
-            held.push(Held::open(alloc, count)?)?;
+            held.push(RecentDatagrams::open(alloc, count)?)?;
         }
         let opened = AtStart::of(&ports);
         Ok(Repeating {

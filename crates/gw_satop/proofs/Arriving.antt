@@ -4,9 +4,9 @@ use Rattle.std.proofs.Common.{Result}
 use Rattle.satop_packet.specs.Satop.{Content}
 use Rattle.satop_playout.specs.Calls.{Call, Begins, Arrives, Plays}
 use Rattle.satop_playout.specs.Laws.{arrivals_of}
-use Rattle.gw_satop.specs.declared.line.Receipt.{Receipt}
-use Rattle.gw_satop.specs.declared.line.Receipt.TheVariants as receipts
-use Rattle.gw_satop.specs.declared.packet.Malformed.{Malformed}
+use Rattle.gw_satop.specs.declared.line.DatagramOutcome.{DatagramOutcome}
+use Rattle.gw_satop.specs.declared.line.DatagramOutcome.TheVariants as receipts
+use Rattle.gw_satop.specs.declared.packet.PacketFault.{PacketFault}
 use Rattle.satop_playout.specs.Plays.{given_octets}
 use Rattle.gw_satop.specs.declared.line.Receiver.{Receiver}
 use Rattle.gw_satop.specs.Line.{calls_for, HasPlayed, played}
@@ -22,13 +22,13 @@ arrivals-append (Arrives sequence octets ∷ calls) more =
 arrivals-append (Plays ∷ calls) more = arrivals-append calls more
 
 -- A datagram's calls have the arrival of its packet, whatever became of it.
-pub arrivals-for : (size : ℕ) (receipt : Receipt) (p : Result Content Malformed)
+pub arrivals-for : (size : ℕ) (receipt : DatagramOutcome) (p : Result Content PacketFault)
     → arrivals_of (calls_for size receipt p) ≡ arrival_of size p
 arrivals-for size receipt (Err f) = refl
 arrivals-for size (receipts.Began first) (Ok p) = refl
 arrivals-for size receipts.Accepted (Ok p) = refl
 arrivals-for size (receipts.Refused f) (Ok p) = refl
-arrivals-for size (receipts.Malformed f) (Ok p) = refl
+arrivals-for size (receipts.PacketFault f) (Ok p) = refl
 
 -- One more datagram.
 pub arrivals-more : (rtp : Bool) (size : ℕ) (datagrams : List (List ℕ)) (datagram : List ℕ)
@@ -42,7 +42,8 @@ arrivals-more rtp size (d ∷ datagrams) datagram =
     (arrival_of size (packet_in rtp size datagram)))
 
 -- One more datagram is received.
-pub heard : (receiver receiver' : Receiver) (received : List (List ℕ)) (datagram went : List ℕ) (receipt : Receipt)
+pub heard : (receiver receiver' : Receiver) (received : List (List ℕ)) (datagram went : List ℕ)
+    (receipt : DatagramOutcome)
     → PlaysAll receiver received went → receiver'.settings ≡ receiver.settings → receiver'.rtp ≡ receiver.rtp
     → ((calls : List Call) → HasPlayed receiver calls
     → HasPlayed receiver' (calls ++ calls_for receiver.settings.size receipt

@@ -2,11 +2,11 @@
 use Rattle.std.proofs.Common.{◌≡◌, ℕ, suc, ◌+◌, ◌*◌, ◌≤◌, ◌↔◌, Bool, List, [], ◌∷◌, ◌++◌, length, take, drop, refl}
 use Rattle.std.proofs.Common.{arith, Result, Ok, Err, OnOk, IsErr}
 use Rattle.std.proofs.lemmas.List.{take-append-le, drop-append-le, length-drop, drop-drop}
-use Rattle.gw_satop.specs.declared.sender.Start.{Start}
+use Rattle.gw_satop.specs.declared.sender.SenderSettings.{SenderSettings}
 use Rattle.gw_satop.specs.Sending.{packet_at, packets_from}
 
 -- Octets after those of the packets change no packet.
-pub packets-behind : (s : Start) (k : ℕ) (flags : List Bool) (octets more : List ℕ)
+pub packets-behind : (s : SenderSettings) (k : ℕ) (flags : List Bool) (octets more : List ℕ)
     → length flags * s.size ≤ length octets → packets_from s k flags (octets ++ more) ≡ packets_from s k flags octets
 unfolding packets_from
 packets-behind s k [] octets more h = refl
@@ -20,7 +20,7 @@ packets-behind s k (f ∷ flags) octets more h =
     ) refl
 
 -- One more packet has the octets after those of the others.
-pub packets-more : (s : Start) (k : ℕ) (flags : List Bool) (f : Bool) (octets : List ℕ)
+pub packets-more : (s : SenderSettings) (k : ℕ) (flags : List Bool) (f : Bool) (octets : List ℕ)
     → packets_from s k (flags ++ f ∷ []) octets ≡ packets_from s k flags octets
     ++ packet_at s (k + length flags) f (take s.size (drop (length flags * s.size) octets)) ∷ []
 unfolding packets_from

@@ -8,39 +8,39 @@ use Rattle.satop_playout.specs.declared.Settings.{Settings}
 use Rattle.satop_playout.specs.Calls.{Call, Begins, Arrives}
 use Rattle.satop_playout.specs.Plays.{arrival_answer, given_octets}
 use Rattle.g704_bits.specs.Standing.{StandsAfter}
-use Rattle.satop_playout.specs.Standing.{Stands}
-use Rattle.gw_satop.specs.declared.line.Receipt.{Receipt}
+use Rattle.satop_playout.specs.Standing.{HasHistory}
+use Rattle.gw_satop.specs.declared.line.DatagramOutcome.{DatagramOutcome}
 use Rattle.gw_satop.specs.declared.line.Receiver.{Receiver}
-use Rattle.gw_satop.specs.declared.line.Receipt.TheVariants as receipts
-use Rattle.gw_satop.specs.declared.packet.Malformed.{Malformed}
+use Rattle.gw_satop.specs.declared.line.DatagramOutcome.TheVariants as receipts
+use Rattle.gw_satop.specs.declared.packet.PacketFault.{PacketFault}
 use Rattle.gw_satop.specs.declared.pace.Pace.{Pace}
 use Rattle.gw_satop.specs.Packets.{octets_to_play}
 use Rattle.gw_satop.specs.Pace.{beginning}
 
 -- what becomes of a packet that is refused, and with which a stream begins at this number or none does
-abbrev pub receipt_refused : ArrivalFault → Option ℕ → Receipt
+abbrev pub receipt_refused : ArrivalFault → Option ℕ → DatagramOutcome
 receipt_refused fault None = receipts.Refused fault
 receipt_refused fault (Some first) = receipts.Began first
 
 -- what becomes of a packet that was answered so
-abbrev pub receipt_by : Result (Unit {0}) ArrivalFault → (ArrivalFault → Option ℕ) → Receipt
+abbrev pub receipt_by : Result (Unit {0}) ArrivalFault → (ArrivalFault → Option ℕ) → DatagramOutcome
 receipt_by (Ok _) begins = receipts.Accepted
 receipt_by (Err fault) begins = receipt_refused fault (begins fault)
 
 -- what becomes of a datagram at a time, after these calls
-abbrev pub receipt_of : Settings → List Call → Pace → ℕ → Result Content Malformed → Receipt
-receipt_of settings calls pace now (Err fault) = receipts.Malformed fault
+abbrev pub receipt_of : Settings → List Call → Pace → ℕ → Result Content PacketFault → DatagramOutcome
+receipt_of settings calls pace now (Err fault) = receipts.PacketFault fault
 receipt_of settings calls pace now (Ok p) = receipt_by
     (arrival_answer settings calls p.control.sequence (octets_to_play settings.size p))
     (λ fault. beginning pace fault p.control.sequence now)
 
 -- the calls for a packet of which this became: it arrives, after a beginning if a stream begins with it
-abbrev pub calls_of_receipt : Receipt → ℕ → List ℕ → List Call
+abbrev pub calls_of_receipt : DatagramOutcome → ℕ → List ℕ → List Call
 calls_of_receipt (receipts.Began first) sequence octets = Begins first ∷ Arrives sequence octets ∷ []
 calls_of_receipt _ sequence octets = Arrives sequence octets ∷ []
 
 -- the calls for a datagram of which this became
-abbrev pub calls_for : ℕ → Receipt → Result Content Malformed → List Call
+abbrev pub calls_for : ℕ → DatagramOutcome → Result Content PacketFault → List Call
 calls_for size receipt (Err fault) = []
 calls_for size receipt (Ok p) = calls_of_receipt receipt p.control.sequence (octets_to_play size p)
 
@@ -51,5 +51,5 @@ played settings calls = stream_replies align_reply (given_octets settings calls)
 
 -- a receiver whose playout has this history of calls: the aligner has taken the octets of the plays
 pub record HasPlayed (receiver : Receiver) (calls : List Call) : Type 0 where
-  pub playout : Stands receiver.playout receiver.settings calls
+  pub playout : HasHistory receiver.playout receiver.settings calls
   pub aligner : StandsAfter receiver.aligner (given_octets receiver.settings calls)

@@ -32,21 +32,21 @@ is_long r now = nat_le 8 r.packets && nat_le 50000 (now - r.since)
 abbrev pub is_in_step : ℕ → Run → ℕ → Bool
 is_in_step packet r now = nat_le (2 * (r.packets * packet) / 3) (now - r.since)
 
--- a run is a stream that began anew
+-- a run is a new stream
 abbrev pub is_stream : ℕ → Run → ℕ → Bool
 is_stream packet r now = is_long r now && is_in_step packet r now
 
 -- the number at which a stream begins, if one does, with a packet outside the window
-abbrev pub anew : Pace → ℕ → ℕ → Option ℕ
-anew p sequence now = if is_stream p.timing.packet (run_with p.run sequence now) now
+abbrev pub restart_number : Pace → ℕ → ℕ → Option ℕ
+restart_number p sequence now = if is_stream p.timing.packet (run_with p.run sequence now) now
     then Some (first_number p.timing sequence) else None
 
 -- the number at which a stream begins, if one does, with a packet that is refused: at first with any packet,
 -- later with one outside the window
 abbrev pub beginning : Pace → ArrivalFault → ℕ → ℕ → Option ℕ
 beginning p NotBegun sequence now = Some (first_number p.timing sequence)
-beginning p Late sequence now = anew p sequence now
-beginning p TooFar sequence now = anew p sequence now
+beginning p Late sequence now = restart_number p sequence now
+beginning p TooFar sequence now = restart_number p sequence now
 beginning p OtherSize sequence now = None
 beginning p Repeat sequence now = None
 

@@ -5,18 +5,18 @@ use Rattle.satop_packet.specs.declared.SatopFault.{SatopFault}
 use Rattle.satop_packet.specs.declared.SatopFault.TheVariants.{Short, NoRtp, NoControl, OtherLength}
 use Rattle.satop_packet.specs.Satop.{Content}
 use Rattle.satop_packet.specs.Read.{reading_of}
-use Rattle.gw_satop.specs.declared.packet.Malformed.{Malformed}
-use Rattle.gw_satop.specs.declared.packet.Malformed.TheVariants as malformed
+use Rattle.gw_satop.specs.declared.packet.PacketFault.{PacketFault}
+use Rattle.gw_satop.specs.declared.packet.PacketFault.TheVariants as malformed
 
 -- the fault of a datagram that is no packet
-abbrev pub malformed_by : SatopFault → Malformed
+abbrev pub malformed_by : SatopFault → PacketFault
 malformed_by Short = malformed.Short
 malformed_by NoRtp = malformed.NoRtp
 malformed_by NoControl = malformed.NoControl
 malformed_by OtherLength = malformed.OtherLength
 
 -- the number of a fault, in order of precedence
-abbrev pub malformed_number : Malformed → ℕ
+abbrev pub malformed_number : PacketFault → ℕ
 malformed_number malformed.Short = 1
 malformed_number malformed.NoRtp = 2
 malformed_number malformed.NoControl = 3
@@ -28,12 +28,12 @@ abbrev pub fits : ℕ → Content → Bool
 fits size p = (length p.payload == size) || (p.control.lost && (length p.payload == 0))
 
 -- these parts, if they are of a packet of the circuit
-abbrev pub fitting : ℕ → Result Content SatopFault → Result Content Malformed
+abbrev pub fitting : ℕ → Result Content SatopFault → Result Content PacketFault
 fitting size (Err f) = Err (malformed_by f)
 fitting size (Ok p) = if fits size p then Ok p else Err malformed.OtherSize
 
 -- the packet of a datagram, behind an RTP header if there is to be one, or its first fault
-abbrev pub packet_in : Bool → ℕ → List ℕ → Result Content Malformed
+abbrev pub packet_in : Bool → ℕ → List ℕ → Result Content PacketFault
 packet_in rtp size datagram = fitting size (reading_of rtp datagram)
 
 -- The octets that are played for a packet: those that it has, or ones if bit L says that they are invalid
@@ -42,7 +42,7 @@ abbrev pub octets_to_play : ℕ → Content → List ℕ
 octets_to_play size p = if p.control.lost then replicate size 255 else p.payload
 
 -- the numbers and octets of a packet, or nothing
-abbrev pub arrival_of : ℕ → Result Content Malformed → List (ℕ × List ℕ)
+abbrev pub arrival_of : ℕ → Result Content PacketFault → List (ℕ × List ℕ)
 arrival_of size (Ok p) = (p.control.sequence, octets_to_play size p) ∷ []
 arrival_of size (Err f) = []
 

@@ -12,7 +12,7 @@ use gw_trunk::{DeviceFault, Incoming, Outgoing};
 const REPORT_US: u64 = 1_000_000;
 
 /// What an emulated circuit has of the system besides its devices. Nothing that is proved rests on it.
-pub trait Moments {
+pub trait Clock {
     /// The time, in microseconds of one clock.
     fn now(&mut self) -> u64;
 
@@ -24,7 +24,7 @@ pub trait Moments {
 }
 
 // Reports the counts if they have changed, at most once a second. Returns those reported last, and when.
-fn report_changes<M: Moments>(
+fn report_changes<M: Clock>(
     moments: &mut M,
     now: u64,
     counts: Counts,
@@ -47,7 +47,7 @@ fn report_changes<M: Moments>(
 ///
 /// [`DeviceFault`] if a device of the trunk fails. All clauses hold then too, and what the trunk did not take
 /// is left.
-pub fn carry_satop<I: Incoming, O: Outgoing, P: Peer, M: Moments>(
+pub fn carry_satop<I: Incoming, O: Outgoing, P: Peer, M: Clock>(
     circuit: &mut Circuit<I, O, P>,
     moments: &mut M,
 ) -> Result<(), DeviceFault>

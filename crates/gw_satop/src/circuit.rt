@@ -11,7 +11,7 @@ use crate::pace::Pace;
 use crate::peer::Peer;
 use crate::sender::Sender;
 use arrayvec::ArrayVec;
-use gw_trunk::{DeviceFault, Incoming, Outgoing, Taken};
+use gw_trunk::{DeviceFault, DeviceRead, Incoming, Outgoing};
 use satop_playout::MAX_SIZE;
 
 // Room for a datagram, and for a read of the trunk: 8 ms.
@@ -221,7 +221,7 @@ impl<I: Incoming, O: Outgoing, P: Peer> Circuit<I, O, P> {
     {
         let mut room = [0u8; ROOM_LEN];
         match self.incoming.read(&mut room)? {
-            Taken::Octets(n) => {
+            DeviceRead::Octets(n) => {
                 send_all(
                     &mut self.sender,
                     &mut self.peer,
@@ -231,8 +231,8 @@ impl<I: Incoming, O: Outgoing, P: Peer> Circuit<I, O, P> {
                 );
                 Ok(false)
             }
-            Taken::NoneNow => Ok(false),
-            Taken::Ended => Ok(true),
+            DeviceRead::NoneNow => Ok(false),
+            DeviceRead::Ended => Ok(true),
         }
     }
 

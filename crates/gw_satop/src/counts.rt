@@ -1,7 +1,7 @@
 //! What an emulated circuit counts.
 
-use crate::line::Receipt;
-use crate::packet::Malformed;
+use crate::line::DatagramOutcome;
+use crate::packet::PacketFault;
 use satop_playout::ArrivalFault;
 use thiserror::Error;
 
@@ -53,17 +53,17 @@ fn add(count: &mut u64) {
 
 impl Counts {
     /// Counts what became of a datagram.
-    pub fn receive(&mut self, receipt: Receipt) {
+    pub fn receive(&mut self, receipt: DatagramOutcome) {
         match receipt {
-            Receipt::Malformed(fault) => self.refuse(fault),
-            Receipt::Accepted => add(&mut self.received),
-            Receipt::Began(_) => {
+            DatagramOutcome::PacketFault(fault) => self.refuse(fault),
+            DatagramOutcome::Accepted => add(&mut self.received),
+            DatagramOutcome::Began(_) => {
                 if self.received > 0 {
                     add(&mut self.restarts);
                 }
                 add(&mut self.received);
             }
-            Receipt::Refused(fault) => {
+            DatagramOutcome::Refused(fault) => {
                 add(&mut self.received);
                 match fault {
                     ArrivalFault::Late => add(&mut self.late),
@@ -76,13 +76,13 @@ impl Counts {
     }
 
     // Counts a datagram that is no packet of the circuit.
-    fn refuse(&mut self, fault: Malformed) {
+    fn refuse(&mut self, fault: PacketFault) {
         match fault {
-            Malformed::Short => add(&mut self.short),
-            Malformed::NoRtp => add(&mut self.no_rtp),
-            Malformed::NoControl => add(&mut self.no_control),
-            Malformed::OtherLength => add(&mut self.other_length),
-            Malformed::OtherSize => add(&mut self.other_size),
+            PacketFault::Short => add(&mut self.short),
+            PacketFault::NoRtp => add(&mut self.no_rtp),
+            PacketFault::NoControl => add(&mut self.no_control),
+            PacketFault::OtherLength => add(&mut self.other_length),
+            PacketFault::OtherSize => add(&mut self.other_size),
         }
     }
 

@@ -3,7 +3,7 @@
 ghost use Rattle.std.specs.Prelude.{◌≡◌};
 
 use crate::pace::Pace;
-use crate::packet::{Malformed, octets_to_play, packet_in};
+use crate::packet::{PacketFault, octets_to_play, packet_in};
 use g704_bits::BitAligner;
 use gw_filter::filter_all;
 use satop_playout::laws::plays_give_octets;
@@ -12,7 +12,7 @@ use std::alloc::{AllocError, Global};
 
 /// What became of a datagram.
 #[derive(Clone, Copy, Debug, PartialEq, Eq)]
-pub enum Receipt {
+pub enum DatagramOutcome {
     /// Its packet is played in its turn.
     Accepted,
     /// A stream begins with its packet; this number is played next.
@@ -20,7 +20,7 @@ pub enum Receipt {
     /// Its packet is refused.
     Refused(ArrivalFault),
     /// It is no packet of the circuit.
-    Malformed(Malformed),
+    PacketFault(PacketFault),
 }
 
 /// The received half of an emulated circuit.
@@ -64,7 +64,7 @@ impl Receiver {
     }
 
     /// A datagram comes. Says what became of it.
-    pub fn receive(&mut self, pace: &mut Pace, now: u64, datagram: &[u8]) -> Receipt
+    pub fn receive(&mut self, pace: &mut Pace, now: u64, datagram: &[u8]) -> DatagramOutcome
         ensures receipt { (calls : List Call) → HasPlayed self.old calls
             → result ≡ receipt_of self.old.settings calls pace.old now
             (packet_in self.old.rtp self.old.settings.size datagram.now) }
@@ -83,12 +83,12 @@ impl Receiver {
                 let octets = octets_to_play(self.settings.size, &view);
                 self.arrive(pace, now, view.control().sequence, octets)
             }
-            Err(fault) => Receipt::Malformed(fault),
+            Err(fault) => DatagramOutcome::PacketFault(fault),
         }
     }
 
     // A packet arrives. If it is refused a stream may begin with it.
-    fn arrive(&mut self, pace: &mut Pace, now: u64, sequence: u16, octets: &[u8]) -> Receipt
+    fn arrive(&mut self, pace: &mut Pace, now: u64, sequence: u16, octets: &[u8]) -> DatagramOutcome
         ensures receipt { (calls : List Call) → HasPlayed self.old calls
             → result ≡ receipt_by (arrival_answer self.old.settings calls sequence octets.now)
             (λ fault. beginning pace.old fault sequence now) }
@@ -103,15 +103,15 @@ impl Receiver {
         match self.playout.arrive(sequence, octets) {
             Ok(()) => {
                 pace.accept(now);
-                Receipt::Accepted
+                DatagramOutcome::Accepted
             }
             Err(fault) => match pace.refuse(fault, sequence, now) {
                 Some(first) => {
                     self.begin(first, sequence, octets);
                     pace.accept(now);
-                    Receipt::Began(first)
+                    DatagramOutcome::Began(first)
                 }
-                None => Receipt::Refused(fault),
+                None => DatagramOutcome::Refused(fault),
             },
         }
     }

@@ -147,7 +147,7 @@ impl Pace {
         }
     }
 
-    // A packet outside the window. Whether it is of a stream that began anew.
+    // A packet outside the window. Returns whether a new stream began.
     fn joins(&mut self, sequence: u16, now: u64) -> bool
         ensures joins { result ≡ is_stream self.old.timing.packet (run_with self.old.run sequence now) now }
         ensures stays { self.new ≡ record self.old {

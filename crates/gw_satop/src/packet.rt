@@ -13,7 +13,7 @@ const ONES: &[u8] = &[0xFF; MAX_PAYLOAD];
 ///
 /// If several apply, the first one listed is returned.
 #[derive(Clone, Copy, Debug, PartialEq, Eq, Error)]
-pub enum Malformed {
+pub enum PacketFault {
     /// 1: fewer octets than the headers have.
     #[error("fewer octets than the headers")]
     Short,
@@ -32,30 +32,30 @@ pub enum Malformed {
     OtherSize,
 }
 
-impl Malformed {
+impl PacketFault {
     /// The number of the fault, 1 to 5, in order of precedence.
     pub fn number(self) -> u8
         ensures { result ≡ malformed_number self }
     {
         match self {
-            Malformed::Short => 1,
-            Malformed::NoRtp => 2,
-            Malformed::NoControl => 3,
-            Malformed::OtherLength => 4,
-            Malformed::OtherSize => 5,
+            PacketFault::Short => 1,
+            PacketFault::NoRtp => 2,
+            PacketFault::NoControl => 3,
+            PacketFault::OtherLength => 4,
+            PacketFault::OtherSize => 5,
         }
     }
 }
 
 // The fault of a datagram that is no packet.
-fn malformed_by(fault: SatopFault) -> Malformed
+fn malformed_by(fault: SatopFault) -> PacketFault
     ensures { result ≡ malformed_by fault }
 {
     match fault {
-        SatopFault::Short => Malformed::Short,
-        SatopFault::NoRtp => Malformed::NoRtp,
-        SatopFault::NoControl => Malformed::NoControl,
-        SatopFault::OtherLength => Malformed::OtherLength,
+        SatopFault::Short => PacketFault::Short,
+        SatopFault::NoRtp => PacketFault::NoRtp,
+        SatopFault::NoControl => PacketFault::NoControl,
+        SatopFault::OtherLength => PacketFault::OtherLength,
     }
 }
 
@@ -88,7 +88,11 @@ pub(crate) fn octets_to_play<'d>(size: usize, view: &SatopView<'d>) -> &'d [u8]
 }
 
 // The packet of a datagram, behind an RTP header if `rtp` is set.
-pub(crate) fn packet_in(rtp: bool, size: usize, datagram: &[u8]) -> Result<SatopView<'_>, Malformed>
+pub(crate) fn packet_in(
+    rtp: bool,
+    size: usize,
+    datagram: &[u8],
+) -> Result<SatopView<'_>, PacketFault>
     ensures { result ≡ packet_in rtp size datagram.now }
 {
     match parse(datagram, rtp) {
@@ -96,7 +100,7 @@ pub(crate) fn packet_in(rtp: bool, size: usize, datagram: &[u8]) -> Result<Satop
             if fits(size, &view) {
                 Ok(view)
             } else {
-                Err(Malformed::OtherSize)
+                Err(PacketFault::OtherSize)
             }
         }
         Err(fault) => Err(malformed_by(fault)),

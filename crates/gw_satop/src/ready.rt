@@ -2,7 +2,7 @@
 
 ghost use Rattle.std.specs.Prelude.{◌≡◌, IfOk};
 
-use gw_trunk::{DeviceFault, Incoming, Taken, Waiting};
+use gw_trunk::{DeviceFault, DeviceRead, Incoming, Waiting};
 use mio::Interest;
 use std::io;
 use std::time::Duration;
@@ -34,9 +34,9 @@ impl<I: Incoming> Incoming for WhenReady<I> {
 
     ghost has_ended = { λ r. I.has_ended r.incoming };
 
-    fn read(&mut self, room: &mut [u8]) -> Result<Taken, DeviceFault> {
+    fn read(&mut self, room: &mut [u8]) -> Result<DeviceRead, DeviceFault> {
         if !self.waiting.wait_for(Duration::ZERO) {
-            return Ok(Taken::NoneNow);
+            return Ok(DeviceRead::NoneNow);
         }
         self.incoming.read(room)
     }

@@ -17,7 +17,7 @@ const FIXED_RTP: u8 = 0x80;
 
 /// How the packets of an emulated circuit begin.
 #[derive(Clone, Copy, Debug, PartialEq, Eq)]
-pub struct Start {
+pub struct SenderSettings {
     /// The octets of the trunk in a packet: 32 to 1280, a multiple of 32.
     pub size: usize,
     /// The payload type of the RTP header, if packets have one.
@@ -36,7 +36,7 @@ pub struct Start {
 /// packet are ghost data.
 #[derive(Drop)]
 pub struct Sender {
-    start: Start,
+    start: SenderSettings,
     // of the next packet
     sequence: u16,
     timestamp: u32,
@@ -66,7 +66,7 @@ fn header(payload_type: u8, sequence: u16, timestamp: u32, ssrc: u32) -> [u8; 12
 
 impl Sender {
     /// A sender before any octet.
-    pub fn new(start: Start) -> Sender
+    pub fn new(start: SenderSettings) -> Sender
         requires { IsSize start.size }
         ensures start { result.start ≡ start }
         ensures came { result.came.octets ≡ [] }

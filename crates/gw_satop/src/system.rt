@@ -2,7 +2,7 @@
 
 ghost use Rattle.std.specs.Prelude.{◌≡◌};
 
-use crate::carrying::Moments;
+use crate::carrying::Clock;
 use crate::counts::Counts;
 use crate::peer::UdpPeer;
 use gw_trunk::Waiting;
@@ -22,7 +22,7 @@ const STDERR: i32 = 2;
 /// The clock of this system, the descriptor that the trunk's octets come from, the socket, and standard
 /// error.
 #[derive(Drop)]
-pub struct SystemMoments<'r> {
+pub struct SystemClock<'r> {
     rt: &'r HostRuntime,
     started: Instant,
     now: u64,
@@ -32,13 +32,13 @@ pub struct SystemMoments<'r> {
     errors: Waiting,
 }
 
-impl<'r> SystemMoments<'r> {
+impl<'r> SystemClock<'r> {
     /// Waits for the socket of the far end and for a descriptor. The error is the system's.
     pub fn open<S: Socket>(
         rt: &'r HostRuntime,
         descriptor: i32,
         peer: &mut UdpPeer<S>,
-    ) -> io::Result<SystemMoments<'r>>
+    ) -> io::Result<SystemClock<'r>>
         ensures received { peer.new.received ≡ peer.old.received }
         ensures sent { peer.new.sent ≡ peer.old.sent }
     {
@@ -50,7 +50,7 @@ impl<'r> SystemMoments<'r> {
             .registry()
             .register(trunk, Token(TRUNK), Interest::READABLE);
         let _ = peer.watch(poll.registry(), Token(FAR_END));
-        Ok(SystemMoments {
+        Ok(SystemClock {
             rt,
             started: Instant::now(rt)?,
             now: 0,
@@ -69,7 +69,7 @@ fn micros_of(time: Duration) -> u64 {
         .saturating_add(u64::from(time.subsec_micros()))
 }
 
-impl Moments for SystemMoments<'_> {
+impl Clock for SystemClock<'_> {
     fn now(&mut self) -> u64 {
         if let Ok(passed) = self.started.elapsed(self.rt) {
             self.now = micros_of(passed);

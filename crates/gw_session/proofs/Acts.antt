@@ -1,20 +1,20 @@
 -- Records that are acted on.
 use Rattle.gw_session.proofs.Common.{◌≡◌, inl, ◌+◌, ◌-◌, ◌^◌, ◌<◌, ℕ, min, List, [], ◌∷◌, ◌++◌, length, Result, Ok, Err}
 use Rattle.gw_session.proofs.Common.{refl, sym, ap, ◌∙◌, append_assoc, arith, length-map, big_bytes, GatewayConfig}
-use Rattle.gw_session.proofs.Common.{Gateway, Event, Stands, reply_to, Totals, RunFault, Record, Passes, at_most}
-use Rattle.gw_session.proofs.Common.{Appends-none, Passes-join, AppendsPrefix-behind, Spells, counted, Written}
-use Rattle.gw_session.proofs.Common.{written_out, code_of, Act, told, turns_of, events_in, events_of_turns, octet_of}
-use Rattle.gw_session.proofs.Common.{answer_to, packets_for, dropped_for, Takes, spelled_for, written_for, Exchanges}
-use Rattle.gw_session.proofs.Common.{ActsOn, TapeState, Recorded, Output, World, state_of, Puts, Passes-same}
-use Rattle.gw_session.proofs.Common.{AppendsPrefix-same, sent_with_octets, Acts, OnOk}
+use Rattle.gw_session.proofs.Common.{Gateway, Event, HasHistory, reply_to, Totals, RunFault, Record, Forwards, at_most}
+use Rattle.gw_session.proofs.Common.{Appends-none, Forwards-join, AppendsPrefix-behind, RecordEncoding, counted}
+use Rattle.gw_session.proofs.Common.{Written, written_out, code_of, Act, told, turns_of, events_in, events_of_turns}
+use Rattle.gw_session.proofs.Common.{octet_of, answer_to, packets_for, dropped_for, Takes, spelled_for, written_for}
+use Rattle.gw_session.proofs.Common.{Exchanges, ActsOn, TapeState, Recorded, Output, World, state_of, Puts}
+use Rattle.gw_session.proofs.Common.{Forwards-same, AppendsPrefix-same, sent_with_octets, Acts, OnOk}
 use Rattle.gw_session.specs.declared.tape.OnTape.{OnTape}
 use Rattle.gw_session.proofs.Turns.{PortTrace-none, counted_is}
 
 -- an act was done, and behind what passes the rest of all that is put for it was put, or a write failed
-acts_put : (spells : Spells) (w w' : World) (o : Output) (out : List ℕ) {r : Record}
+acts_put : (spells : RecordEncoding) (w w' : World) (o : Output) (out : List ℕ) {r : Record}
     (result : Result (Unit {0}) RunFault) (on : ActsOn w.state w'.state w.tape w'.tape r)
-    → ((config : GatewayConfig) (before : List Event) → Stands config w.state.gateway before → (first : List ℕ)
-    × Passes w.output.sink.taken o.sink.taken o.waiting first
+    → ((config : GatewayConfig) (before : List Event) → HasHistory config w.state.gateway before → (first : List ℕ)
+    × Forwards w.output.sink.taken o.sink.taken o.waiting first
     × (first ++ out ≡ w.output.waiting ++ written_for spells config before on.act))
     → o.sink.failures ≡ w.output.sink.failures
     → Puts o.sink w'.output.sink w'.output.waiting (o.waiting ++ out) result → Acts spells w w' r result
@@ -23,7 +23,7 @@ acts_put spells w w' o out (Ok u) on first kept puts = (
     acts = on;
     took = λ config before h.
         let f = first config before h in
-        Passes-same _ _ _ _ _ f.2 (Passes-join _ _ _ _ _ _ _ f.1 puts.0);
+        Forwards-same _ _ _ _ _ f.2 (Forwards-join _ _ _ _ _ _ _ f.1 puts.0);
   },
   puts.1 ∙ kept,
 )
@@ -39,7 +39,7 @@ acts_put spells w w' o out (Err e) on first kept puts = (
 )
 
 -- octets were exchanged, and the record of them was put
-pub trunk_acts : {spells : Spells} (w w' : World) (r n : ℕ) (o : Output) {body front answer out : List ℕ}
+pub trunk_acts : {spells : RecordEncoding} (w w' : World) (r n : ℕ) (o : Output) {body front answer out : List ℕ}
     (result : Result (Unit {0}) RunFault)
     → (sent : List ℕ) × (x : Exchanges spells
     (record w.state { totals = record w.state.totals { records = r; octets = n } }) w'.state w.output o body sent)
@@ -80,7 +80,7 @@ trunk_acts w w' r n o result x fronts same counts trunk fits puts =
     )) p.no_failure puts
 
 -- an act of one event was done, and the one answer of its circuit, whose record is on the tape, was put
-pub one_acts : (act : Act) (event : Event) (u : Totals) (spells : Spells) (w : World) (g : Gateway) (t : Totals)
+pub one_acts : (act : Act) (event : Event) (u : Totals) (spells : RecordEncoding) (w : World) (g : Gateway) (t : Totals)
     (tape : TapeState) (o : Output) {circuit kind code : ℕ} (result : Result (Unit {0}) RunFault)
     → turns_of act ≡ [] → events_in act ≡ event ∷ []
     → ((config : GatewayConfig) (before : List Event) → packets_for config before (event ∷ []) ≡ [])
@@ -89,7 +89,7 @@ pub one_acts : (act : Act) (event : Event) (u : Totals) (spells : Spells) (w : W
     ≡ written_out (Written.Answered circuit kind (code_of (reply_to config before event))))
     → Takes w.state.gateway g event code → {on_tape : OnTape} → on_tape ≡ record { kind = kind; circuit = circuit }
     → u ≡ record w.state.totals { dropped = u.dropped } → t ≡ record u { records = at_most (u.records + 1) }
-    → ((config : GatewayConfig) (before : List Event) → Stands config w.state.gateway before
+    → ((config : GatewayConfig) (before : List Event) → HasHistory config w.state.gateway before
     → u.dropped ≡ counted w.state.totals.dropped (dropped_for config before (event ∷ [])))
     → Puts w.output.sink o.sink o.waiting
     (w.output.waiting ++ written_out (Written.Answered on_tape.circuit on_tape.kind code)) result

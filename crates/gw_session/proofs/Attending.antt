@@ -1,27 +1,27 @@
 -- Acts one after another.
 use Rattle.gw_session.proofs.Common.{◌≡◌, ◌⊎◌, inl, inr, ◌+◌, ◌-◌, ◌<◌, ◌≤◌, ℕ, zero, suc, Option, List, [], ◌∷◌, ◌++◌}
 use Rattle.gw_session.proofs.Common.{length, take, drop, refl, ap, ◌∙◌, append_assoc, append-nil, length-append, arith}
-use Rattle.gw_session.proofs.Common.{Appends, map_push, flat_map_more, GatewayConfig, Event, octets, Stands, Kinds}
-use Rattle.gw_session.proofs.Common.{Record, IsGood, record_at, SinkState, Passes, Breaks, AppendsBut, AppendsPrefix}
-use Rattle.gw_session.proofs.Common.{Passes-appended, Passes-empty, Passes-join, Appends-join, AppendsBut-behind}
-use Rattle.gw_session.proofs.Common.{all_kinds, Spells, Act, told, turns_of, turns, events_in, events_through, Follows}
-use Rattle.gw_session.proofs.Common.{but_last, WatchedTrace, OfFirstActs, written_for, written_by, ActsOn}
-use Rattle.gw_session.proofs.Common.{StopsAt, CutTrace}
-use Rattle.gw_session.proofs.Common.{TapeState, State, Output, drop-take, named, Passes-start, ActTrace}
-use Rattle.gw_records.specs.declared.records.First.{First}
+use Rattle.gw_session.proofs.Common.{Appends, map_push, flat_map_more, GatewayConfig, Event, octets, HasHistory}
+use Rattle.gw_session.proofs.Common.{AcceptedKinds, Record, IsGood, record_at, SinkState, Forwards, StopsInWrite}
+use Rattle.gw_session.proofs.Common.{AppendsBut, AppendsPrefix, Forwards-appended, Forwards-empty, Forwards-join}
+use Rattle.gw_session.proofs.Common.{Appends-join, AppendsBut-behind, all_kinds, RecordEncoding, Act, told, turns_of}
+use Rattle.gw_session.proofs.Common.{turns, events_in, events_through, Follows, but_last, WatchedTrace, OfFirstActs}
+use Rattle.gw_session.proofs.Common.{written_for, written_by, ActsOn, StopsAt, CutTrace, TapeState, State, Output}
+use Rattle.gw_session.proofs.Common.{drop-take, named, Forwards-start, ActTrace}
+use Rattle.gw_records.specs.declared.records.ParsedRecord.{ParsedRecord}
 use Rattle.gw_session.proofs.Turns.{TurnTrace-none, TurnTrace-join, counted-more, octets-append, turns_have_octets}
 use Rattle.gw_session.proofs.Turns.{through-append}
 use Rattle.gw_session.proofs.Taping.{recorded_none, recorded_join}
 
 -- the record that stands first, by its body in what is held
-pub record_is : (f : First) (held slice : List ℕ) → 4 ≤ f.len → slice ≡ held
+pub record_is : (f : ParsedRecord) (held slice : List ℕ) → 4 ≤ f.len → slice ≡ held
     → named f.head (take (f.len - 4) (drop 4 slice)) ≡ record_at f held
 record_is f held slice more e =
     let len : 4 + (f.len - 4) ≡ f.len = omega arith in
     rw (e, ← drop-take 4 (f.len - 4) held, len)
 
 -- a record of some kinds is one of all
-pub good_in_all : (kinds : Kinds) (r : Record) → IsGood kinds r → IsGood all_kinds r
+pub good_in_all : (kinds : AcceptedKinds) (r : Record) → IsGood kinds r → IsGood all_kinds r
 good_in_all kinds (Record.Trunk octets) good = (refl, good.1)
 good_in_all kinds (Record.Datagram circuit octets) good = (refl, good.1, good.2)
 good_in_all kinds (Record.Command circuit command) good = (refl, good.1, good.2, good.3)
@@ -61,7 +61,7 @@ but_last_more (a ∷ []) act = refl
 but_last_more (a ∷ b ∷ acts) act = ap (λ (xs : List Act). a ∷ xs) (but_last_more (b ∷ acts) act)
 
 -- what is put for all acts but the last is no more than what is put for all
-less_written : (spells : Spells) (config : GatewayConfig) (before : List Event) (acts : List Act)
+less_written : (spells : RecordEncoding) (config : GatewayConfig) (before : List Event) (acts : List Act)
     → length (written_by spells config before (but_last acts)) ≤ length (written_by spells config before acts)
 unfolding but_last
 less_written spells config before [] = omega arith
@@ -76,7 +76,7 @@ less_written spells config before (a ∷ b ∷ acts) = omega (
 
 -- octets of which few wait, and a write of these failed
 waiting_cut : (late : ℕ) (o : Option (List ℕ)) (s s' : SinkState) (w first xs : List ℕ) → length w ≤ late
-    → length first ≤ length xs → Passes o s.taken w xs → Breaks s s' w → AppendsBut late o s'.taken first xs
+    → length first ≤ length xs → Forwards o s.taken w xs → StopsInWrite s s' w → AppendsBut late o s'.taken first xs
 waiting_cut late o s s' w first xs few less took breaks = record {
   written = took.written ++ breaks.took.written;
   rest = breaks.took.rest;
@@ -92,21 +92,22 @@ waiting_cut late o s s' w first xs few less took breaks = record {
 }
 
 -- before the first record
-pub through_none : (spells : Spells) (Seen : List Act → Type 0) {s : State} {tape : TapeState} {o : Option (List ℕ)}
+pub through_none : (spells : RecordEncoding) (Seen : List Act → Type 0)
+    {s : State} {tape : TapeState} {o : Option (List ℕ)}
     {w : List ℕ} → Seen [] → w ≡ []
-    → WatchedTrace (written_by spells) s s tape tape (λ first xs. Passes o o w xs) Seen []
+    → WatchedTrace (written_by spells) s s tape tape (λ first xs. Forwards o o w xs) Seen []
 through_none spells Seen seen none = (
   record {
     acts = [];
     told_are = refl;
     follows = record { goes = TurnTrace-none _; records = refl; trunk_octets = refl; recorded = recorded_none _ };
-    took = λ config before at. Passes-start _ _ none;
+    took = λ config before at. Forwards-start _ _ none;
   },
   seen,
 )
 
 -- records that were gone through
-module _ (spells : Spells) (Seen : List Act → Type 0) {s s' : State} {x y : TapeState} {records : List Record}
+module _ (spells : RecordEncoding) (Seen : List Act → Type 0) {s s' : State} {x y : TapeState} {records : List Record}
   where
     -- what is known of what was put, and of the acts
     through_as : {Took More : List ℕ → List ℕ → Type 0} (Known : List Act → Type 0)
@@ -128,22 +129,22 @@ module _ (spells : Spells) (Seen : List Act → Type 0) {s s' : State} {x y : Ta
 
     -- all of it was taken
     pub through_all : {o p : Option (List ℕ)} {w : List ℕ} (q : Option (List ℕ))
-        → WatchedTrace (written_by spells) s s' x y (λ first xs. Passes o p w xs) Seen records → Appends p q w
+        → WatchedTrace (written_by spells) s s' x y (λ first xs. Forwards o p w xs) Seen records → Appends p q w
         → WatchedTrace (written_by spells) s s' x y (λ first. Appends o q) Seen records
     through_all q h wrote =
-        through_as Seen (λ first xs less took. Passes-appended _ _ _ _ _ took wrote) (λ acts seen. seen) h
+        through_as Seen (λ first xs less took. Forwards-appended _ _ _ _ _ took wrote) (λ acts seen. seen) h
 
     -- when what waits is written nothing waits, and the rest is as it was
     pub through_on : {o p q : Option (List ℕ)} {w w' : List ℕ}
-        → WatchedTrace (written_by spells) s s' x y (λ first xs. Passes o p w xs) Seen records → Appends p q w
-        → w' ≡ [] → WatchedTrace (written_by spells) s s' x y (λ first xs. Passes o q w' xs) Seen records
+        → WatchedTrace (written_by spells) s s' x y (λ first xs. Forwards o p w xs) Seen records → Appends p q w
+        → w' ≡ [] → WatchedTrace (written_by spells) s s' x y (λ first xs. Forwards o q w' xs) Seen records
     through_on h wrote none = through_as Seen
-        (λ first xs less took. Passes-empty _ _ _ none (Passes-appended _ _ _ _ _ took wrote)) (λ acts seen. seen) h
+        (λ first xs less took. Forwards-empty _ _ _ none (Forwards-appended _ _ _ _ _ took wrote)) (λ acts seen. seen) h
 
     -- .. or a write of what waits failed
     pub waiting_failed : (late : ℕ) {o : Option (List ℕ)} {b c : SinkState} {w : List ℕ} → length w ≤ late
-        → WatchedTrace (written_by spells) s s' x y (λ first xs. Passes o b.taken w xs) Seen records
-        → 0 < length records → Breaks b c w → (0 < length records)
+        → WatchedTrace (written_by spells) s s' x y (λ first xs. Forwards o b.taken w xs) Seen records
+        → 0 < length records → StopsInWrite b c w → (0 < length records)
         × WatchedTrace (written_by spells) s s' x y (AppendsBut late o c.taken) (OfFirstActs Seen) records
     waiting_failed late {o} {b} {c} {w} few p some breaks = (
       some,
@@ -157,7 +158,7 @@ module _ (spells : Spells) (Seen : List Act → Type 0) {s s' : State} {x y : Ta
       through_more : {Took More : List ℕ → List ℕ → Type 0} (Known : List Act → Type 0)
           → WatchedTrace (written_by spells) s s' x y Took Seen records
           → (q : ActsOn s' s'' y z r)
-          → ((config : GatewayConfig) (now : List Event) → Stands config s'.gateway now → (first xs : List ℕ)
+          → ((config : GatewayConfig) (now : List Event) → HasHistory config s'.gateway now → (first xs : List ℕ)
           → Took first xs → More xs (xs ++ written_for spells config now q.act))
           → ((acts : List Act) → Follows s s' x y acts → Seen acts → Known (acts ++ q.act ∷ []))
           → WatchedTrace (written_by spells) s s'' x z More Known (records ++ r ∷ [])
@@ -180,18 +181,18 @@ module _ (spells : Spells) (Seen : List Act → Type 0) {s s' : State} {x y : Ta
 
       -- records that were gone through, and then one more whose answer passes
       pub through_done : {o : Option (List ℕ)} {a b : Output} (Known : List Act → Type 0)
-          → WatchedTrace (written_by spells) s s' x y (λ first xs. Passes o a.sink.taken a.waiting xs) Seen records
+          → WatchedTrace (written_by spells) s s' x y (λ first xs. Forwards o a.sink.taken a.waiting xs) Seen records
           → (q : ActTrace spells (record { state = s'; tape = y; output = a })
-          (record { state = s''; tape = z; output = b }) r (Passes a.sink.taken b.sink.taken b.waiting))
+          (record { state = s''; tape = z; output = b }) r (Forwards a.sink.taken b.sink.taken b.waiting))
           → ((acts : List Act) → Follows s s' x y acts → Seen acts → Known (acts ++ q.acts.act ∷ []))
-          → WatchedTrace (written_by spells) s s'' x z (λ first xs. Passes o b.sink.taken b.waiting xs) Known
+          → WatchedTrace (written_by spells) s s'' x z (λ first xs. Forwards o b.sink.taken b.waiting xs) Known
           (records ++ r ∷ [])
       through_done Known p q known = through_more Known p q.acts
-          (λ config now at first xs took. Passes-join _ _ _ _ _ _ _ took (q.took config now at)) known
+          (λ config now at first xs took. Forwards-join _ _ _ _ _ _ _ took (q.took config now at)) known
 
       -- a write failed in it, when it was done or when its first octets were heard
       pub act_failed : (late : ℕ) {o : SinkState} {a b : Output} → length a.waiting ≤ late
-          → WatchedTrace (written_by spells) s s' x y (λ first xs. Passes o.taken a.sink.taken a.waiting xs) Seen
+          → WatchedTrace (written_by spells) s s' x y (λ first xs. Forwards o.taken a.sink.taken a.waiting xs) Seen
           records
           → ActTrace spells (record { state = s'; tape = y; output = a })
           (record { state = s''; tape = z; output = b }) r (AppendsPrefix a.sink.taken b.sink.taken)

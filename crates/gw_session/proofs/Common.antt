@@ -3,22 +3,22 @@ pub use Rattle.byteorder.specs.Endian.{big_bytes}
 pub use Rattle.gw_circuit.specs.declared.Dropped.{Dropped}
 pub use Rattle.gw_records.proofs.Sessions.{five, goes_up, starts, first_held, record_taken, stops_in, stops_behind}
 pub use Rattle.gw_records.proofs.Sessions.{reads_more, ended, gives_up, ends_so, Stage}
-pub use Rattle.gw_records.proofs.Writes.{Appends-none, Passes-join, AppendsPrefix-behind, Passes-same}
-pub use Rattle.gw_records.proofs.Writes.{AppendsPrefix-same, Passes-appended, Passes-empty, Appends-join}
-pub use Rattle.gw_records.proofs.Writes.{AppendsBut-behind, Passes-start, Passes-none, AppendsBut-same, AppendsBut-more}
-pub use Rattle.gw_records.proofs.Writes.{AppendsPrefix-join, Breaks-waiting}
+pub use Rattle.gw_records.proofs.Writes.{Appends-none, Forwards-join, AppendsPrefix-behind, Forwards-same}
+pub use Rattle.gw_records.proofs.Writes.{AppendsPrefix-same, Forwards-appended, Forwards-empty, Appends-join}
+pub use Rattle.gw_records.proofs.Writes.{AppendsBut-behind, Forwards-start, Forwards-none, AppendsBut-same}
+pub use Rattle.gw_records.proofs.Writes.{AppendsBut-more, AppendsPrefix-join, StopsInWrite-waiting}
 pub use Rattle.gw_records.specs.Outcome.{SessionTo, EndsAll, EndsUntil, OrNoMemory, nothing_counted}
-pub use Rattle.gw_records.specs.Ports.{counted, PortsState, PortCall, Grows, KeepsReceives, Waiting, TakesOut}
+pub use Rattle.gw_records.specs.Ports.{counted, PortsState, PortCall, Extends, KeepsReceives, Waiting, TakesOut}
 pub use Rattle.gw_records.specs.Ports.{NoneWaits, KeepsSends}
 pub use Rattle.gw_records.specs.Reader.{held, work_left}
 pub use Rattle.gw_records.specs.Records.{Record, IsGood, record_at, named, record_of, spelled, Reads}
 unfoldable pub use Rattle.gw_records.specs.Records.{end_of, has_bad_kind, has_bad_circuit, has_bad_length, is_cut}
 unfoldable pub use Rattle.gw_records.specs.Records.{has_bad_command}
-pub use Rattle.gw_records.specs.Streams.{Passes, at_most, Puts, SinkState, Breaks, AppendsBut, AppendsPrefix}
+pub use Rattle.gw_records.specs.Streams.{Forwards, at_most, Puts, SinkState, StopsInWrite, AppendsBut, AppendsPrefix}
 pub use Rattle.gw_records.specs.Streams.{SourceState}
 pub use Rattle.gw_records.specs.declared.outcome.RunFault.{RunFault}
 pub use Rattle.gw_records.specs.declared.outcome.Totals.{Totals}
-pub use Rattle.gw_records.specs.declared.records.Kinds.{Kinds}
+pub use Rattle.gw_records.specs.declared.records.AcceptedKinds.{AcceptedKinds}
 pub use Rattle.gw_session.specs.Answers.{Written, written_out, code_of, answers, trunk_in, datagrams_in, octets_in}
 pub use Rattle.gw_session.specs.Answers.{packets_in, events_of, events, answered, as_record, render, packet_in}
 pub use Rattle.gw_session.specs.Answers.{sent_with}
@@ -27,7 +27,7 @@ pub use Rattle.gw_session.specs.Exchange.{WatchedTrace, OfFirstActs}
 pub use Rattle.gw_session.specs.Exchange.{ComesInTurn, SendsPacket, OctetTrace, PacketWriteError, TraceToWriteError}
 pub use Rattle.gw_session.specs.Exchange.{Receiving, RecordsBehind, IsGiven, FourCome}
 unfoldable pub use Rattle.gw_session.specs.Exchange.{spelled_for, written_for, most_waiting}
-pub use Rattle.gw_session.specs.Outlet.{Spells, in_record, no_ports, silent}
+pub use Rattle.gw_session.specs.PacketPorts.{RecordEncoding, in_record, no_ports, silent}
 pub use Rattle.gw_session.specs.RecordingLaws.{all_answers, answers_to, command_in, RecordingsAnswerAlike}
 pub use Rattle.gw_session.specs.RecordingLaws.{RecordingsAreReadBack, RecordedSessionsRunAlike}
 pub use Rattle.gw_session.specs.Running.{all_kinds, replies_to, is_refusal, trunk_octets, run_totals, RunsThrough}
@@ -48,7 +48,7 @@ pub use Rattle.gw_session.specs.Watch.{Shows, Look, shown_in, IsCalled, code_aft
 pub use Rattle.gw_session.specs.Watch.{ActsShown, OfFirst, RunsWatched}
 pub use Rattle.gw_session.specs.World.{Output, World, state_of, State, world_of, output_of}
 pub use Rattle.gw_switch.specs.Events.{Event, octets}
-unfoldable pub use Rattle.gw_switch.specs.Standing.{Stands}
+unfoldable pub use Rattle.gw_switch.specs.Standing.{HasHistory}
 pub use Rattle.gw_switch.specs.Whole.{reply_to, Reply, whole_from, Sending, octet_reply, next_circuit, datagram_reply}
 pub use Rattle.gw_switch.specs.Whole.{sending_in}
 pub use Rattle.gw_switch.specs.declared.GatewayConfig.{GatewayConfig}

@@ -2,7 +2,8 @@
 use Rattle.gw_session.proofs.Common.{◌≡◌, inl, inr, ◌<◌, ◌==◌, cond, ℕ, true, false, Option, None, Some, List, [], ◌∷◌}
 use Rattle.gw_session.proofs.Common.{◌++◌, length, take, drop, map, flat_map, refl, sym, ap, ◌∙◌, append_assoc}
 use Rattle.gw_session.proofs.Common.{append-nil, length-append, arith, AllByRecursion, Appends, map-append, map_push}
-use Rattle.gw_session.proofs.Common.{length-map, flat_map_more, flat_map-append, GatewayConfig, Gateway, Event, Stands}
+use Rattle.gw_session.proofs.Common.{length-map, flat_map_more, flat_map-append, GatewayConfig, Gateway, Event}
+use Rattle.gw_session.proofs.Common.{HasHistory}
 use Rattle.gw_session.proofs.Common.{Reply, whole_from, Totals, Record, SinkState, AppendsBut, at_most, nothing_counted}
 use Rattle.gw_session.proofs.Common.{Waiting, counted, AppendsBut-behind, Written, written_out, packets_in, as_record}
 use Rattle.gw_session.proofs.Common.{answers, events_of, events, render, replies_to, is_refusal, Act, Turn, told}
@@ -147,7 +148,7 @@ at_records g t = state_of no_ports g t
 -- the totals of acts are those of a session that had the replies to their records
 plain_totals : {g g' : Gateway} {t : Totals} {x y : TapeState} {acts : List Act}
     → Follows (at_records g nothing_counted) (at_records g' t) x y acts → Plain (turns acts)
-    → (config : GatewayConfig) (before : List Event) → Stands config g before
+    → (config : GatewayConfig) (before : List Event) → HasHistory config g before
     → t ≡ run_totals (map told acts) (replies_to config before (map told acts))
 unfolding given_by dropped_for
 plain_totals {acts = acts} d plain config before at =
@@ -245,7 +246,7 @@ cut_until begun p =
     z.trades in
     let plain = plain_parts (turns k.acts) z.turns (plain_trades (turns k.acts ++ z.turns) joined) in
     let heard = map octet_of z.turns in
-    let later = λ (config : GatewayConfig) (before : List Event) (at : Stands config _ before).
+    let later = λ (config : GatewayConfig) (before : List Event) (at : HasHistory config _ before).
     (k.follows.goes.hears config before at).stands in
     record {
       records = p.records;

@@ -1,27 +1,27 @@
 -- A session that was recorded and a run over what was recorded are alike.
 use Rattle.gw_session.proofs.Common.{◌≡◌, ◌<◌, ℕ, List, [], ◌++◌, refl, sym, ◌∙◌, append-nil, arith, Option, Result, Ok}
-use Rattle.gw_session.proofs.Common.{Err, Appends, GatewayConfig, Gateway, Event, Stands, Totals, RunFault, Record}
-use Rattle.gw_session.proofs.Common.{AppendsPrefix, AppendsBut, Grows, counted, events, answered, replies_to, Act}
+use Rattle.gw_session.proofs.Common.{Err, Appends, GatewayConfig, Gateway, Event, HasHistory, Totals, RunFault, Record}
+use Rattle.gw_session.proofs.Common.{AppendsPrefix, AppendsBut, Extends, counted, events, answered, replies_to, Act}
 use Rattle.gw_session.proofs.Common.{events_through, packets_for, given_by, written, but_last, LeavesOut, Recorded}
 use Rattle.gw_session.proofs.Common.{all_answers, MatchResult, Around, Served, ServesAll, ServesUntil}
 use Rattle.gw_session.proofs.Common.{RecordedSessionsRunAlike}
 use Rattle.std.proofs.KnownBytes.{Appends-nil}
 use Rattle.gw_records.specs.declared.outcome.RunFault.TheVariants as faults
-use Rattle.gw_records.specs.declared.records.Ending.TheVariants as endings
+use Rattle.gw_records.specs.declared.records.EndOfRecords.TheVariants as endings
 use Rattle.gw_session.proofs.ReadBack.{read_back}
 use Rattle.gw_session.proofs.AnsweredAlike.{answer_alike}
 use Rattle.gw_session.proofs.Taping.{recorded_none}
-use Rattle.gw_session.proofs.Turns.{Grows-none}
+use Rattle.gw_session.proofs.Turns.{Extends-none}
 
 -- what a session that was recorded did, whatever ended it
 record Lived (config : GatewayConfig) (before : List Event) (live : Gateway) (a a' : Around) : Type 0 where
   acts : List Act
-  stands : Stands config live (before ++ events_through acts)
+  stands : HasHistory config live (before ++ events_through acts)
   recorded : Recorded a.tape a'.tape (events_through acts)
   took : AppendsPrefix a.sink.taken a'.sink.taken (written config before acts)
   whole : a'.sink.failures ≡ a.sink.failures → Appends a.sink.taken a'.sink.taken (written config before acts)
   sent : List (ℕ × List ℕ)
-  takes : Grows a.ports.taken a'.ports.taken sent
+  takes : Extends a.ports.taken a'.ports.taken sent
   failed : ℕ
   sends : a'.ports.send_failures ≡ counted a.ports.send_failures failed
   packets : LeavesOut failed sent (packets_for config before (events_through acts))
@@ -31,7 +31,7 @@ prefix_of_all : (a b : Option (List ℕ)) (xs : List ℕ) → Appends a b xs →
 prefix_of_all a b xs p = record { written = xs; rest = []; whole = sym (append-nil xs); appended = p }
 
 module _ {config : GatewayConfig} {before : List Event} {gateway live : Gateway} (a a' : Around)
-    (stood : Stands config gateway before)
+    (stood : HasHistory config gateway before)
   where
     -- a session that was served did so, where this is known of what its sink took
     lived_through : {Took : List ℕ → List ℕ → Type 0} {totals : Totals} {records : List Record}
@@ -73,7 +73,8 @@ module _ {config : GatewayConfig} {before : List Event} {gateway live : Gateway}
     ))
 
 -- .. where nothing was done
-lived_idly : (config : GatewayConfig) (before : List Event) (live : Gateway) (a : Around) → Stands config live before
+lived_idly : (config : GatewayConfig) (before : List Event) (live : Gateway) (a : Around)
+    → HasHistory config live before
     → Lived config before live a a
 unfolding given_by
 lived_idly config before live a stood = record {
@@ -83,7 +84,7 @@ lived_idly config before live a stood = record {
   took = prefix_of_all a.sink.taken a.sink.taken [] (Appends-nil a.sink.taken);
   whole = λ e. Appends-nil a.sink.taken;
   sent = [];
-  takes = Grows-none a.ports.taken;
+  takes = Extends-none a.ports.taken;
   failed = 0;
   sends = refl;
   packets = (refl, refl);
@@ -91,7 +92,7 @@ lived_idly config before live a stood = record {
 
 -- whatever ended a session that was recorded, it did so
 lived : (a a' : Around) (gateway live : Gateway) (end : Result Totals RunFault) (config : GatewayConfig)
-    (before : List Event) → Stands config gateway before
+    (before : List Event) → HasHistory config gateway before
     → MatchResult end (ServesAll a a' gateway live) (ServesUntil a a' gateway live) → Lived config before live a a'
 lived a a' gateway live (Ok totals) config before stood h = lived_well a a' stood h.ends.0.done
 lived a a' gateway live (Err faults.Truncated) config before stood h = lived_well a a' stood h.0.0.done

@@ -1,9 +1,8 @@
 -- What a watch of a session is shown.
-use Rattle.gw_session.proofs.Common.{◌≡◌, ◌++◌, ◌∷◌, ℕ, List, [], map, refl, append_assoc, append-nil}
-use Rattle.gw_session.proofs.Common.{map_push, GatewayConfig, Gateway, Event, Stands, Record, State, TapeState, Act}
-use Rattle.gw_session.proofs.Common.{told, events_in, events_through, ActsOn, Follows, Shows, Look, shown_in, IsCalled}
-use Rattle.gw_session.proofs.Common.{code_after}
-use Rattle.gw_session.proofs.Common.{IsCodeAfter, AreTrue, ActsShown}
+use Rattle.gw_session.proofs.Common.{◌≡◌, ◌++◌, ◌∷◌, ℕ, List, [], map, refl, append_assoc, append-nil, map_push}
+use Rattle.gw_session.proofs.Common.{GatewayConfig, Gateway, Event, HasHistory, Record, State, TapeState, Act, told}
+use Rattle.gw_session.proofs.Common.{events_in, events_through, ActsOn, Follows, Shows, Look, shown_in, IsCalled}
+use Rattle.gw_session.proofs.Common.{code_after, IsCodeAfter, AreTrue, ActsShown}
 
 -- before the first record
 pub none_shown : {W : Type 0} {shows : Shows W} {gateway : Gateway} {w : W} → ActsShown shows gateway w w []
@@ -20,7 +19,7 @@ called_more shows (m ∷ looks) l w v v' some call =
 true_more : (config : GatewayConfig) (before : List Event) (acts : List Act) (looks : List Look) (act : Act) (l : Look)
     → AreTrue config before (map events_in acts) looks
     → l.code ≡ code_after config (before ++ events_through acts) l.shown
-    → Stands config l.gateway ((before ++ events_through acts) ++ events_in act)
+    → HasHistory config l.gateway ((before ++ events_through acts) ++ events_in act)
     → AreTrue config before (map events_in (acts ++ act ∷ [])) (looks ++ l ∷ [])
 true_more config before [] [] act l all code at =
     (rw (append-nil) at code, rw (append-nil before) at at, tt)

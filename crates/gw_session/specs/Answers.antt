@@ -1,5 +1,5 @@
--- What a session of a gateway makes of its records, and what it writes for them (modules `act`, `exchange`
--- and `attend`).
+-- What a session of a gateway makes of its records, and what it writes for them (modules `handling`,
+-- `exchange` and `processing`).
 use Rattle.std.specs.Prelude.{ℕ, List, [], ◌∷◌, ◌++◌, length, take, drop, map, Option, Some, None, Err}
 use Rattle.std.specs.Prelude.{flat_map}
 use Rattle.gw_session.specs.Prelude.{Event, Reply, Record, record_of}

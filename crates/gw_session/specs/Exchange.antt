@@ -1,14 +1,15 @@
--- What the parts of a session do, for the private functions of modules `exchange`, `act` and `attend`.
+-- What the parts of a session do, for the private functions of modules `exchange`, `handling` and
+-- `processing`.
 use Rattle.std.specs.Prelude.{◌≡◌, ◌⊎◌, ◌<◌, ◌≤◌, ◌++◌, ℕ, List, [], ◌∷◌, length, map, drop, Option, Bool}
 use Rattle.std.specs.Prelude.{true, false, Some, Result, MatchResult, flat_map}
-use Rattle.gw_session.specs.Prelude.{GatewayConfig, Gateway, Event, octets, Stands, next_circuit, Totals}
+use Rattle.gw_session.specs.Prelude.{GatewayConfig, Gateway, Event, octets, HasHistory, next_circuit, Totals}
 use Rattle.gw_session.specs.Prelude.{RunFault, Record, SinkState, AppendsPrefix, AppendsBut, Waiting}
-use Rattle.gw_session.specs.Prelude.{PortsState, IfKnown, Grows, counted}
+use Rattle.gw_session.specs.Prelude.{PortsState, IfKnown, Extends, counted}
 use Rattle.gw_switch.specs.Whole.{reply_to, octet_reply}
 use Rattle.gw_records.specs.declared.outcome.RunFault.TheVariants.{Write}
-use Rattle.gw_records.specs.Streams.{Passes, Breaks}
+use Rattle.gw_records.specs.Streams.{Forwards, StopsInWrite}
 use Rattle.gw_session.specs.Answers.{code_of, packet_in}
-use Rattle.gw_session.specs.Outlet.{Spells}
+use Rattle.gw_session.specs.PacketPorts.{RecordEncoding}
 use Rattle.gw_records.specs.Ports.{TakesOut, KeepsSends, KeepsReceives}
 use Rattle.gw_session.specs.Serve.{Act, Turn, told, octet_of, turns_of, events_in, events_of_turns, answer_to}
 use Rattle.gw_session.specs.Serve.{TurnTrace, SessionTrace, PortTrace, Stop, StopsSo, as_call, receives_of}
@@ -20,20 +21,20 @@ use Rattle.gw_session.specs.World.{State, Output, World}
 -- the gateway took an event, and the number of its reply is this
 abbrev pub Takes : Gateway → Gateway → Event → ℕ → Type 0
 Takes gateway gateway' event code = (config : GatewayConfig) (before : List Event)
-    → Stands config gateway before
-    → Stands config gateway' (before ++ event ∷ []) × (code ≡ code_of (reply_to config before event))
+    → HasHistory config gateway before
+    → HasHistory config gateway' (before ++ event ∷ []) × (code ≡ code_of (reply_to config before event))
 
 -- what the packets of events put in front of the answer
-unfoldable pub spelled_for : Spells → GatewayConfig → List Event → List Event → List ℕ
+unfoldable pub spelled_for : RecordEncoding → GatewayConfig → List Event → List Event → List ℕ
 spelled_for spells config before es = flat_map spells (packets_for config before es)
 
 -- all that is put for an act
-unfoldable pub written_for : Spells → GatewayConfig → List Event → Act → List ℕ
+unfoldable pub written_for : RecordEncoding → GatewayConfig → List Event → Act → List ℕ
 written_for spells config before act =
     spelled_for spells config before (events_in act) ++ answer_to config before act
 
 -- .. for acts, one after another
-abbrev pub written_by : Spells → GatewayConfig → List Event → List Act → List ℕ
+abbrev pub written_by : RecordEncoding → GatewayConfig → List Event → List Act → List ℕ
 written_by spells = through (written_for spells)
 
 -- how many octets wait at most when a record was acted on: none if it is answered at once, else as many as
@@ -49,8 +50,8 @@ KeepsRecords totals totals' = (totals'.records ≡ totals.records) × (totals'.o
 -- the gateway was given datagrams, and those that it refused are counted
 abbrev pub IsGiven : Gateway → Gateway → Totals → Totals → List (ℕ × List ℕ) → Type 0
 IsGiven gateway gateway' totals totals' arrived =
-    (config : GatewayConfig) (before : List Event) → Stands config gateway before
-    → (Stands config gateway' (before ++ coming arrived))
+    (config : GatewayConfig) (before : List Event) → HasHistory config gateway before
+    → (HasHistory config gateway' (before ++ coming arrived))
     × (totals'.dropped ≡ counted totals.dropped (dropped_for config before (coming arrived)))
 
 -- the first four of what waits came, where it is known
@@ -74,8 +75,8 @@ pub record ComesInTurn (s s' : State) (t t' : Taping) (heard : List ℕ)
   pub few : length came ≤ 4
   pub stop : Stop
   pub stops : StopsSo circuit came stop
-  pub calls : Grows s.ports.calls s'.ports.calls (receives_of circuit came stop)
-  pub gave : Grows s.ports.given s'.ports.given (of_circuit circuit came)
+  pub calls : Extends s.ports.calls s'.ports.calls (receives_of circuit came stop)
+  pub gave : Extends s.ports.given s'.ports.given (of_circuit circuit came)
   pub failed : ℕ
   pub receives : s'.ports.receive_failures ≡ counted s.ports.receive_failures failed
   pub firsts : failed ≡ 0 → FourCome s.ports.waiting s'.ports.waiting circuit came
@@ -85,78 +86,80 @@ pub record ComesInTurn (s s' : State) (t t' : Taping) (heard : List ℕ)
   pub kept : KeepsRecords s.totals s'.totals
   pub given : IsGiven s.gateway s'.gateway s.totals s'.totals (of_circuit circuit came)
   pub records : RecordsBehind t t' heard recorded recorded' (coming (of_circuit circuit came))
-  pub in_turn : (config : GatewayConfig) (before : List Event) → Stands config s.gateway before
+  pub in_turn : (config : GatewayConfig) (before : List Event) → HasHistory config s.gateway before
       → circuit ≡ next_circuit (length (octets before))
 
 -- the packet that is sent with an octet, if there is one, went to the ports
 pub record SendsPacket (ports ports' : PortsState) (totals totals' : Totals) (packet : Option (ℕ × List ℕ))
     : Type 0 where
   pub took : List (ℕ × List ℕ)
-  pub takes : Grows ports.taken ports'.taken took
+  pub takes : Extends ports.taken ports'.taken took
   pub failed : ℕ
   pub sends : ports'.send_failures ≡ counted ports.send_failures failed
   pub packets : LeavesOut failed took (packet_in packet)
   pub went : Bool
-  pub calls : Grows ports.calls ports'.calls (send_of packet went)
+  pub calls : Extends ports.calls ports'.calls (send_of packet went)
   pub no_receives : KeepsReceives ports ports'
   pub faults : totals'.port_faults ≡ counted totals.port_faults failed
   pub datagrams : totals'.datagrams ≡ counted totals.datagrams (length took)
   pub dropped : totals'.dropped ≡ totals.dropped
   pub kept : KeepsRecords totals totals'
 
--- the gateway heard an octet and sends this one, the packet that it sends with it went to the outlet, and
--- what that puts passes
-pub record OctetTrace (spells : Spells) (s s' : State) (o o' : Output) (octet sent : ℕ) : Type 0 where
+-- the gateway heard an octet and sends this one, the packet that it sends with it went to the packet ports,
+-- and what that puts passes
+pub record OctetTrace (spells : RecordEncoding) (s s' : State) (o o' : Output) (octet sent : ℕ) : Type 0 where
   pub packet : Option (ℕ × List ℕ)
   pub sends : SendsPacket s.ports s'.ports s.totals s'.totals packet
-  pub hears : (config : GatewayConfig) (before : List Event) → Stands config s.gateway before
-      → Stands config s'.gateway (before ++ Event.Octet octet ∷ [])
+  pub hears : (config : GatewayConfig) (before : List Event) → HasHistory config s.gateway before
+      → HasHistory config s'.gateway (before ++ Event.Octet octet ∷ [])
       × (octet_reply config before octet ≡ record { octet = sent; packet = packet })
-  pub passes : Passes o.sink.taken o'.sink.taken o'.waiting
+  pub passes : Forwards o.sink.taken o'.sink.taken o'.waiting
       (o.waiting ++ flat_map spells (packet_in packet))
   pub no_failure : o'.sink.failures ≡ o.sink.failures
 
 -- the gateway heard an octet, and a write of what its packet puts failed
-pub record PacketWriteError (spells : Spells) (s s' : State) (o o' : Output) (octet : ℕ) : Type 0 where
+pub record PacketWriteError (spells : RecordEncoding) (s s' : State) (o o' : Output)
+    (octet : ℕ) : Type 0 where
   pub packet : ℕ × List ℕ
   pub some : 0 < length (spells packet)
   pub kept : s'.ports ≡ s.ports
-  pub hears : (config : GatewayConfig) (before : List Event) → Stands config s.gateway before
-      → Stands config s'.gateway (before ++ Event.Octet octet ∷ [])
+  pub hears : (config : GatewayConfig) (before : List Event) → HasHistory config s.gateway before
+      → HasHistory config s'.gateway (before ++ Event.Octet octet ∷ [])
       × ((octet_reply config before octet).packet ≡ Some packet)
-  pub breaks : Breaks o.sink o'.sink (o.waiting ++ spells packet)
+  pub breaks : StopsInWrite o.sink o'.sink (o.waiting ++ spells packet)
 
-abbrev pub Hearing : Spells → State → State → Output → Output → ℕ → Result ℕ RunFault → Type 0
+abbrev pub Hearing : RecordEncoding → State → State → Output → Output → ℕ → Result ℕ RunFault → Type 0
 Hearing spells s s' o o' octet result = MatchResult result
     (λ sent. OctetTrace spells s s' o o' octet sent)
     (λ e. (e ≡ Write) × PacketWriteError spells s s' o o' octet)
 
 -- The gateway heard octets, each after the datagrams that came before it, these were sent, and what the
 -- packets put passes.
-pub record Exchanges (spells : Spells) (s s' : State) (o o' : Output) (octets sent : List ℕ) : Type 0 where
+pub record Exchanges (spells : RecordEncoding) (s s' : State) (o o' : Output)
+    (octets sent : List ℕ) : Type 0 where
   pub turns : List Turn
   pub heard : map octet_of turns ≡ octets
   pub lengths : length sent ≡ length octets
   pub goes : TurnTrace s s' turns (events_of_turns turns)
   pub kept : KeepsRecords s.totals s'.totals
-  pub sent_are : (config : GatewayConfig) (before : List Event) → Stands config s.gateway before
+  pub sent_are : (config : GatewayConfig) (before : List Event) → HasHistory config s.gateway before
       → octets_for config before (events_of_turns turns) ≡ sent
-  pub passes : (config : GatewayConfig) (before : List Event) → Stands config s.gateway before
-      → Passes o.sink.taken o'.sink.taken o'.waiting
+  pub passes : (config : GatewayConfig) (before : List Event) → HasHistory config s.gateway before
+      → Forwards o.sink.taken o'.sink.taken o'.waiting
       (o.waiting ++ spelled_for spells config before (events_of_turns turns))
   pub no_failure : o'.sink.failures ≡ o.sink.failures
 
 -- A write of what a packet puts failed when the gateway had heard the first octets, and a prefix of what
 -- waited and of what their packets put was taken.
-pub record StopsAt (spells : Spells) (s s' : State) (o : Output) (sink' : SinkState) (octets : List ℕ)
+pub record StopsAt (spells : RecordEncoding) (s s' : State) (o : Output) (sink' : SinkState) (octets : List ℕ)
     : Type 0 where
   pub turns : List Turn
   pub rest : List ℕ
   pub split : octets ≡ map octet_of turns ++ rest
   pub trades : PortTrace s.ports s'.ports turns
-  pub stands : (config : GatewayConfig) (before : List Event) → Stands config s.gateway before
-      → Stands config s'.gateway (before ++ events_of_turns turns)
-  pub took : (config : GatewayConfig) (before : List Event) → Stands config s.gateway before
+  pub stands : (config : GatewayConfig) (before : List Event) → HasHistory config s.gateway before
+      → HasHistory config s'.gateway (before ++ events_of_turns turns)
+  pub took : (config : GatewayConfig) (before : List Event) → HasHistory config s.gateway before
       → AppendsPrefix o.sink.taken sink'.taken
       (o.waiting ++ spelled_for spells config before (events_of_turns turns))
   pub failed : o.sink.failures < sink'.failures
@@ -164,7 +167,7 @@ pub record StopsAt (spells : Spells) (s s' : State) (o : Output) (sink' : SinkSt
   pub some : 0 < length (spells packet)
 
 -- octets, those to send behind those of the answer; they and the datagrams that came were recorded
-abbrev pub ExchangingAll : {T : Type 0} → Spells → World → World → List ℕ → List ℕ → List ℕ
+abbrev pub ExchangingAll : {T : Type 0} → RecordEncoding → World → World → List ℕ → List ℕ → List ℕ
     → Result T RunFault → Type 0
 ExchangingAll spells w w' octets answer answer' result = MatchResult result
     (λ _. (sent : List ℕ) × (x : Exchanges spells w.state w'.state w.output w'.output octets sent)
@@ -173,8 +176,8 @@ ExchangingAll spells w w' octets answer answer' result = MatchResult result
 
 -- datagrams came so far, with no failed receive
 pub record Receiving (s s' : State) (circuit : ℕ) (came : List (List ℕ)) : Type 0 where
-  pub gave : Grows s.ports.given s'.ports.given (of_circuit (Some circuit) came)
-  pub calls : Grows s.ports.calls s'.ports.calls (map as_call (of_circuit (Some circuit) came))
+  pub gave : Extends s.ports.given s'.ports.given (of_circuit (Some circuit) came)
+  pub calls : Extends s.ports.calls s'.ports.calls (map as_call (of_circuit (Some circuit) came))
   pub waits : TakesOut s.ports.waiting s'.ports.waiting circuit came
   pub receives : s'.ports.receive_failures ≡ s.ports.receive_failures
   pub no_sends : KeepsSends s.ports s'.ports
@@ -192,16 +195,17 @@ pub record ActsOn (s s' : State) (tape tape' : TapeState) (r : Record) : Type 0 
   pub recorded : Recorded tape tape' (events_in act)
 
 -- .. and this is known of what waited and of all that is put for it
-pub record ActTrace (spells : Spells) (w w' : World) (r : Record) (Took : List ℕ → Type 0) : Type 0 where
+pub record ActTrace (spells : RecordEncoding) (w w' : World) (r : Record)
+    (Took : List ℕ → Type 0) : Type 0 where
   pub acts : ActsOn w.state w'.state w.tape w'.tape r
-  pub took : (config : GatewayConfig) (before : List Event) → Stands config w.state.gateway before
+  pub took : (config : GatewayConfig) (before : List Event) → HasHistory config w.state.gateway before
       → Took (w.output.waiting ++ written_for spells config before acts.act)
 
 -- A record was acted on; or a write failed in it, when it was done or when the first octets of a trunk record
 -- were heard.
-abbrev pub Acts : Spells → World → World → Record → Result (Unit {0}) RunFault → Type 0
+abbrev pub Acts : RecordEncoding → World → World → Record → Result (Unit {0}) RunFault → Type 0
 Acts spells w w' r result = MatchResult result
-    (λ _. ActTrace spells w w' r (Passes w.output.sink.taken w'.output.sink.taken w'.output.waiting)
+    (λ _. ActTrace spells w w' r (Forwards w.output.sink.taken w'.output.sink.taken w'.output.waiting)
     × (w'.output.sink.failures ≡ w.output.sink.failures))
     (λ e. (e ≡ Write) × (w.output.sink.failures < w'.output.sink.failures)
     × (ActTrace spells w w' r (AppendsPrefix w.output.sink.taken w'.output.sink.taken)
@@ -210,13 +214,13 @@ Acts spells w w' r result = MatchResult result
 
 -- A session but for the last record, in which a write failed when its first octets were received; at most
 -- this many octets waited before it.
-pub record CutTrace (late : ℕ) (spells : Spells) (w w' : World) (begun : List Record) : Type 0 where
+pub record CutTrace (late : ℕ) (spells : RecordEncoding) (w w' : World) (begun : List Record) : Type 0 where
   pub records : List Record
   pub octets : List ℕ
   pub all : begun ≡ records ++ Record.Trunk octets ∷ []
   pub between : World
   pub trace : SessionTrace (written_by spells) w.state between.state w.tape between.tape
-      (λ first. Passes w.output.sink.taken between.output.sink.taken between.output.waiting) records
+      (λ first. Forwards w.output.sink.taken between.output.sink.taken between.output.waiting) records
   pub few : length between.output.waiting ≤ late
   pub stops : StopsAt spells between.state w'.state between.output w'.output.sink octets
 
@@ -232,7 +236,8 @@ OfFirstActs Seen acts = Seen acts ⊎ Seen (but_last acts)
 
 -- a session up to a write that failed, when this many octets waited at most, and this is known of its acts:
 -- of all, or of all but the last one
-abbrev pub TraceToWriteError : ℕ → Spells → (List Act → Type 0) → World → (Totals → World) → List Record
+abbrev pub TraceToWriteError : ℕ → RecordEncoding → (List Act → Type 0) → World → (Totals → World)
+    → List Record
     → Type 0
 TraceToWriteError late spells Seen w end records = (totals : Totals) × (((0 < length records)
     × WatchedTrace (written_by spells) w.state (end totals).state w.tape (end totals).tape

@@ -8,7 +8,7 @@ pub mod Prelude
 pub mod Laws
 pub mod Answers
 pub mod Running
-pub mod Outlet
+pub mod PacketPorts
 pub mod Tape
 pub mod World
 pub mod Serve

@@ -2,10 +2,10 @@
 use Rattle.std.specs.Prelude.{◌≡◌, ◌==◌, ◌++◌, if◌then◌else◌, ℕ, false, List, [], ◌∷◌, Some, Result}
 use Rattle.std.specs.Prelude.{MatchResult, flat_map}
 use Rattle.std.specs.Io.KnownBytes.{Appends}
-use Rattle.gw_session.specs.Prelude.{GatewayConfig, Gateway, Stands, Totals, RunFault, SourceState}
-use Rattle.gw_session.specs.Prelude.{SinkState, AppendsPrefix, Grows, counted, Event, whole_from, Record}
-use Rattle.gw_records.specs.declared.records.Ending.{Ending}
-use Rattle.gw_records.specs.declared.records.Ending.TheVariants as endings
+use Rattle.gw_session.specs.Prelude.{GatewayConfig, Gateway, HasHistory, Totals, RunFault, SourceState}
+use Rattle.gw_session.specs.Prelude.{SinkState, AppendsPrefix, Extends, counted, Event, whole_from, Record}
+use Rattle.gw_records.specs.declared.records.EndOfRecords.{EndOfRecords}
+use Rattle.gw_records.specs.declared.records.EndOfRecords.TheVariants as endings
 use Rattle.gw_records.specs.Records.{Reads}
 use Rattle.gw_session.specs.Answers.{Written, written_out, answers, answered, trunk_in, datagrams_in}
 use Rattle.gw_session.specs.Answers as records_of
@@ -16,7 +16,8 @@ use Rattle.gw_session.specs.Tape.{TapeState, Recorded}
 
 -- What was recorded is read as records whose events are the first of those that happened; where the tape has
 -- not ended, the octets end with a whole record, and these are all events.
-pub record ReadsBack (tape' : TapeState) (happened : List Event) (records : List Record) (ending : Ending)
+pub record ReadsBack (tape' : TapeState) (happened : List Event) (records : List Record)
+    (ending : EndOfRecords)
     : Type 0 where
   pub lost : List Event
   pub first : happened ≡ records_of.events records ++ lost
@@ -26,7 +27,7 @@ pub record ReadsBack (tape' : TapeState) (happened : List Event) (records : List
 abbrev pub RecordingsAreReadBack : Type 0
 RecordingsAreReadBack = (tape tape' : TapeState) (happened : List Event) (octets : List ℕ)
     (records : List Record)
-    (ending : Ending) → Recorded tape tape' happened → tape.taken ≡ Some [] → tape'.taken ≡ Some octets
+    (ending : EndOfRecords) → Recorded tape tape' happened → tape.taken ≡ Some [] → tape'.taken ≡ Some octets
     → Reads all_kinds octets records ending → ReadsBack tape' happened records ending
 
 -- the records that are written for an act, and for acts one after another
@@ -66,8 +67,8 @@ RecordingsAnswerAlike = (config : GatewayConfig) (before : List Event) (acts : L
 pub record RunAlike (config : GatewayConfig) (live replayed : Gateway) (a a' : Around)
     (again again' : SinkState) : Type 0 where
   pub happened : List Event
-  pub stands : Stands config live happened
-  pub stands_again : Stands config replayed happened
+  pub stands : HasHistory config live happened
+  pub stands_again : HasHistory config replayed happened
   pub answers : List Written
   pub took : AppendsPrefix a.sink.taken a'.sink.taken (flat_map written_out answers)
   pub whole : a'.sink.failures ≡ a.sink.failures
@@ -77,7 +78,7 @@ pub record RunAlike (config : GatewayConfig) (live replayed : Gateway) (a a' : A
   pub trunk : flat_map trunk_in answers_again ≡ flat_map trunk_in answers
   pub commands : flat_map command_in answers_again ≡ flat_map command_in answers
   pub sent : List (ℕ × List ℕ)
-  pub takes : Grows a.ports.taken a'.ports.taken sent
+  pub takes : Extends a.ports.taken a'.ports.taken sent
   pub failed : ℕ
   pub sends : a'.ports.send_failures ≡ counted a.ports.send_failures failed
   pub datagrams : LeavesOut failed sent (flat_map datagrams_in answers_again)
@@ -92,5 +93,5 @@ RecordedSessionsRunAlike = (a a' : Around) (gateway live : Gateway) (end : Resul
     → a.tape.taken ≡ Some [] → a'.tape.taken ≡ Some octets → a'.tape.ended ≡ false
     → RunsAll other replayed from from' again again' totals
     → from.given ≡ Some [] → from'.given ≡ Some octets
-    → Stands config gateway before → Stands config other before
+    → HasHistory config gateway before → HasHistory config other before
     → RunAlike config live replayed a a' again again'

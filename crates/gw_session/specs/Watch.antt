@@ -2,7 +2,7 @@
 use Rattle.std.specs.Prelude.{◌≡◌, ◌⊎◌, ◌++◌, ◌∷◌, ⊤, ℕ, List, [], map, Option, Some, None, Result}
 use Rattle.std.specs.Prelude.{MatchResult}
 use Rattle.gw_records.specs.Octets.{command_of, codec_of}
-use Rattle.gw_session.specs.Prelude.{GatewayConfig, Gateway, Event, Stands, Record, Totals, RunFault}
+use Rattle.gw_session.specs.Prelude.{GatewayConfig, Gateway, Event, HasHistory, Record, Totals, RunFault}
 use Rattle.gw_session.specs.Prelude.{EndsAll, EndsUntil, OrNoMemory}
 use Rattle.gw_switch.specs.Whole.{reply_to}
 use Rattle.gw_session.specs.Answers.{code_of}
@@ -46,7 +46,7 @@ code_after config before (Record.Codec circuit codec payload_type) =
 
 -- .. after all that had happened to a gateway
 abbrev pub IsCodeAfter : Gateway → Record → ℕ → Type 0
-IsCodeAfter gateway r code = (config : GatewayConfig) (before : List Event) → Stands config gateway before
+IsCodeAfter gateway r code = (config : GatewayConfig) (before : List Event) → HasHistory config gateway before
     → code ≡ code_after config before r
 
 -- each record, whose events these are, is shown with the code of its answer, and with a gateway to which all
@@ -54,7 +54,7 @@ IsCodeAfter gateway r code = (config : GatewayConfig) (before : List Event) → 
 abbrev pub AreTrue : GatewayConfig → List Event → List (List Event) → List Look → Type 0
 AreTrue config before [] [] = ⊤
 AreTrue config before (es ∷ happened) (l ∷ looks) = (l.code ≡ code_after config before l.shown)
-    × Stands config l.gateway (before ++ es) × AreTrue config (before ++ es) happened looks
+    × HasHistory config l.gateway (before ++ es) × AreTrue config (before ++ es) happened looks
 AreTrue config before _ _ = ⊥
 
 -- A watch was called once for each of these records, whose events these are, in their order: with the record,
@@ -64,7 +64,7 @@ pub record Watched {W : Type 0} (shows : Shows W) (gateway : Gateway) (w w' : W)
   pub looks : List Look
   pub calls : IsCalled shows w w' looks
   pub shown_are : map shown_in looks ≡ records
-  pub are_true : (config : GatewayConfig) (before : List Event) → Stands config gateway before
+  pub are_true : (config : GatewayConfig) (before : List Event) → HasHistory config gateway before
       → AreTrue config before happened looks
 
 -- .. for the records of these acts

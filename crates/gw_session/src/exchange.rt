@@ -3,11 +3,11 @@ ghost use Rattle.std.specs.Prelude.{◌≡◌, ◌∷◌, List, [], Some};
 ghost use Rattle.gw_switch.specs.declared.GatewayConfig.{GatewayConfig};
 ghost use Rattle.gw_switch.specs.Events.{Event};
 ghost use Rattle.gw_switch.specs.Whole.{reply_to};
-ghost use Rattle.gw_switch.specs.Standing.{Stands};
+ghost use Rattle.gw_switch.specs.Standing.{HasHistory};
 ghost use Rattle.gw_session.specs.Answers.{code_of};
 ghost use Rattle.gw_session.specs.Exchange.{IsGiven};
 
-use crate::outlet::Outlet;
+use crate::packet_ports::PacketPorts;
 use crate::tape::{Batch, OnTape, Tape, batch_arrival, record_octets};
 use g704_cas::CircuitNo;
 use gw_circuit::Datagram;
@@ -19,10 +19,15 @@ const MOST_DATAGRAMS: usize = 4;
 
 /// Gives a datagram to its circuit, counts it where it is refused, and returns 0 or the number of the
 /// refusal.
-pub fn give(gateway: &mut Gateway, circuit: CircuitNo, octets: &[u8], totals: &mut Totals) -> u8
+pub fn give_datagram(
+    gateway: &mut Gateway,
+    circuit: CircuitNo,
+    octets: &[u8],
+    totals: &mut Totals,
+) -> u8
     ensures given { IsGiven gateway.old gateway.new totals.old totals.new ((circuit, octets.now) ∷ []) }
     ensures others { totals.new ≡ record totals.old { dropped = totals.new.dropped } }
-    ensures code { (config : GatewayConfig) (before : List Event) → Stands config gateway.old before
+    ensures code { (config : GatewayConfig) (before : List Event) → HasHistory config gateway.old before
         → result ≡ code_of (reply_to config before (Event.Datagram circuit octets.now)) }
 {
     match gateway.datagram(circuit, octets) {
@@ -81,23 +86,23 @@ impl Session {
 
     // Sends the packet of a circuit, and counts it, or that it did not go out.
     #[inline(never)]
-    fn send_packet<O: Outlet, K: Sink>(
+    fn send_packet<O: PacketPorts, K: Sink>(
         &mut self,
         circuit: CircuitNo,
-        outlet: &mut O,
+        packet_ports: &mut O,
         sink: &mut K,
     ) -> Result<(), RunFault>
         requires writes { CanCount (K.tells sink.old).failures }
-        ensures sends { OnOk result (SendsPacket (O.tells outlet.old) (O.tells outlet.new)
+        ensures sends { OnOk result (SendsPacket (O.tells packet_ports.old) (O.tells packet_ports.new)
             self.old.totals self.new.totals (Some (circuit, self.old.datagram.items))) }
         ensures puts { Puts (K.tells sink.old) (K.tells sink.new) self.new.waiting.items
             (self.old.waiting.items ++ O.spells (circuit, self.old.datagram.items)) result }
-        ensures kept { OnErr result (O.tells outlet.new ≡ O.tells outlet.old) }
+        ensures kept { OnErr result (O.tells packet_ports.new ≡ O.tells packet_ports.old) }
         ensures some { OnErr result (0 < length (O.spells (circuit, self.old.datagram.items))) }
         ensures others { self.new
             ≡ record self.old { totals = self.new.totals; waiting = self.new.waiting } }
     {
-        if outlet.deliver(circuit, self.datagram.as_slice(), &mut self.waiting, sink)? {
+        if packet_ports.send_datagram(circuit, self.datagram.as_slice(), &mut self.waiting, sink)? {
             self.totals.datagrams = self.totals.datagrams.saturating_add(1);
         } else {
             self.totals.port_faults = self.totals.port_faults.saturating_add(1);
@@ -107,17 +112,17 @@ impl Session {
 
     // Gives an octet to the gateway, sends the packet that goes with it, and returns the octet to send.
     #[inline]
-    fn hear<O: Outlet, K: Sink>(
+    fn receive_octet<O: PacketPorts, K: Sink>(
         &mut self,
         gateway: &mut Gateway,
-        outlet: &mut O,
+        packet_ports: &mut O,
         octet: u8,
         sink: &mut K,
     ) -> Result<u8, RunFault>
         requires writes { CanCount (K.tells sink.old).failures }
         ensures hears { Hearing O.spells
-            (state_of (O.tells outlet.old) gateway.old self.old.totals)
-            (state_of (O.tells outlet.new) gateway.new self.new.totals)
+            (state_of (O.tells packet_ports.old) gateway.old self.old.totals)
+            (state_of (O.tells packet_ports.new) gateway.new self.new.totals)
             (output_of (K.tells sink.old) self.old.waiting.items)
             (output_of (K.tells sink.new) self.new.waiting.items) octet result }
         ensures others { self.new ≡ record self.old {
@@ -128,7 +133,7 @@ impl Session {
     {
         let out = gateway.octet_into(octet, &mut self.datagram);
         if let Some(circuit) = out.circuit {
-            self.send_packet(circuit, outlet, sink)?;
+            self.send_packet(circuit, packet_ports, sink)?;
         }
         Ok(out.octet)
     }
@@ -137,10 +142,10 @@ impl Session {
     // them into the batch behind the octets that were heard and gives them to the gateway. (It is inlined,
     // since mostly nothing waits: then an octet saves no registers for it.)
     #[inline(always)]
-    fn receive_next<O: Outlet, T: Tape>(
+    fn receive_next<O: PacketPorts, T: Tape>(
         &mut self,
         gateway: &mut Gateway,
-        outlet: &mut O,
+        packet_ports: &mut O,
         tape: &mut T,
         heard: &[u8],
     )
@@ -148,8 +153,8 @@ impl Session {
         requires short { length heard.now < 2 ^ 16 }
         requires within { self.old.recorded ≤ length heard.now }
         ensures comes { ComesInTurn
-            (state_of (O.tells outlet.old) gateway.old self.old.totals)
-            (state_of (O.tells outlet.new) gateway.new self.new.totals)
+            (state_of (O.tells packet_ports.old) gateway.old self.old.totals)
+            (state_of (O.tells packet_ports.new) gateway.new self.new.totals)
             (taping (T.tells tape.old) self.old.batch.items) (taping (T.tells tape.new) self.new.batch.items)
             heard.now self.old.recorded self.new.recorded }
         ensures room { vec_len self.new.room ≡ vec_len self.old.room }
@@ -164,12 +169,12 @@ impl Session {
             return;
         };
         'receiving: for _turn in 0..MOST_DATAGRAMS {
-            match outlet.arrives(circuit, self.room.as_mut_slice()) {
+            match packet_ports.receive_datagram(circuit, self.room.as_mut_slice()) {
                 Ok(Some(n)) => {
                     let fresh = &heard[self.recorded..];
                     batch_arrival(tape, &mut self.batch, fresh, circuit, &self.room[..n]);
                     self.recorded = heard.len();
-                    let _ = give(gateway, circuit, &self.room[..n], &mut self.totals);
+                    let _ = give_datagram(gateway, circuit, &self.room[..n], &mut self.totals);
                 }
                 Ok(None) => return,
                 Err(_) => {
@@ -183,10 +188,10 @@ impl Session {
     /// Gives octets to the gateway, each after the datagrams that wait at the circuit whose slot is sent with
     /// it, and puts the octets to send behind those of the answer. All are recorded when it returns, mostly
     /// in one write: the octets are cut where datagrams came.
-    pub fn exchange_all<O: Outlet, K: Sink, T: Tape>(
+    pub fn exchange_all<O: PacketPorts, K: Sink, T: Tape>(
         &mut self,
         gateway: &mut Gateway,
-        outlet: &mut O,
+        packet_ports: &mut O,
         octets: &[u8],
         sink: &mut K,
         tape: &mut T,
@@ -196,9 +201,9 @@ impl Session {
         requires room { O.place ≤ vec_len self.old.room }
         requires writes { CanCount (K.tells sink.old).failures }
         ensures exchanges { ExchangingAll O.spells
-            (world_of (O.tells outlet.old) gateway.old self.old.totals (T.tells tape.old)
+            (world_of (O.tells packet_ports.old) gateway.old self.old.totals (T.tells tape.old)
             (K.tells sink.old) self.old.waiting.items)
-            (world_of (O.tells outlet.new) gateway.new self.new.totals (T.tells tape.new)
+            (world_of (O.tells packet_ports.new) gateway.new self.new.totals (T.tells tape.new)
             (K.tells sink.new) self.new.waiting.items)
             octets.now self.old.answer.items self.new.answer.items result }
         ensures at_once { self.new.at_once ≡ self.old.at_once }
@@ -208,8 +213,8 @@ impl Session {
         self.batch.clear();
         for i in 0..octets.len() {
             let heard = &octets[..i];
-            self.receive_next(gateway, outlet, tape, heard);
-            let sent = self.hear(gateway, outlet, octets[i], sink)?;
+            self.receive_next(gateway, packet_ports, tape, heard);
+            let sent = self.receive_octet(gateway, packet_ports, octets[i], sink)?;
             self.answer.push(sent);
         }
         Ok(record_octets(tape, &mut self.batch, &octets[self.recorded..]))

@@ -8,8 +8,8 @@ ghost use Rattle.gw_session.specs.Tape.{WritesRecords};
 use crate::spelling::append;
 use crate::tape::Tape;
 use gw_records::{
-    CODEC, COMMAND, DATAGRAM, Head, Sink, TRUNK, TrunkRecord, octet_of_codec, octet_of_command,
-    write_all,
+    CODEC, COMMAND, DATAGRAM, RecordHeader, Sink, TRUNK, TrunkRecord, octet_of_codec,
+    octet_of_command, write_all,
 };
 
 // Fills a record.
@@ -22,17 +22,17 @@ fn fill(room: &mut TrunkRecord, kind: u8, circuit: u8, body: &[u8])
 }
 
 // Spells a record.
-fn spell(room: &mut TrunkRecord, head: Head, body: &[u8])
+fn spell(room: &mut TrunkRecord, head: RecordHeader, body: &[u8])
     requires { IsGood all_kinds (named head body.now) }
     ensures { room.new.items ≡ spelled (named head body.now) }
 {
     match head {
-        Head::Trunk => fill(room, TRUNK, 0, body),
-        Head::Datagram(circuit) => fill(room, DATAGRAM, circuit.get(), body),
-        Head::Command(circuit, command) => {
+        RecordHeader::Trunk => fill(room, TRUNK, 0, body),
+        RecordHeader::Datagram(circuit) => fill(room, DATAGRAM, circuit.get(), body),
+        RecordHeader::Command(circuit, command) => {
             fill(room, COMMAND, circuit.get(), &[octet_of_command(command)]);
         }
-        Head::Codec(circuit, codec, payload_type) => {
+        RecordHeader::Codec(circuit, codec, payload_type) => {
             let octets = [octet_of_codec(codec), payload_type];
             fill(room, CODEC, circuit.get(), &octets);
         }
@@ -46,14 +46,12 @@ fn write_records<K: Sink>(sink: &mut K, ended: &mut bool, octets: &[u8])
         (record {
           ended = ended.old;
           failures = (K.tells sink.old).failures;
-          taken =
-              (K.tells sink.old).taken;
+          taken = (K.tells sink.old).taken;
         })
         (record {
           ended = ended.new;
           failures = (K.tells sink.new).failures;
-          taken =
-              (K.tells sink.new).taken;
+          taken = (K.tells sink.new).taken;
         })
         octets.now }
     ensures counts { ended.new ≡ false → CanCount (K.tells sink.new).failures }
@@ -111,7 +109,7 @@ impl<K: Sink> Tape for Recorder<K> {
       taken = (K.tells r.sink).taken;
     } };
 
-    fn put(&mut self, head: Head, body: &[u8]) {
+    fn put(&mut self, head: RecordHeader, body: &[u8]) {
         if self.ended {
             return;
         }

@@ -4,11 +4,11 @@ ghost use Rattle.gw_records.specs.Streams.{CanBegin};
 ghost use Rattle.gw_session.specs.Tape.{no_tape};
 ghost use Rattle.gw_session.specs.Serve.{ServesAll, ServesUntil, around};
 
-use crate::attend::attend;
 use crate::exchange::Session;
+use crate::processing::process_records;
 use crate::tape::{NoTape, Tape};
 use crate::watch::NoWatch;
-use gw_records::{Kinds, Ports, Reader, RunFault, Sink, Source, Totals};
+use gw_records::{AcceptedKinds, Ports, Reader, RunFault, Sink, Source, Totals};
 use gw_switch::Gateway;
 use std::alloc::Global;
 
@@ -16,7 +16,7 @@ use std::alloc::Global;
 const ROOM_LEN: usize = 65_536;
 
 // The trunk, commands and codecs are read.
-const SERVED: Kinds = Kinds {
+const SERVED: AcceptedKinds = AcceptedKinds {
     trunk: true,
     datagrams: false,
     commands: true,
@@ -99,7 +99,7 @@ pub fn serve_recorded<S: Source, P: Ports, K: Sink, T: Tape>(
         return Err(RunFault::OutOfMemory);
     };
     let mut session = Session::new(room, true);
-    attend(
+    process_records(
         &SERVED,
         &mut reader,
         &mut session,

@@ -12,7 +12,7 @@ use Rattle.gw_speech.specs.declared.spec.StreamSpec.{StreamSpec}
 use Rattle.gw_records.specs.declared.outcome.Totals.{Totals}
 use Rattle.gw_records.specs.declared.outcome.RunFault.{RunFault}
 use Rattle.gw_records.specs.declared.outcome.RunFault.TheVariants as faults
-use Rattle.gw_records.specs.declared.records.Kinds.{Kinds}
+use Rattle.gw_records.specs.declared.records.AcceptedKinds.{AcceptedKinds}
 use Rattle.gw_records.specs.Records.{Record}
 use Rattle.gw_records.specs.Streams.{SourceState, SinkState, AppendsPrefix, at_most}
 use Rattle.gw_records.specs.Outcome.{nothing_counted, EndsAll, EndsUntil, OrNoMemory}
@@ -54,7 +54,7 @@ abbrev pub speech_in : StreamSpec → List Record → List ℕ
 speech_in s records = speech_of s (words_in s records)
 
 -- only datagrams are read
-abbrev pub only_datagrams : Kinds
+abbrev pub only_datagrams : AcceptedKinds
 only_datagrams = record { trunk = false; datagrams = true; commands = false; codecs = false }
 
 -- the numbers of records, and of those with a skipped datagram

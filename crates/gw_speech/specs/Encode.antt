@@ -12,7 +12,7 @@ use Rattle.gw_speech.specs.declared.encode.Progress.{Progress}
 use Rattle.gw_records.specs.declared.outcome.Totals.{Totals}
 use Rattle.gw_records.specs.declared.outcome.RunFault.{RunFault}
 use Rattle.gw_records.specs.declared.outcome.RunFault.TheVariants.{Read, Write}
-use Rattle.gw_records.specs.Streams.{SourceState, SinkState, Gives, GivesUp, Breaks, at_most}
+use Rattle.gw_records.specs.Streams.{SourceState, SinkState, Yields, GivesUp, StopsInWrite, at_most}
 use Rattle.gw_records.specs.Records.{record_of}
 use Rattle.gw_records.specs.Outcome.{nothing_counted}
 
@@ -85,7 +85,7 @@ encode_totals count = record nothing_counted { datagrams = at_most count }
 pub record Encodes (s : StreamSpec) (source source' : SourceState) (sink sink' : SinkState)
     (totals : Totals) : Type 0 where
   pub octets : List ℕ
-  pub gives : Gives source source' octets
+  pub gives : Yields source source' octets
   pub ended : IsAtEnd source'.to_come
   pub took : Appends sink.taken sink'.taken (records_of s octets)
   pub totals_are : totals ≡ encode_totals (packets s octets)
@@ -96,7 +96,7 @@ pub record Encodes (s : StreamSpec) (source source' : SourceState) (sink sink' :
 pub record EncodesUntilRead (s : StreamSpec) (source source' : SourceState) (sink sink' : SinkState)
     : Type 0 where
   pub octets : List ℕ
-  pub gives : Gives source source' octets
+  pub gives : Yields source source' octets
   pub took : Appends sink.taken sink'.taken (full_records_of s octets)
   pub cause : GivesUp source source' octets
   pub no_write : sink'.failures ≡ sink.failures
@@ -105,8 +105,8 @@ pub record EncodesUntilRead (s : StreamSpec) (source source' : SourceState) (sin
 pub record EncodesUntilWrite (s : StreamSpec) (source source' : SourceState) (sink sink' : SinkState)
     : Type 0 where
   pub octets : List ℕ
-  pub gives : Gives source source' octets
-  pub breaks : Breaks sink sink' (records_of s octets)
+  pub gives : Yields source source' octets
+  pub breaks : StopsInWrite sink sink' (records_of s octets)
   pub no_read : source'.failures ≡ source.failures
 
 -- the end of encoding before that of the source: by a read or a write, and by no other fault
@@ -132,7 +132,7 @@ pub record IsPacket (s : StreamSpec) (progress : Progress) (k : ℕ) : Type 0 wh
 
 -- A codec has encoded the given octets since its reset: the words of the first count packets were sent, and
 -- these are left.
-pub record IsUnderWay (s : StreamSpec) (codec : CodecState) (given sent : List ℕ) (count : ℕ) (held : List ℕ)
+pub record IsDecoding (s : StreamSpec) (codec : CodecState) (given sent : List ℕ) (count : ℕ) (held : List ℕ)
     : Type 0 where
   pub stands : HasEncoded s codec given
   pub words : words_for s given ≡ sent ++ held

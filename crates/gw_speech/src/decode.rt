@@ -12,14 +12,14 @@ use crate::coding::word_bits;
 use crate::spec::StreamSpec;
 use g726_codec::{AnyCodec, CodecKind};
 use gw_records::{
-    FRONT_LEN, Kinds, NO_TOTALS, OutputBuffer, Reader, RunFault, Sink, Source, Totals, answer,
-    first_record, flush, put,
+    AcceptedKinds, FRONT_LEN, NO_TOTALS, OutputBuffer, Reader, RunFault, Sink, Source, Totals,
+    answer, first_record, flush, put,
 };
 use rtp_pack::Words;
 use std::alloc::Global;
 
 // Only datagrams are read.
-const DATAGRAMS: Kinds = Kinds {
+const DATAGRAMS: AcceptedKinds = AcceptedKinds {
     trunk: false,
     datagrams: true,
     commands: false,
@@ -163,25 +163,25 @@ fn count_record(totals: Totals, is_decoded: bool) -> Totals
 
 // The state of decoding: the decoder, the output not yet written, and the totals.
 #[derive(Drop)]
-struct UnderWay {
+struct Decoding {
     codec: AnyCodec,
     waiting: OutputBuffer,
     totals: Totals,
 }
 
-impl UnderWay {
+impl Decoding {
     ghost use Rattle.std.specs.Prelude.{◌≡◌, ◌++◌, ℕ, List, [], OnOk, is_some, unwrap_or};
     ghost use Rattle.gw_records.specs.Outcome.{nothing_counted};
     ghost use Rattle.gw_records.specs.Streams.{CanCount, Puts};
     ghost use Rattle.gw_speech.specs.Decode.{HasDecoded, datagram_words, speech_behind, count_record};
 
     // The state before the first record.
-    fn new(spec: &StreamSpec) -> UnderWay
+    fn new(spec: &StreamSpec) -> Decoding
         ensures stands { HasDecoded spec.now result.codec [] }
         ensures waiting { result.waiting.items ≡ [] }
         ensures totals { result.totals ≡ nothing_counted }
     {
-        UnderWay {
+        Decoding {
             codec: AnyCodec::new(spec.law, spec.codec),
             waiting: OutputBuffer::new(),
             totals: NO_TOTALS,
@@ -255,7 +255,7 @@ pub fn decode_stream<S: Source, K: Sink>(
     };
     g726_codec::laws::words_are_counted();
     g726_codec::laws::prefixes_come_first();
-    let mut under_way = UnderWay::new(spec);
+    let mut under_way = Decoding::new(spec);
     'decoding: loop {
         match first_record(&DATAGRAMS, reader.held()) {
             Ok(first) => {

@@ -6,7 +6,7 @@ ghost use Rattle.rtp_pack.specs.Payload.{IsPayload};
 ghost use Rattle.gw_records.specs.Streams.{CanBegin, CanCount, Puts, Writes};
 ghost use Rattle.gw_speech.specs.Encode.{packet_len, word_bits, header_at, packet_record};
 ghost use Rattle.gw_speech.specs.Encode.{records_from, full_packets, filled, Encodes, EncodesUntil};
-ghost use Rattle.gw_speech.specs.Encode.{header_with, IsPacket, IsUnderWay};
+ghost use Rattle.gw_speech.specs.Encode.{header_with, IsPacket, IsDecoding};
 ghost use Rattle.gw_speech.specs.declared.spec.StreamSpec.{StreamSpec};
 
 use crate::coding::{encode_all, word_bits};
@@ -161,8 +161,8 @@ fn fill_last(spec: &StreamSpec, codec: &mut AnyCodec, speech: &mut [u8], held: u
     ensures within { result ≤ length speech.new }
     ensures fit { All (λ w. w < 2 ^ word_bits spec.now) (take result speech.new) }
     ensures filled { (given sent : List ℕ) (count : ℕ)
-        → IsUnderWay spec.now codec.old given sent count (take held speech.old)
-        → IsUnderWay spec.now codec.new (filled spec.now given) sent count (take result speech.new) }
+        → IsDecoding spec.now codec.old given sent count (take held speech.old)
+        → IsDecoding spec.now codec.new (filled spec.now given) sent count (take result speech.new) }
 {
     g726_codec::laws::words_are_counted();
     let end = filled_len(spec, held);

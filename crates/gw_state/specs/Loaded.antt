@@ -3,7 +3,7 @@ use Rattle.std.specs.Prelude.{◌≡◌, ◌≤◌, ℕ, List, [], ◌++◌}
 use Rattle.gw_switch.specs.declared.GatewayConfig.{GatewayConfig}
 use Rattle.gw_switch.specs.declared.gateway.Gateway.{Gateway}
 use Rattle.gw_switch.specs.Events.{Event, octets}
-use Rattle.gw_switch.specs.Standing.{Stands}
+use Rattle.gw_switch.specs.Standing.{HasHistory}
 use Rattle.gw_switch.specs.Saved.{saved_gateway, GatewayFits, AreConfiguredAlike}
 use Rattle.gw_switch.specs.Reconfigured.{AreRenewals, HasTaken, SeesRenewal}
 use Rattle.gw_state.specs.declared.loading.Loaded.{Loaded}
@@ -13,14 +13,14 @@ use Rattle.gw_state.specs.Layout.{saved_config, state_file, ConfigFits}
 pub record StandsAs (first : GatewayConfig) (saved : Gateway) (events : List Event) (old : GatewayConfig)
     : Type 0
   where
-    pub stands : Stands first saved events
+    pub stands : HasHistory first saved events
     pub configured : AreConfiguredAlike first events old []
     pub fits : GatewayFits saved
 
 -- a gateway with these octets has the history of any one that was saved so
 abbrev pub GoesOn : GatewayConfig → List ℕ → Gateway → Type 0
 GoesOn old state gateway = (first : GatewayConfig) (saved : Gateway) (events : List Event)
-    → StandsAs first saved events old → state ≡ saved_gateway saved → Stands first gateway events
+    → StandsAs first saved events old → state ≡ saved_gateway saved → HasHistory first gateway events
 
 -- What is between the version and the check sum is how the circuits of a gateway were configured, in one way
 -- alone, and the gateway. Those that are configured otherwise now begin as new, and all others go on.
@@ -40,7 +40,7 @@ pub record ReadsAs (config : GatewayConfig) (octets : List ℕ) (loaded : Loaded
 -- circuit with the same configuration has seen nothing more, and another one that it is configured.
 pub record HasGoneOn (first config : GatewayConfig) (events more : List Event) (loaded : Loaded) : Type 0
   where
-    pub stands : Stands first loaded.gateway (events ++ more)
+    pub stands : HasHistory first loaded.gateway (events ++ more)
     pub trunk : octets (events ++ more) ≡ octets events
     pub each : (c : ℕ) → 1 ≤ c → c ≤ 30 → SeesRenewal c loaded.old config events (events ++ more)
     pub configured : AreConfiguredAlike first (events ++ more) config []

@@ -4,7 +4,7 @@ ghost use Rattle.std.specs.Prelude.{◌≡◌, ◌≢◌, ◌≤◌, ◌<◌, �
 ghost use Rattle.std.specs.Prelude.{length, take};
 ghost use Rattle.std.specs.Prelude.{slice_index};
 ghost use Rattle.gw_switch.specs.declared.GatewayConfig as configs;
-ghost use Rattle.gw_switch.specs.Standing.{Stands};
+ghost use Rattle.gw_switch.specs.Standing.{HasHistory};
 ghost use Rattle.gw_switch.specs.Saved.{saved_gateway};
 ghost use Rattle.gw_switch.specs.Reconfigured.{RenewalsConfigure};
 ghost use Rattle.gw_state.specs.Layout.{mark, summed, saved_config, ConfigFits};
@@ -106,9 +106,9 @@ fn read_config(config: &GatewayConfig, octets: &mut Octets<'_>) -> Result<Gatewa
 // The gateway whose octets these are, read into one that was opened.
 fn gateway_of(opened: Gateway, octets: &mut Octets<'_>) -> Result<Gateway, LoadFault>
     ensures loaded { IfOk result (λ gateway. octets.old ≡ saved_gateway gateway) }
-    ensures stands { (old : configs.GatewayConfig) → Stands old opened []
+    ensures stands { (old : configs.GatewayConfig) → HasHistory old opened []
         → IfOk result (GoesOn old octets.old) }
-    ensures err { (old : configs.GatewayConfig) → Stands old opened []
+    ensures err { (old : configs.GatewayConfig) → HasHistory old opened []
         → IfErr result (IsNoGateway old octets.old) }
 {
     match opened.load(octets) {

@@ -2,12 +2,12 @@
 use Rattle.std.proofs.Common.{◌≡◌, ◌++◌, ◌+◌, ◌-◌, ◌<◌, ◌≤◌, ℕ, List, length, arith, sym, subst, append_assoc}
 use Rattle.std.proofs.Common.{slice_index_or}
 use Rattle.gw_switch.specs.declared.GatewayConfig.{GatewayConfig}
-use Rattle.gw_switch.specs.declared.circuits.Channel.{Channel}
+use Rattle.gw_switch.specs.declared.circuits.BoxedCircuit.{BoxedCircuit}
 use Rattle.gw_switch.specs.declared.gateway.Gateway.{Gateway}
 use Rattle.gw_switch.specs.declared.trunk.Trunk.{Trunk}
 use Rattle.gw_switch.specs.Events.{Event, octets, view}
 use Rattle.gw_switch.specs.Trunk.{HasHeard}
-use Rattle.gw_switch.specs.Standing.{Stands, CircuitsStand}
+use Rattle.gw_switch.specs.Standing.{HasHistory, CircuitsStand}
 use Rattle.gw_switch.specs.Saved.{saved_gateway, saved_trunk, saved_circuits, GatewayFits, IsSame, AreAlike}
 use Rattle.gw_switch.specs.Saved.{AreConfiguredAlike}
 use Rattle.gw_switch.specs.Whole.{spare_config}
@@ -22,22 +22,22 @@ gateway-octets g all rest e = rw append_assoc at e
 
 -- a gateway with the same trunk and the same circuits has the same history
 pub same-stands : (config : GatewayConfig) (g other : Gateway) (events : List Event) → g.trunk ≡ other.trunk
-    → g.circuits.channels.items ≡ other.circuits.channels.items → Stands config other events
-    → IsSame g other × Stands config g events
-unfolding Stands
+    → g.circuits.channels.items ≡ other.circuits.channels.items → HasHistory config other events
+    → IsSame g other × HasHistory config g events
+unfolding HasHistory
 same-stands config g other events trunk circuits stands = (
   record { trunk = trunk; circuits = circuits },
   record {
     trunk = subst (λ (t : Trunk). HasHeard t (octets events)) (sym trunk) stands.trunk;
-    circuits = subst (λ (cs : List Channel). CircuitsStand config cs events) (sym circuits) stands.circuits;
+    circuits = subst (λ (cs : List BoxedCircuit). CircuitsStand config cs events) (sym circuits) stands.circuits;
   },
 )
 
 -- the circuits of two gateways that are configured alike have the same laws and configurations
 pub are-alike : (config other : GatewayConfig) (mine saved : Gateway) (before events : List Event)
-    → Stands config mine before → Stands other saved events → AreConfiguredAlike other events config before
+    → HasHistory config mine before → HasHistory other saved events → AreConfiguredAlike other events config before
     → GatewayFits saved → AreAlike mine.circuits.channels.items saved.circuits.channels.items
-unfolding Stands alone.Stands
+unfolding HasHistory alone.HasHistory
 are-alike config other mine saved before events ours theirs alike fits = record {
   many = omega (arith, mine.circuits.thirty, mine.circuits.channels.ok.0, saved.circuits.thirty, saved.circuits.channels.ok.0);
   each = λ i d e less.

@@ -16,7 +16,7 @@ use Rattle.gw_switch.proofs.HearingLemmas.{remote_frame_stands, remote_multifram
 
 -- the aligner told the place of an octet, and the octet was heard there
 pub hears_next : (old new : Trunk) (after : Aligner) (p : Place) (s : List ℕ) (o : ℕ) → HasHeard old s
-    → p ≡ place (s ++ o ∷ []) (length s) → aligner.Stands after (s ++ o ∷ [])
+    → p ≡ place (s ++ o ∷ []) (length s) → aligner.HasHistory after (s ++ o ∷ [])
     → HearsAt (record old { aligner = after }) new p o
     → AwaitsTurn new (s ++ o ∷ []) (length s)
 hears_next old new after p s o h placed stands at =

@@ -124,7 +124,8 @@ pub same-signalling : (one other : Signalling) (alarms : RemoteAlarms) → Some 
 same-signalling one other alarms multiframe nibbles told frame multi =
     let both : alarms ≡ record { frame = other.remote_frame; multiframe = other.remote_multiframe } = cc told in
     let first : one.remote_frame ≡ other.remote_frame = frame ∙ ap (λ (a : RemoteAlarms). a.frame) both in
-    let second : one.remote_multiframe ≡ other.remote_multiframe = multi ∙ ap (λ (a : RemoteAlarms). a.multiframe) both in
+    let second : one.remote_multiframe ≡ other.remote_multiframe = multi
+    ∙ ap (λ (a : RemoteAlarms). a.multiframe) both in
     let aligner : one.multiframe ≡ other.multiframe = cc multiframe in
     λ i. record {
       multiframe = aligner i;

@@ -6,7 +6,7 @@ use Rattle.gw_switch.specs.declared.GatewayConfig.{GatewayConfig}
 use Rattle.gw_switch.specs.declared.gateway.Gateway.{Gateway}
 use Rattle.gw_switch.specs.Events.{Event, octets, view}
 use Rattle.gw_switch.specs.Whole.{config_of}
-use Rattle.gw_switch.specs.Standing.{Stands}
+use Rattle.gw_switch.specs.Standing.{HasHistory}
 use Rattle.gw_switch.specs.Saved.{AreConfiguredAlike}
 
 -- what happens to circuit c: nothing if its configuration is the same, else it is configured by the new one
@@ -23,8 +23,8 @@ AreRenewals old new (suc n) events = (before : List Event) × (last : List Event
 
 -- these events more have happened to the gateway
 abbrev pub HasTaken : Gateway → Gateway → List Event → Type 0
-HasTaken old new more = (config : GatewayConfig) (events : List Event) → Stands config old events
-    → Stands config new (events ++ more)
+HasTaken old new more = (config : GatewayConfig) (events : List Event) → HasHistory config old events
+    → HasHistory config new (events ++ more)
 
 -- the gateway has taken what happens to its circuits if they are configured by the new configuration
 pub record IsReconfigured (old new : GatewayConfig) (g g' : Gateway) : Type 0 where

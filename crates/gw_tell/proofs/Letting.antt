@@ -4,35 +4,36 @@ use Rattle.std.proofs.Common.{◌∷◌, zero, suc}
 use Rattle.e1_g711.specs.declared.Law.{Law}
 use Rattle.gw_switch.specs.declared.gateway.Gateway.{Gateway}
 use Rattle.gw_tell.specs.declared.client.Client.{Client}
-use Rattle.gw_tell.specs.declared.picture.Picture.{Picture}
-use Rattle.gw_tell.specs.declared.place.Place.{Place}
+use Rattle.gw_tell.specs.declared.picture.TrunkStatus.{TrunkStatus}
+use Rattle.gw_tell.specs.declared.place.ClientSlot.{ClientSlot}
 use Rattle.gw_tell.specs.Clients.{at, sent, AllFree, Gets, StaysOrNew}
 use Rattle.gw_tell.specs.Reports.{Shows}
 use Rattle.gw_tell.specs.Telling.{IsNew, LetsIn}
 
 -- Who stays and stays, stays; and who is new and stays, is new.
-still_here : (law : Law) (place : ℕ) (told : Picture) (old mid new : Option Client) → StaysOrNew law place told old mid
+still_here : (law : Law) (place : ℕ) (told : TrunkStatus) (old mid new : Option Client)
+    → StaysOrNew law place told old mid
     → StaysOrNew law place told mid new → StaysOrNew law place told old new
 still_here law place told old mid None first then = tt
 still_here law place told old mid (Some client) first (inl e) = rw e at first
 still_here law place told old mid (Some client) first (inr is) = inr is
 
 -- Who is new and stays, is new.
-still_new : (law : Law) (place : ℕ) (told : Picture) (mid new : Option Client) → IsNew law place told mid
+still_new : (law : Law) (place : ℕ) (told : TrunkStatus) (mid new : Option Client) → IsNew law place told mid
     → StaysOrNew law place told mid new → IsNew law place told new
 still_new law place told mid None first then = tt
 still_new law place told mid (Some client) first (inl e) = rw e at first
 still_new law place told mid (Some client) first (inr is) = is
 
 -- Who is at a place that was free is new.
-none_here : (law : Law) (place : ℕ) (told : Picture) (mid new : Option Client) → mid ≡ None
+none_here : (law : Law) (place : ℕ) (told : TrunkStatus) (mid new : Option Client) → mid ≡ None
     → StaysOrNew law place told mid new → IsNew law place told new
 none_here law place told mid None free then = tt
 none_here law place told mid (Some client) free (inl e) = cc
 none_here law place told mid (Some client) free (inr is) = is
 
 -- Before the first one all stay.
-pub none_let_in : (law : Law) (place : ℕ) (gateway : Gateway) (told : Picture) (places : List Place)
+pub none_let_in : (law : Law) (place : ℕ) (gateway : Gateway) (told : TrunkStatus) (places : List ClientSlot)
     → LetsIn law place gateway told told places places
 none_let_in law place gateway told places = inl (refl, λ k. stays (at places k))
   where
@@ -41,8 +42,8 @@ none_let_in law place gateway told places = inl (refl, λ k. stays (at places k)
     stays (Some client) = inl refl
 
 -- One more is let in.
-pub one_let_in : (law : Law) (place : ℕ) (gateway : Gateway) (told told' told'' : Picture)
-    (places places' places'' : List Place) → LetsIn law place gateway told told' places places'
+pub one_let_in : (law : Law) (place : ℕ) (gateway : Gateway) (told told' told'' : TrunkStatus)
+    (places places' places'' : List ClientSlot) → LetsIn law place gateway told told' places places'
     → (told'' ≡ told') ⊎ (AllFree places' × Shows told'' gateway)
     → ((k : ℕ) → StaysOrNew law place told'' (at places' k) (at places'' k))
     → LetsIn law place gateway told told'' places places''
@@ -64,7 +65,7 @@ none_sent None = tt
 none_sent (Some client) = (sym (append-nil (sent client)), refl)
 
 -- Eight places without a client are all free.
-pub all_free : (a b c d e f g h : Place) → a.client ≡ None → b.client ≡ None → c.client ≡ None → d.client ≡ None
+pub all_free : (a b c d e f g h : ClientSlot) → a.client ≡ None → b.client ≡ None → c.client ≡ None → d.client ≡ None
     → e.client ≡ None → f.client ≡ None → g.client ≡ None → h.client ≡ None
     → AllFree (a ∷ b ∷ c ∷ d ∷ e ∷ f ∷ g ∷ h ∷ [])
 all_free a b c d e f g h a' b' c' d' e' f' g' h' = one

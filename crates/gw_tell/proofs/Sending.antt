@@ -1,14 +1,13 @@
 -- What clients are sent.
-use Rattle.std.proofs.Common.{◌≡◌, ◌≤◌, ◌<◌, ◌++◌, ◌∷◌, ℕ, List, [], length, drop, take, refl, arith}
-use Rattle.std.proofs.Common.{false, ◌==◌, ◌∙◌, ap}
-use Rattle.std.proofs.Common.{sym, length-append}
+use Rattle.std.proofs.Common.{◌≡◌, ◌≤◌, ◌<◌, ◌++◌, ◌∷◌, ℕ, List, [], length, drop, take, refl, arith, false, ◌==◌, ◌∙◌}
+use Rattle.std.proofs.Common.{ap, sym, length-append}
 use Rattle.std.proofs.Math.Seq.{drop-append_seam, take-append_seam}
 use Rattle.gw_switch.specs.declared.gateway.Gateway.{Gateway}
 use Rattle.gw_records.specs.Records.{Record}
-use Rattle.gw_tell.specs.declared.place.Place.{Place}
-use Rattle.gw_tell.specs.declared.picture.Picture.{Picture}
+use Rattle.gw_tell.specs.declared.place.ClientSlot.{ClientSlot}
+use Rattle.gw_tell.specs.declared.picture.TrunkStatus.{TrunkStatus}
 use Rattle.gw_tell.specs.Lines.{at_line}
-use Rattle.gw_tell.specs.Reports.{sent_to, last_after, Shows, Changes, IsPictureOf, place_after}
+use Rattle.gw_tell.specs.Reports.{sent_to, last_after, Shows, Changes, IsStatusOf, place_after}
 use Rattle.gw_tell.specs.Clients.{AllAreTold, TellsChanges}
 use Rattle.gw_tell.proofs.Reporting.{changes_go_behind}
 
@@ -32,10 +31,10 @@ front_is line pushed report text front a b c (lines, d) =
     )
 
 -- The clients were told what changed.
-pub tells : (place : ℕ) (r : Record) (code : ℕ) (gateway : Gateway) (was told is : Picture)
-    (places places' : List Place) (at : ℕ) (pushed report text : List ℕ) (front : ℕ)
+pub tells : (place : ℕ) (r : Record) (code : ℕ) (gateway : Gateway) (was told is : TrunkStatus)
+    (places places' : List ClientSlot) (at : ℕ) (pushed report text : List ℕ) (front : ℕ)
     → Shows is gateway → at ≡ place_after place r → pushed ≡ at_line at → front ≡ length pushed → text ≡ report
-    → Changes place r code was is told pushed report → IsPictureOf is told
+    → Changes place r code was is told pushed report → IsStatusOf is told
     → AllAreTold places places' at (drop front text) → TellsChanges place r code gateway was told places places'
 tells place r code gateway was told is places places' at pushed report text front shows at_is line len same changes
     true_picture told_all =

@@ -4,11 +4,11 @@ use Rattle.e1_g711.specs.declared.Law.{Law}
 use Rattle.gw_switch.specs.declared.gateway.Gateway.{Gateway}
 use Rattle.gw_records.specs.Records.{Record}
 use Rattle.gw_tell.specs.declared.client.Client.{Client}
-use Rattle.gw_tell.specs.declared.place.Place.{Place}
+use Rattle.gw_tell.specs.declared.place.ClientSlot.{ClientSlot}
 use Rattle.gw_tell.specs.Backlog.{waiting}
-use Rattle.gw_tell.specs.declared.picture.Picture.{Picture}
+use Rattle.gw_tell.specs.declared.picture.TrunkStatus.{TrunkStatus}
 use Rattle.gw_tell.specs.Lines.{at_line}
-use Rattle.gw_tell.specs.Reports.{Shows, Changes, IsPictureOf, place_after, whole_state, sent_to, last_after}
+use Rattle.gw_tell.specs.Reports.{Shows, Changes, IsStatusOf, place_after, whole_state, sent_to, last_after}
 
 -- All that was sent to a client: what it took, and behind it what waits for it. So what it took is a prefix
 -- of what was sent.
@@ -31,34 +31,34 @@ IsTold (Some client) (Some client') at lines =
     × (client'.last ≡ last_after client.last at lines)
 
 -- a place without a client and without room for one
-abbrev pub no_place : Place
+abbrev pub no_place : ClientSlot
 no_place = record { client = None; room = None }
 
 -- the client at a place
-abbrev pub at : List Place → ℕ → Option Client
+abbrev pub at : List ClientSlot → ℕ → Option Client
 at places k = (slice_index_or places k no_place).client
 
 -- no place has a client
-abbrev pub AllFree : List Place → Type 0
+abbrev pub AllFree : List ClientSlot → Type 0
 AllFree places = (k : ℕ) → at places k ≡ None
 
 -- all clients were sent their part of these lines, or are let go
-abbrev pub AllAreTold : List Place → List Place → ℕ → List ℕ → Type 0
+abbrev pub AllAreTold : List ClientSlot → List ClientSlot → ℕ → List ℕ → Type 0
 AllAreTold places places' place lines = (k : ℕ) → IsTold (at places k) (at places' k) place lines
 
 -- the clients were told what changed with a record, behind which the gateway stands
-pub record TellsChanges (place : ℕ) (r : Record) (code : ℕ) (gateway : Gateway) (was told : Picture)
-    (places places' : List Place) : Type 0 where
-  pub is : Picture
+pub record TellsChanges (place : ℕ) (r : Record) (code : ℕ) (gateway : Gateway) (was told : TrunkStatus)
+    (places places' : List ClientSlot) : Type 0 where
+  pub is : TrunkStatus
   pub shows : Shows is gateway
   pub lines : List ℕ
   pub changes : Changes place r code was is told (at_line (place_after place r))
       (at_line (place_after place r) ++ lines)
-  pub true_picture : IsPictureOf is told
+  pub true_picture : IsStatusOf is told
   pub told_all : AllAreTold places places' (place_after place r) lines
 
 -- the client at a place stays as it was, or is let go, or is a new one that was sent the whole state
-abbrev pub StaysOrNew : Law → ℕ → Picture → Option Client → Option Client → Type 0
+abbrev pub StaysOrNew : Law → ℕ → TrunkStatus → Option Client → Option Client → Type 0
 StaysOrNew law place told old None = ⊤
 StaysOrNew law place told old (Some client') = (old ≡ Some client')
     ⊎ ((sent client' ≡ whole_state law place told) × (client'.last ≡ place))

@@ -8,7 +8,7 @@ use gw_switch::{Alarms, Gateway};
 
 /// The alarms of a trunk, and the status of circuits 1 to 30.
 #[derive(Clone, Copy)]
-pub struct Picture {
+pub struct TrunkStatus {
     pub alarms: Alarms,
     pub rows: [Status; 30],
 }
@@ -21,7 +21,7 @@ pub fn circuit(number: u8) -> CircuitNo
     CircuitNo::new(number).unwrap()
 }
 
-impl Picture {
+impl TrunkStatus {
     ghost use Rattle.gw_tell.specs.Reports.{Shows, AreOf};
 
     // The statuses of all circuits.
@@ -37,12 +37,12 @@ impl Picture {
 
     /// How a gateway stands.
     #[inline(never)]
-    pub fn of(gateway: &Gateway) -> Picture
+    pub fn of(gateway: &Gateway) -> TrunkStatus
         ensures { Shows result gateway.now }
     {
-        Picture {
+        TrunkStatus {
             alarms: gateway.alarms(),
-            rows: Picture::rows_of(gateway),
+            rows: TrunkStatus::rows_of(gateway),
         }
     }
 }

@@ -11,18 +11,18 @@ use std::io::{self, ErrorKind};
 
 /// A place: its client, if it has one, and else the room for what waits for the next one.
 #[derive(Drop)]
-pub struct Place {
+pub struct ClientSlot {
     pub client: Option<Client>,
     pub room: Option<Backlog>,
 }
 
-impl Place {
+impl ClientSlot {
     /// A free place, with its room. The error is that memory was refused.
-    pub fn open(alloc: Global) -> io::Result<Place>
+    pub fn open(alloc: Global) -> io::Result<ClientSlot>
         ensures { IfOk result (λ p. p.client ≡ None) }
     {
         match Backlog::new(alloc) {
-            Ok(room) => Ok(Place {
+            Ok(room) => Ok(ClientSlot {
                 client: None,
                 room: Some(room),
             }),

@@ -4,16 +4,16 @@ ghost use Rattle.std.specs.Prelude.{◌≡◌, ◌≤◌, ◌+◌, ◌*◌, ◌+
 ghost use Rattle.gw_records.specs.Records.{named};
 ghost use Rattle.gw_tell.specs.Lines.{row_line};
 ghost use Rattle.gw_tell.specs.Reports.{counted_as, quiet_at, RowStep, RowSteps, AlarmsStep, place_after};
-ghost use Rattle.gw_tell.specs.Reports.{Changes, IsPictureOf, row_lines, whole_state};
+ghost use Rattle.gw_tell.specs.Reports.{Changes, IsStatusOf, row_lines, whole_state};
 ghost use Rattle.gw_tell.specs.Lines.{event_line};
 
 use crate::lines::{hello_line, push_alarms, push_at, push_event, push_row};
-use crate::picture::{Picture, circuit};
+use crate::picture::{TrunkStatus, circuit};
 use crate::text::{Text, push};
 use e1_g711::Law;
 use g704_cas::CircuitNo;
 use gw_circuit::Status;
-use gw_records::Head;
+use gw_records::RecordHeader;
 use gw_switch::Alarms;
 
 // How many octets of the trunk there are between two reports of counts.
@@ -83,11 +83,11 @@ fn report_alarms(told: &mut Alarms, is: &Alarms, text: &mut Text)
 }
 
 /// The place behind a record.
-pub fn place_after(place: u64, head: &Head, body: &[u8]) -> u64
+pub fn place_after(place: u64, head: &RecordHeader, body: &[u8]) -> u64
     ensures { result ≡ place_after place (named head.now body.now) }
 {
     match head {
-        Head::Trunk => place.saturating_add(body.len() as u64),
+        RecordHeader::Trunk => place.saturating_add(body.len() as u64),
         _ => place,
     }
 }
@@ -97,17 +97,17 @@ pub fn place_after(place: u64, head: &Head, body: &[u8]) -> u64
 #[inline(never)]
 pub fn report(
     place: u64,
-    head: &Head,
+    head: &RecordHeader,
     body: &[u8],
     code: u8,
-    told: &mut Picture,
-    is: &Picture,
+    told: &mut TrunkStatus,
+    is: &TrunkStatus,
     text: &mut Text,
 )
     requires { length text.old.items ≤ 24 }
     ensures changes { Changes place (named head.now body.now) code told.old is.now told.new
         text.old.items text.new.items }
-    ensures true_picture { IsPictureOf is.now told.new }
+    ensures true_picture { IsStatusOf is.now told.new }
 {
     let due = place / COUNTS_EVERY < place_after(place, head, body) / COUNTS_EVERY;
     push_event(text, head, body, code);
@@ -128,7 +128,7 @@ fn push_rows(text: &mut Text, rows: &[Status; 30])
 
 /// Puts the whole state into the text, which a new client gets.
 #[inline(never)]
-pub fn whole_state(law: Law, place: u64, picture: &Picture, text: &mut Text)
+pub fn whole_state(law: Law, place: u64, picture: &TrunkStatus, text: &mut Text)
     requires { text.old.items ≡ [] }
     ensures { text.new.items ≡ whole_state law place picture.now }
 {

@@ -10,12 +10,12 @@ ghost use Rattle.gw_tell.specs.Telling.{HasBegun, TellsRecord};
 use crate::backlog::Backlog;
 use crate::client::Client;
 use crate::lines::push_at;
-use crate::picture::Picture;
-use crate::place::Place;
+use crate::picture::TrunkStatus;
+use crate::place::ClientSlot;
 use crate::report::{place_after, report, whole_state};
 use crate::text::Text;
 use e1_g711::Law;
-use gw_records::Head;
+use gw_records::RecordHeader;
 use gw_session::Watch;
 use gw_switch::Gateway;
 use gw_trunk::open_door;
@@ -32,17 +32,17 @@ const MOST_CLIENTS: usize = 8;
 #[derive(Drop)]
 pub struct Teller {
     door: UnixListener,
-    places: [Place; 8],
+    places: [ClientSlot; 8],
     law: Law,
     // The octets of the trunk that the session has acted on.
     place: u64,
     // What was reported last; if there is no client it is kept as it was.
-    told: Picture,
+    told: TrunkStatus,
     text: Text,
 }
 
 // Sends all clients the lines of a text.
-fn tell_all(places: &mut [Place; 8], text: &[u8], front: usize, at: u64)
+fn tell_all(places: &mut [ClientSlot; 8], text: &[u8], front: usize, at: u64)
     requires front { front ≤ length text.now }
     requires line { take front text.now ≡ at_line at }
     ensures { AllAreTold places.old places.new at (drop front text.now) }
@@ -53,7 +53,7 @@ fn tell_all(places: &mut [Place; 8], text: &[u8], front: usize, at: u64)
 }
 
 // Whether there is no client.
-fn are_free(places: &[Place; 8]) -> bool
+fn are_free(places: &[ClientSlot; 8]) -> bool
     ensures { IsTrue result → AllFree places.now }
 {
     for place in 0..MOST_CLIENTS {
@@ -65,7 +65,7 @@ fn are_free(places: &[Place; 8]) -> bool
 }
 
 // The first place without a client, if there is one.
-fn free_place(places: &[Place; 8]) -> Option<usize>
+fn free_place(places: &[ClientSlot; 8]) -> Option<usize>
     ensures { IfSome result (λ place. (place < 8) × (at places.now place ≡ None)) }
 {
     for place in 0..MOST_CLIENTS {
@@ -77,7 +77,7 @@ fn free_place(places: &[Place; 8]) -> Option<usize>
 }
 
 // Takes the room of a place.
-fn take_room(place: &mut Place) -> Option<Backlog>
+fn take_room(place: &mut ClientSlot) -> Option<Backlog>
     ensures { place.new.client ≡ place.old.client }
 {
     place.room.take()
@@ -85,18 +85,18 @@ fn take_room(place: &mut Place) -> Option<Backlog>
 
 // Eight free places, with the room of each. The error is that memory was refused.
 #[tactic(auto, using(crate::proofs::Letting::all_free))]
-fn open_places(alloc: Global) -> io::Result<[Place; 8]>
+fn open_places(alloc: Global) -> io::Result<[ClientSlot; 8]>
     ensures { IfOk result (λ places. AllFree places) }
 {
     Ok([
-        Place::open(alloc)?,
-        Place::open(alloc)?,
-        Place::open(alloc)?,
-        Place::open(alloc)?,
-        Place::open(alloc)?,
-        Place::open(alloc)?,
-        Place::open(alloc)?,
-        Place::open(alloc)?,
+        ClientSlot::open(alloc)?,
+        ClientSlot::open(alloc)?,
+        ClientSlot::open(alloc)?,
+        ClientSlot::open(alloc)?,
+        ClientSlot::open(alloc)?,
+        ClientSlot::open(alloc)?,
+        ClientSlot::open(alloc)?,
+        ClientSlot::open(alloc)?,
     ])
 }
 
@@ -116,20 +116,20 @@ impl Teller {
             places: open_places(rt.alloc())?,
             law,
             place: 0,
-            told: Picture::of(gateway),
+            told: TrunkStatus::of(gateway),
             text: Text::new(),
         })
     }
 
     // Tells all clients what changed with a record.
     #[inline(never)]
-    fn tell(&mut self, head: &Head, body: &[u8], code: u8, gateway: &Gateway)
+    fn tell(&mut self, head: &RecordHeader, body: &[u8], code: u8, gateway: &Gateway)
         ensures changes { TellsChanges self.old.place (named head.now body.now) code gateway.now
             self.old.told self.new.told self.old.places self.new.places }
         ensures law { self.new.law ≡ self.old.law }
         ensures place { self.new.place ≡ self.old.place }
     {
-        let is = Picture::of(gateway);
+        let is = TrunkStatus::of(gateway);
         let at = place_after(self.place, head, body);
         self.text.clear();
         push_at(&mut self.text, at);
@@ -147,7 +147,7 @@ impl Teller {
     }
 
     // Tells the clients, if there is one, what changed with a record.
-    fn tell_any(&mut self, head: &Head, body: &[u8], code: u8, gateway: &Gateway)
+    fn tell_any(&mut self, head: &RecordHeader, body: &[u8], code: u8, gateway: &Gateway)
         ensures tells { TellsAny self.old.place (named head.now body.now) code gateway.now
             self.old.told self.new.told self.old.places self.new.places }
         ensures law { self.new.law ≡ self.old.law }
@@ -173,7 +173,7 @@ impl Teller {
             return;
         };
         if are_free(&self.places) {
-            self.told = Picture::of(gateway);
+            self.told = TrunkStatus::of(gateway);
         }
         self.text.clear();
         whole_state(self.law, self.place, &self.told, &mut self.text);
@@ -226,10 +226,10 @@ impl Teller {
 impl Watch for Teller {
     ghost shows = { λ old new r code gateway. TellsRecord old new r code gateway };
 
-    fn after(&mut self, head: &Head, body: &[u8], code: u8, gateway: &Gateway) {
+    fn after(&mut self, head: &RecordHeader, body: &[u8], code: u8, gateway: &Gateway) {
         self.tell_any(head, body, code, gateway);
         self.place = place_after(self.place, head, body);
-        if let Head::Trunk = head {
+        if let RecordHeader::Trunk = head {
             self.listen();
             self.let_in(gateway);
         }

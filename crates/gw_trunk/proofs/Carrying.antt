@@ -7,12 +7,12 @@ use Rattle.std.proofs.lemmas.List.Concat.{flat_map-append}
 use Rattle.gw_switch.specs.declared.GatewayConfig.{GatewayConfig}
 use Rattle.gw_switch.specs.declared.gateway.Gateway.{Gateway}
 use Rattle.gw_switch.specs.Events.{Event, octets}
-use Rattle.gw_switch.specs.Standing.{Stands}
+use Rattle.gw_switch.specs.Standing.{HasHistory}
 use Rattle.gw_records.specs.declared.outcome.Totals.{Totals}
 use Rattle.gw_records.specs.declared.outcome.RunFault.{RunFault}
 use Rattle.gw_records.specs.declared.outcome.RunFault.TheVariants as faults
-use Rattle.gw_records.specs.declared.records.Ending.{Ending}
-use Rattle.gw_records.specs.declared.records.Ending.TheVariants as endings
+use Rattle.gw_records.specs.declared.records.EndOfRecords.{EndOfRecords}
+use Rattle.gw_records.specs.declared.records.EndOfRecords.TheVariants as endings
 use Rattle.gw_records.specs.Records.{Record, Reads, IsGood, spelled, end_of}
 use Rattle.gw_records.specs.Streams.{AppendsBut}
 use Rattle.gw_records.specs.Outcome.{SessionTo, FailsToWrite}
@@ -25,7 +25,7 @@ use Rattle.gw_session.specs.Serve.{served_kinds}
 use Rattle.gw_session.specs.Tape.{TapeState}
 use Rattle.gw_session.specs.World.{State}
 use Rattle.gw_session.proofs.ServeLaws.{events_are_told}
-use Rattle.gw_trunk.specs.declared.sink.Place.TheVariants.{Kind}
+use Rattle.gw_trunk.specs.declared.sink.RecordPosition.TheVariants.{Kind}
 use Rattle.gw_trunk.specs.Bodies.{bodies, others, passed, answered, place_after}
 use Rattle.gw_trunk.specs.Pieces.{Woven, GivesWoven, IsGiven, trunk_part, client_part, from_clients}
 use Rattle.gw_trunk.specs.Serving.{Carries, CarriesUntilWrite, CarriesUntil, Carried, commands_in, traffic}
@@ -117,7 +117,7 @@ appends-first old new all more e f p = rw (e, f) at p
 -- Records that are given were served by a gateway to which this had happened.
 carried-records : {s s' : State} {tape tape' : TapeState} {Took : List ℕ → List ℕ → Type 0} {records : List Record}
     (config : GatewayConfig) (before : List Event) (heard asked sent told : List ℕ)
-    → (p : SessionTrace written s s' tape tape' Took records) → Stands config s.gateway before
+    → (p : SessionTrace written s s' tape tape' Took records) → HasHistory config s.gateway before
     → Woven heard asked records → AllByRecursion (IsGood served_kinds) records
     → sent ≡ bodies (written config before p.acts) → told ≡ others (written config before p.acts)
     → Carries config before s'.gateway tape tape' (traffic heard asked sent told)
@@ -154,9 +154,9 @@ pub record Trunked (came asked went told given taken : List ℕ) : Type 0 where
   pub told_are : told ≡ others taken
 
 -- A session in which no write failed: it came to the end of the records, and carried all.
-pub whole-session : {a a' : Around} {gateway gateway' : Gateway} {ending : Ending} (config : GatewayConfig)
+pub whole-session : {a a' : Around} {gateway gateway' : Gateway} {ending : EndOfRecords} (config : GatewayConfig)
     (before : List Event) (came asked went told given taken : List ℕ) → Around-trunk a a' given taken
-    → Trunked came asked went told given taken → Stands config gateway before
+    → Trunked came asked went told given taken → HasHistory config gateway before
     → SessionTo served_kinds a.source a'.source a.sink a'.sink
     (Served a a' gateway gateway' (λ first. Appends a.sink.taken a'.sink.taken)) ending
     → (ending ≡ endings.End) × Carries config before gateway' a.tape a'.tape (traffic came asked went told)
@@ -178,7 +178,7 @@ whole-session {ending = ending} config before came asked went told given taken a
 -- A session in which a write failed: it carried the first records, and some of the octets did not go.
 pub cut-session : {a a' : Around} {gateway gateway' : Gateway} (config : GatewayConfig) (before : List Event)
     (came asked went told given taken : List ℕ) → Around-trunk a a' given taken
-    → Trunked came asked went told given taken → Stands config gateway before
+    → Trunked came asked went told given taken → HasHistory config gateway before
     → FailsToWrite served_kinds a.source a'.source a.sink a'.sink (λ records. (totals : Totals)
     × Served a a' gateway gateway' (AppendsBut 0 a.sink.taken a'.sink.taken) totals records)
     → CarriesUntilWrite config before gateway' a.tape a'.tape (traffic came asked went told)
@@ -233,7 +233,8 @@ none-given came asked given w none =
 -- A session of a trunk until a fault.
 until : {a a' : Around} (gateway gateway' : Gateway) (config : GatewayConfig) (before : List Event) (fault : RunFault)
     (came asked went told given taken : List ℕ) → Around-trunk a a' given taken
-    → Trunked came asked went told given taken → Stands config gateway before → ServesUntil a a' gateway gateway' fault
+    → Trunked came asked went told given taken → HasHistory config gateway before
+    → ServesUntil a a' gateway gateway' fault
     → CarriesUntil config before gateway' a.tape a'.tape (traffic came asked went told) fault
 unfolding passed answered place_after
 until gateway gateway' config before faults.BadKind came asked went told given taken around t new s =
@@ -260,7 +261,7 @@ until {a = a} {a' = a'} gateway gateway' config before faults.OutOfMemory came a
 -- A session of a trunk, however it ended.
 pub carried : {a a' : Around} (gateway gateway' : Gateway) (config : GatewayConfig) (before : List Event)
     (end : Result Totals RunFault) (came asked went told given taken : List ℕ) → Around-trunk a a' given taken
-    → Trunked came asked went told given taken → Stands config gateway before
+    → Trunked came asked went told given taken → HasHistory config gateway before
     → IfOk end (ServesAll a a' gateway gateway')
     → IfErr end (ServesUntil a a' gateway gateway')
     → Carried config before gateway' a.tape a'.tape (traffic came asked went told) end

@@ -3,19 +3,19 @@ use Rattle.std.proofs.Common.{◌≡◌, ◌<◌, ◌≤◌, ◌++◌, ◌∙◌
 use Rattle.std.proofs.Common.{length, take, refl, sym, ap, arith, append-nil, append_assoc, get_or, slice_index}
 use Rattle.std.proofs.lemmas.Bool.Decides.{nat_tests}
 use Rattle.std.proofs.lemmas.List.{length-take-le, take-take}
-use Rattle.gw_trunk.specs.declared.sink.Place.{Place}
-use Rattle.gw_trunk.specs.declared.sink.Place.TheVariants.{Kind, Circuit, High, Low, Body}
+use Rattle.gw_trunk.specs.declared.sink.RecordPosition.{RecordPosition}
+use Rattle.gw_trunk.specs.declared.sink.RecordPosition.TheVariants.{Kind, Circuit, High, Low, Body}
 use Rattle.gw_trunk.specs.Bodies.{HasPassed, StepsOver, place_next, place_after, passed, part_passed, body_after}
 use Rattle.gw_trunk.specs.Bodies.{answered, is_answer}
 
 -- The place after octets and more is that after the others, from the place after the first.
-pub place-append : (p : Place) (xs ys : List ℕ) → place_after p (xs ++ ys) ≡ place_after (place_after p xs) ys
+pub place-append : (p : RecordPosition) (xs ys : List ℕ) → place_after p (xs ++ ys) ≡ place_after (place_after p xs) ys
 unfolding place_after
 place-append p [] ys = refl
 place-append p (x ∷ xs) ys = place-append (place_next p x) xs ys
 
 -- What of octets and more goes to the trunk is that of the first, and then that of the others.
-pub passed-append : (p : Place) (xs ys : List ℕ)
+pub passed-append : (p : RecordPosition) (xs ys : List ℕ)
     → passed p (xs ++ ys) ≡ passed p xs ++ passed (place_after p xs) ys
 unfolding place_after passed
 passed-append p [] ys = refl
@@ -24,7 +24,7 @@ passed-append p (x ∷ xs) ys =
     ∙ sym (append_assoc (part_passed p x) (passed (place_next p x) xs) (passed (place_after (place_next p x) xs) ys))
 
 -- What of octets and more goes to clients is that of the first, and then that of the others.
-pub answered-append : (p : Place) (xs ys : List ℕ)
+pub answered-append : (p : RecordPosition) (xs ys : List ℕ)
     → answered p (xs ++ ys) ≡ answered p xs ++ answered (place_after p xs) ys
 unfolding place_after answered
 answered-append p [] ys = refl
@@ -77,10 +77,11 @@ answered-body false (suc more) (x ∷ xs) h =
     ap (λ (ys : List ℕ). x ∷ ys) (answered-body false more xs (omega (arith, h)))
 
 -- Records that were taken, and octets that are taken behind them.
-pub passes-on : (p q : Place) (taken went went' told told' xs : List ℕ) → HasPassed p taken went told
+pub passes-on : (p q : RecordPosition) (taken went went' told told' xs : List ℕ) → HasPassed p taken went told
     → StepsOver p q went went' told told' xs → HasPassed q (taken ++ xs) went' told'
 passes-on p q taken went went' told told' xs has more = record {
-  place_is = more.place_is ∙ ap (λ (r : Place). place_after r xs) has.place_is ∙ sym (place-append Kind taken xs);
+  place_is = more.place_is ∙ ap (λ (r : RecordPosition). place_after r xs) has.place_is
+      ∙ sym (place-append Kind taken xs);
   went_are = more.went_are ∙ rw (has.went_are, has.place_is, passed-append) refl;
   told_are = more.told_are ∙ rw (has.told_are, has.place_is, answered-append) refl;
 }
@@ -91,7 +92,8 @@ unfolding place_after passed answered
 none-passed taken went told t w a = rw (t, w, a) (record { place_is = refl; went_are = refl; told_are = refl })
 
 -- An octet that is in no body: none of it goes to the trunk.
-front-stays : (p : Place) (x : ℕ) → ((to_trunk : Bool) (more : ℕ) → p ≡ Body to_trunk more → ⊥) → part_passed p x ≡ []
+front-stays : (p : RecordPosition) (x : ℕ) → ((to_trunk : Bool) (more : ℕ) → p ≡ Body to_trunk more → ⊥)
+    → part_passed p x ≡ []
 front-stays (Body to_trunk more) x out = absurd (out to_trunk more refl)
 front-stays Kind x out = refl
 front-stays (Circuit t) x out = refl
@@ -99,7 +101,7 @@ front-stays (High t) x out = refl
 front-stays (Low t high) x out = refl
 
 -- The first of octets passes, which is in no body.
-pub first-passes : (p : Place) (octet n : ℕ) (octets went told told' : List ℕ) → 0 < length octets
+pub first-passes : (p : RecordPosition) (octet n : ℕ) (octets went told told' : List ℕ) → 0 < length octets
     → ((d : ℕ) → octet ≡ get_or octets 0 d) → ((to_trunk : Bool) (more : ℕ) → p ≡ Body to_trunk more → ⊥)
     → n ≤ 1 → 0 < n → told' ≡ told ++ cond (is_answer p (slice_index octets 0)) (take n octets) []
     → StepsOver p (place_next p octet) went went told told' (take n octets)
@@ -114,7 +116,7 @@ first-passes p octet (suc zero) (x ∷ xs) went told told' some is out few one e
 }
 
 -- No octet passes.
-pub none-passes : (p : Place) (n : ℕ) (went told told' octets : List ℕ) (c : Bool) → n ≤ 0
+pub none-passes : (p : RecordPosition) (n : ℕ) (went told told' octets : List ℕ) (c : Bool) → n ≤ 0
     → told' ≡ told ++ cond c (take n octets) [] → StepsOver p p went went told told' (take n octets)
 unfolding place_after passed answered
 none-passes p (suc n) went told told' octets c none is = absurd (omega (arith, none))

@@ -1,6 +1,6 @@
 -- Worked rows.
 use Rattle.std.proofs.Common.{◌≡◌, ◌∷◌, [], refl, true, List, flat_map}
-use Rattle.gw_trunk.specs.declared.sink.Place.TheVariants.{Kind, Body}
+use Rattle.gw_trunk.specs.declared.sink.RecordPosition.TheVariants.{Kind, Body}
 use Rattle.gw_records.specs.Records.{Record, spelled}
 use Rattle.gw_trunk.specs.Bodies.{bodies, others, passed, answered, place_after}
 use Rattle.gw_trunk.specs.Pieces.{trunk_part, client_part}

@@ -1,17 +1,15 @@
 -- Octets for a device that may be slow, as they pass one after another.
-use Rattle.std.proofs.Common.{◌≡◌, ◌≢◌, inl, inr, ◌+◌, ◌<◌, ◌≤◌, ◌++◌, ◌∷◌, ◌∙◌, ℕ, Bool, true, false}
-use Rattle.std.proofs.Common.{cond, List, [], length, flat_map, refl, sym, ap, arith, append-nil, append_assoc}
-use Rattle.std.proofs.Common.{length-append, take}
+use Rattle.std.proofs.Common.{◌≡◌, ◌≢◌, inl, inr, ◌+◌, ◌<◌, ◌≤◌, ◌++◌, ◌∷◌, ◌∙◌, ℕ, Bool, true, false, cond, List, []}
+use Rattle.std.proofs.Common.{length, flat_map, refl, sym, ap, arith, append-nil, append_assoc, length-append, take}
 use Rattle.std.specs.List.{AllByRecursion}
 use Rattle.std.proofs.lemmas.Bool.{cases_eq}
 use Rattle.std.proofs.lemmas.Bool.Decides.{nat_tests}
 use Rattle.std.proofs.lemmas.List.{nil_from_length, length-take-le, take-take}
 use Rattle.std.proofs.lemmas.List.Concat.{flat_map-append}
 use Rattle.gw_records.specs.Streams.{at_most}
-use Rattle.gw_trunk.specs.declared.in_time.Course.{Course}
-use Rattle.gw_trunk.specs.Multiframes.{Multiframe, IsWhole, multiframe_octets, left_of, number_discarded}
-use Rattle.gw_trunk.specs.Multiframes.{IsThinned, course_after, course_discarding, PassesOn, Steps, IsPrompt}
-use Rattle.gw_trunk.specs.Multiframes.{GoesInTime}
+use Rattle.gw_trunk.specs.declared.in_time.MultiframePosition.{MultiframePosition}
+use Rattle.gw_trunk.specs.Multiframes.{Multiframe, IsWhole, multiframe_octets, left_of, number_discarded, IsThinned}
+use Rattle.gw_trunk.specs.Multiframes.{course_after, course_discarding, PassesOn, Steps, IsPrompt, GoesInTime}
 
 -- What is left of octets that are discarded or not, and of more of the same.
 left-goes : (discarded : Bool) (first octets more : List ℕ)
@@ -32,17 +30,17 @@ number-more [] m = omega arith
 number-more (n ∷ ms) m = let e = number-more ms m in omega (arith, e)
 
 -- The course if octets do not complete the multiframe.
-course-goes : (course : Course) (n : ℕ) → course.place + n ≢ 512
+course-goes : (course : MultiframePosition) (n : ℕ) → course.place + n ≢ 512
     → course_after course n ≡ record course { place = course.place + n }
 course-goes course n more = grind (arith, nat_tests)
 
 -- The course if octets complete the multiframe.
-course-ends : (course : Course) (n : ℕ) → course.place + n ≡ 512
+course-ends : (course : MultiframePosition) (n : ℕ) → course.place + n ≡ 512
     → course_after course n ≡ record course { place = 0; discards = false }
 course-ends course n all = grind (arith, nat_tests)
 
 -- More octets of the last multiframe, which they do not end.
-more-of : (course : Course) (sent left left' xs : List ℕ) (t : IsThinned course sent left)
+more-of : (course : MultiframePosition) (sent left left' xs : List ℕ) (t : IsThinned course sent left)
     → course.place + length xs < 512 → left' ≡ left ++ cond course.discards [] xs
     → IsThinned (record course { place = course.place + length xs }) (sent ++ xs) left'
 more-of course sent left left' xs t short e =
@@ -66,7 +64,7 @@ more-of course sent left left' xs t short e =
     }
 
 -- More octets of the last multiframe, which is whole with them.
-rest-of : (course : Course) (sent left left' xs : List ℕ) (t : IsThinned course sent left)
+rest-of : (course : MultiframePosition) (sent left left' xs : List ℕ) (t : IsThinned course sent left)
     → course.place + length xs ≡ 512 → left' ≡ left ++ cond course.discards [] xs
     → IsThinned (record course { place = 0; discards = false }) (sent ++ xs) left'
 rest-of course sent left left' xs t all e =
@@ -93,7 +91,7 @@ rest-of course sent left left' xs t all e =
     }
 
 -- Octets pass of a multiframe that goes on, or is discarded.
-passes : (course course' : Course) (sent left left' xs : List ℕ) → IsThinned course sent left
+passes : (course course' : MultiframePosition) (sent left left' xs : List ℕ) → IsThinned course sent left
     → PassesOn course course' left left' xs → IsThinned course' (sent ++ xs) left'
 passes course course' sent left left' xs t p = elim (cases_eq (course.place + length xs) 512) [
   | inl all ↦ rw (p.course_is, course-ends course (length xs) all) (rest-of course sent left left' xs t all p.left_is)
@@ -106,7 +104,7 @@ one-more-of : (discarded n : ℕ) → discarded ≡ at_most (n + 0) → at_most 
 one-more-of discarded n e = omega (arith, e)
 
 -- A multiframe of which nothing has come is discarded.
-discards : (course : Course) (sent left : List ℕ) → IsThinned course sent left → course.place ≡ 0
+discards : (course : MultiframePosition) (sent left : List ℕ) → IsThinned course sent left → course.place ≡ 0
     → course.discards ≡ false → IsThinned (course_discarding course) sent left
 discards course sent left t none goes =
     let last = t.thinned.last in
@@ -129,14 +127,14 @@ discards course sent left t none goes =
     }
 
 -- Octets of a multiframe were taken.
-pub steps-on : (course course' : Course) (sent left left' xs : List ℕ) → IsThinned course sent left
+pub steps-on : (course course' : MultiframePosition) (sent left left' xs : List ℕ) → IsThinned course sent left
     → Steps course course' left left' xs → IsThinned course' (sent ++ xs) left'
 steps-on course course' sent left left' xs t (inl p) = passes course course' sent left left' xs t p
 steps-on course course' sent left left' xs t (inr (none, goes, p)) =
     passes (course_discarding course) course' sent left left' xs (discards course sent left t none goes) p
 
 -- Before the first octet.
-pub none-sent : (course : Course) (sent left : List ℕ) → sent ≡ [] → left ≡ [] → course.place ≡ 0
+pub none-sent : (course : MultiframePosition) (sent left : List ℕ) → sent ≡ [] → left ≡ [] → course.place ≡ 0
     → course.discards ≡ false → course.discarded ≡ 0 → IsThinned course sent left
 none-sent course sent left a b c d e = record {
   thinned = record {
@@ -170,7 +168,8 @@ was-prompt false after stays e = refl
 was-prompt true after stays e = absurd (let h = stays refl in cc)
 
 -- The first octets of these were taken, which are of the multiframe in hand.
-pub stepped : (course course' : Course) (sent left left' octets : List ℕ) (most n : ℕ) → IsThinned course sent left
+pub stepped : (course course' : MultiframePosition) (sent left left' octets : List ℕ) (most n : ℕ)
+    → IsThinned course sent left
     → Steps course course' left left' (take n (take most octets)) → most ≤ length octets
     → n ≤ length (take most octets) → IsThinned course' (sent ++ take n octets) left'
 stepped course course' sent left left' octets most n t steps fits bound =
@@ -179,7 +178,8 @@ stepped course course' sent left left' octets most n t steps fits bound =
     steps-on course course' sent left left' (take n octets) t (rw front at steps)
 
 -- Octets that were sent went in time.
-pub in-time : (course : Course) (sent went held : List ℕ) (was_slow : Bool) → IsThinned course sent (went ++ held)
+pub in-time : (course : MultiframePosition) (sent went held : List ℕ) (was_slow : Bool)
+    → IsThinned course sent (went ++ held)
     → (was_slow ≡ false → IsPrompt held course) → GoesInTime sent went course.discarded was_slow
 in-time course sent went held was_slow t prompt = record {
   untaken = held;
@@ -196,7 +196,8 @@ in-time course sent went held was_slow t prompt = record {
 }
 
 -- A device that was given what was held for it: nothing is held now if it was never slow.
-pub finished : (course : Course) (held held' : List ℕ) (before after : Bool) → (before ≡ true → after ≡ true)
+pub finished : (course : MultiframePosition) (held held' : List ℕ) (before after : Bool) → (before ≡ true
+    → after ≡ true)
     → length held' ≤ length held → (before ≡ false → IsPrompt held course) → after ≡ false → IsPrompt held' course
 finished course held held' before after stays shorter prompt e =
     let p = prompt (was-prompt before after stays e) in record {

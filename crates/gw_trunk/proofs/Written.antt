@@ -13,7 +13,7 @@ use Rattle.gw_session.specs.Serve as session
 use Rattle.gw_session.specs.Serve.{Act, Turn, octet_of, events_in, events_through, events_of_turns, octets_for}
 use Rattle.gw_session.specs.Serve.{given_by, written, served_kinds, coming, arrivals}
 use Rattle.gw_session.proofs.Turns.{given_by-append, turns_have_octets}
-use Rattle.gw_trunk.specs.declared.sink.Place.TheVariants.{Kind}
+use Rattle.gw_trunk.specs.declared.sink.RecordPosition.TheVariants.{Kind}
 use Rattle.gw_trunk.specs.Bodies.{passed, answered, place_after, body_place}
 use Rattle.gw_trunk.specs.Serving.{answers_for, answer_in}
 use Rattle.gw_trunk.proofs.Passing.{place-append, passed-append, answered-append}

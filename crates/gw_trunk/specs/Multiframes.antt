@@ -3,7 +3,7 @@ use Rattle.std.specs.Prelude.{◌≡◌, ◌≢◌, ◌⊎◌, ◌==◌, ◌+◌
 use Rattle.std.specs.Prelude.{Bool, true, false, length, flat_map}
 use Rattle.std.specs.List.{AllByRecursion}
 use Rattle.gw_records.specs.Streams.{at_most}
-use Rattle.gw_trunk.specs.declared.in_time.Course.{Course}
+use Rattle.gw_trunk.specs.declared.in_time.MultiframePosition.{MultiframePosition}
 
 -- a multiframe, or its first octets, and whether it is discarded
 pub record Multiframe : Type 0 where
@@ -38,40 +38,40 @@ pub record Thinned (sent left : List ℕ) (discarded : ℕ) : Type 0 where
   pub discarded_is : discarded ≡ at_most (number_discarded multiframes + (if last.is_discarded then 1 else 0))
 
 -- the same with what is known of the last multiframe, and the number of those that are discarded
-pub record IsThinned (course : Course) (sent left : List ℕ) : Type 0 where
+pub record IsThinned (course : MultiframePosition) (sent left : List ℕ) : Type 0 where
   pub thinned : Thinned sent left course.discarded
   pub place_is : course.place ≡ length thinned.last.octets
   pub discards_is : course.discards ≡ thinned.last.is_discarded
 
 -- the course after so many octets of the multiframe
-abbrev pub course_after : Course → ℕ → Course
+abbrev pub course_after : MultiframePosition → ℕ → MultiframePosition
 course_after course n = if course.place + n == 512 then record course { place = 0; discards = false }
     else record course { place = course.place + n }
 
 -- the course if a multiframe is discarded
-abbrev pub course_discarding : Course → Course
+abbrev pub course_discarding : MultiframePosition → MultiframePosition
 course_discarding course = record course { discards = true; discarded = at_most (course.discarded + 1) }
 
 -- octets of a multiframe passed: they are left, or discarded
-pub record PassesOn (course course' : Course) (left left' octets : List ℕ) : Type 0 where
+pub record PassesOn (course course' : MultiframePosition) (left left' octets : List ℕ) : Type 0 where
   pub fits : course.place + length octets ≤ 512
   pub course_is : course' ≡ course_after course (length octets)
   pub left_is : left' ≡ left ++ (if course.discards then [] else octets)
 
 -- octets of a multiframe passed, or it is discarded from its first octet on, of which these are the first
-abbrev pub Steps : Course → Course → List ℕ → List ℕ → List ℕ → Type 0
+abbrev pub Steps : MultiframePosition → MultiframePosition → List ℕ → List ℕ → List ℕ → Type 0
 Steps course course' left left' octets = PassesOn course course' left left' octets
     ⊎ ((course.place ≡ 0) × (course.discards ≡ false)
     × PassesOn (course_discarding course) course' left left' octets)
 
 -- nothing waits for the device, and no multiframe was discarded
-pub record IsPrompt (held : List ℕ) (course : Course) : Type 0 where
+pub record IsPrompt (held : List ℕ) (course : MultiframePosition) : Type 0 where
   pub none_held : held ≡ []
   pub goes : course.discards ≡ false
   pub none_discarded : course.discarded ≡ 0
 
 -- there is room for the rest of a multiframe that goes on
-abbrev pub HasRoom : List ℕ → Course → Type 0
+abbrev pub HasRoom : List ℕ → MultiframePosition → Type 0
 HasRoom held course = course.discards ≡ false → course.place ≢ 0 → length held ≤ course.place
 
 -- Octets were sent to a device that may be slow. They went to it in order, except for discarded whole

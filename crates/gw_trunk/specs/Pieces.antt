@@ -2,7 +2,7 @@
 use Rattle.std.specs.Prelude.{◌≡◌, ◌⊎◌, ◌<◌, ◌≤◌, ◌++◌, ◌∷◌, ℕ, List, [], length, flat_map, take, true, false}
 use Rattle.std.specs.Prelude.{Result, MatchResult}
 use Rattle.std.specs.List.{AllByRecursion}
-use Rattle.gw_records.specs.declared.records.Kinds.{Kinds}
+use Rattle.gw_records.specs.declared.records.AcceptedKinds.{AcceptedKinds}
 use Rattle.gw_records.specs.Records.{Record, IsGood, spelled}
 use Rattle.gw_records.specs.declared.streams.SourceFault.{SourceFault}
 
@@ -11,7 +11,7 @@ abbrev pub IsPiece : List ℕ → Type 0
 IsPiece octets = (0 < length octets) × (length octets ≤ 2048)
 
 -- clients give commands and codecs
-abbrev pub client_kinds : Kinds
+abbrev pub client_kinds : AcceptedKinds
 client_kinds = record { trunk = false; datagrams = false; commands = true; codecs = true }
 
 -- a record that is given: a T record of a piece of the trunk, or a good one of a client

@@ -3,7 +3,7 @@ use Rattle.std.specs.Prelude.{◌≡◌, ◌++◌, ◌∷◌, ℕ, List, [], fla
 use Rattle.gw_switch.specs.declared.GatewayConfig.{GatewayConfig}
 use Rattle.gw_switch.specs.declared.gateway.Gateway.{Gateway}
 use Rattle.gw_switch.specs.Events.{Event, octets}
-use Rattle.gw_switch.specs.Standing.{Stands}
+use Rattle.gw_switch.specs.Standing.{HasHistory}
 use Rattle.gw_switch.specs.Whole.{Reply, reply_to}
 use Rattle.gw_records.specs.declared.outcome.Totals.{Totals}
 use Rattle.gw_records.specs.declared.outcome.RunFault.{RunFault}
@@ -56,7 +56,7 @@ traffic came asked went told = record { came = came; asked = asked; went = went;
 pub record Carries (config : GatewayConfig) (before : List Event) (gateway' : Gateway)
     (tape tape' : TapeState) (t : Traffic) : Type 0 where
   pub happened : List Event
-  pub stands : Stands config gateway' (before ++ happened)
+  pub stands : HasHistory config gateway' (before ++ happened)
   pub records : List Record
   pub woven : Woven t.came t.asked records
   pub weave_is : without_datagrams happened ≡ events records

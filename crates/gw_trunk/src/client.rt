@@ -4,7 +4,7 @@ ghost use Rattle.std.specs.Prelude.{◌≡◌, ◌⊎◌, ◌≤◌, ◌++◌, [
 ghost use Rattle.gw_trunk.specs.Clients.{HasNoRecord, IsAnswered, Replies, Stays};
 
 use arrayvec::ArrayVec;
-use gw_records::{Ending, Kinds, Log, first_record};
+use gw_records::{AcceptedKinds, EndOfRecords, Log, first_record};
 use mio::net::UnixStream;
 use std::io::{ErrorKind, Read, Write};
 
@@ -12,7 +12,7 @@ use std::io::{ErrorKind, Read, Write};
 const ROOM_LEN: usize = 64;
 
 // What a client gives.
-const KINDS: Kinds = Kinds {
+const KINDS: AcceptedKinds = AcceptedKinds {
     trunk: false,
     datagrams: false,
     commands: true,
@@ -28,7 +28,7 @@ pub struct Away;
 
 /// What a client did that was asked.
 #[derive(Clone, Copy)]
-pub enum Asked {
+pub enum ClientRequest {
     /// It gave a record of so many octets.
     Command(usize),
     /// It has nothing that is whole.
@@ -141,41 +141,41 @@ impl Client {
 
     // What it comes to if no record is whole: it has none yet, unless its end was read, or so much has come
     // that it is none.
-    fn nothing(&self, room: &[u8]) -> Asked
+    fn nothing(&self, room: &[u8]) -> ClientRequest
         requires { HasNoRecord self.now.held.items }
         ensures { Replies result self.now self.now room.now }
     {
         if self.ready || self.ended {
-            Asked::Gone
+            ClientRequest::Gone
         } else {
-            Asked::Nothing
+            ClientRequest::Nothing
         }
     }
 
     // Its next record, of those octets that are held.
-    fn next_record(&mut self, room: &mut [u8]) -> Asked
+    fn next_record(&mut self, room: &mut [u8]) -> ClientRequest
         ensures { Replies result self.old self.new room.new }
     {
         let held = self.held.as_slice();
         match first_record(&KINDS, held) {
             Ok(first) => {
                 if first.len > room.len() {
-                    return Asked::Gone;
+                    return ClientRequest::Gone;
                 }
                 room[..first.len].copy_from_slice(&held[..first.len]);
                 self.pass(first.len);
                 self.gave.append(room, first.len);
                 self.known = true;
-                Asked::Command(first.len)
+                ClientRequest::Command(first.len)
             }
-            Err(Ending::End | Ending::Truncated) => self.nothing(room),
-            Err(_) => Asked::Gone,
+            Err(EndOfRecords::End | EndOfRecords::Truncated) => self.nothing(room),
+            Err(_) => ClientRequest::Gone,
         }
     }
 
     /// Takes its next record to the front of `room`, if it has a whole one. Who has hung up is let go only
     /// behind its last whole record.
-    pub fn ask(&mut self, room: &mut [u8]) -> Asked
+    pub fn ask(&mut self, room: &mut [u8]) -> ClientRequest
         ensures { Replies result self.old self.new room.new }
     {
         self.refill();
@@ -184,7 +184,7 @@ impl Client {
             return self.nothing(room);
         }
         if held.starts_with(&END) {
-            return Asked::End;
+            return ClientRequest::End;
         }
         self.next_record(room)
     }

@@ -7,7 +7,7 @@ ghost use Rattle.gw_trunk.specs.Clients.{Answers, Asks, AllKeep, Gets, HasAnswer
 ghost use Rattle.gw_trunk.specs.Clients.{at};
 ghost use Rattle.gw_trunk.specs.Clients.{is_quiet};
 
-use crate::client::{Asked, Client};
+use crate::client::{Client, ClientRequest};
 use gw_records::Log;
 use mio::net::{UnixListener, UnixStream};
 use mio::unix::SourceFd;
@@ -56,21 +56,21 @@ pub struct Clients {
 }
 
 // Asks the client at a place, and lets it go if it is to be.
-fn ask_one(place: &mut Option<Client>, room: &mut [u8]) -> Asked
+fn ask_one(place: &mut Option<Client>, room: &mut [u8]) -> ClientRequest
     ensures { Answers result place.old place.new room.new }
 {
     let Some(client) = place else {
-        return Asked::Nothing;
+        return ClientRequest::Nothing;
     };
     let asked = client.ask(room);
-    if let Asked::Gone = asked {
+    if let ClientRequest::Gone = asked {
         *place = None;
     }
     asked
 }
 
 // Asks the client at the place of this number, and none else.
-fn ask_at(places: &mut [Option<Client>; 8], place: usize, room: &mut [u8]) -> Asked
+fn ask_at(places: &mut [Option<Client>; 8], place: usize, room: &mut [u8]) -> ClientRequest
     requires { place < 8 }
     ensures answers { Answers result (at places.old place) (at places.new place) room.new }
     ensures others { OnlyAt place places.old places.new }
@@ -320,21 +320,21 @@ impl Clients {
     }
 
     /// The next record of a client. They are asked in turn, from behind the one whose record was the last.
-    pub fn ask(&mut self, room: &mut [u8]) -> Asked
+    pub fn ask(&mut self, room: &mut [u8]) -> ClientRequest
         ensures { Asks result self.old.places self.new.places self.new.asker room.new }
     {
         for turn in 0..MOST_CLIENTS {
             let place = (self.next % MOST_CLIENTS + turn) % MOST_CLIENTS;
             match ask_at(&mut self.places, place, room) {
-                Asked::Command(n) => {
+                ClientRequest::Command(n) => {
                     self.asker = Some(place);
                     self.next = place + 1;
-                    return Asked::Command(n);
+                    return ClientRequest::Command(n);
                 }
-                Asked::End => return Asked::End,
-                Asked::Nothing | Asked::Gone => {}
+                ClientRequest::End => return ClientRequest::End,
+                ClientRequest::Nothing | ClientRequest::Gone => {}
             }
         }
-        Asked::Nothing
+        ClientRequest::Nothing
     }
 }

@@ -23,7 +23,7 @@ pub struct DeviceFault;
 
 /// What a read of a device came to.
 #[derive(Clone, Copy, Debug, PartialEq, Eq)]
-pub enum Taken {
+pub enum DeviceRead {
     /// Octets, so many.
     Octets(usize),
     /// No octet has come yet.
@@ -56,14 +56,14 @@ pub trait Incoming {
     ghost is_idle: { Self → Bool } = { λ _. true };
 
     /// Takes octets of the trunk that have come, to the front of `room`. It never waits for them.
-    fn read(&mut self, room: &mut [u8]) -> Result<Taken, DeviceFault>
+    fn read(&mut self, room: &mut [u8]) -> Result<DeviceRead, DeviceFault>
         requires { 0 < length room.old }
         ensures bound { IfOk result (λ t. IsTaken t (length room.new)) }
         ensures came { came self.new ≡ came self.old ++ octets_taken result room.new }
         ensures asked { asked self.new ≡ asked self.old }
         ensures turn { IfOk result (λ t. WasRead t → is_turn self.new ≡ true) }
-        ensures empty { IfOk result (λ t. t ≡ Taken.NoneNow → is_empty self.new ≡ true) }
-        ensures ended { IfOk result (λ t. t ≡ Taken.Ended → has_ended self.new) };
+        ensures empty { IfOk result (λ t. t ≡ DeviceRead.NoneNow → is_empty self.new ≡ true) }
+        ensures ended { IfOk result (λ t. t ≡ DeviceRead.Ended → has_ended self.new) };
 
     /// Takes the next record of a client to the front of `room`, and returns its length; None if no client
     /// has a whole one. Each record of a client comes behind a read of the trunk. It never waits.
@@ -180,14 +180,14 @@ impl<R: Read> Incoming for FromDevice<R> {
 
     ghost asked = { λ _. [] };
 
-    fn read(&mut self, room: &mut [u8]) -> Result<Taken, DeviceFault> {
+    fn read(&mut self, room: &mut [u8]) -> Result<DeviceRead, DeviceFault> {
         match self.reader.read(room) {
-            Ok(0) => Ok(Taken::Ended),
+            Ok(0) => Ok(DeviceRead::Ended),
             Ok(n) => {
                 self.log.append(room, n);
-                Ok(Taken::Octets(n))
+                Ok(DeviceRead::Octets(n))
             }
-            Err(error) if is_for_later(&error) => Ok(Taken::NoneNow),
+            Err(error) if is_for_later(&error) => Ok(DeviceRead::NoneNow),
             Err(_) => Err(DeviceFault),
         }
     }

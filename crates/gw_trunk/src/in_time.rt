@@ -23,7 +23,7 @@ type Held = ArrayVec<u8, 512>;
 
 /// Where the octets of a trunk stand in their multiframe.
 #[derive(Clone, Copy, Debug, PartialEq, Eq)]
-struct Course {
+struct MultiframePosition {
     /// The place of the next octet, 0 to 511.
     place: usize,
     /// Whether this multiframe is discarded.
@@ -33,18 +33,18 @@ struct Course {
 }
 
 // The course after so many octets of the multiframe.
-fn course_after(course: Course, n: usize) -> Course
+fn course_after(course: MultiframePosition, n: usize) -> MultiframePosition
     requires { course.place + n ≤ 512 }
     ensures { result ≡ course_after course n }
 {
     if course.place + n == MULTIFRAME_LEN {
-        return Course {
+        return MultiframePosition {
             place: 0,
             discards: false,
             discarded: course.discarded,
         };
     }
-    Course {
+    MultiframePosition {
         place: course.place + n,
         discards: course.discards,
         discarded: course.discarded,
@@ -52,10 +52,10 @@ fn course_after(course: Course, n: usize) -> Course
 }
 
 // The course if this multiframe is discarded.
-fn course_discarding(course: Course) -> Course
+fn course_discarding(course: MultiframePosition) -> MultiframePosition
     ensures { result ≡ course_discarding course }
 {
-    Course {
+    MultiframePosition {
         place: course.place,
         discards: true,
         discarded: course.discarded.saturating_add(1),
@@ -137,7 +137,7 @@ fn give_behind<O: Outgoing>(
 
 // Takes all of these octets of the current multiframe while the device is slow. They are held if the
 // multiframe has begun to go; otherwise it is discarded.
-fn take_slow(held: &mut Held, course: &mut Course, octets: &[u8])
+fn take_slow(held: &mut Held, course: &mut MultiframePosition, octets: &[u8])
     requires fits { course.old.place + length octets.now ≤ 512 }
     requires below { course.old.place < 512 }
     requires goes { course.old.discards ≡ false }
@@ -158,7 +158,7 @@ fn take_slow(held: &mut Held, course: &mut Course, octets: &[u8])
 fn pass<O: Outgoing>(
     outgoing: &mut O,
     held: &mut Held,
-    course: &mut Course,
+    course: &mut MultiframePosition,
     octets: &[u8],
 ) -> Result<usize, DeviceFault>
     requires fits { course.old.place + length octets.now ≤ 512 }
@@ -197,7 +197,7 @@ pub struct InTime<O: Outgoing, E> {
     // Where the first discarded multiframe is reported.
     notes: E,
     held: Held,
-    course: Course,
+    course: MultiframePosition,
     log: Log,
     ghost thinned: { ∥ IsThinned course log.octets (O.went outgoing ++ held.items) ∥₁ },
     ghost below: { course.place < 512 },
@@ -215,7 +215,7 @@ impl<O: Outgoing, E: Write> InTime<O, E> {
             outgoing,
             notes,
             held: ArrayVec::new(),
-            course: Course {
+            course: MultiframePosition {
                 place: 0,
                 discards: false,
                 discarded: 0,

@@ -13,7 +13,7 @@ mod source;
 mod waiting;
 mod with_clients;
 
-pub use device::{DeviceFault, FromDevice, Incoming, NoClients, Outgoing, Taken, ToDevice};
+pub use device::{DeviceFault, DeviceRead, FromDevice, Incoming, NoClients, Outgoing, ToDevice};
 pub use door::open_door;
 pub use in_time::InTime;
 pub use serving::serve_trunk;

@@ -3,7 +3,7 @@
 ghost use Rattle.std.specs.Prelude.{◌≡◌, List, [], IfOk, IfErr};
 ghost use Rattle.gw_switch.specs.declared.GatewayConfig.{GatewayConfig};
 ghost use Rattle.gw_switch.specs.Events.{Event};
-ghost use Rattle.gw_switch.specs.Standing.{Stands};
+ghost use Rattle.gw_switch.specs.Standing.{HasHistory};
 ghost use Rattle.gw_session.specs.Serve.{ServesAll, ServesUntil, around};
 ghost use Rattle.gw_trunk.specs.Serving.{Carried, traffic};
 
@@ -46,7 +46,7 @@ pub fn serve_trunk<I: Incoming, O: Outgoing, A: Outgoing, P: Ports, T: Tape>(
         (around (⟦<TrunkSource<I> as Source>⟧.tells source.new) (⟦<TrunkSink<O, A> as Sink>⟧.tells sink.new)
         (P.tells ports.new) (T.tells tape.new))
         gateway.old gateway.new) }
-    ensures carries { (config : GatewayConfig) (before : List Event) → Stands config gateway.old before
+    ensures carries { (config : GatewayConfig) (before : List Event) → HasHistory config gateway.old before
         → ∥ Carried config before gateway.new (T.tells tape.old) (T.tells tape.new)
         (traffic (I.came source.new.incoming) (I.asked source.new.incoming)
         (O.went sink.new.outgoing) (A.went sink.new.answers)) result ∥₁ }

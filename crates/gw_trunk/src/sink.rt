@@ -9,7 +9,7 @@ use gw_records::{Log, Sink, SinkFault, TRUNK};
 
 /// Where in a record the next octet stands. A place behind the kind says whether the body goes to the trunk.
 #[derive(Clone, Copy, Debug, PartialEq, Eq)]
-enum Place {
+enum RecordPosition {
     /// The kind.
     Kind,
     /// The circuit.
@@ -29,56 +29,56 @@ pub struct TrunkSink<O: Outgoing, A: Outgoing> {
     outgoing: O,
     answers: A,
     failed: u64,
-    place: Place,
+    place: RecordPosition,
     log: Log,
     ghost passed: { HasPassed place log.octets (O.went outgoing) (A.went answers) },
 }
 
 // Where a body of so many octets begins.
-fn body_place(to_trunk: bool, len: usize) -> Place
+fn body_place(to_trunk: bool, len: usize) -> RecordPosition
     ensures { result ≡ body_place to_trunk len }
 {
     if len == 0 {
-        return Place::Kind;
+        return RecordPosition::Kind;
     }
-    Place::Body(to_trunk, len - 1)
+    RecordPosition::Body(to_trunk, len - 1)
 }
 
 // The place after an octet.
-fn place_next(place: Place, octet: u8) -> Place
+fn place_next(place: RecordPosition, octet: u8) -> RecordPosition
     ensures { result ≡ place_next place octet }
 {
     match place {
-        Place::Kind => Place::Circuit(octet == TRUNK),
-        Place::Circuit(to_trunk) => Place::High(to_trunk),
-        Place::High(to_trunk) => Place::Low(to_trunk, octet),
-        Place::Low(to_trunk, high) => {
+        RecordPosition::Kind => RecordPosition::Circuit(octet == TRUNK),
+        RecordPosition::Circuit(to_trunk) => RecordPosition::High(to_trunk),
+        RecordPosition::High(to_trunk) => RecordPosition::Low(to_trunk, octet),
+        RecordPosition::Low(to_trunk, high) => {
             body_place(to_trunk, usize::from(high) * 256 + usize::from(octet))
         }
-        Place::Body(to_trunk, more) => body_place(to_trunk, more),
+        RecordPosition::Body(to_trunk, more) => body_place(to_trunk, more),
     }
 }
 
 // Where a body goes on after so many octets of it.
-fn body_after(to_trunk: bool, more: usize, n: usize) -> Place
+fn body_after(to_trunk: bool, more: usize, n: usize) -> RecordPosition
     ensures { result ≡ body_after to_trunk more n }
 {
     if more < n {
-        return Place::Kind;
+        return RecordPosition::Kind;
     }
-    Place::Body(to_trunk, more - n)
+    RecordPosition::Body(to_trunk, more - n)
 }
 
 // Whether an octet is of a record that is no T record.
-fn is_answer(place: Place, octet: u8) -> bool
+fn is_answer(place: RecordPosition, octet: u8) -> bool
     ensures { result ≡ is_answer place octet }
 {
     match place {
-        Place::Kind => octet != TRUNK,
-        Place::Circuit(to_trunk) => !to_trunk,
-        Place::High(to_trunk) => !to_trunk,
-        Place::Low(to_trunk, _) => !to_trunk,
-        Place::Body(to_trunk, _) => !to_trunk,
+        RecordPosition::Kind => octet != TRUNK,
+        RecordPosition::Circuit(to_trunk) => !to_trunk,
+        RecordPosition::High(to_trunk) => !to_trunk,
+        RecordPosition::Low(to_trunk, _) => !to_trunk,
+        RecordPosition::Body(to_trunk, _) => !to_trunk,
     }
 }
 
@@ -99,7 +99,11 @@ fn put_out<O: Outgoing>(outgoing: &mut O, octets: &[u8]) -> Result<usize, SinkFa
 }
 
 // Takes the first octet of these, which is of the front of a record: that of an answer goes to clients.
-fn put_front<A: Outgoing>(answers: &mut A, place: Place, octets: &[u8]) -> Result<usize, SinkFault>
+fn put_front<A: Outgoing>(
+    answers: &mut A,
+    place: RecordPosition,
+    octets: &[u8],
+) -> Result<usize, SinkFault>
     requires { 0 < length octets.now }
     ensures bound { IfOk result (λ n. n ≤ 1) }
     ensures told { IfOk result (λ n. A.went answers.new ≡ A.went answers.old
@@ -137,7 +141,7 @@ fn put_body<O: Outgoing, A: Outgoing>(
 fn pass<O: Outgoing, A: Outgoing>(
     outgoing: &mut O,
     answers: &mut A,
-    place: &mut Place,
+    place: &mut RecordPosition,
     octets: &[u8],
 ) -> Result<usize, SinkFault>
     ensures bound { IfOk result (λ n. n ≤ length octets.now) }
@@ -151,7 +155,7 @@ fn pass<O: Outgoing, A: Outgoing>(
     let Some(octet) = octets.first() else {
         return Ok(0);
     };
-    let Place::Body(to_trunk, more) = *place else {
+    let RecordPosition::Body(to_trunk, more) = *place else {
         let n = put_front(answers, *place, octets)?;
         if n > 0 {
             *place = place_next(*place, *octet);
@@ -178,7 +182,7 @@ impl<O: Outgoing, A: Outgoing> TrunkSink<O, A> {
             outgoing,
             answers,
             failed: 0,
-            place: Place::Kind,
+            place: RecordPosition::Kind,
             log: Log::new(),
         }
     }

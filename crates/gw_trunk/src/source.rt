@@ -5,7 +5,7 @@ ghost use Rattle.std.specs.Prelude.{Some, None, true, false};
 ghost use Rattle.byteorder.specs.Endian.{big_bytes};
 ghost use Rattle.gw_trunk.specs.Pieces.{GivesWoven, ReadsRecord, AsksRecord};
 
-use crate::device::{Incoming, Taken};
+use crate::device::{DeviceRead, Incoming};
 use byteorder::{BigEndian, ByteOrder};
 use gw_records::{FRONT_LEN, Log, Source, SourceFault, TRUNK};
 
@@ -77,16 +77,16 @@ fn next_record<I: Incoming>(
     }
     for _turn in 0..u64::MAX {
         match incoming.read(&mut room[FRONT_LEN..most]) {
-            Ok(Taken::Octets(n)) => {
+            Ok(DeviceRead::Octets(n)) => {
                 room[..FRONT_LEN].copy_from_slice(&front_of(n));
                 *turn = true;
                 return Ok(FRONT_LEN + n);
             }
-            Ok(Taken::NoneNow) => match incoming.command(room) {
+            Ok(DeviceRead::NoneNow) => match incoming.command(room) {
                 Some(n) => return Ok(n),
                 None => incoming.wait(),
             },
-            Ok(Taken::Ended) => return Ok(0),
+            Ok(DeviceRead::Ended) => return Ok(0),
             Err(_) => return Err(SourceFault),
         }
     }

@@ -4,9 +4,9 @@ ghost use Rattle.std.specs.Prelude.{◌≡◌, ◌||◌, ◌&&◌, [], true, IfO
 ghost use Rattle.std.specs.List.{list_all};
 ghost use Rattle.gw_trunk.specs.Clients.{is_quiet};
 
-use crate::client::Asked;
+use crate::client::ClientRequest;
 use crate::clients::Clients;
-use crate::device::{DeviceFault, Incoming, Taken, ToDevice, is_for_later};
+use crate::device::{DeviceFault, DeviceRead, Incoming, ToDevice, is_for_later};
 use crate::door::open_door;
 use gw_records::Log;
 use mio::net::{UnixListener, UnixStream};
@@ -104,28 +104,28 @@ impl<R: Read> Incoming for WithClients<R> {
 
     ghost is_idle = { λ d. d.ended || d.empty && list_all is_quiet d.clients.places };
 
-    fn read(&mut self, room: &mut [u8]) -> Result<Taken, DeviceFault> {
+    fn read(&mut self, room: &mut [u8]) -> Result<DeviceRead, DeviceFault> {
         self.clients.give_answer();
         if self.ended {
-            return Ok(Taken::Ended);
+            return Ok(DeviceRead::Ended);
         }
         if !self.clients.can_read() {
             self.note(true, true, false);
-            return Ok(Taken::NoneNow);
+            return Ok(DeviceRead::NoneNow);
         }
         match self.reader.read(room) {
             Ok(0) => {
                 self.note(true, false, true);
-                Ok(Taken::Ended)
+                Ok(DeviceRead::Ended)
             }
             Ok(n) => {
                 self.note(true, false, false);
                 self.log.append(room, n);
-                Ok(Taken::Octets(n))
+                Ok(DeviceRead::Octets(n))
             }
             Err(error) if is_for_later(&error) => {
                 self.note(true, true, false);
-                Ok(Taken::NoneNow)
+                Ok(DeviceRead::NoneNow)
             }
             Err(_) => Err(DeviceFault),
         }
@@ -138,16 +138,16 @@ impl<R: Read> Incoming for WithClients<R> {
         }
         self.clients.let_in();
         match self.clients.ask(room) {
-            Asked::Command(n) => {
+            ClientRequest::Command(n) => {
                 self.turn = false;
                 self.asked.append(room, n);
                 Some(n)
             }
-            Asked::End => {
+            ClientRequest::End => {
                 self.ended = true;
                 None
             }
-            Asked::Nothing | Asked::Gone => None,
+            ClientRequest::Nothing | ClientRequest::Gone => None,
         }
     }
 

@@ -7,14 +7,13 @@ use Rattle.std.proofs.Math.ListN.{get_or-eq_default}
 use Rattle.std.specs.Prelude.{nat_lt, slice_index_or}
 use Rattle.gw_config.specs.declared.config.Port.{Port}
 use Rattle.gw_records.specs.declared.ports.PortFault.{PortFault}
-use Rattle.gw_records.specs.Ports.{PortCall}
-use Rattle.gw_records.specs.Ports.{receive_call, send_call}
+use Rattle.gw_records.specs.Ports.{PortCall, receive_call, send_call}
 use Rattle.gw_udp.specs.Names.{LookUp}
 use Rattle.gw_udp.specs.Socket.{Bound, Received, Sent}
 use Rattle.gw_udp.specs.Udp.{IsEndpoint, HasEndpoints, KeepsOthers, EndpointReceives, EndpointSends}
 use Rattle.gw_udp.specs.Calls.{circuit_of, HasCalledOne, HasCalled, HasMadeAll, calls_for, IsBoundTo, AreBound}
 use Rattle.gw_udp.specs.Calls.{EachHasItsSocket}
-use Rattle.gw_udp.specs.declared.senders.Senders.{Senders}
+use Rattle.gw_udp.specs.declared.source_filter.SourceFilter.{SourceFilter}
 use Rattle.gw_udp.specs.declared.udp.Endpoint.{Endpoint}
 
 -- calls were made at the sockets, and then one more
@@ -51,7 +50,7 @@ send_called receives sends circuit old new datagram (Err fault) some own others 
     record { some = some; own = λ d. (fault, own d); others = others }
 
 -- the socket of a circuit's own ports is bound to its address
-bound_to : {S : Type 0} (is_bound : Bound S) (looks_up : LookUp) (host : List ℕ) (senders : Senders)
+bound_to : {S : Type 0} (is_bound : Bound S) (looks_up : LookUp) (host : List ℕ) (senders : SourceFilter)
     (port : Option Port) (e : Option (Endpoint S)) → IsEndpoint is_bound looks_up host senders port e
     → IsBoundTo is_bound e
 bound_to is_bound looks_up host senders port None is = tt
@@ -59,7 +58,7 @@ bound_to is_bound looks_up host senders None (Some e) is = absurd is
 bound_to is_bound looks_up host senders (Some port) (Some e) is = is.bound
 
 -- sockets that were opened for ports are bound to their addresses
-pub are_bound : {S : Type 0} (is_bound : Bound S) (looks_up : LookUp) (host : List ℕ) (senders : Senders)
+pub are_bound : {S : Type 0} (is_bound : Bound S) (looks_up : LookUp) (host : List ℕ) (senders : SourceFilter)
     (ports : List (Option Port)) (endpoints : List (Option (Endpoint S))) (n : ℕ) → length endpoints ≡ n
     → HasEndpoints is_bound looks_up host senders ports endpoints n → AreBound is_bound endpoints
 are_bound is_bound looks_up host senders ports endpoints n len has = λ i. go i (nat_lt i n) refl

@@ -7,7 +7,7 @@ use Rattle.std.proofs.Math.Seq.{get_or-append_seam}
 use Rattle.std.specs.Prelude.{IsSomeAnd, slice_index_or}
 use Rattle.std.specs.declared.io.ErrorKind as kinds
 use Rattle.gw_config.specs.declared.config.Port.{Port}
-use Rattle.gw_udp.specs.declared.senders.Senders.{Senders}
+use Rattle.gw_udp.specs.declared.source_filter.SourceFilter.{SourceFilter}
 use Rattle.gw_udp.specs.Opening.{Blames, IsFaultOf, LacksSocket, FailsToOpen}
 use Rattle.gw_udp.specs.Names.{LookUp}
 use Rattle.gw_udp.specs.Socket.{Bound, Refused}
@@ -30,7 +30,7 @@ fault_of_call circuit kind why (faults.Socket c) is since = (is.0, since)
 
 -- a fault of a circuit behind circuits that have their sockets is that of the first one without
 pub first_without : {S : Type 0} (is_bound : Bound S) (refuses : Refused) (looks_up : LookUp)
-    (host : List ℕ) (senders : Senders) (ports : List (Option Port)) (earlier : List (Option (Endpoint S)))
+    (host : List ℕ) (senders : SourceFilter) (ports : List (Option Port)) (earlier : List (Option (Endpoint S)))
     (circuit : ℕ) (f : OpenFault)
     → 1 ≤ circuit → circuit ≤ 30 → HasEndpoints is_bound looks_up host senders ports earlier (circuit - 1)
     → IsFaultOf circuit ((d : Option Port)
@@ -41,7 +41,7 @@ first_without is_bound refuses looks_up host senders ports earlier circuit (faul
     rw is.0 (record { least = least; most = most; earlier = earlier; opened = opened; lacks = is.1 })
 
 -- if the first circuits have the sockets of their own ports, and so does the next one, one more has
-pub one_more : {S : Type 0} (is_bound : Bound S) (looks_up : LookUp) (host : List ℕ) (senders : Senders)
+pub one_more : {S : Type 0} (is_bound : Bound S) (looks_up : LookUp) (host : List ℕ) (senders : SourceFilter)
     (ports : List (Option Port)) (endpoints : List (Option (Endpoint S))) (port : Option Port)
     (e : Option (Endpoint S)) (n : ℕ)
     → length endpoints ≡ n → ((d : Option Port) → slice_index_or ports n d ≡ port)

@@ -4,7 +4,7 @@ use Rattle.std.specs.Prelude.{⊤}
 use Rattle.std.specs.declared.net.socket_addr.SocketAddr.TheVariants.{V4}
 use Rattle.std.specs.declared.net.socket_addr.SocketAddr.{SocketAddr}
 use Rattle.gw_records.specs.declared.ports.PortFault.{PortFault}
-use Rattle.gw_udp.specs.declared.senders.Senders.TheVariants.{Any}
+use Rattle.gw_udp.specs.declared.source_filter.SourceFilter.TheVariants.{Any}
 use Rattle.gw_udp.specs.Socket.{Received, ReceivesAny}
 use Rattle.gw_udp.specs.Udp.{ReceivesFrom}
 

@@ -1,4 +1,4 @@
-pub mod Senders
+pub mod SourceFilter
 pub mod Socket
 pub mod Names
 pub mod Udp

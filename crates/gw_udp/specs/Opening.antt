@@ -8,7 +8,7 @@ use Rattle.std.specs.declared.net.socket_addr.SocketAddr.{SocketAddr}
 use Rattle.std.specs.Net.Addr.{is_ipv4}
 use Rattle.std.specs.Net.Socket.{socket_ip}
 use Rattle.gw_config.specs.declared.config.Port.{Port}
-use Rattle.gw_udp.specs.declared.senders.Senders.{Senders}
+use Rattle.gw_udp.specs.declared.source_filter.SourceFilter.{SourceFilter}
 use Rattle.gw_udp.specs.Names.{LookUp, IsAddressOf, LacksAddress}
 use Rattle.gw_udp.specs.Socket.{Bound, Refused}
 use Rattle.gw_udp.specs.Udp.{HasEndpoints}
@@ -52,7 +52,7 @@ IsFaultOf circuit why (faults.Socket c) = (c ≡ circuit) × why
 
 -- the first circuit with ports that has no socket: all before it have theirs
 pub record IsFirstWithout {S : Type 0} (is_bound : Bound S) (refuses : Refused) (looks_up : LookUp)
-    (host : List ℕ) (senders : Senders) (ports : List (Option Port)) (circuit : ℕ) : Type 0 where
+    (host : List ℕ) (senders : SourceFilter) (ports : List (Option Port)) (circuit : ℕ) : Type 0 where
   pub least : 1 ≤ circuit
   pub most : circuit ≤ 30
   pub earlier : List (Option (Endpoint S))
@@ -61,7 +61,8 @@ pub record IsFirstWithout {S : Type 0} (is_bound : Bound S) (refuses : Refused) 
       → IsSomeAnd (slice_index_or ports (circuit - 1) d) (LacksSocket refuses looks_up host)
 
 -- the sockets cannot be opened for this reason: memory was refused, or this is the first circuit without one
-abbrev pub FailsToOpen : {S : Type 0} → Bound S → Refused → LookUp → List ℕ → Senders → List (Option Port)
+abbrev pub FailsToOpen : {S : Type 0} → Bound S → Refused → LookUp → List ℕ → SourceFilter
+    → List (Option Port)
     → OpenFault → Type 0
 FailsToOpen is_bound refuses looks_up host senders ports faults.OutOfMemory = ⊤
 FailsToOpen is_bound refuses looks_up host senders ports (faults.Socket circuit) =

@@ -8,15 +8,15 @@ use Rattle.gw_config.specs.declared.config.Port.{Port}
 use Rattle.gw_records.specs.declared.ports.PortFault.{PortFault}
 use Rattle.gw_records.specs.Ports.{PortsState, PortCall, Addresses, given_by_call, taken_by_call}
 use Rattle.gw_udp.specs.Names.{LookUp, IsAddressOf}
-use Rattle.gw_udp.specs.Senders.{IsLetIn}
+use Rattle.gw_udp.specs.SourceFilter.{IsLetIn}
 use Rattle.gw_udp.specs.Socket.{Bound, Received, Sent}
-use Rattle.gw_udp.specs.declared.senders.Senders.{Senders}
+use Rattle.gw_udp.specs.declared.source_filter.SourceFilter.{SourceFilter}
 use Rattle.gw_udp.specs.declared.udp.Endpoint.{Endpoint}
 
 -- the socket is bound to the host at the circuit's local port, its datagrams go to the circuit's peer, and
 -- both addresses are of one family
 pub record IsEndpointOf {S : Type 0} (is_bound : Bound S) (looks_up : LookUp) (host : List ℕ)
-    (senders : Senders) (port : Port) (e : Endpoint S) : Type 0 where
+    (senders : SourceFilter) (port : Port) (e : Endpoint S) : Type 0 where
   pub bound : is_bound e.socket e.here.value
   pub here_is : IsAddressOf looks_up host port.local_port e.here.value
   pub senders_are : e.senders ≡ senders
@@ -24,7 +24,7 @@ pub record IsEndpointOf {S : Type 0} (is_bound : Bound S) (looks_up : LookUp) (h
   pub one_family : is_ipv4 (socket_ip e.here.value) ≡ is_ipv4 (socket_ip e.peer)
 
 -- there is a socket exactly if there are ports, and it is theirs
-abbrev pub IsEndpoint : {S : Type 0} → Bound S → LookUp → List ℕ → Senders → Option Port
+abbrev pub IsEndpoint : {S : Type 0} → Bound S → LookUp → List ℕ → SourceFilter → Option Port
     → Option (Endpoint S) → Type 0
 IsEndpoint is_bound looks_up host senders None None = ⊤
 IsEndpoint is_bound looks_up host senders None (Some e) = ⊥
@@ -33,7 +33,7 @@ IsEndpoint is_bound looks_up host senders (Some port) (Some e) =
     IsEndpointOf is_bound looks_up host senders port e
 
 -- each of the first so many circuits has the socket of its own ports
-abbrev pub HasEndpoints : {S : Type 0} → Bound S → LookUp → List ℕ → Senders → List (Option Port)
+abbrev pub HasEndpoints : {S : Type 0} → Bound S → LookUp → List ℕ → SourceFilter → List (Option Port)
     → List (Option (Endpoint S)) → ℕ → Type 0
 HasEndpoints {S} is_bound looks_up host senders ports endpoints n =
     (i : ℕ) (d : Option Port) (e : Option (Endpoint S)) → i < n
@@ -70,7 +70,7 @@ EndsWith receives accepted n old new (Ok None) room =
 EndsWith receives accepted n old new (Err e) room = receives old new (Err e) room
 
 -- a receive discarded strangers' datagrams and gave what came then
-pub record ReceivesFrom {S : Type 0} (receives : Received S) (senders : Senders) (peer : SocketAddr)
+pub record ReceivesFrom {S : Type 0} (receives : Received S) (senders : SourceFilter) (peer : SocketAddr)
     (old new : S) (r : Result (Option ℕ) PortFault) (room : List ℕ) : Type 0 where
   pub skipped : ℕ
   pub few : skipped ≤ 16

@@ -7,14 +7,14 @@ mod names;
 mod outcome;
 mod readiness;
 mod resting;
-mod senders;
 mod socket;
 mod sockets;
+mod source_filter;
 mod udp;
 
 pub use names::NameLookup;
 pub use resting::Resting;
-pub use senders::Senders;
 pub use socket::Socket;
 pub use sockets::open_sockets;
+pub use source_filter::SourceFilter;
 pub use udp::{OpenFault, UdpPorts};

@@ -6,8 +6,8 @@ ghost use Rattle.gw_udp.specs.Opening.{FailsToOpen};
 ghost use Rattle.gw_udp.specs.Udp.{HasEndpoints};
 ghost use Rattle.gw_udp.specs.Calls.{IsFresh};
 
-use crate::senders::Senders;
 use crate::socket::Socket;
+use crate::source_filter::SourceFilter;
 use crate::udp::{OpenFault, UdpPorts};
 use gw_config::Config;
 use std::alloc::Global;
@@ -18,7 +18,7 @@ pub fn open_sockets<S: Socket>(
     net: &impl Net,
     alloc: Global,
     config: &Config,
-    senders: Senders,
+    senders: SourceFilter,
 ) -> Result<UdpPorts<S>, OpenFault>
     ensures ok { IfOk result (λ opened. HasEndpoints S.is_bound SystemLooksUp (string_bytes config.now.host)
         senders config.now.ports opened.endpoints.items 30) }

@@ -13,8 +13,8 @@ ghost use Rattle.gw_udp.specs.Calls.{HasCalled, AreBound, IsFresh};
 
 use crate::names::NameLookup;
 use crate::readiness::Readiness;
-use crate::senders::Senders;
 use crate::socket::Socket;
+use crate::source_filter::SourceFilter;
 use g704_cas::CircuitNo;
 use gw_config::Port;
 use gw_records::{AtStart, Log, PortFault, Ports};
@@ -43,7 +43,7 @@ pub struct Endpoint<S> {
     socket: S,
     here: AtStart<SocketAddr>,
     peer: SocketAddr,
-    senders: Senders,
+    senders: SourceFilter,
 }
 
 /// A socket for each circuit that has ports.
@@ -104,7 +104,7 @@ fn open_endpoint<S: Socket, L: NameLookup>(
     circuit: u8,
     host: &str,
     port: &Port,
-    senders: Senders,
+    senders: SourceFilter,
 ) -> Result<Endpoint<S>, OpenFault>
     ensures ok { IfOk result (IsEndpointOf S.is_bound (L.looks_up names.now) host.now senders port.now) }
     ensures err { IfErr result (IsFaultOf circuit
@@ -120,7 +120,7 @@ fn open_endpoint<S: Socket, L: NameLookup>(
         Ok(socket) => socket,
         Err(error) => return Err(fault_of(circuit, &error)),
     };
-    if let Senders::Peer = senders {
+    if let SourceFilter::Peer = senders {
         // The system discards strangers' datagrams at less cost; if it does not, each receive does.
         let _ = socket.connect(peer);
     }
@@ -141,7 +141,7 @@ fn endpoint_of<S: Socket, L: NameLookup>(
     circuit: u8,
     host: &str,
     port: &Option<Port>,
-    senders: Senders,
+    senders: SourceFilter,
 ) -> Result<Option<Endpoint<S>>, OpenFault>
     ensures ok { IfOk result (IsEndpoint S.is_bound (L.looks_up names.now) host.now senders port.now) }
     ensures err { IfErr result (IsFaultOf circuit
@@ -158,9 +158,9 @@ fn endpoint_of<S: Socket, L: NameLookup>(
 // Discards at most MOST_STRANGERS others, then returns none, so a flood cannot stall the turn. (It is apart
 // from the plain receive, which reads no address.)
 #[inline(never)]
-fn receive_let_in<S: Socket>(
+fn receive_accepted<S: Socket>(
     socket: &mut S,
-    senders: Senders,
+    senders: SourceFilter,
     peer: &SocketAddr,
     room: &mut [u8],
 ) -> Result<Option<usize>, PortFault>
@@ -170,7 +170,7 @@ fn receive_let_in<S: Socket>(
     for _turn in 0..MOST_STRANGERS {
         match socket.receive(room)? {
             Some((len, from)) => {
-                if senders.let_in(from, *peer) {
+                if senders.accepts(from, *peer) {
                     return Ok(Some(len));
                 }
             }
@@ -184,7 +184,7 @@ fn receive_let_in<S: Socket>(
 #[inline]
 fn receive_from<S: Socket>(
     socket: &mut S,
-    senders: Senders,
+    senders: SourceFilter,
     peer: &SocketAddr,
     room: &mut [u8],
 ) -> Result<Option<usize>, PortFault>
@@ -192,8 +192,8 @@ fn receive_from<S: Socket>(
     ensures received { ReceivesFrom S.receives senders peer.now socket.old socket.new result room.new }
 {
     match senders {
-        Senders::Any => socket.receive_any(room),
-        Senders::Host | Senders::Peer => receive_let_in(socket, senders, peer, room),
+        SourceFilter::Any => socket.receive_any(room),
+        SourceFilter::Host | SourceFilter::Peer => receive_accepted(socket, senders, peer, room),
     }
 }
 
@@ -296,7 +296,7 @@ impl<S: Socket> UdpPorts<S> {
         alloc: Global,
         host: &str,
         ports: &[Option<Port>; 30],
-        senders: Senders,
+        senders: SourceFilter,
     ) -> Result<UdpPorts<S>, OpenFault>
         ensures ok { IfOk result (λ opened.
             HasEndpoints S.is_bound SystemLooksUp host.now senders ports.now opened.endpoints.items 30) }

@@ -1,4 +1,4 @@
-use g704_crc4::{Counts, Multiframer, Tally, TrunkChecker, check, find_multiframe};
+use g704_crc4::{Counts, Multiframer, ReceiverCounts, TrunkChecker, check, find_multiframe};
 use std::process::Abort;
 
 // An octet that comes, at a place of the stream.
@@ -86,7 +86,7 @@ fn imitated(place: usize) -> u8 {
 }
 
 // Nothing is counted.
-const NO_TALLY: Tally = Tally {
+const NO_TALLY: ReceiverCounts = ReceiverCounts {
     submultiframes: 0,
     errored: 0,
     far_end_errored: 0,
@@ -96,7 +96,7 @@ const NO_TALLY: Tally = Tally {
 };
 
 // Eight multiframes of the trunk as they are sent, some bits of some octets turned.
-fn checked(turned: &[(usize, u8)]) -> Tally {
+fn checked(turned: &[(usize, u8)]) -> ReceiverCounts {
     let mut multiframer = Multiframer::new();
     let mut checker = TrunkChecker::new();
     for place in 0..4096usize {
@@ -116,7 +116,7 @@ fn checked(turned: &[(usize, u8)]) -> Tally {
 // at 2560. Six are whole up to octet 4096, and of five the check bits have come.
 #[test]
 fn trunk_is_checked(rt: HostRuntime) {
-    let right = Tally {
+    let right = ReceiverCounts {
         submultiframes: 5,
         found: 1,
         ..NO_TALLY
@@ -126,12 +126,12 @@ fn trunk_is_checked(rt: HostRuntime) {
     // itself a bit error
     assert!(rt;
         checked(&[(3000, 0x10)])
-            == Tally {
+            == ReceiverCounts {
                 errored: 1,
                 ..right
             }
     );
-    let at_both_ends = Tally {
+    let at_both_ends = ReceiverCounts {
         errored: 1,
         far_end_errored: 1,
         ..right
@@ -143,7 +143,7 @@ fn trunk_is_checked(rt: HostRuntime) {
 // submultiframes are whole, and of one the check bits have come.
 #[test]
 fn multiframes_are_lost_with_alignment(rt: HostRuntime) {
-    let lost = Tally {
+    let lost = ReceiverCounts {
         submultiframes: 1,
         found: 1,
         lost: 1,
@@ -165,7 +165,7 @@ fn false_alignment_is_given_up(rt: HostRuntime) {
             checker.octet(octet);
         }
     }
-    let right = Tally {
+    let right = ReceiverCounts {
         submultiframes: 3,
         found: 1,
         ..NO_TALLY

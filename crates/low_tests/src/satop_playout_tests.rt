@@ -1,4 +1,4 @@
-use satop_playout::{ArrivalFault, Fill, SatopPlayout, Settings};
+use satop_playout::{ArrivalFault, Replacement, SatopPlayout, Settings};
 use std::alloc::Global;
 use std::process::Abort;
 use std::test::Fail;
@@ -10,7 +10,12 @@ const SIZE: usize = 256;
 const ONES: u8 = 0xFF;
 
 // A playout of such packets, 125 of which may be waited for; a stream has begun with this number.
-fn begun(rt: &impl Abort, alloc: Global, fill: Fill, first: u16) -> Result<SatopPlayout, Fail> {
+fn begun(
+    rt: &impl Abort,
+    alloc: Global,
+    fill: Replacement,
+    first: u16,
+) -> Result<SatopPlayout, Fail> {
     let settings = Settings::new(SIZE, 125, fill).expect(rt, "settings");
     let mut playout = SatopPlayout::new(alloc, settings)?;
     playout.begin(first);
@@ -39,7 +44,7 @@ fn are_played(rt: &impl Abort, playout: &mut SatopPlayout, octets: &[u8], are_th
 // playout, and nothing else happens.
 #[test]
 fn order_is_restored(rt: HostRuntime) -> Result<(), Fail> {
-    let mut playout = begun(&rt, rt.alloc(), Fill::Again, 65_534)?;
+    let mut playout = begun(&rt, rt.alloc(), Replacement::Again, 65_534)?;
     are_accepted(&rt, &mut playout, &[1, 65_535, 0, 65_534]);
     assert_eq!(rt; playout.reach(), 4);
     are_played(&rt, &mut playout, &[254, 255, 0, 1], true);
@@ -55,7 +60,7 @@ fn order_is_restored(rt: HostRuntime) -> Result<(), Fail> {
 // A lost packet is replaced by that of two packets before; after 8 ms without packets ones are played.
 #[test]
 fn losses_are_filled(rt: HostRuntime) -> Result<(), Fail> {
-    let mut playout = begun(&rt, rt.alloc(), Fill::Again, 10)?;
+    let mut playout = begun(&rt, rt.alloc(), Replacement::Again, 10)?;
     are_played(&rt, &mut playout, &[ONES], false);
     are_accepted(&rt, &mut playout, &[11, 12, 14]);
     are_played(&rt, &mut playout, &[11, 12], true);
@@ -74,7 +79,7 @@ fn losses_are_filled(rt: HostRuntime) -> Result<(), Fail> {
 
 #[test]
 fn losses_are_filled_with_ones(rt: HostRuntime) -> Result<(), Fail> {
-    let mut playout = begun(&rt, rt.alloc(), Fill::Ones, 10)?;
+    let mut playout = begun(&rt, rt.alloc(), Replacement::Ones, 10)?;
     are_accepted(&rt, &mut playout, &[10, 11, 13]);
     are_played(&rt, &mut playout, &[10, 11], true);
     are_played(&rt, &mut playout, &[ONES], false);

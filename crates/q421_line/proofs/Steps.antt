@@ -13,9 +13,8 @@ use Rattle.q421_line.specs.declared.signalling.Line.{Line}
 use Rattle.q421_line.specs.Recognition.{recognised}
 use Rattle.q421_line.specs.Commands.{command_outcome}
 use Rattle.q421_line.specs.Signalling.{Item, signal, command, wait, Signalling, signalling, at_first, with_count}
-use Rattle.q421_line.specs.Signalling.{after_item, after_outcome}
-use Rattle.q421_line.specs.Signalling.{with_heard, next_by, after_count, is_seized}
-use Rattle.q421_line.specs.Line.{HasHeard, Stands}
+use Rattle.q421_line.specs.Signalling.{after_item, after_outcome, with_heard, next_by, after_count, is_seized}
+use Rattle.q421_line.specs.Line.{HasHeard, HasHistory}
 
 -- one item more
 pub signalling-push : (role : Role) (items : List Item) (item : Item)
@@ -52,14 +51,14 @@ most-counted most pairs before after seized_for =
 -- the line has the history with the signal
 pub stands-signal : (old : Line) (role : Role) (items : List Item) (heard : Option ℕ) (recognition : Recognition)
     (next state : State) (seized_for : ℕ)
-    → Stands old role items
+    → HasHistory old role items
     → HasHeard recognition (with_heard (signalling role items).pairs heard)
     → next ≡ next_by old.role old.state recognition.recognised
     → state ≡ (after_count old.released_after (with_heard (signalling role items).pairs heard) old.state next
     old.seized_for).state
     → seized_for ≡ (after_count old.released_after (with_heard (signalling role items).pairs heard) old.state next
     old.seized_for).seized_for
-    → Stands (record old { state = state; seized_for = seized_for; recognition = recognition }) role
+    → HasHistory (record old { state = state; seized_for = seized_for; recognition = recognition }) role
     (items ++ signal heard ∷ [])
 stands-signal old role items heard recognition next state seized_for stands has_heard is_next is_state is_seized_for =
     let before : Signalling = signalling role items in
@@ -92,16 +91,17 @@ stands-signal old role items heard recognition next state seized_for stands has_
     }
 
 -- what a command leads to, by the fields
-outcome-is : (old : Line) (role : Role) (items : List Item) (asked : Cmd) → Stands old role items
+outcome-is : (old : Line) (role : Role) (items : List Item) (asked : Cmd) → HasHistory old role items
     → command_outcome role asked (signalling role items).state ≡ command_outcome old.role asked old.state
 outcome-is old role items asked stands =
     ap (λ s. command_outcome role asked s) (sym stands.state_is)
     ∙ ap (λ r. command_outcome r asked old.state) (sym stands.role_is)
 
 -- the line has the history with an accepted command
-pub stands-obeyed : (old : Line) (role : Role) (items : List Item) (asked : Cmd) (state : State) → Stands old role items
+pub stands-obeyed : (old : Line) (role : Role) (items : List Item) (asked : Cmd) (state : State)
+    → HasHistory old role items
     → Ok state ≡ command_outcome old.role asked old.state
-    → Stands (record old { state = state; seized_for = 0 }) role (items ++ command asked ∷ [])
+    → HasHistory (record old { state = state; seized_for = 0 }) role (items ++ command asked ∷ [])
 stands-obeyed old role items asked state stands is_outcome =
     let before : Signalling = signalling role items in
     let whole : with_count before.released_after before.pairs state 0 ≡ signalling role (items ++ command asked ∷ [])
@@ -117,8 +117,8 @@ stands-obeyed old role items asked state stands is_outcome =
 
 -- the unchanged line has the history with a refused command
 pub stands-refused : (old : Line) (role : Role) (items : List Item) (asked : Cmd) (fault : LineFault)
-    → Stands old role items
-    → Err fault ≡ command_outcome old.role asked old.state → Stands old role (items ++ command asked ∷ [])
+    → HasHistory old role items
+    → Err fault ≡ command_outcome old.role asked old.state → HasHistory old role (items ++ command asked ∷ [])
 stands-refused old role items asked fault stands is_outcome =
     let before : Signalling = signalling role items in
     let whole : before ≡ signalling role (items ++ command asked ∷ [])
@@ -133,8 +133,8 @@ stands-refused old role items asked fault stands is_outcome =
     }
 
 -- the line has the history with the wait
-pub stands-waiting : (old : Line) (role : Role) (items : List Item) (signals : ℕ) → Stands old role items
-    → Stands (record old { released_after = signals }) role (items ++ wait signals ∷ [])
+pub stands-waiting : (old : Line) (role : Role) (items : List Item) (signals : ℕ) → HasHistory old role items
+    → HasHistory (record old { released_after = signals }) role (items ++ wait signals ∷ [])
 stands-waiting old role items signals stands =
     let whole = sym (signalling-push role items (wait signals)) in
     record {

@@ -14,7 +14,7 @@ pub record HasHeard (recognition : Recognition) (pairs : List ℕ) : Type 0 wher
   pub recognised_is : recognition.recognised ≡ recognised pairs
 
 -- A line in this role has this history: its fields are those of its signalling.
-pub record Stands (line : Line) (role : Role) (items : List Item) : Type 0 where
+pub record HasHistory (line : Line) (role : Role) (items : List Item) : Type 0 where
   pub role_is : line.role ≡ role
   pub state_is : line.state ≡ (signalling role items).state
   pub seized_for_is : line.seized_for ≡ (signalling role items).seized_for

@@ -36,7 +36,7 @@ impl Recognition {
     // Takes the received nibble, if any.
     //
     // Without one the known pairs stay as they are.
-    pub(crate) fn hear(&mut self, heard: Option<Nibble>)
+    pub(crate) fn receive(&mut self, heard: Option<Nibble>)
         ensures { (pairs : List ℕ) → HasHeard self.old pairs → HasHeard self.new (with_heard pairs heard) }
     {
         match heard {

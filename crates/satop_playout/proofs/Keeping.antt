@@ -13,11 +13,11 @@ use Rattle.satop_playout.specs.declared.Settings.{Settings}
 use Rattle.satop_playout.specs.declared.playout.SatopPlayout.{SatopPlayout}
 use Rattle.satop_playout.specs.declared.slot.Slot.{Slot}
 use Rattle.satop_playout.specs.Calls.{Call, Begins, Arrives, Plays}
-use Rattle.satop_playout.specs.Fill.{fill_of}
+use Rattle.satop_playout.specs.Replacement.{fill_of}
 use Rattle.satop_playout.specs.Plays.{Placed, Stream, at_first, packet_at, number_after, ahead, refusal}
 use Rattle.satop_playout.specs.Plays.{after_beginning, after_play, due_now, octets_or_fill, octets_now, filled_for}
 use Rattle.satop_playout.specs.Plays.{stream, is_there, play_octets}
-use Rattle.satop_playout.specs.Standing.{Wraps, packet_in, packet_from, packet_of, IsNext, Keeps, Stands}
+use Rattle.satop_playout.specs.Standing.{Wraps, packet_in, packet_from, packet_of, IsNext, Keeps, HasHistory}
 use Rattle.satop_playout.proofs.Placing.{stream-push, with_packet, reach-push, reach-next, placed_at, packet_at-apart}
 use Rattle.satop_playout.proofs.Placing.{after-accepted, after-refused}
 use Rattle.satop_playout.proofs.Turns.{accepted}
@@ -25,9 +25,9 @@ use Rattle.satop_playout.proofs.Rings.{holds-put, holds-next}
 
 -- what holds at the settings of the playout holds at those of its history
 pub at_own : (playout : SatopPlayout) (calls : List Call) (P : Settings → Type 0)
-    → (Stands playout playout.settings calls → P playout.settings) → (settings : Settings)
-    → Stands playout settings calls → P settings
-unfolding Stands
+    → (HasHistory playout playout.settings calls → P playout.settings) → (settings : Settings)
+    → HasHistory playout settings calls → P settings
+unfolding HasHistory
 at_own playout calls P own settings k =
     subst P k.settings_are (own (subst (λ (t : Settings). Keeps playout t (stream t calls)) (sym k.settings_are) k))
 
@@ -213,13 +213,13 @@ keeps-play playout after s slot k settings slots empty moved next reach given fi
 
 -- after a beginning the playout has the longer history
 pub stands-begun : (playout after : SatopPlayout) (settings : Settings) (calls : List Call) (sequence : ℕ)
-    → Stands playout settings calls → after.settings ≡ playout.settings
+    → HasHistory playout settings calls → after.settings ≡ playout.settings
     → length after.slots.items ≡ playout.settings.window → AllEmpty after.slots.items → after.head ≡ playout.head
     → sequence < 2 ^ 16 → after.next ≡ Some sequence → after.reach ≡ 0 → after.given ≡ playout.given
-    → after.filled ≡ playout.filled → Stands after settings (calls ++ Begins sequence ∷ [])
-unfolding Stands
+    → after.filled ≡ playout.filled → HasHistory after settings (calls ++ Begins sequence ∷ [])
+unfolding HasHistory
 stands-begun playout after settings calls sequence k is room empty head fits next reach given filled =
-    at_own playout calls (λ (t : Settings). Stands after t (calls ++ Begins sequence ∷ []))
+    at_own playout calls (λ (t : Settings). HasHistory after t (calls ++ Begins sequence ∷ []))
     (λ own. subst (λ (s : Stream). Keeps after playout.settings s)
     (sym (stream-push playout.settings calls (Begins sequence)))
     (keeps-begun playout after (stream playout.settings calls) sequence own is room empty head fits next reach given
@@ -227,10 +227,10 @@ stands-begun playout after settings calls sequence k is room empty head fits nex
 
 -- .. and after a packet that is refused
 pub stands-refused : (playout : SatopPlayout) (settings : Settings) (calls : List Call) (sequence : ℕ)
-    (octets : List ℕ) (fault : ArrivalFault) → Stands playout settings calls
+    (octets : List ℕ) (fault : ArrivalFault) → HasHistory playout settings calls
     → refusal settings (stream settings calls) sequence octets ≡ Some fault
-    → Stands playout settings (calls ++ Arrives sequence octets ∷ [])
-unfolding Stands
+    → HasHistory playout settings (calls ++ Arrives sequence octets ∷ [])
+unfolding HasHistory
 stands-refused playout settings calls sequence octets fault k why =
     subst (λ (s : Stream). Keeps playout settings s)
     (sym (stream-push settings calls (Arrives sequence octets)
@@ -238,18 +238,18 @@ stands-refused playout settings calls sequence octets fault k why =
 
 -- .. and after one that is accepted and put into its slot
 pub stands-put : (playout after : SatopPlayout) (settings : Settings) (calls : List Call) (sequence : ℕ)
-    (octets : List ℕ) (place p : ℕ) (slot : Slot) → Stands playout settings calls
+    (octets : List ℕ) (place p : ℕ) (slot : Slot) → HasHistory playout settings calls
     → ((s : Stream) → Keeps playout playout.settings s
     → (refusal playout.settings s sequence octets ≡ None) × (place ≡ ahead s sequence))
     → after.settings ≡ playout.settings → after.slots.items ≡ slice_set playout.slots.items p slot
     → after.head ≡ playout.head → after.next ≡ playout.next → after.reach ≡ max playout.reach (place + 1)
     → after.given ≡ playout.given → after.filled ≡ playout.filled → place < playout.settings.window
     → Wraps playout.head place playout.settings.window p → packet_in playout.settings.size slot ≡ Some octets
-    → Stands after settings (calls ++ Arrives sequence octets ∷ [])
-unfolding Stands
+    → HasHistory after settings (calls ++ Arrives sequence octets ∷ [])
+unfolding HasHistory
 stands-put playout after settings calls sequence octets place p slot k told is slots head next reach given full near at
     put =
-    at_own playout calls (λ (t : Settings). Stands after t (calls ++ Arrives sequence octets ∷ []))
+    at_own playout calls (λ (t : Settings). HasHistory after t (calls ++ Arrives sequence octets ∷ []))
     (λ own.
     let s = stream playout.settings calls in
     let why = told s own in
@@ -321,18 +321,18 @@ played-octets playout slot there given filled s p k =
 
 -- what a play answers
 pub there-answer : (playout : SatopPlayout) (settings : Settings) (calls : List Call) (slot : Slot) (there : Bool)
-    (given : List ℕ) (filled : ℕ) → Played playout slot there given filled → Stands playout settings calls
+    (given : List ℕ) (filled : ℕ) → Played playout slot there given filled → HasHistory playout settings calls
     → there ≡ is_there settings calls
-unfolding Stands is_there
+unfolding HasHistory is_there
 there-answer playout settings calls slot there given filled p k =
     at_own playout calls (λ (t : Settings). there ≡ is_there t calls)
     (λ own. played-there playout slot there given filled (stream playout.settings calls) p own) settings k
 
 -- what a play gives
 pub octets-answer : (playout : SatopPlayout) (settings : Settings) (calls : List Call) (slot : Slot) (there : Bool)
-    (given : List ℕ) (filled : ℕ) → Played playout slot there given filled → Stands playout settings calls
+    (given : List ℕ) (filled : ℕ) → Played playout slot there given filled → HasHistory playout settings calls
     → given ≡ play_octets settings calls
-unfolding Stands play_octets
+unfolding HasHistory play_octets
 octets-answer playout settings calls slot there given filled p k =
     at_own playout calls (λ (t : Settings). given ≡ play_octets t calls)
     (λ own. played-octets playout slot there given filled (stream playout.settings calls) p own) settings k
@@ -340,15 +340,15 @@ octets-answer playout settings calls slot there given filled p k =
 -- after a play the playout has the longer history
 pub stands-play : (playout after : SatopPlayout) (settings : Settings) (calls : List Call) (slot emptied : Slot)
     (there : Bool) (given : List ℕ) (filled : ℕ) → Played playout slot there given filled
-    → Stands playout settings calls → after.settings ≡ playout.settings
+    → HasHistory playout settings calls → after.settings ≡ playout.settings
     → after.slots.items ≡ slice_set playout.slots.items playout.head emptied
     → ((size : ℕ) → packet_in size emptied ≡ None) → Wraps playout.head 1 playout.settings.window after.head
     → after.next ≡ number_after playout.next → after.reach ≡ playout.reach - 1
     → after.given ≡ buffer (keep_last playout.given.capacity (playout.given.items ++ given)) playout.given.capacity
-    → after.filled ≡ filled → Stands after settings (calls ++ Plays ∷ [])
-unfolding Stands
+    → after.filled ≡ filled → HasHistory after settings (calls ++ Plays ∷ [])
+unfolding HasHistory
 stands-play playout after settings calls slot emptied there given filled p k is slots empty moved next reach kept full =
-    at_own playout calls (λ (t : Settings). Stands after t (calls ++ Plays ∷ []))
+    at_own playout calls (λ (t : Settings). HasHistory after t (calls ++ Plays ∷ []))
     (λ own.
     let s = stream playout.settings calls in
     let octets = played-octets playout slot there given filled s p own in

@@ -9,7 +9,7 @@ use Rattle.std.proofs.lemmas.List.Sorted.{IsPermutation-map, IsPermutation-appen
 use Rattle.std.proofs.lemmas.List.Sorted.{All-permutation}
 use Rattle.satop_playout.specs.declared.Settings.{Settings}
 use Rattle.satop_playout.specs.Calls.{Call, Begins, Arrives, Plays}
-use Rattle.satop_playout.specs.Fill.{fill_of}
+use Rattle.satop_playout.specs.Replacement.{fill_of}
 use Rattle.satop_playout.specs.Plays.{Placed, Stream, at_first, packet_at, ahead_of, ahead, refusal, after_arrival}
 use Rattle.satop_playout.specs.Plays.{after_beginning, after_play, after_call, octets_or_fill, filled_for, stream}
 use Rattle.satop_playout.specs.Plays.{arrival_answer, given_octets}

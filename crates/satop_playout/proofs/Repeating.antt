@@ -6,7 +6,7 @@ use Rattle.std.proofs.Math.Seq.{set-append_seam}
 use Rattle.std.proofs.lemmas.Bool.{cases_lt}
 use Rattle.std.proofs.lemmas.List.{get_or_append_left, get_or-append-add, get_or-drop}
 use Rattle.circular_buffer.specs.Buffer.{keep_last}
-use Rattle.satop_playout.specs.Fill.{again}
+use Rattle.satop_playout.specs.Replacement.{again}
 
 -- the octet that follows these
 abbrev pub next_again : List ℕ → ℕ

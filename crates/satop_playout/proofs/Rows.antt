@@ -1,10 +1,10 @@
 -- Worked figures, as the definitions compute them.
 use Rattle.std.proofs.Common.{◌≡◌, ℕ, List, [], ◌∷◌, ◌++◌, false, Ok, Err, refl, replicate, slice_index, lit≤}
 use Rattle.satop_playout.specs.declared.ArrivalFault.TheVariants.{OtherSize, NotBegun, Late, TooFar, Repeat}
-use Rattle.satop_playout.specs.declared.Fill.TheVariants.{Again, Ones}
+use Rattle.satop_playout.specs.declared.Replacement.TheVariants.{Again, Ones}
 use Rattle.satop_playout.specs.declared.Settings.{Settings}
 use Rattle.satop_playout.specs.Calls.{Call, Begins, Arrives, Plays}
-use Rattle.satop_playout.specs.Fill.{again, fill_of}
+use Rattle.satop_playout.specs.Replacement.{again, fill_of}
 use Rattle.satop_playout.specs.Plays.{stream, arrival_answer, is_there, given_octets, reach_after}
 
 -- packets of one frame, four of which may be waited for

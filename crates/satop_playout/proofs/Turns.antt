@@ -1,12 +1,11 @@
 -- An accepted packet is played in its turn, and its number is not accepted again.
-use Rattle.std.proofs.Common.{◌≡◌, inl, inr, ℕ, ◌+◌, ◌^◌, ◌≤◌, ◌<◌, Bool, true, false, cond, not}
-use Rattle.std.proofs.Common.{List, [], ◌∷◌, ◌++◌, length, Option, Some, None, is_some, fold, nat_le, ◌==◌}
-use Rattle.std.proofs.Common.{refl, ap, ◌∙◌, arith}
+use Rattle.std.proofs.Common.{◌≡◌, inl, inr, ℕ, ◌+◌, ◌^◌, ◌≤◌, ◌<◌, Bool, true, false, cond, not, List, [], ◌∷◌, ◌++◌}
+use Rattle.std.proofs.Common.{length, Option, Some, None, is_some, fold, nat_le, ◌==◌, refl, ap, ◌∙◌, arith}
 use Rattle.std.proofs.lemmas.Bool.{cases_lt, leb-false}
 use Rattle.std.proofs.lemmas.List.Sums.{fold-append}
 use Rattle.satop_playout.specs.declared.Settings.{Settings}
 use Rattle.satop_playout.specs.Calls.{Call, Begins, Arrives, Plays}
-use Rattle.satop_playout.specs.Fill.{fill_of}
+use Rattle.satop_playout.specs.Replacement.{fill_of}
 use Rattle.satop_playout.specs.Plays.{Stream, at_first, packet_at, ahead_of, ahead, refusal, after_arrival}
 use Rattle.satop_playout.specs.Plays.{after_play, after_call, octets_or_fill, stream, arrival_answer, is_there}
 use Rattle.satop_playout.specs.Plays.{play_octets, given_octets}

@@ -1,5 +1,5 @@
 pub mod Calls
-pub mod Fill
+pub mod Replacement
 pub mod Plays
 pub mod Standing
 pub mod Laws

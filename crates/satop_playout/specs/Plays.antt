@@ -1,14 +1,13 @@
 -- What a playout answers, after the calls since it was new. A stream is what follows the last beginning. Its
 -- packets have places, the first 0; each play is that of the next place, and gives the octets of the accepted
 -- packet that has this place, or those that replace it.
-use Rattle.std.specs.Prelude.{ℕ, suc, ◌+◌, ◌-◌, ◌%◌, ◌^◌, ◌==◌, not, nat_le, max}
-use Rattle.std.specs.Prelude.{if◌then◌else◌, Bool, List, [], ◌∷◌, ◌++◌, length}
-use Rattle.std.specs.Prelude.{Option, Some, None, is_some, Result, fold}
+use Rattle.std.specs.Prelude.{ℕ, suc, ◌+◌, ◌-◌, ◌%◌, ◌^◌, ◌==◌, not, nat_le, max, if◌then◌else◌, Bool, List}
+use Rattle.std.specs.Prelude.{[], ◌∷◌, ◌++◌, length, Option, Some, None, is_some, Result, fold}
 use Rattle.satop_playout.specs.declared.ArrivalFault.{ArrivalFault}
 use Rattle.satop_playout.specs.declared.ArrivalFault.TheVariants.{OtherSize, NotBegun, Late, TooFar, Repeat}
 use Rattle.satop_playout.specs.declared.Settings.{Settings}
 use Rattle.satop_playout.specs.Calls.{Call, Begins, Arrives, Plays, first_fault, answer_for}
-use Rattle.satop_playout.specs.Fill.{fill_of}
+use Rattle.satop_playout.specs.Replacement.{fill_of}
 
 -- an accepted packet: its place in the stream and its octets
 pub record Placed : Type 0 where

@@ -46,5 +46,5 @@ pub record Keeps (playout : SatopPlayout) (settings : Settings) (s : Stream) : T
   pub filled_is : playout.filled ≡ min s.filled 2048
 
 -- the playout has these settings and this history of calls
-unfoldable pub Stands : SatopPlayout → Settings → List Call → Type 0
-Stands playout settings calls = Keeps playout settings (stream settings calls)
+unfoldable pub HasHistory : SatopPlayout → Settings → List Call → Type 0
+HasHistory playout settings calls = Keeps playout settings (stream settings calls)

@@ -2,9 +2,9 @@
 
 ghost use Rattle.std.specs.Prelude.{◌≡◌, ◌≤◌, ℕ, List, length, min, slice_index};
 ghost use Rattle.circular_buffer.specs.Buffer.{keep_last};
-ghost use Rattle.satop_playout.specs.Fill.{again, fill_of};
+ghost use Rattle.satop_playout.specs.Replacement.{again, fill_of};
 
-use crate::Fill;
+use crate::Replacement;
 use circular_buffer::HeapCircularBuffer;
 
 /// The octets of a signalling multiframe (ITU-T G.704, 5.1.3.2).
@@ -14,12 +14,17 @@ pub(crate) const MULTIFRAME: usize = 512;
 pub(crate) const MOST_REPEATED: usize = 2048;
 
 // Fills a packet, after the last multiframe of octets given, of which so many in a row were filled.
-pub(crate) fn replace(fill: Fill, given: &HeapCircularBuffer<u8>, filled: usize, room: &mut [u8])
+pub(crate) fn replace(
+    fill: Replacement,
+    given: &HeapCircularBuffer<u8>,
+    filled: usize,
+    room: &mut [u8],
+)
     requires { length room.old ≤ 1280 }
     ensures { (all : List ℕ) (count : ℕ) → given.now.items ≡ keep_last 512 all → filled ≡ min count 2048
         → room.new ≡ fill_of fill (length room.old) all count }
 {
-    let is_repeated = fill == Fill::Again
+    let is_repeated = fill == Replacement::Again
         && given.len() >= MULTIFRAME
         && filled.saturating_add(room.len()) <= MOST_REPEATED;
     if is_repeated {

@@ -23,7 +23,7 @@ pub const MAX_WINDOW: usize = 1024;
 
 /// What replaces a missing packet.
 #[derive(Clone, Copy, Debug, PartialEq, Eq)]
-pub enum Fill {
+pub enum Replacement {
     /// The octets one signalling multiframe (512 octets) before, so that alignment holds. After 2048 octets
     /// in a row ones, so that nobody takes a long gap for a trunk.
     Again,
@@ -39,14 +39,14 @@ pub struct Settings {
     /// How many packets, from the one that is played next, may be waited for: 1 to 1024.
     pub window: usize,
     /// What replaces a missing packet.
-    pub fill: Fill,
+    pub fill: Replacement,
     ghost size_is: { IsSize size },
     ghost window_is: { IsWindow window },
 }
 
 impl Settings {
     /// These settings, or None unless the size is 32 to 1280 and a multiple of 32, and the window 1 to 1024.
-    pub fn new(size: usize, window: usize, fill: Fill) -> Option<Self>
+    pub fn new(size: usize, window: usize, fill: Replacement) -> Option<Self>
         ensures limits { IsSome result ↔ (IsSize size × IsWindow window) }
         ensures holds { IfSome result (λ s. (s.size ≡ size) × (s.window ≡ window) × (s.fill ≡ fill)) }
     {

@@ -43,13 +43,13 @@ impl SatopPlayout {
     ghost use Rattle.satop_playout.specs.Calls.{Call, Begins, Arrives, Plays};
     ghost use Rattle.satop_playout.specs.Plays.{Stream, refusal, ahead};
     ghost use Rattle.satop_playout.specs.Plays.{arrival_answer, is_there, play_octets, reach_after};
-    ghost use Rattle.satop_playout.specs.Standing.{Stands, Keeps, Wraps};
-    ghost use Rattle.satop_playout.specs.Fill.{fill_of};
+    ghost use Rattle.satop_playout.specs.Standing.{HasHistory, Keeps, Wraps};
+    ghost use Rattle.satop_playout.specs.Replacement.{fill_of};
     ghost use Rattle.circular_buffer.specs.Buffer.{keep_last};
 
     /// Takes memory for the window. No stream has begun.
     pub fn new(alloc: Global, settings: Settings) -> Result<SatopPlayout, AllocError>
-        ensures { IfOk result (λ playout. Stands playout settings []) }
+        ensures { IfOk result (λ playout. HasHistory playout settings []) }
     {
         Ok(SatopPlayout {
             settings,
@@ -72,8 +72,8 @@ impl SatopPlayout {
     /// A stream begins: the packet with this number is played next, and none is held.
     pub fn begin(&mut self, sequence: u16)
         ensures settings { self.new.settings ≡ self.old.settings }
-        ensures stands { (settings : Settings) (calls : List Call) → Stands self.old settings calls
-            → Stands self.new settings (calls ++ Begins sequence ∷ []) }
+        ensures stands { (settings : Settings) (calls : List Call) → HasHistory self.old settings calls
+            → HasHistory self.new settings (calls ++ Begins sequence ∷ []) }
     {
         for slot in self.slots.iter_mut() {
             slot.clear();
@@ -89,10 +89,10 @@ impl SatopPlayout {
     /// The first fault that applies; the playout is then unchanged.
     pub fn arrive(&mut self, sequence: u16, octets: &[u8]) -> Result<(), ArrivalFault>
         ensures settings { self.new.settings ≡ self.old.settings }
-        ensures reply { (settings : Settings) (calls : List Call) → Stands self.old settings calls
+        ensures reply { (settings : Settings) (calls : List Call) → HasHistory self.old settings calls
             → result ≡ arrival_answer settings calls sequence octets.now }
-        ensures stands { (settings : Settings) (calls : List Call) → Stands self.old settings calls
-            → Stands self.new settings (calls ++ Arrives sequence octets.now ∷ []) }
+        ensures stands { (settings : Settings) (calls : List Call) → HasHistory self.old settings calls
+            → HasHistory self.new settings (calls ++ Arrives sequence octets.now ∷ []) }
         ensures err { OnErr result (self.new ≡ self.old) }
     {
         let place = self.admission(sequence, octets)?;
@@ -149,12 +149,12 @@ impl SatopPlayout {
     pub fn play(&mut self, room: &mut [u8]) -> bool
         requires { length room.old ≡ self.old.settings.size }
         ensures settings { self.new.settings ≡ self.old.settings }
-        ensures there { (settings : Settings) (calls : List Call) → Stands self.old settings calls
+        ensures there { (settings : Settings) (calls : List Call) → HasHistory self.old settings calls
             → result ≡ is_there settings calls }
-        ensures octets { (settings : Settings) (calls : List Call) → Stands self.old settings calls
+        ensures octets { (settings : Settings) (calls : List Call) → HasHistory self.old settings calls
             → room.new ≡ play_octets settings calls }
-        ensures stands { (settings : Settings) (calls : List Call) → Stands self.old settings calls
-            → Stands self.new settings (calls ++ Plays ∷ []) }
+        ensures stands { (settings : Settings) (calls : List Call) → HasHistory self.old settings calls
+            → HasHistory self.new settings (calls ++ Plays ∷ []) }
     {
         let is_there = self.slots[self.head].take(room);
         self.filled = self.fill(is_there, room);
@@ -195,7 +195,7 @@ impl SatopPlayout {
 
     /// How many packets there are from the next one to the last one held, both counted; 0 if none is held.
     pub fn reach(&self) -> u16
-        ensures { (settings : Settings) (calls : List Call) → Stands self.now settings calls
+        ensures { (settings : Settings) (calls : List Call) → HasHistory self.now settings calls
             → result ≡ reach_after settings calls }
     {
         self.reach as u16

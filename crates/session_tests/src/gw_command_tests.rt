@@ -2,12 +2,12 @@ use clap::error::ErrorKind;
 use e1_g711::Law;
 use g726_codec::CodecKind;
 use gw_command::{
-    Filter, Job, Request, Session, asks_check, job_of, path_of, request_of, seizure_wait_of,
+    Filter, Request, Session, SpeechJob, asks_check, job_of, path_of, request_of, seizure_wait_of,
     senders_of, session_of, wants_totals,
 };
 use gw_options::matches;
 use gw_session::StreamSpec;
-use gw_udp::Senders;
+use gw_udp::SourceFilter;
 use std::alloc::{AllocError, Global};
 use std::test::Fail;
 
@@ -21,7 +21,7 @@ fn words(alloc: Global, line: &str) -> Result<Vec<String>, AllocError> {
 }
 
 // What a command line asks for, or how it is refused.
-fn job(alloc: Global, line: &str) -> Result<Result<Option<Job>, ErrorKind>, AllocError> {
+fn job(alloc: Global, line: &str) -> Result<Result<Option<SpeechJob>, ErrorKind>, AllocError> {
     let words = words(alloc, line)?;
     match matches(alloc, words.as_slice()) {
         Ok(matches) => Ok(Ok(job_of(&matches))),
@@ -87,9 +87,9 @@ fn reads_command_lines(rt: HostRuntime) -> Result<(), Fail> {
     for (line, spec, encodes) in rows {
         let spec = spec.ok_or("a stream")?;
         let want = if encodes {
-            Job::Encode(spec)
+            SpeechJob::Encode(spec)
         } else {
-            Job::Decode(spec)
+            SpeechJob::Decode(spec)
         };
         assert!(rt; job(rt.alloc(), line)? == Ok(Some(want)), "at {line}");
     }
@@ -160,21 +160,25 @@ fn sessions_are_named(rt: HostRuntime) -> Result<(), Fail> {
     for (line, session, senders) in [
         ("e1gw replay --config x", Session::Replay, None),
         ("e1gw check --config x", Session::Check, None),
-        ("e1gw serve --config x", Session::Serve, Some(Senders::Any)),
+        (
+            "e1gw serve --config x",
+            Session::Serve,
+            Some(SourceFilter::Any),
+        ),
         (
             "e1gw serve --config x --senders any",
             Session::Serve,
-            Some(Senders::Any),
+            Some(SourceFilter::Any),
         ),
         (
             "e1gw serve --config x --senders host",
             Session::Serve,
-            Some(Senders::Host),
+            Some(SourceFilter::Host),
         ),
         (
             "e1gw serve --config x --senders peer",
             Session::Serve,
-            Some(Senders::Peer),
+            Some(SourceFilter::Peer),
         ),
     ] {
         let words = words(rt.alloc(), line)?;
@@ -183,7 +187,7 @@ fn sessions_are_named(rt: HostRuntime) -> Result<(), Fail> {
             .ok_or("a command line")?;
         assert!(rt; session_of(&matches) == Some(session), "at {line}");
         assert!(rt;
-            senders_of(&matches).and_then(Senders::named) == senders,
+            senders_of(&matches).and_then(SourceFilter::named) == senders,
             "at {line}"
         );
         assert!(rt; path_of(&matches) == Some("x"), "at {line}");

@@ -1,7 +1,7 @@
 ghost use Rattle.std.specs.Prelude.{◌≡◌, None, length};
 
 use arrayvec::ArrayVec;
-use gw_filter::{Checked, Tally, align_stream, crc4_check_stream, crc4_stream};
+use gw_filter::{Checked, ReceiverCounts, align_stream, crc4_check_stream, crc4_stream};
 use gw_records::{NO_TOTALS, RunFault, Sink, SinkFault, Source, SourceFault, Totals};
 
 // The octet at a place of the far end's trunk: slot 0 as it is to be, and speech that is no signal.
@@ -179,7 +179,7 @@ fn a_checked_trunk_passes(rt: HostRuntime) {
             octets: 600,
             ..NO_TOTALS
         },
-        tally: Tally {
+        tally: ReceiverCounts {
             submultiframes: 0,
             errored: 0,
             far_end_errored: 0,

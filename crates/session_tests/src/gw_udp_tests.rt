@@ -10,7 +10,7 @@ use gw_program::serve_through;
 use gw_repeat::Repeating;
 use gw_session::{FromRead, NoTape, Ports, ToWrite};
 use gw_switch::{Gateway, GatewayConfig};
-use gw_udp::{Senders, Socket, UdpPorts};
+use gw_udp::{Socket, SourceFilter, UdpPorts};
 use q421_line::Role;
 use std::alloc::{AllocError, Global};
 use std::net::UdpSocket;
@@ -55,7 +55,7 @@ fn ports_to<S: Socket>(rt: &HostRuntime, peer: &UdpSocket) -> Result<UdpPorts<S>
         peer_host: String::from_str(rt.alloc(), "127.0.0.1")?,
         peer_port: peer.local_addr()?.port(),
     });
-    let opened = UdpPorts::<S>::open(rt, rt.alloc(), "127.0.0.1", &circuits, Senders::Any);
+    let opened = UdpPorts::<S>::open(rt, rt.alloc(), "127.0.0.1", &circuits, SourceFilter::Any);
     Ok(opened.ok().ok_or("sockets")?)
 }
 

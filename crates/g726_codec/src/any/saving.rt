@@ -97,7 +97,8 @@ fn save_both<R: Rate>(
 }
 
 fn load_both<R: Rate>(octets: &mut Octets<'_>) -> Option<(Encoder<R>, Decoder<R>)>
-    ensures loaded { (encoder decoder : Variables) (rest : List ℕ) → VariablesFit encoder → VariablesFit decoder
+    ensures loaded { (encoder decoder : Variables) (rest : List ℕ) → VariablesFit encoder
+        → VariablesFit decoder
         → octets.old ≡ (saved_variables encoder ++ saved_variables decoder) ++ rest
         → (result ≡ Some (encoder, decoder)) × (octets.new ≡ rest) }
     ensures read { IfSome result (λ both. octets.old

@@ -22,7 +22,8 @@ impl<R: Rate> Encoder<R> {
 
     /// Reads a saved encoder; None if the octets are not those of one.
     pub fn load(octets: &mut Octets<'_>) -> Option<Encoder<R>>
-        ensures loaded { (s : Variables) (rest : List ℕ) → VariablesFit s → octets.old ≡ saved_variables s ++ rest
+        ensures loaded { (s : Variables) (rest : List ℕ) → VariablesFit s
+            → octets.old ≡ saved_variables s ++ rest
             → (result ≡ Some s) × (octets.new ≡ rest) }
         ensures read { IfSome result (λ s. octets.old ≡ saved_variables s ++ octets.new) }
     {

@@ -22,7 +22,8 @@ impl State {
 
     #[tactic(auto, unfolding(crate::specs::Saved::saved_variables))]
     pub(crate) fn load(octets: &mut Octets<'_>) -> Option<State>
-        ensures loaded { (s : Variables) (rest : List ℕ) → VariablesFit s → octets.old ≡ saved_variables s ++ rest
+        ensures loaded { (s : Variables) (rest : List ℕ) → VariablesFit s
+            → octets.old ≡ saved_variables s ++ rest
             → (result ≡ Some s) × (octets.new ≡ rest) }
         ensures read { IfSome result (λ s. octets.old ≡ saved_variables s ++ octets.new) }
     {

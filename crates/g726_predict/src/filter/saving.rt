@@ -25,7 +25,8 @@ impl Filter {
 
     #[tactic(auto, unfolding(crate::specs::Saved::saved_prediction))]
     pub(crate) fn load(octets: &mut Octets<'_>) -> Option<Filter>
-        ensures loaded { (s : Prediction) (rest : List ℕ) → PredictionFits s → octets.old ≡ saved_prediction s ++ rest
+        ensures loaded { (s : Prediction) (rest : List ℕ) → PredictionFits s
+            → octets.old ≡ saved_prediction s ++ rest
             → (result ≡ Some s) × (octets.new ≡ rest) }
         ensures read { IfSome result (λ s. octets.old ≡ saved_prediction s ++ octets.new) }
     {

@@ -28,7 +28,8 @@ impl Adapt {
     /// None if the octets are not one, as with a variable out of range.
     #[tactic(auto, unfolding(crate::specs::Saved::saved_adaptation))]
     pub fn load(octets: &mut Octets<'_>) -> Option<Adapt>
-        ensures loaded { (s : Adaptation) (rest : List ℕ) → InRange s → octets.old ≡ saved_adaptation s ++ rest
+        ensures loaded { (s : Adaptation) (rest : List ℕ) → InRange s
+            → octets.old ≡ saved_adaptation s ++ rest
             → (result ≡ Some s) × (octets.new ≡ rest) }
         ensures read { IfSome result (λ s. octets.old ≡ saved_adaptation s ++ octets.new) }
     {

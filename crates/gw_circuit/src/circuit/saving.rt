@@ -117,7 +117,7 @@ impl Circuit {
             → (result ≡ Some tt) × (self.new.line ≡ line) × (octets.new ≡ rest) }
         ensures read { IfSome result (λ done. octets.old ≡ saved_line self.new.line ++ octets.new) }
         ensures rest { self.new ≡ record self.old { line = self.new.line } }
-        ensures none { IfNone result (line.Stands self.new.line self.old.config.role []) }
+        ensures none { IfNone result (line.HasHistory self.new.line self.old.config.role []) }
     {
         let (line, loaded) = load_line(self.config.role, octets);
         self.line = line;
@@ -131,7 +131,7 @@ fn load_line(role: Role, octets: &mut Octets<'_>) -> (Line, bool)
         → octets.old ≡ saved_line line ++ rest
         → (result.0 ≡ line) × (result.1 ≡ true) × (octets.new ≡ rest) }
     ensures read { result.1 ≡ true → octets.old ≡ saved_line result.0 ++ octets.new }
-    ensures none { result.1 ≡ false → line.Stands result.0 role [] }
+    ensures none { result.1 ≡ false → line.HasHistory result.0 role [] }
 {
     match Line::load(role, octets) {
         Some(line) => (line, true),

@@ -110,7 +110,8 @@ fn load_coding(law: Law, octets: &mut Octets<'_>) -> Option<Coded>
         → octets.old ≡ saved_coding kind payload_type codec ++ rest
         → (result ≡ Some (record { kind = kind; payload_type = payload_type; codec = codec }))
         × (octets.new ≡ rest) }
-    ensures read { IfSome result (λ c. octets.old ≡ saved_coding c.kind c.payload_type c.codec ++ octets.new) }
+    ensures read { IfSome result (λ c. octets.old
+        ≡ saved_coding c.kind c.payload_type c.codec ++ octets.new) }
     ensures kind { IfSome result (λ c. c.codec.kind ≡ c.kind) }
     ensures fits { IfSome result (λ c. c.payload_type < 128) }
 {

@@ -10,7 +10,7 @@ impl Gateway {
     ghost use Rattle.gw_switch.specs.declared.GatewayConfig.{GatewayConfig};
     ghost use Rattle.gw_switch.specs.declared.gateway.Gateway.{Gateway};
     ghost use Rattle.gw_switch.specs.Events.{Event};
-    ghost use Rattle.gw_switch.specs.Standing.{Stands};
+    ghost use Rattle.gw_switch.specs.Standing.{HasHistory};
     ghost use Rattle.gw_switch.specs.Saved.{saved_gateway, GatewayFits, IsSame, AreConfiguredAlike};
 
     /// Appends the octets of the gateway: those of the trunk, then those of its circuits. Its configuration
@@ -29,9 +29,10 @@ impl Gateway {
     #[tactic(auto, unfolding(crate::specs::Saved::saved_gateway))]
     pub fn load(mut self, octets: &mut Octets<'_>) -> Result<Gateway, StateFault>
         ensures loaded { (config other : GatewayConfig) (saved : Gateway) (events before : List Event)
-            (rest : List ℕ) → Stands config saved events → GatewayFits saved → Stands other self before
+            (rest : List ℕ) → HasHistory config saved events → GatewayFits saved
+            → HasHistory other self before
             → AreConfiguredAlike config events other before → octets.old ≡ saved_gateway saved ++ rest
-            → IsOkAnd result (λ g. IsSame g saved × Stands config g events) × (octets.new ≡ rest) }
+            → IsOkAnd result (λ g. IsSame g saved × HasHistory config g events) × (octets.new ≡ rest) }
         ensures read { IfOk result (λ g. octets.old ≡ saved_gateway g ++ octets.new) }
     {
         if self.trunk.load(octets).is_none() {

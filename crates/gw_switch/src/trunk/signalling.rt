@@ -18,7 +18,7 @@ impl Signalling {
     ghost use Rattle.gw_switch.specs.Trunk.{Hears};
 
     /// Hears an octet at its place on the trunk, in slot 0 or 16, or nowhere.
-    pub(super) fn hear(&mut self, place: Place, octet: u8)
+    pub(super) fn receive(&mut self, place: Place, octet: u8)
         ensures { Hears self.old self.new place octet }
     {
         let in_multiframe = follow(&mut self.multiframe, place, octet);

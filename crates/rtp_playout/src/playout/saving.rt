@@ -8,7 +8,7 @@ ghost use Rattle.rtp_playout.specs.Calls.{Call};
 ghost use Rattle.rtp_playout.specs.Saved.{saved_playout, saved_place, saved_places, saved_stream, StreamFits};
 ghost use Rattle.rtp_playout.specs.declared.playout.Playout.{Playout};
 ghost use Rattle.rtp_playout.specs.declared.playout.Stream.{Stream};
-ghost use Rattle.rtp_playout.specs.Standing.{Stands, IsBelow};
+ghost use Rattle.rtp_playout.specs.Standing.{HasHistory, IsBelow};
 
 use crate::playout::{Playout, Stream};
 use crate::window::empty;
@@ -33,14 +33,14 @@ impl Playout {
     /// after `clear`.
     pub fn load(&mut self, bound: u16, octets: &mut Octets<'_>) -> Option<()>
         ensures loaded { (other : Playout) (prefill : ℕ) (calls before : List Call) (rest : List ℕ)
-            → Stands other prefill calls → IsBelow bound other → StreamFits other.stream
-            → Stands self.old prefill before
+            → HasHistory other prefill calls → IsBelow bound other → StreamFits other.stream
+            → HasHistory self.old prefill before
             → octets.old ≡ saved_playout other ++ rest
             → (result ≡ Some tt) × (self.new ≡ other) × (octets.new ≡ rest) }
         ensures read { IfSome result (λ done. octets.old ≡ saved_playout self.new ++ octets.new) }
         ensures below { IfSome result (λ done. IsBelow bound self.new) }
-        ensures none { (prefill : ℕ) (before : List Call) → Stands self.old prefill before
-            → IfNone result (Stands self.new prefill []) }
+        ensures none { (prefill : ℕ) (before : List Call) → HasHistory self.old prefill before
+            → IfNone result (HasHistory self.new prefill []) }
         ensures none_below { (any : ℕ) → IfNone result (IsBelow any self.new) }
     {
         let loaded = self.load_parts(bound, octets);
@@ -135,7 +135,8 @@ fn load_places(
         → octets.old ≡ saved_places places ++ rest
         → (result ≡ Some tt) × (window.new ≡ buffer places window.old.capacity) × (octets.new ≡ rest) }
     ensures read { IfSome result (λ done. octets.old ≡ saved_places window.new.items ++ octets.new) }
-    ensures below { IfSome result (λ done. All (λ place. IfSome place (λ word. word < bound)) window.new.items) }
+    ensures below { IfSome result (λ done. All (λ place. IfSome place
+        (λ word. word < bound)) window.new.items) }
     ensures room { window.new.capacity ≡ window.old.capacity }
 {
     window.clear();

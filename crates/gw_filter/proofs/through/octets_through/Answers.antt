@@ -3,8 +3,8 @@ use Rattle.std.proofs.Common.{length-append, length-drop}
 use Rattle.gw_records.specs.declared.outcome.RunFault.TheVariants as faults
 use Rattle.gw_records.specs.declared.outcome.Totals.{Totals}
 use Rattle.gw_records.specs.Outcome.{nothing_counted}
-use Rattle.gw_records.proofs.Writes.{Appends-none, Appends-join, Appends-same, Gives-none, Gives-join, Gives-end}
-use Rattle.gw_records.proofs.Writes.{Breaks-after, read_failed}
+use Rattle.gw_records.proofs.Writes.{Appends-none, Appends-join, Appends-same, Yields-none, Yields-join, Yields-end}
+use Rattle.gw_records.proofs.Writes.{StopsInWrite-after, read_failed}
 use Rattle.gw_records.proofs.Sessions.{goes_up}
 use Rattle.g704_framing.specs.Replies.{replies_after}
 use Rattle.gw_filter.proofs.Stages.{came-is, answered}
@@ -16,7 +16,7 @@ reading-init g c = record {
   stage = record {
     given = [];
     stands = c.requires.begins;
-    gives = Gives-none _;
+    gives = Yields-none _;
     took = Appends-none _;
     no_read = refl;
     no_write = refl;
@@ -37,7 +37,7 @@ reading-preserved g c =
         stands = subst (λ (xs : List ℕ). g.F.OctetFilter.has_taken c.filter_all.new.filter (w.stage.given ++ xs))
             (came-is _ _ _ _ came)
             (e.stands w.stage.given w.stage.stands);
-        gives = Gives-join _ _ _ _ _ w.stage.gives came.gives;
+        gives = Yields-join _ _ _ _ _ w.stage.gives came.gives;
         took = Appends-same _ _ _ _
             (answered g.F.OctetFilter.reply_after w.stage.given c.read_behind.new.buffer _ _ _ _ came
             (e.replies w.stage.given w.stage.stands) e.len)
@@ -75,10 +75,10 @@ returns-in_err-write_all-clause-fault g c =
     let broken = c.in_err-write_all.ensures.fault in
     goes_up _ _ faults.Write c.from_residual.ensures.1 broken.0 (record {
       octets = w.stage.given ++ came.octets;
-      gives = Gives-join _ _ _ _ _ w.stage.gives came.gives;
+      gives = Yields-join _ _ _ _ _ w.stage.gives came.gives;
       breaks = rw (← answered g.F.OctetFilter.reply_after w.stage.given c.read_behind.new.buffer _ _ _ _ came
           (e.replies w.stage.given w.stage.stands) e.len)
-          (Breaks-after _ _ _ _ _ w.stage.took w.stage.no_write broken.1);
+          (StopsInWrite-after _ _ _ _ _ w.stage.took w.stage.no_write broken.1);
       no_read = c.in-Ok.ensures.counts ∙ w.stage.no_read;
     })
 
@@ -89,7 +89,7 @@ returns-then-n-eq0-clause-ok g c =
     let made : ℕ → Totals = λ n. record nothing_counted { octets = n } in
     record {
       octets = w.stage.given;
-      gives = Gives-end _ _ _ w.stage.given came.octets (came.counted ∙ c.if-n-eq0.true) w.stage.gives came.gives;
+      gives = Yields-end _ _ _ w.stage.given came.octets (came.counted ∙ c.if-n-eq0.true) w.stage.gives came.gives;
       ended = came.ended c.if-n-eq0.true;
       took = w.stage.took;
       totals_are = ap (made) w.counted;
@@ -107,7 +107,7 @@ returns-in_default-clause-fault g c =
     let w = c.reading.invariant in
     record {
       octets = w.stage.given;
-      gives = Gives-end _ _ _ w.stage.given [] refl w.stage.gives c.in_default.ensures.none;
+      gives = Yields-end _ _ _ w.stage.given [] refl w.stage.gives c.in_default.ensures.none;
       took = w.stage.took;
       cause = inl (read_failed _ _ _ w.stage.no_read c.requires.streams.reads c.in_default.ensures.counts);
       no_write = w.stage.no_write;

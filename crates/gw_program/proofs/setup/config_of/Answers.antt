@@ -10,5 +10,5 @@ pub returns-in-Ok-clause-unread : goal.returns-in-Ok-clause-unread
 returns-in-Ok-clause-unread g c = read_whole (g.T.Text.fails c.args.text) c.meaning_of.result c.meaning_of.ensures.read
 
 pub returns-clause-unread : goal.returns-clause-unread
-returns-clause-unread g c = rw c.of.ensures (read_failed
-    (g.T.Text.fails c.args.text) c.in-Err.error _ c.in-Err.ensures.err)
+returns-clause-unread g c = rw c.of.ensures
+    (read_failed (g.T.Text.fails c.args.text) c.in-Err.error _ c.in-Err.ensures.err)

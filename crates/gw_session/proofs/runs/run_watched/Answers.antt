@@ -6,12 +6,13 @@ use Rattle.gw_session.proofs.runs.run_watched.Goals as goal
 pub returns : goal.returns
 unfolding most_waiting
 returns g c = record {
-  ok = all_as _ _ _ _ _ (λ t records p. runs t records p.0) c.attend.result c.attend.ensures.ok;
-  fault = until_as _ _ _ _ _ (λ t records p. runs t records p.0) _ c.attend.result
+  ok = all_as _ _ _ _ _ (λ t records p. runs t records p.0) c.process_records.result c.process_records.ensures.ok;
+  fault = until_as _ _ _ _ _ (λ t records p. runs t records p.0) _ c.process_records.result
       (λ records p. (runs_until records p).0)
-      (rw c.new-session.ensures.at_once at c.attend.ensures.fault);
-  watched = either_way _ _ c.attend.result
-      (all_as _ _ _ _ _ (λ t records p. (runs t records p.0, seen_plain p)) c.attend.result c.attend.ensures.ok)
-      (until_as _ _ _ _ _ (λ t records p. (runs t records p.0, seen_plain p)) _ c.attend.result runs_until
-      (rw c.new-session.ensures.at_once at c.attend.ensures.fault));
+      (rw c.new-session.ensures.at_once at c.process_records.ensures.fault);
+  watched = either_way _ _ c.process_records.result
+      (all_as _ _ _ _ _ (λ t records p. (runs t records p.0, seen_plain p)) c.process_records.result
+      c.process_records.ensures.ok)
+      (until_as _ _ _ _ _ (λ t records p. (runs t records p.0, seen_plain p)) _ c.process_records.result runs_until
+      (rw c.new-session.ensures.at_once at c.process_records.ensures.fault));
 }

@@ -6,7 +6,7 @@ use Rattle.gw_session.proofs.serves.serve_recorded.Goals as goal
 pub returns : goal.returns
 unfolding most_waiting
 returns g c = record {
-  ok = all_as _ _ _ _ _ (λ t records p. serves records p.0) c.attend.result c.attend.ensures.ok;
-  fault = until_as _ _ _ _ _ (λ t records p. serves records p.0) _ c.attend.result (serves_until _)
-      (rw c.new-session.ensures.at_once at c.attend.ensures.fault);
+  ok = all_as _ _ _ _ _ (λ t records p. serves records p.0) c.process_records.result c.process_records.ensures.ok;
+  fault = until_as _ _ _ _ _ (λ t records p. serves records p.0) _ c.process_records.result (serves_until _)
+      (rw c.new-session.ensures.at_once at c.process_records.ensures.fault);
 }

@@ -1,5 +1,5 @@
 use Rattle.std.proofs.Common.{◌%◌, ℕ, List, length, slice_index, refl, sym, ap, ◌∙◌}
-use Rattle.satop_playout.specs.Fill.{again}
+use Rattle.satop_playout.specs.Replacement.{again}
 use Rattle.satop_playout.proofs.Repeating.{again-next, last-many, repeated-more}
 use Rattle.satop_playout.proofs.filling.repeat.Goals as goal
 

@@ -1,6 +1,6 @@
 use Rattle.std.proofs.Common.{◌≡◌, ◌≤◌, ◌++◌, ℕ, List, length, drop}
 use Rattle.circular_buffer.specs.Buffer.{keep_last}
-use Rattle.satop_playout.specs.Fill.{again}
+use Rattle.satop_playout.specs.Replacement.{again}
 use Rattle.satop_playout.proofs.filling.repeat.Given as goal
 
 abbrev pub invariant-loop-i : goal.invariant-loop-i

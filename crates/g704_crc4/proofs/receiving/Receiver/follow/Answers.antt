@@ -4,7 +4,7 @@ use Rattle.std.proofs.lemmas.Bool.{false≢true}
 use Rattle.std.proofs.lemmas.List.{length_push, take_more_set}
 use Rattle.std.proofs.Math.Seq.{take-suc}
 use Rattle.g704_crc4.specs.Aligning.{is_given_up}
-use Rattle.g704_crc4.specs.Tally.{tells_given_up}
+use Rattle.g704_crc4.specs.ReceiverCounts.{tells_given_up}
 use Rattle.g704_crc4.specs.Receivers.{GoesOn, IsSearched}
 use Rattle.g704_crc4.proofs.Searched.{long-learned, long-given_up, short-learned, short-kept}
 use Rattle.g704_crc4.proofs.Followings.{tells-excess}
@@ -18,7 +18,7 @@ goes_with part (y ∷ before) octets x g lt = g.goes_on (λ e. cc)
 
 pub returns-then-gives_up-clause-reply : goal.returns-then-gives_up-clause-reply
 returns-then-gives_up-clause-reply c part before octets s g room =
-    let stage = rw c.in-Following.is at s in
+    let stage = rw c.in-SubmultiframeCheck.is at s in
     let past = stage.0 in
     rw (goes_with part before octets c.args.octet g (omega arith))
     (c.octet-learned.ensures.reply before stage.1
@@ -26,7 +26,7 @@ returns-then-gives_up-clause-reply c part before octets s g room =
 
 pub returns-then-gives_up-clause-goes_on : goal.returns-then-gives_up-clause-goes_on
 returns-then-gives_up-clause-goes_on c part before octets s g room kept =
-    let stage = rw c.in-Following.is at s in
+    let stage = rw c.in-SubmultiframeCheck.is at s in
     let past = stage.0 in
     let same = goes_with part before octets c.args.octet g (omega arith) in
     absurd (false≢true (sym kept ∙ ap is_given_up same
@@ -37,7 +37,7 @@ returns-then-gives_up-clause-goes_on c part before octets s g room kept =
 
 pub returns-else-gives_up-clause-reply : goal.returns-else-gives_up-clause-reply
 returns-else-gives_up-clause-reply c part before octets s g room =
-    let stage = rw c.in-Following.is at s in
+    let stage = rw c.in-SubmultiframeCheck.is at s in
     let past = stage.0 in
     rw (goes_with part before octets c.args.octet g (omega arith))
     (c.octet-learned.ensures.reply before stage.1
@@ -45,7 +45,7 @@ returns-else-gives_up-clause-reply c part before octets s g room =
 
 pub returns-else-gives_up-clause-goes_on : goal.returns-else-gives_up-clause-goes_on
 returns-else-gives_up-clause-goes_on c part before octets s g room kept =
-    let stage = rw c.in-Following.is at s in
+    let stage = rw c.in-SubmultiframeCheck.is at s in
     let past = stage.0 in
     let few = sym (tells-excess (before ++ c.args.octet ∷ []))
     ∙ ap tells_given_up (sym (c.octet-learned.ensures.reply before stage.1))
@@ -56,7 +56,7 @@ returns-else-gives_up-clause-goes_on c part before octets s g room kept =
 
 pub returns-else-gives_up-clause-anew : goal.returns-else-gives_up-clause-anew
 returns-else-gives_up-clause-anew c part before octets s g room given_up =
-    let stage = rw c.in-Following.is at s in
+    let stage = rw c.in-SubmultiframeCheck.is at s in
     let past = stage.0 in
     let same = goes_with part before octets c.args.octet g (omega arith) in
     absurd (false≢true (sym c.if-gives_up.false ∙ c.gives_up.ensures

@@ -15,7 +15,7 @@ returns-clause-reply c history s e =
     let n : c.begin_submultiframe.new.self.place / 32 % 16 ≡ length history / 32 % 16 = omega arith in
     c.with_si-2.ensures
     ∙ ap (λ si. with_si si c.args.octet) (c.si_at-2.ensures bits next.before
-        ∙ ap (λ k. si_at bits k (nat_le 128 c.args.octet)) n)
+    ∙ ap (λ k. si_at bits k (nat_le 128 c.args.octet)) n)
     ∙ sym (at-frame bits (length history) c.args.octet e)
 
 pub returns-clause-stands : goal.returns-clause-stands
@@ -26,6 +26,6 @@ returns-clause-stands c history s e =
     sends-more c.begin_submultiframe.new.self history c.args.octet _ _ _ next
     (c.with_si.ensures
     ∙ ap (λ si. with_si si c.args.octet) (c.si_at.ensures no_remainder refl
-        ∙ ap (λ k. si_at no_remainder k (nat_le 128 c.args.octet)) n)
+    ∙ ap (λ k. si_at no_remainder k (nat_le 128 c.args.octet)) n)
     ∙ sym (at-frame no_remainder (length history) c.args.octet e))
     (omega arith) c.number_after-self.ensures

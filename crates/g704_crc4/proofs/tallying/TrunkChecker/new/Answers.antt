@@ -1,5 +1,5 @@
 use Rattle.std.proofs.Common.{refl}
-use Rattle.g704_crc4.specs.Tally.{times_after}
+use Rattle.g704_crc4.specs.ReceiverCounts.{times_after}
 use Rattle.g704_crc4.proofs.tallying.TrunkChecker.new.Goals as goal
 
 pub returns : goal.returns

@@ -1,6 +1,6 @@
 use Rattle.std.proofs.Common.{sym, ap, ◌∙◌}
 use Rattle.g704_crc4.specs.Aligning.{learned}
-use Rattle.g704_crc4.specs.Tally.{tally_with}
+use Rattle.g704_crc4.specs.ReceiverCounts.{tally_with}
 use Rattle.g704_crc4.proofs.Tallies.{tally-more, tally-same}
 use Rattle.g704_crc4.proofs.tallying.TrunkChecker.octet.Goals as goal
 

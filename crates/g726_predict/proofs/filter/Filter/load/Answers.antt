@@ -10,7 +10,8 @@ unfolding saved_prediction
 returns-in_err-read_u16_into-clause-loaded c = λ s rest fits e.
     let numbers = numbers-fit s fits in
     let read = c.in_err-read_u16_into.ensures.next (saved_numbers s) (flag_octet s.pk1 ∷ flag_octet s.pk2 ∷ rest)
-    numbers.0 numbers.1 (e ∙ append_assoc (flat_map two_octets (saved_numbers s)) (flag_octet s.pk1 ∷ flag_octet s.pk2 ∷ []) rest) in
+    numbers.0 numbers.1 (e
+    ∙ append_assoc (flat_map two_octets (saved_numbers s)) (flag_octet s.pk1 ∷ flag_octet s.pk2 ∷ []) rest) in
     absurd (cc read.0)
 
 pub returns-in_err-pk1-clause-loaded : goal.returns-in_err-pk1-clause-loaded
@@ -18,7 +19,8 @@ unfolding saved_prediction
 returns-in_err-pk1-clause-loaded c = λ s rest fits e.
     let numbers = numbers-fit s fits in
     let read = c.read_u16_into.ensures.next (saved_numbers s) (flag_octet s.pk1 ∷ flag_octet s.pk2 ∷ rest)
-    numbers.0 numbers.1 (e ∙ append_assoc (flat_map two_octets (saved_numbers s)) (flag_octet s.pk1 ∷ flag_octet s.pk2 ∷ []) rest) in
+    numbers.0 numbers.1 (e
+    ∙ append_assoc (flat_map two_octets (saved_numbers s)) (flag_octet s.pk1 ∷ flag_octet s.pk2 ∷ []) rest) in
     absurd (cc (c.in_err-pk1.ensures.next s.pk1 (flag_octet s.pk2 ∷ rest) read.2).0)
 
 pub returns-in_err-pk2-clause-loaded : goal.returns-in_err-pk2-clause-loaded
@@ -26,7 +28,8 @@ unfolding saved_prediction
 returns-in_err-pk2-clause-loaded c = λ s rest fits e.
     let numbers = numbers-fit s fits in
     let read = c.read_u16_into.ensures.next (saved_numbers s) (flag_octet s.pk1 ∷ flag_octet s.pk2 ∷ rest)
-    numbers.0 numbers.1 (e ∙ append_assoc (flat_map two_octets (saved_numbers s)) (flag_octet s.pk1 ∷ flag_octet s.pk2 ∷ []) rest) in
+    numbers.0 numbers.1 (e
+    ∙ append_assoc (flat_map two_octets (saved_numbers s)) (flag_octet s.pk1 ∷ flag_octet s.pk2 ∷ []) rest) in
     let one = c.read_bool.ensures.next s.pk1 (flag_octet s.pk2 ∷ rest) read.2 in
     absurd (cc (c.in_err-pk2.ensures.next s.pk2 rest one.1).0)
 
@@ -35,7 +38,8 @@ unfolding saved_prediction
 returns-clause-loaded c = λ s rest fits e.
     let numbers = numbers-fit s fits in
     let read = c.read_u16_into.ensures.next (saved_numbers s) (flag_octet s.pk1 ∷ flag_octet s.pk2 ∷ rest)
-    numbers.0 numbers.1 (e ∙ append_assoc (flat_map two_octets (saved_numbers s)) (flag_octet s.pk1 ∷ flag_octet s.pk2 ∷ []) rest) in
+    numbers.0 numbers.1 (e
+    ∙ append_assoc (flat_map two_octets (saved_numbers s)) (flag_octet s.pk1 ∷ flag_octet s.pk2 ∷ []) rest) in
     let one = c.read_bool.ensures.next s.pk1 (flag_octet s.pk2 ∷ rest) read.2 in
     let two = c.read_bool-2.ensures.next s.pk2 rest one.1 in
     let pk1 = same_Some _ _ (c.in_ok-pk1.ensures.next s.pk1 (flag_octet s.pk2 ∷ rest) read.2).0 in

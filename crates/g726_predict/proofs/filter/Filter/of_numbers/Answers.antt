@@ -41,7 +41,8 @@ invariant_of-result c =
 
 pub returns-clause-loaded : goal.returns-clause-loaded
 returns-clause-loaded c = λ s fits e p q.
-    let is : numbered (λ i. get_or c.args.numbers i 0) c.args.pk1 c.args.pk2 ≡ s = rw (e, p, q) (numbered-saved s fits) in
+    let is : numbered (λ i. get_or c.args.numbers i 0) c.args.pk1 c.args.pk2
+    ≡ s = rw (e, p, q) (numbered-saved s fits) in
     rw (
       to_z-of_z w16 c.cast_signed.result (record { sfits = c.cast_signed.type_inv }) ∙ c.cast_signed.ensures,
       to_z-of_z w16 c.cast_signed-2.result (record { sfits = c.cast_signed-2.type_inv }) ∙ c.cast_signed-2.ensures,

@@ -4,11 +4,12 @@ use Rattle.gw_circuit.proofs.circuit.Circuit.exchange.Goals as goal
 pub returns : goal.returns
 returns c law config items stands opened =
     let plays =
-    plays-open c.args.self.now law config items c.args.heard c.play.new.self _ _ _ stands opened c.idle-quiet.ensures
-    c.unwrap_or-octet.ensures c.play.ensures.sound c.play.ensures.speaks in
-    let short = c.hear.ensures.short law _ _ _ _ _ plays.2 in (
+    plays-open c.args.self.now law config items c.args.heard c.decode_next.new.self _ _ _ stands opened
+    c.idle-quiet.ensures
+    c.unwrap_or-octet.ensures c.decode_next.ensures.sound c.decode_next.ensures.speaks in
+    let short = c.encode_next.ensures.short law _ _ _ _ _ plays.2 in (
       plays.0,
       datagram-none law config items c.args.heard opened short,
-      stands-open c.args.self.now law config items c.args.heard c.hear.new.self stands opened
-          (rw (c.unwrap_or.ensures, plays.1) at (c.hear.ensures.speaks law _ _ _ _ _ plays.2)) short,
+      stands-open c.args.self.now law config items c.args.heard c.encode_next.new.self stands opened
+          (rw (c.unwrap_or.ensures, plays.1) at (c.encode_next.ensures.speaks law _ _ _ _ _ plays.2)) short,
     )

@@ -25,7 +25,8 @@ returns-in_err-load_line-clause-loaded c = λ other law config items before rest
     let first = c.in_ok-numbers.ensures.loaded other (saved_line other.line ++ (saved_speech other.speech ++ rest))
     fits.numbers (e ∙ circuit-octets other rest) in
     let role = theirs.line.role_is ∙ sym (ap (λ (k : CircuitConfig). k.role) ours.config_is) in
-    let told = c.in_err-load_line.ensures.loaded other.line (saved_speech other.speech ++ rest) role fits.line first.1 in
+    let told = c.in_err-load_line.ensures.loaded other.line
+    (saved_speech other.speech ++ rest) role fits.line first.1 in
     absurd (cc told.0)
 
 pub returns-in_err-load_line-clause-none : goal.returns-in_err-load_line-clause-none
@@ -49,7 +50,8 @@ returns-then-is_none-clause-loaded c = λ other law config items before rest sta
     let first = c.in_ok-numbers.ensures.loaded other (saved_line other.line ++ (saved_speech other.speech ++ rest))
     fits.numbers (e ∙ circuit-octets other rest) in
     let role = theirs.line.role_is ∙ sym (ap (λ (k : CircuitConfig). k.role) ours.config_is) in
-    let second = c.in_ok-load_line.ensures.loaded other.line (saved_speech other.speech ++ rest) role fits.line first.1 in
+    let second = c.in_ok-load_line.ensures.loaded other.line
+    (saved_speech other.speech ++ rest) role fits.line first.1 in
     let law_is = ap (λ (k : Circuit). k.law) c.in_ok-load_line.ensures.rest ∙ ours.law_is in
     let speech_is = ap (λ (k : Circuit). k.speech) c.in_ok-load_line.ensures.rest in
     let third = c.load.ensures.loaded other.speech (coding_after law config items) (coding_after law config [])
@@ -78,7 +80,8 @@ returns-clause-loaded c = λ other law config items before rest stands fits mine
     let first = c.in_ok-numbers.ensures.loaded other (saved_line other.line ++ (saved_speech other.speech ++ rest))
     fits.numbers (e ∙ circuit-octets other rest) in
     let role = theirs.line.role_is ∙ sym (ap (λ (k : CircuitConfig). k.role) ours.config_is) in
-    let second = c.in_ok-load_line.ensures.loaded other.line (saved_speech other.speech ++ rest) role fits.line first.1 in
+    let second = c.in_ok-load_line.ensures.loaded other.line
+    (saved_speech other.speech ++ rest) role fits.line first.1 in
     let law_is = ap (λ (k : Circuit). k.law) c.in_ok-load_line.ensures.rest ∙ ours.law_is in
     let speech_is = ap (λ (k : Circuit). k.speech) c.in_ok-load_line.ensures.rest in
     let third = c.load.ensures.loaded other.speech (coding_after law config items) (coding_after law config [])

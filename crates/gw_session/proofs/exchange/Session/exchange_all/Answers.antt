@@ -19,11 +19,12 @@ pub push-requires : goal.push-requires
 push-requires g c =
     let w = c.loop-i.invariant.heard in
     let done = length-take c.loop-i.i c.args.octets.now in
-    let kept : c.hear.new.self.answer ≡ c.loop-i.self.answer = ap (λ (s : Session). s.answer) c.hear.ensures.others
+    let kept : c.receive_octet.new.self.answer
+    ≡ c.loop-i.self.answer = ap (λ (s : Session). s.answer) c.receive_octet.ensures.others
     ∙ ap (λ (s : Session). s.answer) c.receive_next.ensures.others in
-    let len : length c.hear.new.self.answer.items ≡ length c.args.self.now.answer.items + length w.sent =
+    let len : length c.receive_octet.new.self.answer.items ≡ length c.args.self.now.answer.items + length w.sent =
     rw kept (ap length w.behind ∙ length-append c.args.self.now.answer.items w.sent) in
-    let room : length c.hear.new.self.answer.items < 65539 =
+    let room : length c.receive_octet.new.self.answer.items < 65539 =
     omega (arith, w.so.0.lengths, c.requires.fits, c.loop-i-test.true) in
     (omega arith, room)
 
@@ -43,23 +44,24 @@ returns-in_err-sent-clause-exchanges g c =
 pub loop-i-preserved : goal.loop-i-preserved
 loop-i-preserved g c =
     let waits = ap (λ (s : Session). s.waiting.items) c.receive_next.ensures.others in
-    let kept : c.hear.new.self.answer ≡ c.loop-i.self.answer = ap (λ (s : Session). s.answer) c.hear.ensures.others
+    let kept : c.receive_octet.new.self.answer
+    ≡ c.loop-i.self.answer = ap (λ (s : Session). s.answer) c.receive_octet.ensures.others
     ∙ ap (λ (s : Session). s.answer) c.receive_next.ensures.others in
-    let same = ap (λ (s : Session). s.recorded) c.hear.ensures.others in
-    let batch = ap (λ (s : Session). s.batch.items) c.hear.ensures.others in
+    let same = ap (λ (s : Session). s.recorded) c.receive_octet.ensures.others in
+    let batch = ap (λ (s : Session). s.batch.items) c.receive_octet.ensures.others in
     let q = exchange_is c.receive_next.ensures.comes (rw waits at c.in_ok-sent.ensures.hears) in
     record {
       heard = rw (same, batch) (heard_more c.args.octets.now c.loop-i.i c.loop-i.self.recorded _ c.in_ok-sent.sent
           c.loop-i.invariant.heard c.loop-i-test.true q (rw kept at c.push.ensures.items));
-      at_once = ap (λ (s : Session). s.at_once) c.hear.ensures.others
+      at_once = ap (λ (s : Session). s.at_once) c.receive_octet.ensures.others
           ∙ ap (λ (s : Session). s.at_once) c.receive_next.ensures.others ∙ c.loop-i.invariant.at_once;
-      room = ap (λ (s : Session). vec_len s.room) c.hear.ensures.others ∙ c.receive_next.ensures.room
+      room = ap (λ (s : Session). vec_len s.room) c.receive_octet.ensures.others ∙ c.receive_next.ensures.room
           ∙ c.loop-i.invariant.room;
     }
 
 pub returns-in_err-sent-clause-at_once : goal.returns-in_err-sent-clause-at_once
 returns-in_err-sent-clause-at_once g c =
-    ap (λ (s : Session). s.at_once) c.hear.ensures.others
+    ap (λ (s : Session). s.at_once) c.receive_octet.ensures.others
     ∙ ap (λ (s : Session). s.at_once) c.receive_next.ensures.others ∙ c.loop-i.invariant.at_once
 
 pub returns-clause-at_once : goal.returns-clause-at_once

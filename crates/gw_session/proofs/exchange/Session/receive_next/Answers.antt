@@ -1,7 +1,7 @@
 use Rattle.gw_session.proofs.Common.{◌≡◌, inl, inr, ◌<◌, ◌++◌, ◌∷◌, [], refl, ap, ◌∙◌, length, take, arith, ◌-◌, drop}
 use Rattle.gw_session.proofs.Common.{length-append, take_rest, Stop, rules}
 use Rattle.gw_records.proofs.Buffers.{kept}
-use Rattle.gw_session.proofs.Turns.{Grows-none}
+use Rattle.gw_session.proofs.Turns.{Extends-none}
 use Rattle.gw_session.proofs.Receiving.{receiving_none, receiving_more, comes_so, comes_nothing}
 use Rattle.gw_session.proofs.Taping.{behind_none, behind_more}
 use Rattle.gw_session.proofs.exchange.Session.receive_next.Goals as goal
@@ -22,25 +22,26 @@ receiving-preserved g c =
     let w = c.receiving.invariant.receiving in
     let recorded = c.receiving.self.recorded in
     let room = c.receiving.self.room in
-    let items = c.arrives.new.room in
+    let items = c.receive_datagram.new.room in
     let n = c.in-Ok-Some.n in
     let r = rw c.in-Ok-Some.field-0-is at c.in-Ok-Some.ensures.receives in
     let whole = kept room.len items (drop (length items) room.items) (omega (
       arith,
       room.ok.0,
-      c.arrives.auto.room,
+      c.receive_datagram.auto.room,
       ap length c.as_mut_slice.ensures.value,
     )) in
     let said = rw (c.deref.ensures.value ∙ whole) at c.batch_arrival.ensures in
-    let given = rw (c.deref-in-Ok-Some.ensures.value ∙ whole) at c.give.ensures.given in
+    let given = rw (c.deref-in-Ok-Some.ensures.value ∙ whole) at c.give_datagram.ensures.given in
     let fresh : take (length c.args.heard.now - recorded) (drop recorded c.args.heard.now)
     ≡ drop recorded c.args.heard.now = take_rest c.args.heard.now recorded in
     record {
       receiving = (
         w.0 ++ take n items ∷ [],
         omega (arith, w.1, length-append w.0 (take n items ∷ [])),
-        receiving_more _ (take n items) w.2 r.0 r.1 r.2 c.in-Ok-Some.ensures.counts c.arrives.ensures.sends_stay given
-            c.give.ensures.others,
+        receiving_more _ (take n items) w.2 r.0 r.1 r.2 c.in-Ok-Some.ensures.counts
+            c.receive_datagram.ensures.sends_stay given
+            c.give_datagram.ensures.others,
         behind_more _ _ _ _ _ _ _ _ _ w.0 _ w.3 fresh refl said,
       );
       room = c.receiving.invariant.room;
@@ -53,7 +54,7 @@ returns-in-Ok-None-clause-comes g c =
     let few : length w.0 < 4 = omega (arith, w.1, c.receiving-test.true) in
     let r = rw c.in-Ok-None.field-0-is at c.in-Ok-None.ensures.receives in
     comes_so _ _ 0 w.2 w.3 c.in-Some.is c.next_slot.ensures (omega (arith, few)) Stop.NoneLeft few r.0 r.3
-    c.in-Ok-None.ensures.counts c.arrives.ensures.sends_stay refl (λ none. (r.1, inr r.2))
+    c.in-Ok-None.ensures.counts c.receive_datagram.ensures.sends_stay refl (λ none. (r.1, inr r.2))
 
 pub returns-in-Err-clause-comes : goal.returns-in-Err-clause-comes
 returns-in-Err-clause-comes g c =
@@ -61,7 +62,7 @@ returns-in-Err-clause-comes g c =
     let few : length w.0 < 4 = omega (arith, w.1, c.receiving-test.true) in
     let r = c.in-Err.ensures.receives in
     comes_so _ _ 1 w.2 w.3 c.in-Some.is c.next_slot.ensures (omega (arith, few)) Stop.Failure few r.0 r.1
-    c.in-Err.ensures.counts c.arrives.ensures.sends_stay c.saturating_add-self.ensures
+    c.in-Err.ensures.counts c.receive_datagram.ensures.sends_stay c.saturating_add-self.ensures
     (λ none. absurd (omega (arith, none)))
 
 pub returns-clause-comes : goal.returns-clause-comes
@@ -69,4 +70,4 @@ returns-clause-comes g c =
     let w = c.receiving.invariant.receiving in
     let four : length w.0 ≡ 4 = omega (arith, w.1, c.receiving-test.false) in
     comes_so _ _ 0 w.2 w.3 c.in-Some.is c.next_slot.ensures (omega (arith, w.1)) Stop.Enough four refl
-    (Grows-none _) refl (refl, refl, refl) refl (λ none. (refl, inl four))
+    (Extends-none _) refl (refl, refl, refl) refl (λ none. (refl, inl four))

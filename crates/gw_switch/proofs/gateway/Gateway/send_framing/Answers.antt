@@ -1,10 +1,9 @@
 use Rattle.std.proofs.Common.{◌≡◌, ℕ, ◌<◌, ◌≤◌, ◌/◌, ◌%◌, ◌++◌, ◌∷◌, [], length, refl, sym, ap, ◌∙◌, arith}
 use Rattle.gw_switch.specs.Events.{Event, octets}
 use Rattle.gw_switch.specs.Whole.{octet_reply}
-use Rattle.gw_switch.specs.Standing.{Stands}
+use Rattle.gw_switch.specs.Standing.{HasHistory}
 use Rattle.gw_switch.proofs.Rounds.{none_in_zero, none_in_first, frame_with-not0}
-use Rattle.gw_switch.proofs.Sendings.{sent_at, sends_frame, sends_multiframe}
-use Rattle.gw_switch.proofs.Sendings.{slot_of-not16, slot_of-not0}
+use Rattle.gw_switch.proofs.Sendings.{sent_at, sends_frame, sends_multiframe, slot_of-not16, slot_of-not0}
 use Rattle.gw_switch.proofs.Views.{stay, octets-append, sees_nothing, sees_no_abcd}
 use Rattle.gw_switch.proofs.gateway.Gateway.send_framing.Goals as goal
 
@@ -14,13 +13,13 @@ frame_zero frame small none = grind (arith, none)
 
 -- slot 0
 pub returns-then-slot-eq0 : goal.returns-then-slot-eq0
-unfolding octet_reply Stands
+unfolding octet_reply HasHistory
 returns-then-slot-eq0 c = λ config events o h divides room.
     let n = length (octets events) in
     let s = octets events ++ o ∷ [] in
     let slot = c.slot.ensures.value s n h.trunk in
     let zero : n % 32 ≡ 0 = sym slot ∙ c.if-slot-eq0.true in
-    let passed = c.pass_turn.ensures s n h.trunk (none_in_zero n zero) in
+    let passed = c.skip_turn.ensures s n h.trunk (none_in_zero n zero) in
     record {
       reply = rw (c.slot_zero.ensures, c.alarms.ensures s passed)
           (sym (sends_frame config events s n _ _ c.if-slot-eq0.true))
@@ -36,14 +35,14 @@ returns-then-slot-eq0 c = λ config events o h divides room.
 
 -- slot 16 of frame 0
 pub returns-in-None : goal.returns-in-None
-unfolding octet_reply Stands
+unfolding octet_reply HasHistory
 returns-in-None c = λ config events o h divides room.
     let n = length (octets events) in
     let s = octets events ++ o ∷ [] in
     let sixteen : n % 32 ≡ 16 = omega (arith, c.slot.ensures.value s n h.trunk, divides, c.if-slot-eq0.false) in
     let first : (n / 32) % 16 ≡ 0 = sym (c.frame-frame.ensures.value s n h.trunk)
     ∙ frame_zero _ c.frame-frame.ensures.in_multiframe c.in-None.ensures.reply in
-    let passed = c.pass_turn-in-None.ensures s n h.trunk (none_in_first n sixteen first) in
+    let passed = c.skip_turn-in-None.ensures s n h.trunk (none_in_first n sixteen first) in
     record {
       reply = rw (c.multiframe_signal.ensures, c.alarms-in-None.ensures s passed)
           (sym (sends_multiframe config events s n _ _ sixteen first));

@@ -9,7 +9,7 @@ use Rattle.gw_switch.specs.Lending.{with_circuit}
 use Rattle.gw_switch.specs.Hearing.{signalled}
 use Rattle.gw_switch.specs.Events.{Event, octets, view}
 use Rattle.gw_switch.specs.Whole.{octet_reply, config_of, nibble_sent}
-use Rattle.gw_switch.specs.Standing.{Stands}
+use Rattle.gw_switch.specs.Standing.{HasHistory}
 use Rattle.gw_switch.proofs.Rounds.{frame_with-low, frame_with-high}
 use Rattle.gw_switch.proofs.Sendings.{sent_at, sends_abcd, slot_of-not16, frame_with-only}
 use Rattle.gw_switch.proofs.Views.{CircuitsStand-push, both_go, octets-append, sees_abcd, sees_no_abcd, sees_some}
@@ -25,7 +25,7 @@ sent_for config events s n c k nibble heard told is own =
     ∙ ap (nibble_sent config events s n) own
 
 pub returns : goal.returns
-unfolding octet_reply Stands
+unfolding octet_reply HasHistory
 returns c = λ config events o h sixteen j-is room.
     let n = length (octets events) in
     let s = octets events ++ o ∷ [] in

@@ -5,7 +5,7 @@ use Rattle.g704_cas.specs.Numbers.{slot_of, circuit_in}
 use Rattle.gw_switch.specs.Hearing.{heard}
 use Rattle.gw_switch.specs.Events.{Event, octets, view}
 use Rattle.gw_switch.specs.Whole.{octet_reply, config_of, speech_out}
-use Rattle.gw_switch.specs.Standing.{Stands}
+use Rattle.gw_switch.specs.Standing.{HasHistory}
 use Rattle.gw_switch.proofs.Sendings.{sends_speech, circuit_in-slot_of, slot_of-not0, slot_of-not16}
 use Rattle.gw_switch.proofs.Heard.{slot_of-turn}
 use Rattle.gw_switch.proofs.Views.{CircuitsStand-push, goes_by, octets-append, sees_slot, sees_nothing, sees_some}
@@ -13,7 +13,7 @@ use Rattle.gw_switch.proofs.Views.{lent_stands, left_stands, others_kept}
 use Rattle.gw_switch.proofs.gateway.Gateway.send_slot.Goals as goal
 
 pub returns : goal.returns
-unfolding octet_reply Stands
+unfolding octet_reply HasHistory
 returns c = λ config events o h.
     let n = length (octets events) in
     let s = octets events ++ o ∷ [] in

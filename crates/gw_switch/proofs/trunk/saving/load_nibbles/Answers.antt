@@ -26,7 +26,8 @@ loop-i-preserved c =
       octets = one-read saved_nibble c.loop-i.nibbles c.loop-i.i nibble _ c.loop-i.octets c.load_nibble.new.octets
           c.loop-i.invariant.octets c.in_ok-nibbles.ensures.read (omega arith);
       many = omega (arith, length-set {A = Option ℕ});
-      each = one-more IsNibble c.loop-i.nibbles c.loop-i.i nibble c.loop-i.invariant.each c.in_ok-nibbles.ensures.fits (omega arith);
+      each = one-more IsNibble c.loop-i.nibbles c.loop-i.i nibble c.loop-i.invariant.each c.in_ok-nibbles.ensures.fits
+          (omega arith);
     }
 
 pub returns-clause-loaded : goal.returns-clause-loaded

@@ -6,8 +6,8 @@ use Rattle.q421_line.proofs.signalling.Line.signal.Goals as goal
 
 pub returns-clause-stands : goal.returns-clause-stands
 returns-clause-stands c role items stands =
-    stands-signal c.args.self.now role items c.args.heard c.hear.new.self c.next_by-next.result _ _
-    stands (c.hear.ensures _ stands.heard)
+    stands-signal c.args.self.now role items c.args.heard c.receive.new.self c.next_by-next.result _ _
+    stands (c.receive.ensures _ stands.heard)
     (c.next_by-next.ensures ∙ ap (λ pair. next_by c.args.self.now.role c.args.self.now.state pair) c.recognised.ensures)
     (c.count_seizure-state.ensures.state _) (c.count_seizure-state.ensures.seized_for _)
 

@@ -2,24 +2,24 @@ use Rattle.std.proofs.Common.{refl, sym, ap}
 use Rattle.std.proofs.lemmas.Result.{err_from_is_err_and}
 use Rattle.satop_playout.specs.Calls.{answer_for}
 use Rattle.satop_playout.specs.Plays.{arrival_answer, stream}
-use Rattle.satop_playout.specs.Standing.{Stands}
+use Rattle.satop_playout.specs.Standing.{HasHistory}
 use Rattle.satop_playout.proofs.Keeping.{stands-refused, stands-put}
 use Rattle.satop_playout.proofs.playout.SatopPlayout.arrive.Goals as goal
 
 pub returns-in_err-place-clause-reply : goal.returns-in_err-place-clause-reply
-unfolding Stands arrival_answer
+unfolding HasHistory arrival_answer
 returns-in_err-place-clause-reply c = λ settings calls k.
     let p = err_from_is_err_and c.from_residual.result c.from_residual.ensures.1 in
     rw (p.1, p.2) (sym (ap answer_for (c.in_err-place.ensures.why settings (stream settings calls) k)))
 
 pub returns-in_err-place-clause-stands : goal.returns-in_err-place-clause-stands
-unfolding Stands
+unfolding HasHistory
 returns-in_err-place-clause-stands c = λ settings calls k.
     stands-refused c.args.self.now settings calls c.args.sequence c.args.octets.now _ k
     (c.in_err-place.ensures.why settings (stream settings calls) k)
 
 pub returns-clause-reply : goal.returns-clause-reply
-unfolding Stands arrival_answer
+unfolding HasHistory arrival_answer
 returns-clause-reply c = λ settings calls k.
     sym (ap answer_for (c.in_ok-place.ensures.why settings (stream settings calls) k).0)
 

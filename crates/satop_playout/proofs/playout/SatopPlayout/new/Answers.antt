@@ -1,12 +1,12 @@
 use Rattle.std.proofs.Common.{refl, sym, subst, arith, rules, List}
 use Rattle.satop_playout.specs.declared.slot.Slot.{Slot}
 use Rattle.satop_playout.specs.Plays.{stream}
-use Rattle.satop_playout.specs.Standing.{Stands}
+use Rattle.satop_playout.specs.Standing.{HasHistory}
 use Rattle.satop_playout.proofs.Keeping.{AllEmpty, keeps-new, empty-slots}
 use Rattle.satop_playout.proofs.playout.SatopPlayout.new.Goals as goal
 
 pub returns : goal.returns
-unfolding Stands stream
+unfolding HasHistory stream
 returns c =
     let len = c.in_ok-vec.ensures.len in
     let window = c.args.settings.window_is in

@@ -15,7 +15,8 @@ returns-in_err-numbers-clause-next c = λ saved rest size few e.
     let inv = c.loop-i.invariant in
     let long = c.loop-i.auto.numbers in
     let before = c.loop-i-test.true in
-    let many : length (take c.loop-i.i c.loop-i.numbers) ≡ c.loop-i.i = length-take-le c.loop-i.i c.loop-i.numbers (omega arith) in
+    let many : length (take c.loop-i.i c.loop-i.numbers)
+    ≡ c.loop-i.i = length-take-le c.loop-i.i c.loop-i.numbers (omega arith) in
     let next = next-item (λ n. n < 2 ^ 16) two_octets (take c.loop-i.i c.loop-i.numbers) saved c.loop-i.self rest
     two-tell inv.below few (sym inv.octets ∙ e) (omega arith) in
     let told = c.in_err-numbers.ensures.next next.0 (flat_map two_octets next.1 ++ rest) next.2 next.3 in
@@ -28,12 +29,15 @@ loop-i-preserved c =
     let before = c.loop-i-test.true in
     let n = c.in_ok-numbers.field-0 in
     let few : n < 65536 = search rules in
-    let with_it : take (c.loop-i.i + 1) (slice_set c.loop-i.numbers c.loop-i.i n) ≡ take c.loop-i.i c.loop-i.numbers ++ n ∷ [] =
+    let with_it : take (c.loop-i.i + 1) (slice_set c.loop-i.numbers c.loop-i.i n)
+    ≡ take c.loop-i.i c.loop-i.numbers ++ n ∷ [] =
     take-set_at c.loop-i.numbers c.loop-i.i (c.loop-i.i + 1) n refl (omega arith) in
     record {
       octets = inv.octets
-          ∙ ap (λ (os : List ℕ). flat_map two_octets (take c.loop-i.i c.loop-i.numbers) ++ os) c.in_ok-numbers.ensures.read
-          ∙ sym (append_assoc (flat_map two_octets (take c.loop-i.i c.loop-i.numbers)) (two_octets n) c.read_u16.new.self)
+          ∙ ap (λ (os : List ℕ). flat_map two_octets
+          (take c.loop-i.i c.loop-i.numbers) ++ os) c.in_ok-numbers.ensures.read
+          ∙ sym (append_assoc (flat_map two_octets (take c.loop-i.i c.loop-i.numbers))
+          (two_octets n) c.read_u16.new.self)
           ∙ ap (λ (os : List ℕ). os ++ c.read_u16.new.self)
           (sym (saved-push two_octets (take c.loop-i.i c.loop-i.numbers) n)
           ∙ ap (λ (ns : List ℕ). flat_map two_octets ns) (sym with_it));

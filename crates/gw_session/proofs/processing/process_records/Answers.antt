@@ -1,0 +1,109 @@
+use Rattle.gw_session.proofs.Common.{inl, ◌++◌, [], ◌∷◌, length, ap, ◌∙◌, refl, length-append, arith, record_at, held}
+use Rattle.gw_session.proofs.Common.{goes_up, starts, first_held, record_taken, stops_in, stops_behind, reads_more}
+use Rattle.gw_session.proofs.Common.{ended, gives_up, ends_so}
+use Rattle.gw_records.specs.declared.outcome.RunFault.TheVariants as faults
+use Rattle.gw_session.proofs.Attending.{record_is, good_in_all, through_none, through_done, through_all, through_on}
+use Rattle.gw_session.proofs.Attending.{waiting_failed, some_records, act_failed}
+use Rattle.gw_session.proofs.Watching.{none_shown, shown_more}
+use Rattle.gw_session.proofs.processing.process_records.Goals as goal
+
+pub attending-init : goal.attending-init
+attending-init g c = (
+  [],
+  [],
+  record {
+    stage = starts _ _ _ c.requires.holds c.requires.turns;
+    through = rw c.requires.totals (through_none _ _ none_shown c.requires.waiting);
+    none_waits = λ none. ap length c.requires.waiting;
+    few = omega (arith, ap length c.requires.waiting);
+    at_once = refl;
+    room = c.requires.room;
+  },
+)
+
+pub handle_record-requires-clause-good : goal.handle_record-requires-clause-good
+handle_record-requires-clause-good g c =
+    let f = c.in-Ok.first in
+    let found = first_held f c.held.ensures c.in-Ok.ensures.good in
+    rw (record_is f (held c.attending.reader) _ found.more c.held-in-Ok.ensures)
+    (good_in_all c.args.kinds.now _ found.good)
+
+pub returns-in_err-handle_record-in-Ok-clause-fault : goal.returns-in_err-handle_record-in-Ok-clause-fault
+returns-in_err-handle_record-in-Ok-clause-fault g c =
+    let w = c.attending.invariant in
+    let f = c.in-Ok.first in
+    let found = first_held f c.held.ensures c.in-Ok.ensures.good in
+    let q = rw (record_is f (held c.attending.reader) _ found.more c.held-in-Ok.ensures) at
+    c.in_err-handle_record-in-Ok.ensures.acts in
+    let stopped = act_failed _ _ _ w.2.few w.2.through q.2 in
+    goes_up _ _ faults.Write c.from_residual.ensures.1 q.0 (stops_in f w.2.stage found q.1 (_, stopped))
+
+pub attending-preserved-in-Ok : goal.attending-preserved-in-Ok
+attending-preserved-in-Ok g c =
+    let w = c.attending.invariant in
+    let f = c.in-Ok.first in
+    let found = first_held f c.held.ensures c.in-Ok.ensures.good in
+    let q = rw (record_is f (held c.attending.reader) _ found.more c.held-in-Ok.ensures) at
+    c.in_ok-handle_record-in-Ok.ensures.acts in
+    let code = rw (record_is f (held c.attending.reader) _ found.more c.held-in-Ok.ensures) at
+    c.in_ok-handle_record-in-Ok.ensures.code in
+    let shown = rw (record_is f (held c.attending.reader) _ found.more c.held-in-Ok.ensures) at c.after.ensures in
+    let more = length-append w.1 (record_at f (held c.attending.reader) ∷ []) in (
+      w.0,
+      w.1 ++ record_at f (held c.attending.reader) ∷ [],
+      record {
+        stage = record_taken f w.2.stage found c.pass.ensures.holds c.pass.ensures.turns q.1;
+        through = through_done _ _ _ w.2.through q.0 (λ acts. shown_more q.0.acts code shown);
+        none_waits = λ none. absurd (omega (arith, none, more));
+        few = rw w.2.at_once at c.in_ok-handle_record-in-Ok.ensures.few;
+        at_once = c.handle_record.ensures.at_once ∙ w.2.at_once;
+        room = omega (arith, w.2.room, c.handle_record.ensures.room);
+      },
+    )
+
+pub returns-in_err-flush-in-Err-clause-fault : goal.returns-in_err-flush-in-Err-clause-fault
+returns-in_err-flush-in-Err-clause-fault g c =
+    let w = c.attending.invariant in
+    let fault = c.in_err-flush-in-Err.ensures.writes in
+    goes_up _ _ faults.Write c.from_residual-in_err-flush-in-Err.ensures.1 fault.0 (stops_behind w.2.stage
+    fault.1.counted (
+      _,
+      inl (waiting_failed _ _ _ w.2.few w.2.through
+          (some_records _ _ w.2.none_waits c.in_err-flush-in-Err.ensures.some) fault.1),
+    ))
+
+pub attending-preserved : goal.attending-preserved
+attending-preserved g c =
+    let w = c.attending.invariant in
+    let r = rw c.if-not-branch.false at c.in_ok-read_on-in-Err.ensures.ok in
+    let flushed = c.in_ok-flush-in-Err.ensures in (
+      w.0 ++ r.octets,
+      w.1,
+      record {
+        stage = reads_more w.2.stage r c.requires.begins.turns flushed.writes.1;
+        through = through_on _ _ w.2.through flushed.writes.0 flushed.empty;
+        none_waits = λ none. ap length flushed.empty;
+        few = omega (arith, ap length flushed.empty);
+        at_once = w.2.at_once;
+        room = w.2.room;
+      },
+    )
+
+pub returns-then-not-branch : goal.returns-then-not-branch
+returns-then-not-branch g c =
+    let w = c.attending.invariant in
+    let r = rw c.if-not-branch.true at c.in_ok-read_on-in-Err.ensures.ok in
+    let e = ended c.attending.session.totals w.2.stage r c.held.ensures c.in-Err.ensures.end
+    c.in_ok-flush-in-Err.ensures.writes.1 (through_all _ _ _ w.2.through c.in_ok-flush-in-Err.ensures.writes.0) in
+    record {
+      ok = (ends_so (λ records. Unit {0}) _ _ _ e.0 r.ended e.1 c.answer.ensures).0;
+      fault = (ends_so _ _ _ _ e.0 r.ended e.1 c.answer.ensures).1;
+    }
+
+pub returns-in_err-read_on-in-Err-clause-fault : goal.returns-in_err-read_on-in-Err-clause-fault
+returns-in_err-read_on-in-Err-clause-fault g c =
+    let w = c.attending.invariant in
+    let fault = c.in_err-read_on-in-Err.ensures.fault in
+    goes_up _ _ faults.Read c.from_residual-in_err-read_on-in-Err.ensures.1 fault.0
+    (gives_up c.attending.session.totals w.2.stage fault.1 c.held.ensures c.in-Err.ensures.end
+    c.in_ok-flush-in-Err.ensures.writes.1 (through_all _ _ _ w.2.through c.in_ok-flush-in-Err.ensures.writes.0))

@@ -1,0 +1,23 @@
+use Rattle.gw_session.proofs.Common.{◌≡◌, ◌≤◌, List, ℕ, length, vec_len, Record, Forwards, written_by, most_waiting}
+use Rattle.gw_session.proofs.Common.{WatchedTrace, ActsShown, nothing_counted, state_of, work_left, Stage}
+use Rattle.gw_session.proofs.processing.process_records.Given as goal
+
+abbrev pub invariant-attending : goal.invariant-attending
+invariant-attending g l = (octets : List ℕ) × (records : List Record) × record {
+  stage : Stage l.kinds (g.S.Source.tells l.initial.source) (g.S.Source.tells l.source)
+      (g.K.Sink.tells l.initial.sink) (g.K.Sink.tells l.sink) l.reader octets records;
+  through : WatchedTrace (written_by g.O.PacketPorts.spells)
+      (state_of (g.O.PacketPorts.tells l.initial.packet_ports) l.initial.gateway nothing_counted)
+      (state_of (g.O.PacketPorts.tells l.packet_ports) l.gateway l.session.totals)
+      (g.T.Tape.tells l.initial.tape) (g.T.Tape.tells l.tape)
+      (λ first xs. Forwards (g.K.Sink.tells l.initial.sink).taken (g.K.Sink.tells l.sink).taken
+      l.session.waiting.items xs)
+      (ActsShown g.W.Watch.shows l.initial.gateway l.initial.watch l.watch) records;
+  none_waits : length records ≡ 0 → length l.session.waiting.items ≡ 0;
+  few : length l.session.waiting.items ≤ most_waiting l.initial.session.at_once;
+  at_once : l.session.at_once ≡ l.initial.session.at_once;
+  room : g.O.PacketPorts.place ≤ vec_len l.session.room;
+}
+
+abbrev pub decreases-attending : goal.decreases-attending
+decreases-attending g l = work_left l.reader

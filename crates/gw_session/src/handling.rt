@@ -1,0 +1,212 @@
+//! Records that a gateway acts on, and what is written for them.
+ghost use Rattle.std.specs.Prelude.{◌≡◌, ◌^◌, ◌<◌, ◌≤◌, ◌∷◌, ◌++◌, length, OnOk};
+ghost use Rattle.byteorder.specs.Endian.{big_bytes};
+ghost use Rattle.gw_switch.specs.Events.{Event};
+ghost use Rattle.gw_switch.specs.Whole.{Reply};
+ghost use Rattle.gw_records.specs.Streams.{CanCount, Puts};
+ghost use Rattle.gw_session.specs.Answers.{code_of};
+ghost use Rattle.gw_session.specs.Exchange.{Takes, most_waiting};
+
+use crate::exchange::{Session, give_datagram};
+use crate::packet_ports::PacketPorts;
+use crate::tape::{OnTape, Tape, record};
+use byteorder::{BigEndian, ByteOrder};
+use g704_cas::CircuitNo;
+use g726_codec::CodecKind;
+use gw_circuit::CodecFault;
+use gw_records::{OutputBuffer, RecordHeader, RunFault, Sink, TRUNK, flush, put};
+use gw_switch::Gateway;
+use q421_line::{Cmd, LineFault};
+
+// An answer to a record.
+const ANSWER: u8 = 0x52;
+
+// 0, or the number of a fault of the line.
+fn line_code(answer: Result<(), LineFault>) -> u8
+    ensures { result ≡ code_of (Reply.Obeyed answer) }
+{
+    match answer {
+        Ok(()) => 0,
+        Err(fault) => fault.number(),
+    }
+}
+
+// 0, or the number of a fault of the codec.
+fn codec_code(answer: Result<(), CodecFault>) -> u8
+    ensures { result ≡ code_of (Reply.Changed answer) }
+{
+    match answer {
+        Ok(()) => 0,
+        Err(fault) => fault.number(),
+    }
+}
+
+// Gives a command to its circuit, and returns 0 or the number of the refusal.
+fn give_command(gateway: &mut Gateway, circuit: CircuitNo, command: Cmd) -> u8
+    ensures { Takes gateway.old gateway.new (Event.Command circuit command) result }
+{
+    line_code(gateway.command(circuit, command))
+}
+
+// Gives a codec to its circuit, and returns 0 or the number of the refusal.
+fn give_codec(gateway: &mut Gateway, circuit: CircuitNo, codec: CodecKind, payload_type: u8) -> u8
+    ensures { Takes gateway.old gateway.new (Event.Codec circuit codec payload_type) result }
+{
+    codec_code(gateway.codec(circuit, codec, payload_type))
+}
+
+// The front of a record of the trunk.
+fn trunk_front(len: usize) -> [u8; 4]
+    requires { len < 2 ^ 16 }
+    ensures { result ≡ 0x54 ∷ 0 ∷ big_bytes 2 len }
+{
+    let mut front = [TRUNK, 0, 0, 0];
+    BigEndian::write_u16(&mut front[2..4], len as u16);
+    front
+}
+
+// Puts octets behind those that wait, and writes all of them where none is to wait. They answer a record that
+// is on the tape.
+fn put_out<K: Sink>(
+    _answered: OnTape,
+    octets: &[u8],
+    waiting: &mut OutputBuffer,
+    at_once: bool,
+    sink: &mut K,
+) -> Result<(), RunFault>
+    requires { CanCount (K.tells sink.old).failures }
+    ensures puts { Puts (K.tells sink.old) (K.tells sink.new) waiting.new.items
+        (waiting.old.items ++ octets.now) result }
+    ensures few { OnOk result (length waiting.new.items ≤ most_waiting at_once) }
+{
+    put(sink, waiting, octets)?;
+    if at_once {
+        flush(sink, waiting)?;
+    } else {
+        prove!(waiting.len() <= waiting.capacity());
+    }
+    Ok(())
+}
+
+impl Session {
+    ghost use Rattle.std.specs.Prelude.{◌≡◌, ◌+◌, ◌^◌, ◌<◌, ◌≤◌, ◌++◌, length, vec_len, OnOk};
+    ghost use Rattle.gw_records.specs.Records.{Record, IsGood, named};
+    ghost use Rattle.gw_records.specs.Streams.{CanCount, Puts, at_most};
+    ghost use Rattle.gw_session.specs.Answers.{written_out};
+    ghost use Rattle.gw_session.specs.Answers.Written.{Answered};
+    ghost use Rattle.gw_session.specs.Running.{all_kinds};
+    ghost use Rattle.gw_session.specs.Exchange.{Acts, most_waiting};
+    ghost use Rattle.gw_session.specs.Watch.{IsCodeAfter};
+    ghost use Rattle.gw_session.specs.World.{world_of};
+
+    // Gives the octets of a trunk record to the gateway, and puts the record that answers it.
+    fn handle_trunk_record<O: PacketPorts, K: Sink, T: Tape>(
+        &mut self,
+        gateway: &mut Gateway,
+        packet_ports: &mut O,
+        body: &[u8],
+        sink: &mut K,
+        tape: &mut T,
+    ) -> Result<(), RunFault>
+        requires short { length body.now < 2 ^ 16 }
+        requires room { O.place ≤ vec_len self.old.room }
+        requires writes { CanCount (K.tells sink.old).failures }
+        ensures acts { Acts O.spells
+            (world_of (O.tells packet_ports.old) gateway.old self.old.totals (T.tells tape.old)
+            (K.tells sink.old) self.old.waiting.items)
+            (world_of (O.tells packet_ports.new) gateway.new self.new.totals (T.tells tape.new)
+            (K.tells sink.new) self.new.waiting.items)
+            (Record.Trunk body.now) result }
+        ensures code { OnOk result (self.new.code ≡ 0) }
+        ensures few { OnOk result (length self.new.waiting.items ≤ most_waiting self.old.at_once) }
+        ensures at_once { self.new.at_once ≡ self.old.at_once }
+        ensures room { vec_len self.new.room ≡ vec_len self.old.room }
+    {
+        self.totals.records = self.totals.records.saturating_add(1);
+        self.totals.octets = self.totals.octets.saturating_add(body.len() as u64);
+        self.answer.clear();
+        let _ = self.answer.try_extend_from_slice(&trunk_front(body.len()));
+        let recorded = self.exchange_all(gateway, packet_ports, body, sink, tape)?;
+        self.code = 0;
+        put_out(
+            recorded,
+            self.answer.as_slice(),
+            &mut self.waiting,
+            self.at_once,
+            sink,
+        )
+    }
+
+    // Counts a record that is on the tape, and puts the answer of its circuit.
+    fn put_answer<K: Sink>(
+        &mut self,
+        recorded: OnTape,
+        code: u8,
+        sink: &mut K,
+    ) -> Result<(), RunFault>
+        requires writes { CanCount (K.tells sink.old).failures }
+        ensures puts { Puts (K.tells sink.old) (K.tells sink.new) self.new.waiting.items
+            (self.old.waiting.items ++ written_out (Answered recorded.circuit recorded.kind code)) result }
+        ensures code { self.new.code ≡ code }
+        ensures counts { self.new.totals
+            ≡ record self.old.totals { records = at_most (self.old.totals.records + 1) } }
+        ensures few { OnOk result (length self.new.waiting.items ≤ most_waiting self.old.at_once) }
+        ensures at_once { self.new.at_once ≡ self.old.at_once }
+        ensures room { vec_len self.new.room ≡ vec_len self.old.room }
+    {
+        self.totals.records = self.totals.records.saturating_add(1);
+        self.code = code;
+        let octets = [ANSWER, recorded.circuit(), 0, 2, recorded.kind(), code];
+        put_out(recorded, &octets, &mut self.waiting, self.at_once, sink)
+    }
+
+    /// Acts on a record, which is recorded before, and puts what answers it behind the octets that wait.
+    pub fn handle_record<O: PacketPorts, K: Sink, T: Tape>(
+        &mut self,
+        gateway: &mut Gateway,
+        packet_ports: &mut O,
+        head: RecordHeader,
+        body: &[u8],
+        sink: &mut K,
+        tape: &mut T,
+    ) -> Result<(), RunFault>
+        requires good { IsGood all_kinds (named head body.now) }
+        requires room { O.place ≤ vec_len self.old.room }
+        requires writes { CanCount (K.tells sink.old).failures }
+        ensures acts { Acts O.spells
+            (world_of (O.tells packet_ports.old) gateway.old self.old.totals (T.tells tape.old)
+            (K.tells sink.old) self.old.waiting.items)
+            (world_of (O.tells packet_ports.new) gateway.new self.new.totals (T.tells tape.new)
+            (K.tells sink.new) self.new.waiting.items)
+            (named head body.now) result }
+        ensures code { OnOk result (IsCodeAfter gateway.old (named head body.now) self.new.code) }
+        ensures few { OnOk result (length self.new.waiting.items ≤ most_waiting self.old.at_once) }
+        ensures at_once { self.new.at_once ≡ self.old.at_once }
+        ensures room { vec_len self.new.room ≡ vec_len self.old.room }
+    {
+        match head {
+            RecordHeader::Trunk => self.handle_trunk_record(
+                gateway,
+                packet_ports,
+                body,
+                sink,
+                tape,
+            ),
+            RecordHeader::Datagram(circuit) => {
+                let recorded = record(tape, head, body);
+                let code = give_datagram(gateway, circuit, body, &mut self.totals);
+                self.put_answer(recorded, code, sink)
+            }
+            RecordHeader::Command(circuit, command) => {
+                let recorded = record(tape, head, body);
+                let code = give_command(gateway, circuit, command);
+                self.put_answer(recorded, code, sink)
+            }
+            RecordHeader::Codec(circuit, codec, payload_type) => {
+                let recorded = record(tape, head, body);
+                let code = give_codec(gateway, circuit, codec, payload_type);
+                self.put_answer(recorded, code, sink)
+            }
+        }
+    }
+}

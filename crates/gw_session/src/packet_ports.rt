@@ -1,0 +1,110 @@
+//! Where the packets of a session go, and where datagrams come from beside its records.
+ghost use Rattle.std.specs.Prelude.{◌≡◌, ◌≤◌, ◌<◌, ◌++◌, ℕ, length, IfOk, IfSome, OnOk, OnErr};
+ghost use Rattle.gw_records.specs.Streams.{CanCount, Puts};
+ghost use Rattle.gw_records.specs.Ports.{PortsState, Receives, CountsFault, KeepsSends, KeepsReceives};
+ghost use Rattle.gw_session.specs.PacketPorts.{RecordEncoding, silent, in_record, no_ports, Went};
+
+use g704_cas::CircuitNo;
+use gw_records::{OutputBuffer, PortFault, Ports, RunFault, Sink, datagram_record, put};
+
+/// Where the packets of a session go, and where datagrams come from beside its records.
+pub trait PacketPorts {
+    /// What its ports tell.
+    ghost tells: { Self → PortsState };
+    /// What a packet puts in front of the answer.
+    ghost spells: { RecordEncoding };
+    /// The length of the room that it is lent.
+    ghost place: { ℕ };
+
+    /// Takes out the first datagram that waits at a circuit, as [`Ports::receive`] does.
+    fn receive_datagram(
+        &mut self,
+        circuit: CircuitNo,
+        room: &mut [u8],
+    ) -> Result<Option<usize>, PortFault>
+        requires { place ≤ length room.old }
+        ensures bound { IfOk result (λ got. IfSome got (λ n. n ≤ length room.new)) }
+        ensures receives { Receives (tells self.old) (tells self.new) circuit result room.new }
+        ensures counts { CountsFault (tells self.old).receive_failures (tells self.new).receive_failures
+            result }
+        ensures sends_stay { KeepsSends (tells self.old) (tells self.new) };
+
+    /// Sends a packet of a circuit, and returns whether it went out. What it puts comes behind the octets
+    /// that wait.
+    fn send_datagram<K: Sink>(
+        &mut self,
+        circuit: CircuitNo,
+        packet: &[u8],
+        waiting: &mut OutputBuffer,
+        sink: &mut K,
+    ) -> Result<bool, RunFault>
+        requires len { length packet.now ≤ 252 }
+        requires writes { CanCount (K.tells sink.old).failures }
+        ensures puts { Puts (K.tells sink.old) (K.tells sink.new) waiting.new.items
+            (waiting.old.items ++ spells (circuit, packet.now)) result }
+        ensures went { IfOk result (λ went. Went (tells self.old) (tells self.new) circuit went packet.now) }
+        ensures receives_stay { KeepsReceives (tells self.old) (tells self.new) }
+        ensures kept { OnErr result (tells self.new ≡ tells self.old) }
+        ensures some { OnErr result (0 < length (spells (circuit, packet.now))) };
+}
+
+/// Packets go out as records in front of the answer, and datagrams come as records alone.
+#[derive(Drop)]
+pub struct InRecords;
+
+impl PacketPorts for InRecords {
+    ghost tells = { λ s. no_ports };
+
+    ghost spells = { in_record };
+
+    ghost place = { 0 };
+
+    #[inline(always)]
+    fn receive_datagram(
+        &mut self,
+        _circuit: CircuitNo,
+        _room: &mut [u8],
+    ) -> Result<Option<usize>, PortFault> {
+        Ok(None)
+    }
+
+    // (It is apart from the octets that no packet goes with, since the record is a large local.)
+    #[inline(never)]
+    fn send_datagram<K: Sink>(
+        &mut self,
+        circuit: CircuitNo,
+        packet: &[u8],
+        waiting: &mut OutputBuffer,
+        sink: &mut K,
+    ) -> Result<bool, RunFault> {
+        let record = datagram_record(circuit.get(), packet);
+        put(sink, waiting, record.as_slice())?;
+        Ok(true)
+    }
+}
+
+impl<P: Ports> PacketPorts for P {
+    ghost tells = { P.tells };
+
+    ghost spells = { silent };
+
+    ghost place = { 65536 };
+
+    fn receive_datagram(
+        &mut self,
+        circuit: CircuitNo,
+        room: &mut [u8],
+    ) -> Result<Option<usize>, PortFault> {
+        self.receive(circuit, room)
+    }
+
+    fn send_datagram<K: Sink>(
+        &mut self,
+        circuit: CircuitNo,
+        packet: &[u8],
+        _waiting: &mut OutputBuffer,
+        _sink: &mut K,
+    ) -> Result<bool, RunFault> {
+        Ok(self.send(circuit, packet).is_ok())
+    }
+}

@@ -1,0 +1,79 @@
+//! A session: records of a source, acted on one after another.
+ghost use Rattle.std.specs.Prelude.{◌≡◌, ◌^◌, ◌≤◌, [], vec_len, IfOk, IfErr};
+ghost use Rattle.std.specs.Io.KnownBytes.{Appends};
+ghost use Rattle.gw_records.specs.Streams.{CanBegin};
+ghost use Rattle.gw_records.specs.Reader.{held};
+ghost use Rattle.gw_records.specs.Outcome.{nothing_counted, EndsAll, EndsUntil};
+ghost use Rattle.gw_session.specs.Exchange.{written_by, WatchedTrace, TraceToWriteError};
+ghost use Rattle.gw_session.specs.Exchange.{most_waiting};
+ghost use Rattle.gw_session.specs.Watch.{ActsShown};
+ghost use Rattle.gw_session.specs.World.{state_of, world_of};
+
+use crate::exchange::Session;
+use crate::packet_ports::PacketPorts;
+use crate::tape::Tape;
+use crate::watch::Watch;
+use gw_records::{
+    AcceptedKinds, FRONT_LEN, Reader, RunFault, Sink, Source, Totals, answer, first_record, flush,
+};
+use gw_switch::Gateway;
+
+/// Acts on the records of the source, of these kinds, by a gateway, records on a tape what it takes, and
+/// shows each record to a watch when the gateway has acted on it. It is inlined, so that a session tests for
+/// no other kinds than its own.
+#[inline(always)]
+pub fn process_records<O: PacketPorts, S: Source, K: Sink, T: Tape, W: Watch>(
+    kinds: &AcceptedKinds,
+    reader: &mut Reader,
+    session: &mut Session,
+    gateway: &mut Gateway,
+    packet_ports: &mut O,
+    source: &mut S,
+    sink: &mut K,
+    tape: &mut T,
+    watch: &mut W,
+) -> Result<Totals, RunFault>
+    requires begins { CanBegin (S.tells source.old) (K.tells sink.old) }
+    requires holds { held reader.old ≡ [] }
+    requires turns { reader.old.reads_left ≡ 2 ^ 62 }
+    requires totals { session.old.totals ≡ nothing_counted }
+    requires waiting { session.old.waiting.items ≡ [] }
+    requires room { O.place ≤ vec_len session.old.room }
+    ensures ok { IfOk result (EndsAll kinds.now
+        (S.tells source.old) (S.tells source.new) (K.tells sink.old) (K.tells sink.new)
+        (λ totals. WatchedTrace (written_by O.spells)
+        (state_of (O.tells packet_ports.old) gateway.old nothing_counted)
+        (state_of (O.tells packet_ports.new) gateway.new totals) (T.tells tape.old) (T.tells tape.new)
+        (λ first. Appends (K.tells sink.old).taken (K.tells sink.new).taken)
+        (ActsShown W.shows gateway.old watch.old watch.new))) }
+    ensures fault { IfErr result (EndsUntil kinds.now
+        (S.tells source.old) (S.tells source.new) (K.tells sink.old) (K.tells sink.new)
+        (λ totals. WatchedTrace (written_by O.spells)
+        (state_of (O.tells packet_ports.old) gateway.old nothing_counted)
+        (state_of (O.tells packet_ports.new) gateway.new totals) (T.tells tape.old) (T.tells tape.new)
+        (λ first. Appends (K.tells sink.old).taken (K.tells sink.new).taken)
+        (ActsShown W.shows gateway.old watch.old watch.new))
+        (TraceToWriteError (most_waiting session.old.at_once) O.spells
+        (ActsShown W.shows gateway.old watch.old watch.new)
+        (world_of (O.tells packet_ports.old) gateway.old nothing_counted (T.tells tape.old)
+        (K.tells sink.old) [])
+        (λ totals. world_of (O.tells packet_ports.new) gateway.new totals (T.tells tape.new)
+        (K.tells sink.new) []))) }
+{
+    'attending: loop {
+        match first_record(kinds, reader.held()) {
+            Ok(first) => {
+                let body = &reader.held()[FRONT_LEN..first.len];
+                session.handle_record(gateway, packet_ports, first.head, body, sink, tape)?;
+                watch.after(&first.head, body, session.code, gateway);
+                reader.pass(first.len);
+            }
+            Err(ending) => {
+                flush(sink, &mut session.waiting)?;
+                if !reader.read_on(kinds, ending, source)? {
+                    return answer(ending, session.totals);
+                }
+            }
+        }
+    }
+}

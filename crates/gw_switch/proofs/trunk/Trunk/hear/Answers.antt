@@ -1,7 +1,0 @@
-use Rattle.gw_switch.proofs.Heard.{hears_next}
-use Rattle.gw_switch.proofs.trunk.Trunk.hear.Goals as goal
-
-pub returns : goal.returns
-returns c = λ s h.
-    hears_next _ _ _ _ s c.args.octet h (c.octet-place.ensures.placed s h.frames)
-    (c.octet-place.ensures.stands s h.frames) c.hear_at.ensures

@@ -1,5 +1,0 @@
-use Rattle.gw_switch.proofs.trunk.Trunk.hear_at.Goals as goal
-
--- an octet of a slot of speech
-pub returns-in-Slot : goal.returns-in-Slot
-returns-in-Slot c = rw (c.in-Slot.is) (c.hear_slot.ensures c.in-Slot.fas)
