@@ -29,8 +29,7 @@ pub fn do_filter<S: Source + StandardInput, K: Sink + StandardOutput>(
     }
 }
 
-/// Checks the CRC-4 multiframes of a trunk from standard input to standard output, and prints what was
-/// counted.
+/// Checks the CRC-4 multiframes of a trunk from standard input to standard output, and prints the counts.
 #[inline(never)]
 pub fn perform_crc4_check<S: Source + StandardInput, K: Sink + StandardOutput>(
     rt: &impl Eprint,

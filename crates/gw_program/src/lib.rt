@@ -1,5 +1,5 @@
-//! What the program does: jobs on streams, filters of a trunk, sessions of a gateway by a configuration,
-//! trunks, and what it says of them.
+//! What the program does: speech streams, filters of a trunk, sessions of a gateway with a configuration,
+//! trunks, and the reports of them.
 #![tactic(auto)]
 
 mod filters;

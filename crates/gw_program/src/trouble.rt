@@ -1,4 +1,4 @@
-//! What the program says where it could not do what was asked, and its statuses.
+//! The program's faults, their lines and exit statuses.
 
 ghost use Rattle.std.specs.Prelude.{◌≡◌, ◌≤◌};
 ghost use Rattle.std.specs.IoError.{error_kind};
@@ -10,18 +10,18 @@ use gw_state::LoadFault;
 use std::io;
 use thiserror::Error;
 
-/// The status where all is done, and after help.
+/// The status without a fault, and after help.
 pub const DONE: u8 = 0;
 
 const FAULT: u8 = 1;
 
-/// The status where the command line, the file or the configuration is refused.
+/// The status if the command line, the file or the configuration is refused.
 pub const REFUSED: u8 = 2;
 
 /// The status for want of memory.
 pub const NO_MEMORY: u8 = 3;
 
-/// Why the program did not do what was asked. It prints as the line on standard error.
+/// Why the program failed. It prints as the line on standard error.
 #[derive(Debug, Drop, Error)]
 pub enum ProgramFault {
     /// A session ended with a fault.
@@ -66,10 +66,10 @@ pub enum ProgramFault {
     /// The socket that clients connect to can't be opened.
     #[error("cannot open the control socket")]
     Control,
-    /// The socket at which clients are told how the trunk stands can't be opened.
+    /// The socket of `--tell` can't be opened.
     #[error("cannot open the socket of --tell")]
     Tell,
-    /// The file says no configuration.
+    /// The file has no valid configuration.
     #[error("{0}")]
     Config(ConfigFault),
     /// Memory was refused.
@@ -78,7 +78,7 @@ pub enum ProgramFault {
 }
 
 impl ProgramFault {
-    /// What a failed call of the system comes to: want of memory, or else `otherwise`.
+    /// The fault of a failed system call: out of memory, or `otherwise`.
     pub fn of(error: &io::Error, otherwise: ProgramFault) -> ProgramFault
         ensures { result ≡ trouble_of (error_kind error.now) otherwise }
     {
@@ -88,8 +88,8 @@ impl ProgramFault {
         }
     }
 
-    /// The status of the program: 1 at a fault of a session, a socket or a trunk and if a state is not saved,
-    /// 2 if the command line, a file or the configuration is refused, and 3 for want of memory.
+    /// The exit status: 1 for a fault of a session, a socket or a trunk or if a state is not saved, 2 if the
+    /// command line, a file or the configuration is refused, and 3 if out of memory.
     pub fn status(&self) -> u8
         ensures { result ≡ trouble_status self.now }
     {

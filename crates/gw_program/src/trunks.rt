@@ -15,8 +15,8 @@ use gw_switch::Gateway;
 use gw_trunk::{Incoming, Outgoing, TrunkSink, TrunkSource, serve_trunk};
 use std::alloc::Global;
 
-// Serves a trunk and its clients by a gateway, whose datagrams come and go through ports, and records on a
-// tape what the gateway takes.
+// Serves a trunk and its clients with a gateway, sends and receives its datagrams through ports, and records
+// on a tape what the gateway receives.
 #[inline(never)]
 fn carry_trunk<I: Incoming, O: Outgoing, A: Outgoing, P: Ports, T: Tape>(
     alloc: Global,
@@ -39,7 +39,7 @@ fn carry_trunk<I: Incoming, O: Outgoing, A: Outgoing, P: Ports, T: Tape>(
     serve_trunk(alloc, gateway, ports, source, sink, tape)
 }
 
-// Serves a trunk by a configuration with a gateway, on ports and a tape of the system's. The tape is begun
+// Serves a trunk with a configuration and a gateway, on ports and a tape of the system. The tape is begun
 // before the ports are opened.
 fn perform_carry<Y: System, I: Incoming, O: Outgoing, A: Outgoing>(
     system: &Y,
@@ -71,8 +71,8 @@ fn perform_carry<Y: System, I: Incoming, O: Outgoing, A: Outgoing>(
     end_session(system, config, gateway, ended)
 }
 
-/// Serves a trunk and its clients by the configuration of the system's with a gateway of its, on its ports
-/// and its tape, and saves the state of the gateway.
+/// Serves a trunk and its clients with the configuration, the gateway, the ports and the tape of the system,
+/// and saves the gateway's state.
 pub fn perform_trunk<Y: System, I: Incoming, O: Outgoing, A: Outgoing>(
     system: &Y,
     alloc: Global,
