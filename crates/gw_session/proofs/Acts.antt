@@ -2,11 +2,10 @@
 use Rattle.gw_session.proofs.Common.{◌≡◌, inl, ◌+◌, ◌-◌, ◌^◌, ◌<◌, ℕ, min, List, [], ◌∷◌, ◌++◌, length, Result, Ok, Err}
 use Rattle.gw_session.proofs.Common.{refl, sym, ap, ◌∙◌, append_assoc, arith, length-map, big_bytes, GatewayConfig}
 use Rattle.gw_session.proofs.Common.{Gateway, Event, HasHistory, reply_to, Totals, RunFault, Record, TakesAllBut}
-use Rattle.gw_session.proofs.Common.{at_most}
-use Rattle.gw_session.proofs.Common.{Appends-none, TakesAllBut-join, AppendsPrefix-behind, PacketOutput, counted}
-use Rattle.gw_session.proofs.Common.{Written, written_out, code_of, Act, told, turns_of, events_in, events_of_turns}
-use Rattle.gw_session.proofs.Common.{octet_of, answer_to, packets_for, dropped_for, Takes, spelled_for, written_for}
-use Rattle.gw_session.proofs.Common.{Exchanges, ActsOn, TapeState, Recorded, Output, World, state_of, Puts}
+use Rattle.gw_session.proofs.Common.{at_most, Appends-none, TakesAllBut-join, AppendsPrefix-behind, PacketOutput}
+use Rattle.gw_session.proofs.Common.{counted, Written, written_out, code_of, Act, told, turns_of, events_in}
+use Rattle.gw_session.proofs.Common.{events_of_turns, octet_of, answer_to, packets_for, dropped_for, Takes, spelled_for}
+use Rattle.gw_session.proofs.Common.{written_for, Exchanges, ActsOn, TapeState, Recorded, Output, World, state_of, Puts}
 use Rattle.gw_session.proofs.Common.{TakesAllBut-same, AppendsPrefix-same, sent_with_octets, Acts, OnOk}
 use Rattle.gw_session.specs.declared.tape.OnTape.{OnTape}
 use Rattle.gw_session.proofs.Turns.{PortTrace-none, counted_is}

@@ -4,11 +4,10 @@ use Rattle.gw_session.proofs.Common.{length, take, drop, refl, ap, ◌∙◌, ap
 use Rattle.gw_session.proofs.Common.{Appends, map_push, flat_map_more, GatewayConfig, Event, octets, HasHistory}
 use Rattle.gw_session.proofs.Common.{AcceptedKinds, Record, IsGood, record_at, SinkState, TakesAllBut, FailsAfterPrefix}
 use Rattle.gw_session.proofs.Common.{AppendsBut, AppendsPrefix, TakesAllBut-appended, TakesAllBut-empty}
-use Rattle.gw_session.proofs.Common.{TakesAllBut-join}
-use Rattle.gw_session.proofs.Common.{Appends-join, AppendsBut-behind, all_kinds, PacketOutput, Act, told, turns_of}
-use Rattle.gw_session.proofs.Common.{turns, events_in, events_through, Follows, but_last, WatchedTrace, OfFirstActs}
-use Rattle.gw_session.proofs.Common.{written_for, written_by, ActsOn, StopsAt, CutTrace, TapeState, State, Output}
-use Rattle.gw_session.proofs.Common.{drop-take, named, TakesAllBut-start, ActTrace}
+use Rattle.gw_session.proofs.Common.{TakesAllBut-join, Appends-join, AppendsBut-behind, all_kinds, PacketOutput, Act}
+use Rattle.gw_session.proofs.Common.{told, turns_of, turns, events_in, events_through, Follows, but_last, WatchedTrace}
+use Rattle.gw_session.proofs.Common.{OfFirstActs, written_for, written_by, ActsOn, StopsAt, CutTrace, TapeState, State}
+use Rattle.gw_session.proofs.Common.{Output, drop-take, named, TakesAllBut-start, ActTrace}
 use Rattle.gw_records.specs.declared.records.FirstRecord.{FirstRecord}
 use Rattle.gw_session.proofs.Turns.{TurnsTrace-none, TurnsTrace-join, counted-more, octets-append, turns_have_octets}
 use Rattle.gw_session.proofs.Turns.{through-append}

@@ -15,8 +15,7 @@ pub use Rattle.gw_records.specs.Records.{Record, IsGood, record_at, named, recor
 unfoldable pub use Rattle.gw_records.specs.Records.{end_of, has_bad_kind, has_bad_circuit, has_bad_length, is_cut}
 unfoldable pub use Rattle.gw_records.specs.Records.{has_bad_command}
 pub use Rattle.gw_records.specs.Streams.{TakesAllBut, at_most, Puts, SinkState, FailsAfterPrefix, AppendsBut}
-pub use Rattle.gw_records.specs.Streams.{AppendsPrefix}
-pub use Rattle.gw_records.specs.Streams.{SourceState}
+pub use Rattle.gw_records.specs.Streams.{AppendsPrefix, SourceState}
 pub use Rattle.gw_records.specs.declared.outcome.RunFault.{RunFault}
 pub use Rattle.gw_records.specs.declared.outcome.Totals.{Totals}
 pub use Rattle.gw_records.specs.declared.records.AcceptedKinds.{AcceptedKinds}

@@ -1,6 +1,5 @@
 use Rattle.gw_session.proofs.Common.{◌∙◌, arith, most_waiting, err_from_is_err_and, TakesAllBut-empty}
-use Rattle.gw_session.proofs.Common.{TakesAllBut-appended}
-use Rattle.gw_session.proofs.Common.{FailsAfterPrefix-waiting}
+use Rattle.gw_session.proofs.Common.{TakesAllBut-appended, FailsAfterPrefix-waiting}
 use Rattle.gw_session.proofs.handling.put_out.Goals as goal
 
 pub returns-in_err-flush-clause-puts : goal.returns-in_err-flush-clause-puts

@@ -5,4 +5,4 @@ use Rattle.gw_speech.proofs.decode.put_datagram.Goals as goal
 pub returns-in-None-clause-puts : goal.returns-in-None-clause-puts
 returns-in-None-clause-puts g c = λ before at.
     rw (c.in-None.ensures, speech_of_none c.args.spec.now before c.words_are_counted.ensures)
-        (TakesAllBut-none _ _, refl)
+    (TakesAllBut-none _ _, refl)

@@ -1,7 +1,6 @@
 use Rattle.gw_speech.proofs.Common.{◌^◌, ◌<◌, ◌++◌, ◌∷◌, [], ap, sym, refl, ◌∙◌, append_assoc, append-nil, All-tail}
 use Rattle.gw_speech.proofs.Common.{err_from_is_err_and, CodecState, TakesAllBut-none, TakesAllBut-join}
-use Rattle.gw_speech.proofs.Common.{FailsAfterPrefix-join}
-use Rattle.gw_speech.proofs.Common.{FailsAfterPrefix-more, word_bits}
+use Rattle.gw_speech.proofs.Common.{FailsAfterPrefix-join, FailsAfterPrefix-more, word_bits}
 use Rattle.gw_speech.proofs.Speech.{speech_of_none, speech_joins, speech_more}
 use Rattle.gw_speech.proofs.decode.put_each.Goals as goal
 
