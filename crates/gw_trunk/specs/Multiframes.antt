@@ -50,11 +50,7 @@ position_after position n = if position.place + n == 512 then record position { 
 
 -- the course if a multiframe is discarded
 abbrev pub position_discarding : MultiframePosition → MultiframePosition
-position_discarding position = record position {
-  discards = true;
-  discarded = at_most
-      (position.discarded + 1);
-}
+position_discarding p = record p { discards = true; discarded = at_most (p.discarded + 1) }
 
 -- octets of a multiframe passed: they are left, or discarded
 pub record PassesOn (position position' : MultiframePosition) (left left' octets : List ℕ) : Type 0 where
