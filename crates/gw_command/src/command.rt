@@ -13,12 +13,12 @@ ghost use Rattle.gw_command.specs.declared.command.SpeechJob.{SpeechJob};
 ghost use Rattle.gw_command.specs.declared.command.Request.{Request};
 ghost use Rattle.gw_command.specs.declared.command.Session.{Session};
 
+use crate::options::G711;
 use clap::ArgMatches;
 use e1_g711::Law;
 use g726_codec::CodecKind;
 use g726_codec::names::{G726_16, G726_24, G726_32, G726_40};
 use gw_circuit::payload_types::{FIRST_DYNAMIC, static_type};
-use gw_options::G711;
 use gw_speech::StreamSpec;
 use std::rt::Env;
 use std::{env, io};

@@ -1,7 +1,8 @@
-//! The command line: what the program is asked to do.
+//! The command line: its options, and what the program is asked to do.
 #![tactic(auto)]
 
 mod command;
+mod options;
 
 pub use command::{
     Filter, Request, Session, SpeechJob, arguments, asks_check, clock_of, control_of, fill_of,
@@ -9,3 +10,4 @@ pub use command::{
     satop_local_of, satop_peer_of, save_of, seizure_wait_of, senders_of, session_of, size_of,
     tell_of, wants_totals,
 };
+pub use options::matches;

@@ -8,7 +8,7 @@ use gw_command::SpeechJob;
 use gw_session::{RunFault, Sink, Source, Totals, decode_stream, encode_stream};
 use std::alloc::Global;
 
-/// Does a job on a source and a sink.
+/// Encodes or decodes a source to a sink.
 pub fn do_job<S: Source, K: Sink>(
     alloc: Global,
     job: &SpeechJob,

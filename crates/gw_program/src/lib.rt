@@ -1,11 +1,12 @@
-//! What the program does: jobs on streams, filters of a trunk, sessions of a gateway by a configuration,
-//! trunks, and what it says of them.
+//! What the program does: speech streams, filters of a trunk, sessions of a gateway with a configuration,
+//! trunks, and the reports of them.
 #![tactic(auto)]
 
 mod filters;
 mod jobs;
 mod listing;
 mod performing;
+mod program_fault;
 mod recording;
 mod report;
 mod requests;
@@ -15,12 +16,12 @@ mod sessions;
 mod setup;
 mod standard;
 mod state;
-mod trouble;
 mod trunks;
 
 pub use filters::{do_filter, perform_crc4_check};
 pub use jobs::do_job;
 pub use performing::{System, perform_job, perform_session};
+pub use program_fault::{DONE, NO_MEMORY, ProgramFault, REFUSED};
 pub use recording::{Recording, Tape, begin, tell_end};
 pub use report::{Skipped, passed_over, print_discarded, print_tally, print_totals};
 pub use requests::{Commands, perform};
@@ -29,5 +30,4 @@ pub use sessions::{check, replay, replay_watched, serve_through};
 pub use setup::read_config;
 pub use standard::{ReservedDescriptors, reserve_descriptors};
 pub use state::{begin_gateway, keep_gateway, load_from, save_to};
-pub use trouble::{DONE, NO_MEMORY, ProgramFault, REFUSED};
 pub use trunks::perform_trunk;

@@ -1,4 +1,4 @@
-//! What the program does on its standard streams: each command joined to what it takes from the system.
+//! The subcommands on standard streams, with what each takes from the system.
 
 ghost use Rattle.std.specs.Prelude.{◌≡◌, ◌⊎◌, ◌-◌, ◌^◌, ◌<◌, IfOk, IfErr, MatchResult};
 ghost use Rattle.gw_records.specs.Streams.{CanBegin};
@@ -9,116 +9,116 @@ ghost use Rattle.gw_program.specs.Performing.{Ended, NotBegun, LacksTapeOrPorts,
 ghost use Rattle.gw_program.specs.Performing.{by_session, told_as, IsTold, EndedSaved};
 
 use crate::jobs::do_job;
+use crate::program_fault::ProgramFault;
 use crate::report::passed_over;
 use crate::sealed::{StandardInput, StandardOutput};
 use crate::sessions::{check, replay_watched, serve_through};
-use crate::trouble::ProgramFault;
 use gw_command::{Session, SpeechJob};
 use gw_config::Config;
 use gw_session::{Ports, RunFault, Sink, Source, Tape, Totals, Watch};
 use gw_switch::Gateway;
 use std::alloc::Global;
 
-/// What a session takes from the system beside its streams. The relations are the type's own: a caller that
-/// knows nothing of the type has them of what these calls returned alone.
+/// What a session takes from the system beside its streams. The relations belong to the type. A generic
+/// caller has them only for results that these calls returned.
 pub trait System {
     ghost use Rattle.std.specs.Prelude.{Result};
     ghost use Rattle.gw_config.specs.declared.config.Config.{Config};
     ghost use Rattle.gw_switch.specs.declared.gateway.Gateway.{Gateway};
-    ghost use Rattle.gw_program.specs.declared.trouble.ProgramFault.{ProgramFault};
+    ghost use Rattle.gw_program.specs.declared.program_fault.ProgramFault.{ProgramFault};
 
-    /// Where the datagrams of circuits come from, and where they go.
+    /// The ports that receive and send the datagrams of the circuits.
     type Ports: Ports + Drop;
 
-    /// What a session is recorded on.
+    /// The tape that records a session.
     type Tape: Tape + Drop;
 
-    /// What the records of a replay are shown to.
+    /// The watch of a replay.
     type Watch: Watch + Drop;
 
     /// Holds of a configuration that was read.
     ghost reads: { Self → Config → Type 0 };
 
-    /// Holds of why no configuration was read.
+    /// Holds of the fault if no configuration was read.
     ghost lacks_config: { Self → ProgramFault → Type 0 };
 
     /// Holds of a configuration and a gateway that a session begins with.
     ghost starts: { Self → Config → Gateway → Type 0 };
 
-    /// Holds of a configuration and why there is no gateway for it.
+    /// Holds of a configuration and the fault if no gateway was opened for it.
     ghost lacks_gateway: { Self → Config → ProgramFault → Type 0 };
 
-    /// Holds of a configuration, a gateway of it, and what came of the saving of its state.
+    /// Holds of a configuration, its gateway, and the result of saving the state.
     ghost saves: { Self → Config → Gateway → Result (Unit {0}) ProgramFault → Type 0 };
 
     /// Holds of a tape that was begun.
     ghost begins: { Self → Self.Tape → Type 0 };
 
-    /// Holds of why no tape was begun.
+    /// Holds of the fault if no tape was begun.
     ghost lacks_tape: { Self → ProgramFault → Type 0 };
 
     /// Holds of ports that were opened for a configuration.
     ghost opens: { Self → Config → Self.Ports → Type 0 };
 
-    /// Holds of a configuration and why no ports were opened for it.
+    /// Holds of a configuration and the fault if its ports were not opened.
     ghost lacks_ports: { Self → Config → ProgramFault → Type 0 };
 
-    /// Holds of why nothing was opened that the records of a replay are shown to.
+    /// Holds of the fault if the watch of a replay was not opened.
     ghost lacks_watch: { Self → ProgramFault → Type 0 };
 
     /// Reads the configuration.
     fn read_config(&self) -> Result<Config, ProgramFault>
         ensures ok { IfOk result (λ config. reads self.now config) }
-        ensures err { IfErr result (λ trouble. lacks_config self.now trouble) };
+        ensures err { IfErr result (λ program_fault. lacks_config self.now program_fault) };
 
-    /// The gateway that a session begins with.
+    /// Opens the gateway of a session.
     fn begin_gateway(&self, config: &Config) -> Result<Gateway, ProgramFault>
         ensures ok { IfOk result (λ gateway. starts self.now config.now gateway) }
-        ensures err { IfErr result (λ trouble. lacks_gateway self.now config.now trouble) };
+        ensures err { IfErr result (λ program_fault. lacks_gateway self.now config.now program_fault) };
 
-    /// Saves the state of a gateway, if that is asked for.
+    /// Saves the state of a gateway, if requested.
     fn save_gateway(&self, config: &Config, gateway: &Gateway) -> Result<(), ProgramFault>
         ensures { saves self.now config.now gateway.now result };
 
-    /// Begins the recording, if one is asked for.
+    /// Begins the recording, if requested.
     fn begin_tape(&self) -> Result<Self::Tape, ProgramFault>
         ensures ok { IfOk result (λ tape. begins self.now tape) }
-        ensures err { IfErr result (λ trouble. lacks_tape self.now trouble) };
+        ensures err { IfErr result (λ program_fault. lacks_tape self.now program_fault) };
 
     /// Opens the ports of a configuration.
     fn open_ports(&self, config: &Config) -> Result<Self::Ports, ProgramFault>
         ensures ok { IfOk result (λ ports. opens self.now config.now ports) }
-        ensures err { IfErr result (λ trouble. lacks_ports self.now config.now trouble) };
+        ensures err { IfErr result (λ program_fault. lacks_ports self.now config.now program_fault) };
 
-    /// Opens what the records of a replay are shown to, which begins with this gateway.
+    /// Opens the watch of a replay that begins with this gateway.
     fn open_watch(&self, config: &Config, gateway: &Gateway) -> Result<Self::Watch, ProgramFault>
-        ensures { IfErr result (λ trouble. lacks_watch self.now trouble) };
+        ensures { IfErr result (λ program_fault. lacks_watch self.now program_fault) };
 
-    /// Ends what the records of a replay were shown to.
+    /// Ends the watch of a replay.
     fn end_watch(&self, watch: &mut Self::Watch);
 
-    /// Tells where a recording has ended before its session.
+    /// Reports a recording that ended before its session.
     fn tell_end(&self, tape: &Self::Tape);
 
-    /// Tells how a session ended, where more is to be told.
-    fn tell(&self, trouble: &ProgramFault);
+    /// Reports the end of a session, beyond its result.
+    fn tell(&self, program_fault: &ProgramFault);
 }
 
-// What is told of how a job or a session ended.
+// The report of the end of a job or a session.
 fn told_as(ended: Result<Totals, RunFault>) -> Result<Totals, ProgramFault>
     ensures { result ≡ told_as ended }
 {
     ended.map_err(ProgramFault::Session)
 }
 
-// Tells what a job passed over, if anything.
+// Reports the datagrams that a job skipped, if any.
 fn tell_passed_over(rt: &impl Eprint, job: &SpeechJob, totals: &Totals) {
     if let Some(passed) = passed_over(job, totals) {
         let _ = eprintln!(rt; "{}", passed);
     }
 }
 
-/// Does a job from standard input to standard output, and tells what it passed over.
+/// Encodes or decodes standard input to standard output, and reports skipped datagrams.
 #[inline(never)]
 pub fn perform_job<S: Source + StandardInput, K: Sink + StandardOutput>(
     rt: &HostRuntime,
@@ -139,8 +139,8 @@ pub fn perform_job<S: Source + StandardInput, K: Sink + StandardOutput>(
     told_as(ended)
 }
 
-// Saves the state of a gateway after a session that ended so. Where that fails the end of the session is told
-// first.
+// Saves the state of a gateway after a session with this result. If that fails, the result of the session is
+// reported first.
 pub(crate) fn end_session<Y: System>(
     system: &Y,
     config: &Config,
@@ -151,16 +151,16 @@ pub(crate) fn end_session<Y: System>(
 {
     match system.save_gateway(config, gateway) {
         Ok(()) => told_as(ended),
-        Err(trouble) => {
+        Err(program_fault) => {
             if let Err(fault) = ended {
                 system.tell(&ProgramFault::Session(fault));
             }
-            Err(trouble)
+            Err(program_fault)
         }
     }
 }
 
-// Replays with a gateway, and shows each record to a watch of the system's.
+// Replays with a gateway, and shows each record to a watch of the system.
 fn perform_replay<Y: System, S: Source, K: Sink>(
     system: &Y,
     alloc: Global,
@@ -182,7 +182,7 @@ fn perform_replay<Y: System, S: Source, K: Sink>(
     end_session(system, config, gateway, ended)
 }
 
-// Serves by a configuration, on ports and a tape of the system's. The tape is begun before the ports are
+// Serves with a configuration, on ports and a tape of the system. The tape is begun before the ports are
 // opened.
 fn perform_serve<Y: System, S: Source, K: Sink>(
     system: &Y,
@@ -209,9 +209,9 @@ fn perform_serve<Y: System, S: Source, K: Sink>(
     end_session(system, config, gateway, ended)
 }
 
-/// Does a session by the configuration of the system's with a gateway of its, on its ports and its tape where
-/// it serves, and saves the state of the gateway. What the system lacked is told, and nothing was read or
-/// written then.
+/// Runs a session with the configuration and the gateway of the system, and saves the gateway's state.
+/// `serve` uses the system's ports and tape. If the system cannot provide one of these, its fault is
+/// returned, and nothing was read or written.
 pub fn perform_session<Y: System, S: Source + StandardInput, K: Sink + StandardOutput>(
     system: &Y,
     alloc: Global,

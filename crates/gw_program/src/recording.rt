@@ -3,7 +3,7 @@
 ghost use Rattle.std.specs.Prelude.{IfOk};
 ghost use Rattle.gw_program.specs.Performing.{IsBegun};
 
-use crate::trouble::ProgramFault;
+use crate::program_fault::ProgramFault;
 use gw_session::{Recorder, ToWrite, TrunkRecord};
 use std::fs::{self, File, OpenOptions};
 use std::io;
@@ -15,21 +15,21 @@ use std::os::unix::net::UnixStream;
 // calls.
 const MODE: u32 = 0o640;
 
-/// A recording that is asked for.
+/// A requested recording.
 #[derive(Clone, Copy, Debug)]
 pub struct Recording<'m> {
     /// The file.
     pub path: &'m str,
     /// An old file may be written over.
     pub over: bool,
-    /// A record that cannot be written at once is waited for. Else the recording ends there.
+    /// A write waits until the record is written. Otherwise the recording ends there.
     pub waits: bool,
 }
 
-/// What is recorded, if something is.
+/// The recording, if any.
 pub type Tape = Option<Recorder<ToWrite<File>>>;
 
-// What stands at the path is written to as it is: a pipe, a device, or an open file of the process.
+// A pipe, a device or an open file of the process at the path is written to as it is.
 fn append(rt: &HostRuntime, path: &str) -> io::Result<File> {
     OpenOptions::new().append(true).open(rt, path)
 }
@@ -104,7 +104,7 @@ fn open_as_asked(rt: &HostRuntime, recording: Recording<'_>) -> Result<File, Pro
     }
 }
 
-/// Begins a recording, where one is asked for.
+/// Begins a recording, if requested.
 pub fn begin(rt: &HostRuntime, recording: Option<Recording<'_>>) -> Result<Tape, ProgramFault>
     ensures { IfOk result (λ tape. IsBegun recording.entry
         (⟦<Option<Recorder<ToWrite<File>>> as gw_session::Tape>⟧.tells tape)) }

@@ -1,4 +1,4 @@
-//! What is told of a session that ended well.
+//! The report of a session that ended without a fault.
 
 ghost use Rattle.std.specs.Prelude.{◌≡◌};
 ghost use Rattle.gw_program.specs.Report.{passed_over};
@@ -8,17 +8,17 @@ use gw_filter::ReceiverCounts;
 use gw_session::Totals;
 use thiserror::Error;
 
-/// How many of the datagrams of a stream were passed over, being none of it. It prints as its line.
+/// The number of datagrams that `decode` skipped, since they are none of its stream. It prints as its line.
 #[derive(Clone, Copy, Debug, PartialEq, Eq, Error)]
 #[error("passed over {dropped} of {datagrams} datagrams")]
 pub struct Skipped {
-    /// The datagrams that were passed over.
+    /// The skipped datagrams.
     pub dropped: u64,
-    /// All that came.
+    /// All received datagrams.
     pub datagrams: u64,
 }
 
-/// What `decode` passed over, if anything. The other jobs pass over nothing.
+/// The datagrams that `decode` skipped, if any. `encode` skips none.
 pub fn passed_over(job: &SpeechJob, totals: &Totals) -> Option<Skipped>
     ensures { result ≡ passed_over job.now totals.now }
 {

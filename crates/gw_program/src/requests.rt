@@ -1,34 +1,34 @@
-//! What the command line asks for, and the call that does it.
+//! The calls that do what the command line requests.
 
 ghost use Rattle.std.specs.Prelude.{◌⊎◌};
 ghost use Rattle.clap.specs.Words.{subcommand_rows_of};
 ghost use Rattle.gw_program.specs.Requests.{HasRequest, NoRequest, by_request};
 
-use crate::trouble::ProgramFault;
+use crate::program_fault::ProgramFault;
 use clap::ArgMatches;
 use gw_command::{Filter, Request, Session, SpeechJob, asks_check, request_of};
 use gw_session::Totals;
 
-/// What the program does for its subcommands, a method each. The relations are the type's own: a caller that
-/// knows nothing of the type has them of what these calls returned alone.
+/// What the program does for its subcommands: one method for each. The relations belong to the type. A
+/// generic caller has them only for results that these calls returned.
 pub trait Commands {
     ghost use Rattle.std.specs.Prelude.{Result};
     ghost use Rattle.gw_command.specs.declared.command.Filter.{Filter};
     ghost use Rattle.gw_command.specs.declared.command.SpeechJob.{SpeechJob};
     ghost use Rattle.gw_command.specs.declared.command.Session.{Session};
     ghost use Rattle.gw_records.specs.declared.outcome.Totals.{Totals};
-    ghost use Rattle.gw_program.specs.declared.trouble.ProgramFault.{ProgramFault};
+    ghost use Rattle.gw_program.specs.declared.program_fault.ProgramFault.{ProgramFault};
 
-    /// Holds of a job that was done, and of what is told of its end.
+    /// Holds of a job and its result.
     ghost does_job: { Self → SpeechJob → Result Totals ProgramFault → Type 0 };
 
-    /// Holds of a filter that was run, and of what is told of its end.
+    /// Holds of a filter and its result.
     ghost does_filter: { Self → Filter → Result Totals ProgramFault → Type 0 };
 
     /// Holds of the result of checking CRC-4 multiframes.
     ghost does_check: { Self → Result Totals ProgramFault → Type 0 };
 
-    /// Holds of a session that was done, and of what is told of its end.
+    /// Holds of a session and its result.
     ghost does_session: { Self → Session → Result Totals ProgramFault → Type 0 };
 
     /// Holds of the result of serving a trunk.
@@ -37,7 +37,7 @@ pub trait Commands {
     /// Holds of the result of carrying a trunk over SAToP.
     ghost does_satop: { Self → Result Totals ProgramFault → Type 0 };
 
-    /// Does a job on a stream of speech.
+    /// Encodes or decodes a stream of speech.
     fn job(&self, job: &SpeechJob) -> Result<Totals, ProgramFault>
         ensures { does_job self.now job.now result };
 
@@ -49,7 +49,7 @@ pub trait Commands {
     fn check(&self) -> Result<Totals, ProgramFault>
         ensures { does_check self.now result };
 
-    /// Does a session of a gateway.
+    /// Runs a session of a gateway.
     fn session(&self, session: Session) -> Result<Totals, ProgramFault>
         ensures { does_session self.now session result };
 
@@ -62,11 +62,11 @@ pub trait Commands {
         ensures { does_satop self.now result };
 }
 
-/// Does what the matches of the command line ask for.
+/// Runs the subcommand that the command line names.
 ///
 /// # Errors
 ///
-/// `ProgramFault::Nothing` where they ask for nothing that the program does, else what the command tells.
+/// [`ProgramFault::Nothing`] if the command line names no subcommand, otherwise the fault of the subcommand.
 pub fn perform<C: Commands>(commands: &C, matches: &ArgMatches<'_>) -> Result<Totals, ProgramFault>
     ensures { HasRequest (subcommand_rows_of matches.now) (by_request
         (λ job. C.does_job commands.now job result) (λ filter. C.does_filter commands.now filter result)

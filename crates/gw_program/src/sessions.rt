@@ -13,7 +13,7 @@ use gw_session::{
 use gw_switch::Gateway;
 use std::alloc::Global;
 
-/// Acts on the records of a source with a gateway, and writes what answers them.
+/// Processes the records of a source with a gateway, and writes the answers.
 #[inline(never)]
 pub fn replay<S: Source, K: Sink>(
     alloc: Global,
@@ -56,8 +56,8 @@ impl Sink for Nowhere {
     }
 }
 
-/// Acts on the records of a source with a gateway, and writes a line for each circuit as it stands then, also
-/// after a fault.
+/// Processes the records of a source with a gateway, and then writes a line for each circuit, also after a
+/// fault.
 #[inline(never)]
 pub fn check<S: Source, K: Sink>(
     alloc: Global,
@@ -74,8 +74,8 @@ pub fn check<S: Source, K: Sink>(
     list(gateway, ended, sink)
 }
 
-// Writes the lines of all circuits after a session that ended so. A fault of the session is told before one
-// of the writing.
+// Writes the lines of all circuits after a session with this result. A fault of the session is returned
+// before a fault of this write.
 fn list<K: Sink>(
     gateway: &Gateway,
     ended: Result<Totals, RunFault>,
@@ -89,7 +89,7 @@ fn list<K: Sink>(
     checked(ended, listed)
 }
 
-// The end of a session whose listing was written so.
+// The result of a session whose listing was written with this result.
 fn checked(
     ended: Result<Totals, RunFault>,
     listed: Result<(), RunFault>,
@@ -101,8 +101,8 @@ fn checked(
     Ok(totals)
 }
 
-/// Acts on the records of a source with a gateway, whose datagrams come and go through ports, and records on
-/// a tape what the gateway takes.
+/// Processes the records of a source with a gateway, sends and receives its datagrams through ports, and
+/// records on a tape what the gateway receives.
 #[inline(never)]
 pub fn serve_through<S: Source, P: Ports, K: Sink, T: Tape>(
     alloc: Global,

@@ -5,16 +5,16 @@ ghost use Rattle.std.specs.declared.io.Error.{Error};
 ghost use Rattle.gw_config.specs.Octets.{meaning_of_octets};
 ghost use Rattle.gw_program.specs.Setup.{Says, FailsToRead};
 
-use crate::trouble::ProgramFault;
+use crate::program_fault::ProgramFault;
 use gw_config::Config;
 use std::alloc::Global;
 use std::io::Read;
 use std::{fs, io};
 
-// The most octets of the file that are read: one more than a configuration may have.
+// The most octets of the file that are read: one more than the longest configuration.
 const MOST_OCTETS: u64 = 65_537;
 
-// The configuration that these octets say.
+// The configuration in these octets.
 fn meaning_of(alloc: Global, octets: &[u8]) -> Result<Config, ProgramFault>
     ensures says { Says result (meaning_of_octets octets.now) }
     ensures read { IfErr result (FailsToRead (λ _. ⊥)) }
@@ -22,16 +22,16 @@ fn meaning_of(alloc: Global, octets: &[u8]) -> Result<Config, ProgramFault>
     gw_config::read(alloc, octets).map_err(ProgramFault::Config)
 }
 
-/// What a configuration is read from. The relation is the type's own: a caller that knows nothing of the type
-/// has it of a read that failed alone.
+/// The text that a configuration is read from. The relation belongs to the type. A generic caller has it only
+/// for a read that failed.
 trait Text: Drop {
     /// The octets up to the end, where they are known.
     ghost holds: { Self → Option (List ℕ) };
 
-    /// Holds of a text and the error of the system at which its reading ended.
+    /// Holds of a text and the system's error that ended its reading.
     ghost fails: { Self → Error → Type 0 } = { λ _ _. ⊤ };
 
-    /// Reads so many octets at most behind those that are there.
+    /// Reads at most this number of octets and appends them.
     fn read_up_to(self, most: u64, octets: &mut Vec<u8>) -> io::Result<()>
     where
         Self: Sized,
@@ -49,7 +49,7 @@ impl<R: Read + Drop> Text for R {
     }
 }
 
-// The configuration that the octets of a text say, up to its end.
+// The configuration in the octets of a text, up to its end.
 fn config_of<T: Text>(alloc: Global, text: T) -> Result<Config, ProgramFault>
     ensures says { IfSome (T.holds text) (λ octets. Says result (meaning_of_octets octets)) }
     ensures unread { IfErr result (FailsToRead (T.fails text)) }
@@ -61,7 +61,7 @@ fn config_of<T: Text>(alloc: Global, text: T) -> Result<Config, ProgramFault>
     }
 }
 
-/// The configuration that a file says.
+/// The configuration in a file.
 #[inline(never)]
 pub fn read_config(rt: &HostRuntime, path: &str) -> Result<Config, ProgramFault> {
     match fs::open(rt, path) {

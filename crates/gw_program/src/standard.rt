@@ -10,11 +10,11 @@ use std::fs::{File, OpenOptions};
 use std::os::fd::{AsRawFd, RawFd};
 use std::{fs, io};
 
-// What stands in the place of a descriptor.
+// The file that replaces a closed descriptor.
 const NULL: &str = "/dev/null";
 
-/// What stands in the places of those that were closed. As with a closed one, a read of 0 fails, and so does
-/// a write to 1 and 2.
+/// The files that replace closed standard descriptors. As with closed ones, a read of 0 fails, and so does a
+/// write to 1 and 2.
 #[derive(Drop)]
 pub struct ReservedDescriptors {
     input: Option<File>,
@@ -22,7 +22,7 @@ pub struct ReservedDescriptors {
     error: Option<File>,
 }
 
-// The file, where its descriptor is at most this one.
+// The file, if its descriptor is at most this one.
 fn up_to(most: RawFd, opened: io::Result<File>) -> Option<File>
     ensures { IfSome result (λ file. file_raw_fd file ≤ℤ most) }
 {
@@ -34,8 +34,7 @@ fn up_to(most: RawFd, opened: io::Result<File>) -> Option<File>
     }
 }
 
-/// Holds 0, 1 and 2 open, each as it is where it is open. Where the system opens nothing, a closed one stays
-/// closed.
+/// Opens a file for each of 0, 1 and 2 that is closed. If the system cannot open one, it stays closed.
 pub fn reserve_descriptors(rt: &HostRuntime) -> ReservedDescriptors
     ensures input { IfSome result.input (λ file. file_raw_fd file ≤ℤ pos 0) }
     ensures output { IfSome result.output (λ file. file_raw_fd file ≤ℤ pos 2) }

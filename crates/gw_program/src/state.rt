@@ -8,7 +8,7 @@ ghost use Rattle.gw_program.specs.State.{WasRead, FailsToRead, WasLoaded, FailsT
 ghost use Rattle.gw_program.specs.State.{IsFromState, HasBegun, Waits, BeginsWaiting, LacksGateway, IsSaved};
 ghost use Rattle.gw_program.specs.State.{load_trouble};
 
-use crate::trouble::ProgramFault;
+use crate::program_fault::ProgramFault;
 use gw_records::read_behind;
 use gw_session::{FromRead, Sink, Source, ToWrite, write_all};
 use gw_state::{LoadFault, Loaded, load_gateway, state_file};
@@ -26,10 +26,10 @@ const BUFFER_LEN: usize = 4096;
 // The permissions of a new file, less the umask: others may not read it, since it holds speech.
 const MODE: u32 = 0o640;
 
-// What stands behind the name of a state while it is written.
+// The suffix of a state's file name while it is written.
 const UNFINISHED: &str = ".new";
 
-// Reads all that a source gives. It is given up where it is longer than any state.
+// Reads a source to its end, or until it is longer than any state.
 fn read_whole<S: Source>(source: &mut S, octets: &mut Vec<u8>) -> Result<(), ProgramFault>
     requires empty { octets.old.items ≡ [] }
     requires counts { CanCount (S.tells source.old).failures }
@@ -52,7 +52,7 @@ fn read_whole<S: Source>(source: &mut S, octets: &mut Vec<u8>) -> Result<(), Pro
     Err(ProgramFault::NoState)
 }
 
-// What is told where octets are not loaded.
+// The fault if octets are not loaded.
 fn load_trouble(fault: LoadFault) -> ProgramFault
     ensures { result ≡ load_trouble fault }
 {
@@ -62,14 +62,14 @@ fn load_trouble(fault: LoadFault) -> ProgramFault
     }
 }
 
-/// The gateway whose state a source gives up to its end, with this configuration: it has the history of the
-/// gateway that was saved so, and then circuits that were configured otherwise begin as new.
+/// Loads the gateway whose state is in a source, with this configuration. It has the history of the gateway
+/// that was saved. Then circuits whose configuration changed begin as new.
 ///
 /// # Errors
 ///
 /// [`ProgramFault::NoState`] if a read failed or there are more octets than a state has,
-/// [`ProgramFault::State`] if the
-/// octets are no state that can be loaded, [`ProgramFault::OutOfMemory`].
+/// [`ProgramFault::State`] if the octets are no valid
+/// state, [`ProgramFault::OutOfMemory`].
 pub fn load_from<S: Source>(
     alloc: Global,
     config: &GatewayConfig,
@@ -114,7 +114,7 @@ pub fn save_to<K: Sink>(
     }
 }
 
-// Says which circuits begin as new, since they were configured otherwise.
+// Reports which circuits begin as new, since their configuration changed.
 fn tell_renewed(rt: &HostRuntime, old: &GatewayConfig, config: &GatewayConfig) {
     for at in 0..config.circuits.len() {
         if old.circuits[at] != config.circuits[at] {
@@ -123,7 +123,7 @@ fn tell_renewed(rt: &HostRuntime, old: &GatewayConfig, config: &GatewayConfig) {
     }
 }
 
-// The gateway whose state a file has, with this configuration.
+// Loads the gateway whose state is in a file, with this configuration.
 fn loaded_gateway(
     rt: &HostRuntime,
     config: &GatewayConfig,
@@ -142,7 +142,7 @@ fn loaded_gateway(
     }
 }
 
-// The gateway whose state a file has if one is named, else a new one.
+// Loads the gateway whose state is in a file if one is named; otherwise opens a new one.
 fn first_gateway(
     rt: &HostRuntime,
     config: &GatewayConfig,
@@ -157,7 +157,7 @@ fn first_gateway(
     }
 }
 
-// The gateway, given this wait if there is one.
+// Sets the gateway's wait for an acknowledgement, if there is one.
 fn waiting(gateway: Gateway, wait: Option<u16>) -> Gateway
     ensures { Waits wait gateway result }
 {
@@ -168,9 +168,9 @@ fn waiting(gateway: Gateway, wait: Option<u16>) -> Gateway
     gateway
 }
 
-/// The gateway that a session begins with: the one whose state a file has if one is named, else a new one.
-/// Its wait for an acknowledgement, in signals, is `wait`; without one it is that of the state, or 100
-/// signals. Circuits of a state that were configured otherwise begin as new, and standard error says which.
+/// Opens the gateway of a session: loads the state in a file if one is named, otherwise a new gateway. Its
+/// wait for an acknowledgement, in signals, is `wait`; without one it is that of the state, or 100 signals.
+/// Circuits whose configuration changed begin as new, and standard error says which.
 pub fn begin_gateway(
     rt: &HostRuntime,
     config: &GatewayConfig,
@@ -194,7 +194,7 @@ fn unfinished(alloc: Global, path: &str) -> Result<String, ProgramFault> {
     name.map_err(|_| ProgramFault::OutOfMemory)
 }
 
-// Creates the file of a state, or empties one that was not finished.
+// Creates the file of a state, or empties an unfinished one.
 fn create(rt: &HostRuntime, path: &str) -> io::Result<File> {
     OpenOptions::new()
         .write(true)
@@ -204,7 +204,7 @@ fn create(rt: &HostRuntime, path: &str) -> io::Result<File> {
         .open(rt, path)
 }
 
-// Writes the state to a new file, up to the disk.
+// Writes the state to a new file, and syncs it.
 fn write_new(
     rt: &HostRuntime,
     config: &GatewayConfig,
@@ -218,7 +218,7 @@ fn write_new(
         .map_err(|error| ProgramFault::of(&error, ProgramFault::NotSaved))
 }
 
-// Whether nothing is there, or a file that another may replace: no device and no folder.
+// Returns whether the path has nothing, or a regular file that may be replaced.
 fn is_replaced(rt: &HostRuntime, path: &str) -> bool {
     match fs::metadata(rt, path) {
         Ok(found) => found.is_file(),
@@ -226,8 +226,8 @@ fn is_replaced(rt: &HostRuntime, path: &str) -> bool {
     }
 }
 
-/// Saves the state of a gateway to a file, if one is named. It is written beside the file, synced, and put in
-/// its place whole: if that fails an old file stays as it was.
+/// Saves the state of a gateway to a file, if one is named. It is written beside the file, synced and
+/// renamed. If that fails, the old file stays as it was.
 pub fn keep_gateway(
     rt: &HostRuntime,
     config: &GatewayConfig,
@@ -248,9 +248,9 @@ pub fn keep_gateway(
             &error,
             ProgramFault::NotSaved,
         )),
-        Err(trouble) => {
+        Err(program_fault) => {
             let _ = fs::remove_file(rt, new.as_str());
-            Err(trouble)
+            Err(program_fault)
         }
     }
 }

@@ -4,14 +4,14 @@ use Rattle.std.proofs.Common.{◌∷◌, zero, suc}
 use Rattle.e1_g711.specs.declared.Law.{Law}
 use Rattle.gw_switch.specs.declared.gateway.Gateway.{Gateway}
 use Rattle.gw_tell.specs.declared.client.Client.{Client}
-use Rattle.gw_tell.specs.declared.picture.TrunkStatus.{TrunkStatus}
+use Rattle.gw_tell.specs.declared.gateway_status.GatewayStatus.{GatewayStatus}
 use Rattle.gw_tell.specs.declared.place.ClientSlot.{ClientSlot}
 use Rattle.gw_tell.specs.Clients.{at, sent, AllFree, Gets, StaysOrNew}
 use Rattle.gw_tell.specs.Reports.{Shows}
 use Rattle.gw_tell.specs.Telling.{IsNew, LetsIn}
 
 -- Who stays and stays, stays; and who is new and stays, is new.
-still_here : (law : Law) (place : ℕ) (told : TrunkStatus) (old mid new : Option Client)
+still_here : (law : Law) (place : ℕ) (told : GatewayStatus) (old mid new : Option Client)
     → StaysOrNew law place told old mid
     → StaysOrNew law place told mid new → StaysOrNew law place told old new
 still_here law place told old mid None first then = tt
@@ -19,21 +19,21 @@ still_here law place told old mid (Some client) first (inl e) = rw e at first
 still_here law place told old mid (Some client) first (inr is) = inr is
 
 -- Who is new and stays, is new.
-still_new : (law : Law) (place : ℕ) (told : TrunkStatus) (mid new : Option Client) → IsNew law place told mid
+still_new : (law : Law) (place : ℕ) (told : GatewayStatus) (mid new : Option Client) → IsNew law place told mid
     → StaysOrNew law place told mid new → IsNew law place told new
 still_new law place told mid None first then = tt
 still_new law place told mid (Some client) first (inl e) = rw e at first
 still_new law place told mid (Some client) first (inr is) = is
 
 -- Who is at a place that was free is new.
-none_here : (law : Law) (place : ℕ) (told : TrunkStatus) (mid new : Option Client) → mid ≡ None
+none_here : (law : Law) (place : ℕ) (told : GatewayStatus) (mid new : Option Client) → mid ≡ None
     → StaysOrNew law place told mid new → IsNew law place told new
 none_here law place told mid None free then = tt
 none_here law place told mid (Some client) free (inl e) = cc
 none_here law place told mid (Some client) free (inr is) = is
 
 -- Before the first one all stay.
-pub none_let_in : (law : Law) (place : ℕ) (gateway : Gateway) (told : TrunkStatus) (places : List ClientSlot)
+pub none_let_in : (law : Law) (place : ℕ) (gateway : Gateway) (told : GatewayStatus) (places : List ClientSlot)
     → LetsIn law place gateway told told places places
 none_let_in law place gateway told places = inl (refl, λ k. stays (at places k))
   where
@@ -42,7 +42,7 @@ none_let_in law place gateway told places = inl (refl, λ k. stays (at places k)
     stays (Some client) = inl refl
 
 -- One more is let in.
-pub one_let_in : (law : Law) (place : ℕ) (gateway : Gateway) (told told' told'' : TrunkStatus)
+pub one_let_in : (law : Law) (place : ℕ) (gateway : Gateway) (told told' told'' : GatewayStatus)
     (places places' places'' : List ClientSlot) → LetsIn law place gateway told told' places places'
     → (told'' ≡ told') ⊎ (AllFree places' × Shows told'' gateway)
     → ((k : ℕ) → StaysOrNew law place told'' (at places' k) (at places'' k))

@@ -4,7 +4,7 @@ use Rattle.e1_g711.specs.declared.Law.{Law}
 use Rattle.gw_switch.specs.declared.gateway.Gateway.{Gateway}
 use Rattle.gw_records.specs.Records.{Record}
 use Rattle.gw_tell.specs.declared.client.Client.{Client}
-use Rattle.gw_tell.specs.declared.picture.TrunkStatus.{TrunkStatus}
+use Rattle.gw_tell.specs.declared.gateway_status.GatewayStatus.{GatewayStatus}
 use Rattle.gw_tell.specs.declared.place.ClientSlot.{ClientSlot}
 use Rattle.gw_tell.specs.declared.teller.Teller.{Teller}
 use Rattle.gw_tell.specs.Clients.{at, sent, Gets, AllFree, TellsChanges, StaysOrNew}
@@ -18,12 +18,12 @@ pub record HasBegun (t : Teller) (law : Law) (gateway : Gateway) : Type 0 where
   pub shows : Shows t.told gateway
 
 -- a place has no client, or a new one that was sent the whole state
-abbrev pub IsNew : Law → ℕ → TrunkStatus → Option Client → Type 0
+abbrev pub IsNew : Law → ℕ → GatewayStatus → Option Client → Type 0
 IsNew law place told None = ⊤
 IsNew law place told (Some client) = (sent client ≡ whole_state law place told) × (client.last ≡ place)
 
 -- the clients were told what changed with a record; if there is none, nothing was told
-abbrev pub TellsAny : ℕ → Record → ℕ → Gateway → TrunkStatus → TrunkStatus → List ClientSlot
+abbrev pub TellsAny : ℕ → Record → ℕ → Gateway → GatewayStatus → GatewayStatus → List ClientSlot
     → List ClientSlot → Type 0
 TellsAny place r code gateway told told' places places' =
     TellsChanges place r code gateway told told' places places'
@@ -31,7 +31,8 @@ TellsAny place r code gateway told told' places places' =
 
 -- New clients were let in: each was sent the whole state by what was told last, and those before them stay.
 -- If there was none before them, that may be how the gateway stands now.
-abbrev pub LetsIn : Law → ℕ → Gateway → TrunkStatus → TrunkStatus → List ClientSlot → List ClientSlot → Type 0
+abbrev pub LetsIn : Law → ℕ → Gateway → GatewayStatus → GatewayStatus → List ClientSlot → List ClientSlot
+    → Type 0
 LetsIn law place gateway told told' places places' =
     ((told' ≡ told) × ((k : ℕ) → StaysOrNew law place told (at places k) (at places' k)))
     ⊎ (Shows told' gateway × ((k : ℕ) → IsNew law place told' (at places' k)))
@@ -46,7 +47,7 @@ IsOther _ = ⊤
 pub record TellsRecord (t t' : Teller) (r : Record) (code : ℕ) (gateway : Gateway) : Type 0 where
   pub law_is : t'.law ≡ t.law
   pub place_is : t'.place ≡ place_after t.place r
-  pub told : TrunkStatus
+  pub told : GatewayStatus
   pub between : List ClientSlot
   pub tells : TellsAny t.place r code gateway t.told told t.places between
   pub here : List ClientSlot

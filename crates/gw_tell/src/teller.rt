@@ -9,13 +9,13 @@ ghost use Rattle.gw_tell.specs.Telling.{HasBegun, TellsRecord};
 
 use crate::backlog::Backlog;
 use crate::client::Client;
+use crate::gateway_status::GatewayStatus;
 use crate::lines::push_at;
-use crate::picture::TrunkStatus;
 use crate::place::ClientSlot;
 use crate::report::{place_after, report, whole_state};
 use crate::text::Text;
 use e1_g711::Law;
-use gw_records::RecordHeader;
+use gw_records::RecordKind;
 use gw_session::Watch;
 use gw_switch::Gateway;
 use gw_trunk::open_door;
@@ -37,7 +37,7 @@ pub struct Teller {
     // The octets of the trunk that the session has acted on.
     place: u64,
     // What was reported last; if there is no client it is kept as it was.
-    told: TrunkStatus,
+    told: GatewayStatus,
     text: Text,
 }
 
@@ -116,20 +116,20 @@ impl Teller {
             places: open_places(rt.alloc())?,
             law,
             place: 0,
-            told: TrunkStatus::of(gateway),
+            told: GatewayStatus::of(gateway),
             text: Text::new(),
         })
     }
 
     // Tells all clients what changed with a record.
     #[inline(never)]
-    fn tell(&mut self, head: &RecordHeader, body: &[u8], code: u8, gateway: &Gateway)
+    fn tell(&mut self, head: &RecordKind, body: &[u8], code: u8, gateway: &Gateway)
         ensures changes { TellsChanges self.old.place (named head.now body.now) code gateway.now
             self.old.told self.new.told self.old.places self.new.places }
         ensures law { self.new.law ≡ self.old.law }
         ensures place { self.new.place ≡ self.old.place }
     {
-        let is = TrunkStatus::of(gateway);
+        let is = GatewayStatus::of(gateway);
         let at = place_after(self.place, head, body);
         self.text.clear();
         push_at(&mut self.text, at);
@@ -147,7 +147,7 @@ impl Teller {
     }
 
     // Tells the clients, if there is one, what changed with a record.
-    fn tell_any(&mut self, head: &RecordHeader, body: &[u8], code: u8, gateway: &Gateway)
+    fn tell_any(&mut self, head: &RecordKind, body: &[u8], code: u8, gateway: &Gateway)
         ensures tells { TellsAny self.old.place (named head.now body.now) code gateway.now
             self.old.told self.new.told self.old.places self.new.places }
         ensures law { self.new.law ≡ self.old.law }
@@ -173,7 +173,7 @@ impl Teller {
             return;
         };
         if are_free(&self.places) {
-            self.told = TrunkStatus::of(gateway);
+            self.told = GatewayStatus::of(gateway);
         }
         self.text.clear();
         whole_state(self.law, self.place, &self.told, &mut self.text);
@@ -226,10 +226,10 @@ impl Teller {
 impl Watch for Teller {
     ghost shows = { λ old new r code gateway. TellsRecord old new r code gateway };
 
-    fn after(&mut self, head: &RecordHeader, body: &[u8], code: u8, gateway: &Gateway) {
+    fn after(&mut self, head: &RecordKind, body: &[u8], code: u8, gateway: &Gateway) {
         self.tell_any(head, body, code, gateway);
         self.place = place_after(self.place, head, body);
-        if let RecordHeader::Trunk = head {
+        if let RecordKind::Trunk = head {
             self.listen();
             self.let_in(gateway);
         }

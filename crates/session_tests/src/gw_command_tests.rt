@@ -2,10 +2,9 @@ use clap::error::ErrorKind;
 use e1_g711::Law;
 use g726_codec::CodecKind;
 use gw_command::{
-    Filter, Request, Session, SpeechJob, asks_check, job_of, path_of, request_of, seizure_wait_of,
-    senders_of, session_of, wants_totals,
+    Filter, Request, Session, SpeechJob, asks_check, job_of, matches, path_of, request_of,
+    seizure_wait_of, senders_of, session_of, wants_totals,
 };
-use gw_options::matches;
 use gw_session::StreamSpec;
 use gw_udp::SourceFilter;
 use std::alloc::{AllocError, Global};

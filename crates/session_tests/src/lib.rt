@@ -1,6 +1,6 @@
 //! Sessions by their octets, and command lines: the tests of `gw_session` (with those of `gw_speech` and
-//! `gw_records`), of `gw_filter`, and of what the program does (`gw_options`, `gw_command`, `gw_udp`,
-//! `gw_program`), in one crate, since a crate with tests is proved twice.
+//! `gw_records`), of `gw_filter`, and of what the program does (`gw_command`, `gw_udp`, `gw_program`),
+//! in one crate, since a crate with tests is proved twice.
 #![tactic(auto)]
 
 #[cfg(test)]
