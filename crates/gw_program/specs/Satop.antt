@@ -1,5 +1,6 @@
 -- A trunk over SAToP (module `satop`).
-use Rattle.std.specs.Prelude.{◌≡◌, ◌⊎◌, ◌*◌, ◌/◌, ⊤, ℕ, Bool, true, List, [], ◌++◌, Option, Some, None, is_some}
+use Rattle.std.specs.Prelude.{◌≡◌, ◌⊎◌, ◌*◌, ◌/◌, ⊤, ℕ, Bool, true, List, [], ◌++◌, Option, Some, None}
+use Rattle.std.specs.Prelude.{is_some}
 use Rattle.std.specs.Prelude.{min, max, Result, IsErrAnd, MatchResult, MatchOption, codes}
 use Rattle.std.specs.declared.io.Error.{Error}
 use Rattle.clap.specs.Words.{Row}
@@ -14,8 +15,8 @@ use Rattle.gw_satop.specs.Opening.{FailsToJoin, SystemRefusesTrunk}
 use Rattle.gw_satop.specs.Session.{PlaysAll, SendsAll}
 use Rattle.satop_playout.specs.Calls.{IsSize}
 use Rattle.satop_playout.specs.declared.Replacement.TheVariants as fills
-use Rattle.gw_program.specs.declared.trouble.ProgramFault.{ProgramFault}
-use Rattle.gw_program.specs.declared.trouble.ProgramFault.TheVariants as troubles
+use Rattle.gw_program.specs.declared.program_fault.ProgramFault.{ProgramFault}
+use Rattle.gw_program.specs.declared.program_fault.ProgramFault.TheVariants as program_faults
 
 -- a subcommand with its options
 abbrev pub Command : Type 0
@@ -23,11 +24,12 @@ Command = Option (List ℕ × List Row)
 
 -- a read of the trunk failed, and all that was played had gone; or a write failed
 abbrev pub IsDeviceFault : List ℕ → ProgramFault → Type 0
-IsDeviceFault left (troubles.Session faults.Read) = left ≡ []
-IsDeviceFault left (troubles.Session faults.Write) = ⊤
+IsDeviceFault left (program_faults.Session faults.Read) = left ≡ []
+IsDeviceFault left (program_faults.Session faults.Write) = ⊤
 IsDeviceFault left _ = ⊥
 
--- A circuit after all that happened to it: both halves, the pace and the counts; the datagrams that came and were
+-- A circuit after all that happened to it: both halves, the pace and the counts; the datagrams that came and
+-- were
 -- sent; the octets that came from the trunk, went to it, and are left for it.
 pub record CircuitTraffic : Type 0 where
   pub receiver : Receiver
@@ -41,14 +43,16 @@ pub record CircuitTraffic : Type 0 where
   pub left : List ℕ
 
 -- A circuit was carried: what went to the trunk is what is played for the datagrams that came, but for what
--- is left, and what was sent to the far end are the packets of the octets that came, with bit R in silence. The
+-- is left, and what was sent to the far end are the packets of the octets that came, with bit R in silence.
+-- The
 -- counts are those of what happened. Nothing is left at the end of the trunk.
 pub record CarriesSatop (c : CircuitTraffic) (told : Result Totals ProgramFault) : Type 0 where
   pub plays : ∥ PlaysAll c.receiver c.pace c.counts c.sender.log.flags c.received (c.went ++ c.left) ∥₁
   pub sends : SendsAll c.sender c.sent c.came
   pub told_is : MatchResult told (λ _. c.left ≡ []) (IsDeviceFault c.left)
 
--- The packets that may be waited for: twice as many as the jitter needs, and those of 125 ms (32,000 octets) at
+-- The packets that may be waited for: twice as many as the jitter needs, and those of 125 ms (32,000 octets)
+-- at
 -- least; 1024 at most.
 abbrev pub window_for : ℕ → ℕ → ℕ
 window_for jitter size = min (max (max (2 * jitter) (32000 / size)) 1) 1024
@@ -91,18 +95,19 @@ pub record LacksSocket (command : Command) : Type 0 where
 
 -- the system refused to wait for a stream of the trunk, or memory was refused
 abbrev pub LacksStream : ProgramFault → Type 0
-LacksStream troubles.Trunk = (error : Error) × SystemRefusesTrunk error
-LacksStream troubles.OutOfMemory = ⊤
+LacksStream program_faults.Trunk = (error : Error) × SystemRefusesTrunk error
+LacksStream program_faults.OutOfMemory = ⊤
 LacksStream _ = ⊥
 
--- Why the circuit is not opened: a word is missing, the size is no size of a packet, there is no socket, the system
+-- Why the circuit is not opened: a word is missing, the size is no size of a packet, there is no socket, the
+-- system
 -- refused to wait for a stream of the trunk, or memory was refused.
 abbrev pub FailsToOpen : Command → ProgramFault → Type 0
-FailsToOpen command troubles.Nothing = LacksWord command
-FailsToOpen command troubles.PacketSize = SaysOtherSize command
-FailsToOpen command troubles.FarEnd = LacksSocket command
-FailsToOpen command troubles.Trunk = LacksStream troubles.Trunk
-FailsToOpen command troubles.OutOfMemory = ⊤
+FailsToOpen command program_faults.Nothing = LacksWord command
+FailsToOpen command program_faults.PacketSize = SaysOtherSize command
+FailsToOpen command program_faults.FarEnd = LacksSocket command
+FailsToOpen command program_faults.Trunk = LacksStream program_faults.Trunk
+FailsToOpen command program_faults.OutOfMemory = ⊤
 FailsToOpen command _ = ⊥
 
 -- the circuit that the command asks for was carried

@@ -11,7 +11,8 @@ matched N F None found none = none
 
 pub returns-clause-ok : goal.returns-clause-ok
 returns-clause-ok c =
-    rw (c.new-circuit.ensures.receiver, c.new-circuit.ensures.sender, c.new-circuit.ensures.pace, c.new-pace.ensures) (record {
+    rw (c.new-circuit.ensures.receiver, c.new-circuit.ensures.sender, c.new-circuit.ensures.pace, c.new-pace.ensures)
+    (record {
       size = rw c.in_ok-receiver.ensures.settings c.in_ok-settings.ensures.size;
       sizes = rw (c.new-sender.ensures.start, c.start_at_random.ensures.size, c.in_ok-receiver.ensures.settings) refl;
       rtp = rw (c.new-sender.ensures.start, c.start_at_random.ensures.rtp)
