@@ -18,6 +18,10 @@ GRACE = 1.0                 # seconds for the program to end
 LOOKS = 0.1                 # seconds between two looks at what it says
 MOST_SAID = 65_536          # octets; a longer line is no line of counts
 FIRST = 'satop '            # how a line of counts begins
+# What is told: the name in the status, the count that grows, and the words. In silence the program plays by its own
+# clock and counts each tick; bits L and R are those of the packets that come (RFC 4553, 4.3).
+CONDITIONS = (('silent', 'ticks', 'packets missing'), ('far_fault', 'with_l', 'line fault at the far end (bit L)'),
+              ('far_silent', 'with_r', 'packets missing at the far end (bit R)'))
 
 
 def counts_of(line: str) -> dict[str, int] | None:
@@ -53,26 +57,26 @@ class Said:
         return [line.decode(errors='replace') for line in whole]
 
 
-class Missing:
-    """Whether packets are missing: the program plays by its own clock then, and counts each tick."""
+class Condition:
+    """Whether something holds that a count tells of: from when the count grows, until packets come and it does not."""
 
-    def __init__(self) -> None:
+    def __init__(self, count: str) -> None:
         self.on = False
-        self._ticks = self._received = 0
+        self._name, self._count, self._received = count, 0, 0
 
     def changes(self, counts: dict[str, int]) -> bool:
         """Whether that changes with these counts."""
-        ticks, received = counts.get('ticks', 0), counts.get('received', 0)
-        ticked, came = ticks > self._ticks, received > self._received
-        self._ticks, self._received = ticks, received
+        count, received = counts.get(self._name, 0), counts.get('received', 0)
+        grew, came = count > self._count, received > self._received
+        self._count, self._received = count, received
         before = self.on
-        self.on = ticked or self.on and not came
+        self.on = grew or self.on and not came
         return self.on != before
 
 
 class SatopProcess(Stream):
-    """The trunk. `tell` is called with {'event': 'satop', 'what': 'packets missing', 'on': true or false} if it is set.
-    OSError if the program cannot be started, and where it has ended."""
+    """The trunk. `tell` is called with {'event': 'satop', 'what': 'packets missing', 'on': true or false} if it is set,
+    and alike for the other conditions. OSError if the program cannot be started, and where it has ended."""
 
     may_wait = False
 
@@ -87,7 +91,8 @@ class SatopProcess(Stream):
         finally:
             its.close()
         assert self._process.stderr
-        self._said, self._missing = Said(self._process.stderr.fileno()), Missing()
+        self._said = Said(self._process.stderr.fileno())
+        self._conditions = [(name, Condition(count), words) for name, count, words in CONDITIONS]
         self.counts: dict[str, int] = {}
         self._looks_at = 0.0
         file = ours.detach()
@@ -123,8 +128,9 @@ class SatopProcess(Stream):
                 self._said.last = line
                 continue
             self.counts = counts
-            if self._missing.changes(counts) and self.tell:
-                self.tell({'event': 'satop', 'what': 'packets missing', 'on': self._missing.on})
+            for _, condition, words in self._conditions:
+                if condition.changes(counts) and self.tell:
+                    self.tell({'event': 'satop', 'what': words, 'on': condition.on})
 
     def _end_words(self) -> str:
         """How the program has ended, and the last that it said."""
@@ -150,4 +156,4 @@ class SatopProcess(Stream):
 
     def status(self) -> dict[str, Any]:
         self._look()
-        return {'trunk': 'satop', **self.counts, 'silent': int(self._missing.on)}
+        return {'trunk': 'satop', **self.counts, **{name: int(each.on) for name, each, _ in self._conditions}}

@@ -7,7 +7,7 @@ import tempfile
 import unittest
 from typing import Any
 
-from e1gw.satop_process import Missing, SatopProcess, counts_of
+from e1gw.satop_process import Condition, SatopProcess, counts_of
 
 PATIENCE = 10.0
 WORDS = ['127.0.0.1:5000', '127.0.0.1:5001', '--size', '256']
@@ -36,7 +36,7 @@ class Lines(unittest.TestCase):
 
     def test_missing_packets(self) -> None:
         """They are missing from the first tick on, until packets come and no tick."""
-        missing, told = Missing(), []
+        missing, told = Condition('ticks'), []
         for received, ticks in ((5, 0), (9, 0), (9, 80), (9, 1080), (40, 1100), (1040, 1100), (2040, 1100)):
             if missing.changes({'received': received, 'ticks': ticks}):
                 told.append((received, missing.on))
@@ -78,13 +78,14 @@ class Process(unittest.TestCase):
 
     def test_counts_are_the_status(self) -> None:
         trunk = self.trunk()
-        self.assertEqual(trunk.status(), {'trunk': 'satop', 'silent': 0})
+        self.assertEqual(trunk.status(), {'trunk': 'satop', 'silent': 0, 'far_fault': 0, 'far_silent': 0})
         trunk.write(bytes(2))
         trunk.write(bytes(2))
         self.octets(trunk, 4)
         self.said(trunk)
         self.assertEqual(trunk.status(),
-                         {'trunk': 'satop', 'received': 3, 'sent': 2, 'lost': 1, 'ticks': 0, 'silent': 0})
+                         {'trunk': 'satop', 'received': 3, 'sent': 2, 'lost': 1, 'ticks': 0, 'silent': 0,
+                          'far_fault': 0, 'far_silent': 0})
 
     def said(self, trunk: SatopProcess) -> None:
         """Waits until the program has said its counts."""
@@ -108,6 +109,17 @@ class Process(unittest.TestCase):
         self.octets(trunk, 1)
         self.said(trunk)
         self.assertEqual(told, [{'event': 'satop', 'what': 'packets missing', 'on': True}])
+
+    def test_bits_of_the_far_end_are_told(self) -> None:
+        """Bits L and R, until packets come without them."""
+        trunk, told = self.trunk(SCRIPT.replace('lost=1', 'with_l=2 with_r=3')), list[dict[str, Any]]()
+        trunk.tell = told.append
+        trunk.write(bytes(1))
+        self.octets(trunk, 1)
+        self.said(trunk)
+        self.assertEqual(told, [{'event': 'satop', 'what': 'line fault at the far end (bit L)', 'on': True},
+                                {'event': 'satop', 'what': 'packets missing at the far end (bit R)', 'on': True}])
+        self.assertEqual([trunk.status()[name] for name in ('silent', 'far_fault', 'far_silent')], [0, 1, 1])
 
     def test_its_end_is_that_of_the_trunk(self) -> None:
         trunk = self.trunk(ENDS)

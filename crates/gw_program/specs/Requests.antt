@@ -17,16 +17,12 @@ use Rattle.gw_program.specs.declared.program_fault.ProgramFault.TheVariants as p
 use Rattle.gw_program.specs.Filters.{DoesFilter, DoesFilterUntil, HasChecked, HasCheckedUntil}
 use Rattle.gw_program.specs.Jobs.{Does, DoesUntil}
 use Rattle.gw_program.specs.Performing.{Ended, EndedSaved, NotBegun, HasConfig, by_session}
-use Rattle.gw_program.specs.Satop.{DoesSatop}
+use Rattle.gw_program.specs.Satop.{Command, DoesSatop}
 use Rattle.gw_program.specs.Sessions.{HasGateway, Runs, Serves, Checks}
 use Rattle.gw_program.specs.State.{BeginsWaiting, IsSaved}
 use Rattle.gw_trunk.specs.Serving.{Traffic}
 use Rattle.gw_program.specs.Trunks.{CarriesTrunk}
 use Rattle.gw_trunk.specs.Multiframes.{GoesInTime}
-
--- a subcommand with its options
-abbrev pub Command : Type 0
-Command = Option (List ℕ × List Row)
 
 -- CRC-4 multiframes are to be checked
 abbrev pub AsksCheck : Command → Type 0

@@ -1,16 +1,26 @@
 -- A trunk over SAToP (module `satop`).
-use Rattle.std.specs.Prelude.{◌≡◌, ◌⊎◌, ⊤, ℕ, List, [], ◌++◌, Option, Some, is_some, Result}
-use Rattle.std.specs.Prelude.{MatchResult, MatchOption, codes}
+use Rattle.std.specs.Prelude.{◌≡◌, ◌⊎◌, ◌*◌, ◌/◌, ⊤, ℕ, Bool, true, List, [], ◌++◌, Option, Some, None}
+use Rattle.std.specs.Prelude.{is_some}
+use Rattle.std.specs.Prelude.{min, max, Result, IsErrAnd, MatchResult, MatchOption, codes}
+use Rattle.std.specs.declared.io.Error.{Error}
 use Rattle.clap.specs.Words.{Row}
 use Rattle.gw_records.specs.declared.outcome.Totals.{Totals}
 use Rattle.gw_records.specs.declared.outcome.RunFault.TheVariants as faults
 use Rattle.gw_command.specs.Command.{SaysNumberIn, text_in}
+use Rattle.gw_satop.specs.declared.counts.Counts.{Counts}
 use Rattle.gw_satop.specs.declared.line.Receiver.{Receiver}
+use Rattle.gw_satop.specs.declared.pace.Pace.{Pace}
 use Rattle.gw_satop.specs.declared.sender.Sender.{Sender}
+use Rattle.gw_satop.specs.Opening.{FailsToJoin, SystemRefusesTrunk}
 use Rattle.gw_satop.specs.Session.{PlaysAll, SendsAll}
+use Rattle.satop_playout.specs.Calls.{IsSize}
 use Rattle.satop_playout.specs.declared.Replacement.TheVariants as fills
 use Rattle.gw_program.specs.declared.program_fault.ProgramFault.{ProgramFault}
 use Rattle.gw_program.specs.declared.program_fault.ProgramFault.TheVariants as program_faults
+
+-- a subcommand with its options
+abbrev pub Command : Type 0
+Command = Option (List ℕ × List Row)
 
 -- a read of the trunk failed, and all that was played had gone; or a write failed
 abbrev pub IsDeviceFault : List ℕ → ProgramFault → Type 0
@@ -18,18 +28,37 @@ IsDeviceFault left (program_faults.Session faults.Read) = left ≡ []
 IsDeviceFault left (program_faults.Session faults.Write) = ⊤
 IsDeviceFault left _ = ⊥
 
--- A circuit was carried: what went to the trunk is what is played for the datagrams that came, but for what
--- is left, and what was sent to the far end are the packets of the octets that came. Nothing is left at the
--- end of the trunk.
-pub record CarriesSatop (receiver : Receiver) (sender : Sender) (received sent : List (List ℕ))
-    (came went left : List ℕ) (told : Result Totals ProgramFault) : Type 0 where
-  pub plays : ∥ PlaysAll receiver received (went ++ left) ∥₁
-  pub sends : SendsAll sender sent came
-  pub told_is : MatchResult told (λ _. left ≡ []) (IsDeviceFault left)
+-- A circuit after all that happened to it: both halves, the pace and the counts; the datagrams that came and
+-- were
+-- sent; the octets that came from the trunk, went to it, and are left for it.
+pub record CircuitTraffic : Type 0 where
+  pub receiver : Receiver
+  pub sender : Sender
+  pub pace : Pace
+  pub counts : Counts
+  pub received : List (List ℕ)
+  pub sent : List (List ℕ)
+  pub came : List ℕ
+  pub went : List ℕ
+  pub left : List ℕ
 
--- both halves are set up as the command says
-pub record IsSetUp (command : Option (List ℕ × List Row)) (receiver : Receiver)
-    (sender : Sender) : Type 0 where
+-- A circuit was carried: what went to the trunk is what is played for the datagrams that came, but for what
+-- is left, and what was sent to the far end are the packets of the octets that came, with bit R in silence.
+-- The
+-- counts are those of what happened. Nothing is left at the end of the trunk.
+pub record CarriesSatop (c : CircuitTraffic) (told : Result Totals ProgramFault) : Type 0 where
+  pub plays : ∥ PlaysAll c.receiver c.pace c.counts c.sender.log.flags c.received (c.went ++ c.left) ∥₁
+  pub sends : SendsAll c.sender c.sent c.came
+  pub told_is : MatchResult told (λ _. c.left ≡ []) (IsDeviceFault c.left)
+
+-- The packets that may be waited for: twice as many as the jitter needs, and those of 125 ms (32,000 octets)
+-- at
+-- least; 1024 at most.
+abbrev pub window_for : ℕ → ℕ → ℕ
+window_for jitter size = min (max (max (2 * jitter) (32000 / size)) 1) 1024
+
+-- both halves and the pace are set up as the command says
+pub record IsSetUp (command : Command) (receiver : Receiver) (sender : Sender) (pace : Pace) : Type 0 where
   pub size : SaysNumberIn 16 (codes "size") command receiver.settings.size
   pub sizes : sender.start.size ≡ receiver.settings.size
   pub rtp : MatchOption sender.start.rtp ((n : ℕ) → ¬ SaysNumberIn 8 (codes "rtp") command n)
@@ -37,29 +66,56 @@ pub record IsSetUp (command : Option (List ℕ × List Row)) (receiver : Receive
   pub expects : receiver.rtp ≡ is_some sender.start.rtp
   pub ones : text_in (codes "fill") command ≡ Some (codes "ones") → receiver.settings.fill ≡ fills.Ones
   pub again : receiver.settings.fill ≡ fills.Ones → text_in (codes "fill") command ≡ Some (codes "ones")
+  pub jitter : SaysNumberIn 16 (codes "jitter") command pace.timing.jitter
+  pub window : receiver.settings.window ≡ window_for pace.timing.jitter receiver.settings.size
+  pub packet : pace.timing.packet ≡ 125 * (receiver.settings.size / 32)
+  pub own : text_in (codes "clock") command ≡ Some (codes "own") → pace.timing.own_clock ≡ true
+  pub by_packets : pace.timing.own_clock ≡ true → text_in (codes "clock") command ≡ Some (codes "own")
 
--- the circuit could not be opened
-abbrev pub IsOpeningFault : ProgramFault → Type 0
-IsOpeningFault program_faults.Nothing = ⊤
-IsOpeningFault program_faults.PacketSize = ⊤
-IsOpeningFault program_faults.FarEnd = ⊤
-IsOpeningFault program_faults.Trunk = ⊤
-IsOpeningFault program_faults.OutOfMemory = ⊤
-IsOpeningFault _ = ⊥
+-- the command does not say one of these: the size, the jitter, and both ends
+abbrev pub LacksWord : Command → Type 0
+LacksWord command = (((n : ℕ) → ¬ SaysNumberIn 16 (codes "size") command n)
+    ⊎ ((n : ℕ) → ¬ SaysNumberIn 16 (codes "jitter") command n))
+    ⊎ ((text_in (codes "local") command ≡ None) ⊎ (text_in (codes "peer") command ≡ None))
+
+-- the command says a size of packets that are no 1 to 40 whole frames
+pub record SaysOtherSize (command : Command) : Type 0 where
+  pub size : ℕ
+  pub says : SaysNumberIn 16 (codes "size") command size
+  pub other : ¬ IsSize size
+
+-- the command says both ends, and there is no socket between them
+pub record LacksSocket (command : Command) : Type 0 where
+  pub local : List ℕ
+  pub peer : List ℕ
+  pub error : Error
+  pub says_local : text_in (codes "local") command ≡ Some local
+  pub says_peer : text_in (codes "peer") command ≡ Some peer
+  pub fails : FailsToJoin local peer error
+
+-- the system refused to wait for a stream of the trunk, or memory was refused
+abbrev pub LacksStream : ProgramFault → Type 0
+LacksStream program_faults.Trunk = (error : Error) × SystemRefusesTrunk error
+LacksStream program_faults.OutOfMemory = ⊤
+LacksStream _ = ⊥
+
+-- Why the circuit is not opened: a word is missing, the size is no size of a packet, there is no socket, the
+-- system
+-- refused to wait for a stream of the trunk, or memory was refused.
+abbrev pub FailsToOpen : Command → ProgramFault → Type 0
+FailsToOpen command program_faults.Nothing = LacksWord command
+FailsToOpen command program_faults.PacketSize = SaysOtherSize command
+FailsToOpen command program_faults.FarEnd = LacksSocket command
+FailsToOpen command program_faults.Trunk = LacksStream program_faults.Trunk
+FailsToOpen command program_faults.OutOfMemory = ⊤
+FailsToOpen command _ = ⊥
 
 -- the circuit that the command asks for was carried
-pub record HasCircuit (command : Option (List ℕ
-    × List Row)) (told : Result Totals ProgramFault) : Type 0 where
-  pub receiver : Receiver
-  pub sender : Sender
-  pub set_up : IsSetUp command receiver sender
-  pub received : List (List ℕ)
-  pub sent : List (List ℕ)
-  pub came : List ℕ
-  pub went : List ℕ
-  pub left : List ℕ
-  pub carried : CarriesSatop receiver sender received sent came went left told
+pub record HasCircuit (command : Command) (told : Result Totals ProgramFault) : Type 0 where
+  pub traffic : CircuitTraffic
+  pub set_up : IsSetUp command traffic.receiver traffic.sender traffic.pace
+  pub carried : CarriesSatop traffic told
 
--- what was told: the circuit could not be opened, or it was carried
-abbrev pub DoesSatop : Option (List ℕ × List Row) → Result Totals ProgramFault → Type 0
-DoesSatop command told = MatchResult told (λ _. ⊥) IsOpeningFault ⊎ HasCircuit command told
+-- what was told: why the circuit was not opened, or it was carried
+abbrev pub DoesSatop : Command → Result Totals ProgramFault → Type 0
+DoesSatop command told = IsErrAnd told (FailsToOpen command) ⊎ HasCircuit command told

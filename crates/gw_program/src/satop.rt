@@ -14,11 +14,19 @@ pub fn perform_satop<I: Incoming, O: Outgoing, P: Peer, M: Clock>(
     circuit: &mut Circuit<I, O, P>,
     moments: &mut M,
 ) -> Result<Totals, ProgramFault>
-    ensures carries { CarriesSatop circuit.new.receiver circuit.new.sender
-        (P.received circuit.new.peer) (P.sent circuit.new.peer) (I.came circuit.new.incoming)
-        (O.went circuit.new.outgoing) circuit.new.left.items result }
+    ensures carries { CarriesSatop (record {
+      receiver = circuit.new.receiver;
+      sender = circuit.new.sender;
+      pace = circuit.new.pace;
+      counts = circuit.new.counts;
+      received = P.received circuit.new.peer;
+      sent = P.sent circuit.new.peer;
+      came = I.came circuit.new.incoming;
+      went = O.went circuit.new.outgoing;
+      left = circuit.new.left.items;
+    }) result }
     ensures same { HasSettings circuit.old.receiver circuit.new.receiver
-        circuit.old.sender circuit.new.sender }
+        circuit.old.sender circuit.new.sender circuit.old.pace circuit.new.pace }
 {
     if carry_satop(circuit, moments).is_ok() {
         return Ok(NO_TOTALS);

@@ -1,3 +1,4 @@
 pub mod Packets
 pub mod Ones
 pub mod Arriving
+pub mod Turning

@@ -1,7 +1,10 @@
 pub mod Packets
 pub mod Log
 pub mod Times
+pub mod Counts
 pub mod Pace
 pub mod Sending
 pub mod Line
+pub mod Turns
 pub mod Session
+pub mod Opening

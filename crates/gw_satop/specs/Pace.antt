@@ -1,11 +1,29 @@
 -- When packets are played, and when a stream begins (module `pace`). Times are in microseconds.
 use Rattle.std.specs.Prelude.{ℕ, ◌+◌, ◌-◌, ◌*◌, ◌/◌, ◌%◌, ◌^◌, ◌==◌, ◌&&◌, ◌||◌, not}
-use Rattle.std.specs.Prelude.{nat_le, nat_lt, min, max, Bool, false, if◌then◌else◌, Option, Some, None}
+use Rattle.std.specs.Prelude.{nat_le, nat_lt, min, max, Bool, false, if◌then◌else◌, Option, Some, None, Result, Ok, Err}
 use Rattle.satop_playout.specs.declared.ArrivalFault.{ArrivalFault}
 use Rattle.satop_playout.specs.declared.ArrivalFault.TheVariants.{OtherSize, NotBegun, Late, TooFar, Repeat}
+use Rattle.satop_packet.specs.Satop.{Content}
+use Rattle.gw_satop.specs.declared.line.DatagramOutcome.{DatagramOutcome}
+use Rattle.gw_satop.specs.declared.line.DatagramOutcome.TheVariants as outcomes
+use Rattle.gw_satop.specs.declared.packet.PacketFault.{PacketFault}
 use Rattle.gw_satop.specs.declared.pace.Pace.{Pace}
 use Rattle.gw_satop.specs.declared.pace.Run.{Run}
 use Rattle.gw_satop.specs.declared.timing.Timing.{Timing}
+
+-- the pace from a time on
+abbrev pub new_pace : Timing → ℕ → Pace
+new_pace timing began = record {
+  timing = timing;
+  heard = began;
+  reached = began;
+  patient = began;
+  planned = began;
+  credit = 1000000000;
+  counted = began;
+  silent = false;
+  run = None;
+}
 
 -- the number of the packet that is played next if a stream begins with this one: by this machine's clock the
 -- one so many packets before it, so that the jitter buffer fills
@@ -75,6 +93,18 @@ after_packet p now = record p {
   reached = if p.timing.own_clock then p.reached else now;
 }
 
+-- the pace after a packet of which this became
+abbrev pub after_packet_outcome : Pace → DatagramOutcome → ℕ → ℕ → Pace
+after_packet_outcome p outcomes.Accepted sequence now = after_packet p now
+after_packet_outcome p (outcomes.Began first) sequence now = after_packet p now
+after_packet_outcome p (outcomes.Refused fault) sequence now = after_refusal p fault sequence now
+after_packet_outcome p (outcomes.PacketFault fault) sequence now = p
+
+-- the pace after a datagram of which this became
+abbrev pub after_outcome : Pace → DatagramOutcome → Result Content PacketFault → ℕ → Pace
+after_outcome p outcome (Err fault) now = p
+after_outcome p outcome (Ok packet) now = after_packet_outcome p outcome packet.control.sequence now
+
 -- this machine's clock plays: it is to, or no packet comes
 abbrev pub by_clock : Pace → Bool
 by_clock p = p.silent || p.timing.own_clock
@@ -106,9 +136,17 @@ at_time p now = record p {
 abbrev pub falls_silent : Pace → ℕ → Bool
 falls_silent p now = not p.silent && (nat_le 100000 (now - p.heard) && nat_le p.patient now)
 
+-- the pace after all that came was read
+abbrev pub after_listening : Pace → ℕ → Pace
+after_listening p now = record p { silent = p.silent || falls_silent p now }
+
 -- when something is due if no packet comes
 abbrev pub next_time : Pace → ℕ → ℕ → ℕ
 next_time p now reach = if by_clock p then min (p.reached + p.timing.packet) (2 ^ 64 - 1)
     else if nat_lt p.timing.jitter reach
     then min (now + ((1000 * p.timing.packet - p.credit) / 1001 + 1)) (2 ^ 64 - 1)
     else max (min (p.heard + 100000) (2 ^ 64 - 1)) p.patient
+
+-- the pace after the next call was planned
+abbrev pub after_plan : Pace → ℕ → ℕ → Pace
+after_plan p now reach = record p { planned = next_time p now reach }

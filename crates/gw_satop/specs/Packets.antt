@@ -1,6 +1,7 @@
 -- The packets of an emulated circuit that arrive (RFC 4553).
 use Rattle.std.specs.Prelude.{ℕ, Bool, ◌==◌, ◌&&◌, ◌||◌, if◌then◌else◌, List, [], ◌∷◌, ◌++◌}
-use Rattle.std.specs.Prelude.{length, replicate, Result, Ok, Err}
+use Rattle.std.specs.Prelude.{length, replicate, Option, Some, None, Result, Ok, Err}
+use Rattle.satop_packet.specs.declared.Control.{Control}
 use Rattle.satop_packet.specs.declared.SatopFault.{SatopFault}
 use Rattle.satop_packet.specs.declared.SatopFault.TheVariants.{Short, NoRtp, NoControl, OtherLength}
 use Rattle.satop_packet.specs.Satop.{Content}
@@ -51,3 +52,8 @@ abbrev pub arrivals_in : Bool → ℕ → List (List ℕ) → List (ℕ × List 
 arrivals_in rtp size [] = []
 arrivals_in rtp size (datagram ∷ datagrams) =
     arrival_of size (packet_in rtp size datagram) ++ arrivals_in rtp size datagrams
+
+-- the control word of a packet
+abbrev pub control_in : Result Content PacketFault → Option Control
+control_in (Ok p) = Some p.control
+control_in (Err f) = None

@@ -40,8 +40,8 @@ fn report_changes<M: Clock>(
 /// Carries an emulated circuit until no octet comes from the trunk any more.
 ///
 /// The octets that go to the trunk are those of the time slots for the octets of the packets that come, in
-/// order, with others in place of the missing ones. The packets that are sent have the octets that come from
-/// the trunk, in order, each once.
+/// order, with others in place of the missing ones, and each is played when it is due. The packets that are sent
+/// have the octets that come from the trunk, in order, each once, and bit R in silence.
 ///
 /// # Errors
 ///
@@ -51,11 +51,12 @@ pub fn carry_satop<I: Incoming, O: Outgoing, P: Peer, M: Clock>(
     circuit: &mut Circuit<I, O, P>,
     moments: &mut M,
 ) -> Result<(), DeviceFault>
-    ensures plays { ∥ PlaysAll circuit.new.receiver (P.received circuit.new.peer)
+    ensures plays { ∥ PlaysAll circuit.new.receiver circuit.new.pace circuit.new.counts
+        circuit.new.sender.log.flags (P.received circuit.new.peer)
         (O.went circuit.new.outgoing ++ circuit.new.left.items) ∥₁ }
     ensures sends { SendsAll circuit.new.sender (P.sent circuit.new.peer) (I.came circuit.new.incoming) }
     ensures same { HasSettings circuit.old.receiver circuit.new.receiver
-        circuit.old.sender circuit.new.sender }
+        circuit.old.sender circuit.new.sender circuit.old.pace circuit.new.pace }
     ensures whole { IfOk result (λ _. circuit.new.left.items ≡ []) }
     ensures ended { IfOk result (λ _. I.has_ended circuit.new.incoming) }
 {
@@ -67,7 +68,7 @@ pub fn carry_satop<I: Incoming, O: Outgoing, P: Peer, M: Clock>(
             return circuit.flush();
         }
         last = report_changes(moments, now, circuit.counts(), last);
-        moments.wait(circuit.plan(now));
+        moments.wait(circuit.plan());
     }
     Err(DeviceFault)
 }

@@ -1,9 +1,15 @@
 //! An emulated circuit between a trunk and its far end.
 
-ghost use Rattle.std.specs.Prelude.{◌≡◌, ◌++◌, ◌<◌, ◌≤◌, [], ℕ, List, length, drop, true, IfOk};
+ghost use Rattle.std.specs.Prelude.{◌≡◌, ◌++◌, ◌<◌, ◌≤◌, [], ℕ, Bool, List, length, drop, true, nat_lt, IfOk};
+ghost use Rattle.gw_satop.specs.declared.line.Receiver.{Receiver};
+ghost use Rattle.gw_satop.specs.declared.pace.Pace.{Pace};
 ghost use Rattle.gw_satop.specs.Session.{HasSettings, PlaysAll, SendsAll};
+ghost use Rattle.gw_satop.specs.Counts.{counts_by_play, no_counts};
 ghost use Rattle.gw_satop.specs.Line.{HasPlayed};
+ghost use Rattle.gw_satop.specs.Pace.{after_play, is_due, new_pace};
 ghost use Rattle.gw_satop.specs.Sending.{packets_of};
+ghost use Rattle.satop_playout.specs.Calls.{Call};
+ghost use Rattle.satop_playout.specs.Plays.{is_there, reach_after};
 
 use crate::counts::Counts;
 use crate::line::Receiver;
@@ -35,7 +41,8 @@ pub struct Circuit<I: Incoming, O: Outgoing, P: Peer> {
     counts: Counts,
     // played, and not taken by the trunk yet
     left: ArrayVec<u8, 1280>,
-    ghost plays: { ∥ PlaysAll receiver (P.received peer) (O.went outgoing ++ left.items) ∥₁ },
+    ghost plays: { ∥ PlaysAll receiver pace counts sender.log.flags (P.received peer)
+        (O.went outgoing ++ left.items) ∥₁ },
     ghost sends: { SendsAll sender (P.sent peer) (I.came incoming) },
 }
 
@@ -67,19 +74,32 @@ fn put_out<O: Outgoing>(outgoing: &mut O, left: &mut ArrayVec<u8, 1280>) -> Resu
     Err(DeviceFault)
 }
 
-// Plays the next packet by a room of its size; it is then left for the trunk. Returns whether it was there.
-fn play_into(receiver: &mut Receiver, room: &mut [u8], left: &mut ArrayVec<u8, 1280>) -> bool
+// Plays the next packet, which is due, by a room of its size; it is then left for the trunk. `_read_all` is
+// whether all that came was read.
+fn play_into(
+    receiver: &mut Receiver,
+    pace: &mut Pace,
+    counts: &mut Counts,
+    _read_all: bool,
+    room: &mut [u8],
+    left: &mut ArrayVec<u8, 1280>,
+)
     requires room { length room.old ≡ receiver.old.settings.size }
     requires left { left.old.items ≡ [] }
+    requires due { (calls : List Call) → HasPlayed receiver.old calls → is_due pace.old pace.old.counted
+        (reach_after receiver.old.settings calls) _read_all ≡ true }
     ensures settings { receiver.new.settings ≡ receiver.old.settings }
     ensures rtp { receiver.new.rtp ≡ receiver.old.rtp }
-    ensures plays { (received : List (List ℕ)) (went : List ℕ)
-        → PlaysAll receiver.old received (went ++ left.old.items)
-        → PlaysAll receiver.new received (went ++ left.new.items) }
+    ensures timing { pace.new.timing ≡ pace.old.timing }
+    ensures plays { (flags : List Bool) (received : List (List ℕ)) (went : List ℕ)
+        → PlaysAll receiver.old pace.old counts.old flags received (went ++ left.old.items)
+        → PlaysAll receiver.new pace.new counts.new flags received (went ++ left.new.items) }
 {
+    let later = receiver.reach() > 0;
     let is_there = receiver.play(room);
     let _ = left.try_extend_from_slice(room);
-    is_there
+    counts.play(is_there, later, pace.is_silent());
+    pace.play();
 }
 
 // Sends octets of the trunk as packets. `missing` is whether packets are missing at this end.
@@ -99,6 +119,10 @@ fn send_all<P: Peer>(
     ensures came { sender.new.came.octets ≡ sender.old.came.octets ++ octets.now }
     ensures received { P.received peer.new ≡ P.received peer.old }
     ensures start { sender.new.start ≡ sender.old.start }
+    ensures plays { (receiver : Receiver) (pace : Pace) (received : List (List ℕ)) (went : List ℕ)
+        → missing ≡ pace.silent
+        → PlaysAll receiver pace counts.old sender.old.log.flags received went
+        → PlaysAll receiver pace counts.new sender.new.log.flags received went }
 {
     let mut packet = ArrayVec::new();
     let mut at = 0;
@@ -125,10 +149,12 @@ impl<I: Incoming, O: Outgoing, P: Peer> Circuit<I, O, P> {
         requires received { P.received peer ≡ [] }
         requires sent { P.sent peer ≡ [] }
         requires receiver { HasPlayed receiver [] }
+        requires pace { pace ≡ new_pace pace.timing pace.counted }
         requires sender { (sender.came.octets ≡ []) × (sender.log.flags ≡ [])
             × (length sender.held.items < sender.start.size) }
         ensures receiver { result.receiver ≡ receiver }
         ensures sender { result.sender ≡ sender }
+        ensures pace { result.pace ≡ pace }
     {
         Circuit {
             incoming,
@@ -137,7 +163,7 @@ impl<I: Incoming, O: Outgoing, P: Peer> Circuit<I, O, P> {
             receiver,
             sender,
             pace,
-            counts: Counts::default(),
+            counts: Counts::new(),
             left: ArrayVec::new(),
         }
     }
@@ -157,66 +183,102 @@ impl<I: Incoming, O: Outgoing, P: Peer> Circuit<I, O, P> {
         self.counts
     }
 
+    // A turn begins at this time.
+    fn advance(&mut self, now: u64)
+        ensures same { HasSettings self.old.receiver self.new.receiver self.old.sender self.new.sender
+            self.old.pace self.new.pace }
+    {
+        self.pace.advance(now);
+    }
+
     // Receives a datagram, if one waits.
-    fn hear(&mut self, now: u64) -> bool
-        ensures same { HasSettings self.old.receiver self.new.receiver self.old.sender self.new.sender }
+    fn hear(&mut self) -> bool
+        ensures same { HasSettings self.old.receiver self.new.receiver self.old.sender self.new.sender
+            self.old.pace self.new.pace }
     {
         let mut room = [0u8; ROOM_LEN];
         let Some(n) = self.peer.receive(&mut room) else {
             return false;
         };
-        let receipt = self.receiver.receive(&mut self.pace, now, &room[..n]);
-        self.counts.receive(receipt);
+        let control = self.receiver.control(&room[..n]);
+        let now = self.pace.now();
+        let outcome = self.receiver.receive(&mut self.pace, now, &room[..n]);
+        self.counts.receive(outcome);
+        self.counts.bits(control);
         true
     }
 
     /// Gives the trunk what is left for it.
     pub fn flush(&mut self) -> Result<(), DeviceFault>
         ensures all { IfOk result (λ _. self.new.left.items ≡ []) }
-        ensures same { HasSettings self.old.receiver self.new.receiver self.old.sender self.new.sender }
+        ensures same { HasSettings self.old.receiver self.new.receiver self.old.sender self.new.sender
+            self.old.pace self.new.pace }
         ensures incoming { self.new.incoming ≡ self.old.incoming }
+        ensures receiver { self.new.receiver ≡ self.old.receiver }
+        ensures pace { self.new.pace ≡ self.old.pace }
     {
         put_out(&mut self.outgoing, &mut self.left)
     }
 
-    // Plays the next packet, which is then left for the trunk.
-    fn play_next(&mut self)
-        requires { self.old.left.items ≡ [] }
-        ensures same { HasSettings self.old.receiver self.new.receiver self.old.sender self.new.sender }
+    // Whether a packet is due. `read_all` is whether all that came was read.
+    fn is_due(&self, read_all: bool) -> bool
+        ensures { (calls : List Call) → HasPlayed self.now.receiver calls → result ≡ is_due self.now.pace
+            self.now.pace.counted (reach_after self.now.receiver.settings calls) read_all }
+    {
+        self.pace
+            .is_due(self.pace.now(), self.receiver.reach(), read_all)
+    }
+
+    // Plays the next packet, which is due, and is then left for the trunk.
+    fn play_next(&mut self, read_all: bool)
+        requires left { self.old.left.items ≡ [] }
+        requires due { (calls : List Call) → HasPlayed self.old.receiver calls → is_due self.old.pace
+            self.old.pace.counted (reach_after self.old.receiver.settings calls) read_all ≡ true }
+        ensures same { HasSettings self.old.receiver self.new.receiver self.old.sender self.new.sender
+            self.old.pace self.new.pace }
     {
         let mut room = [0u8; MAX_SIZE];
         let size = self.receiver.size();
-        let later = self.receiver.reach() > 0;
-        let is_there = play_into(&mut self.receiver, &mut room[..size], &mut self.left);
-        self.counts.play(is_there, later, self.pace.is_silent());
-        self.pace.play();
+        play_into(
+            &mut self.receiver,
+            &mut self.pace,
+            &mut self.counts,
+            read_all,
+            &mut room[..size],
+            &mut self.left,
+        );
     }
 
-    // Plays the next packet to the trunk.
-    fn play(&mut self) -> Result<(), DeviceFault>
-        ensures same { HasSettings self.old.receiver self.new.receiver self.old.sender self.new.sender }
+    // Plays the next packet, which is due, to the trunk.
+    fn play(&mut self, read_all: bool) -> Result<(), DeviceFault>
+        requires due { (calls : List Call) → HasPlayed self.old.receiver calls → is_due self.old.pace
+            self.old.pace.counted (reach_after self.old.receiver.settings calls) read_all ≡ true }
+        ensures same { HasSettings self.old.receiver self.new.receiver self.old.sender self.new.sender
+            self.old.pace self.new.pace }
     {
         self.flush()?;
-        self.play_next();
+        self.play_next(read_all);
         self.flush()
     }
 
     // Plays the packets that are due.
-    fn play_due(&mut self, now: u64, read_all: bool) -> Result<(), DeviceFault>
-        ensures same { HasSettings self.old.receiver self.new.receiver self.old.sender self.new.sender }
+    fn play_due(&mut self, read_all: bool) -> Result<(), DeviceFault>
+        ensures same { HasSettings self.old.receiver self.new.receiver self.old.sender self.new.sender
+            self.old.pace self.new.pace }
     {
         for _play in 0..MOST_PLAYS {
-            if !self.pace.is_due(now, self.receiver.reach(), read_all) {
+            if !self.is_due(read_all) {
                 return Ok(());
             }
-            self.play()?;
+            self.play(read_all)?;
         }
         Ok(())
     }
 
     // Takes octets of the trunk that have come, and sends them. Returns whether no octet will come any more.
     fn take(&mut self) -> Result<bool, DeviceFault>
-        ensures same { HasSettings self.old.receiver self.new.receiver self.old.sender self.new.sender }
+        ensures same { HasSettings self.old.receiver self.new.receiver self.old.sender self.new.sender
+            self.old.pace self.new.pace }
         ensures ended { IfOk result (λ ended. ended ≡ true → I.has_ended self.new.incoming) }
     {
         let mut room = [0u8; ROOM_LEN];
@@ -237,38 +299,51 @@ impl<I: Incoming, O: Outgoing, P: Peer> Circuit<I, O, P> {
     }
 
     // Receives all that waits, and plays what is due meanwhile.
-    fn hear_all(&mut self, now: u64) -> Result<(), DeviceFault>
-        ensures same { HasSettings self.old.receiver self.new.receiver self.old.sender self.new.sender }
+    fn hear_all(&mut self) -> Result<(), DeviceFault>
+        ensures same { HasSettings self.old.receiver self.new.receiver self.old.sender self.new.sender
+            self.old.pace self.new.pace }
     {
         for _datagram in 0..MOST_DATAGRAMS {
-            if !self.hear(now) {
+            if !self.hear() {
                 return Ok(());
             }
-            self.play_due(now, false)?;
+            self.play_due(false)?;
         }
         Ok(())
+    }
+
+    // All that came was read: a silence may begin.
+    fn listen(&mut self)
+        ensures same { HasSettings self.old.receiver self.new.receiver self.old.sender self.new.sender
+            self.old.pace self.new.pace }
+    {
+        let now = self.pace.now();
+        let begins = self.pace.listen(now);
+        self.counts.listen(begins);
     }
 
     /// One turn at a time: receives what waits, plays what is due and sends what came from the trunk. Returns
     /// whether no octet will come from the trunk any more.
     pub fn turn(&mut self, now: u64) -> Result<bool, DeviceFault>
-        ensures same { HasSettings self.old.receiver self.new.receiver self.old.sender self.new.sender }
+        ensures same { HasSettings self.old.receiver self.new.receiver self.old.sender self.new.sender
+            self.old.pace self.new.pace }
         ensures ended { IfOk result (λ ended. ended ≡ true → I.has_ended self.new.incoming) }
     {
-        self.pace.advance(now);
-        self.hear_all(now)?;
-        if self.pace.listen(now) {
-            self.counts.silence();
-        }
-        self.play_due(now, true)?;
+        self.advance(now);
+        self.hear_all()?;
+        self.listen();
+        self.play_due(true)?;
         self.take()
     }
 
     /// When something is due if nothing comes.
-    pub fn plan(&mut self, now: u64) -> u64
-        ensures same { HasSettings self.old.receiver self.new.receiver self.old.sender self.new.sender }
+    pub fn plan(&mut self) -> u64
+        ensures same { HasSettings self.old.receiver self.new.receiver self.old.sender self.new.sender
+            self.old.pace self.new.pace }
         ensures incoming { self.new.incoming ≡ self.old.incoming }
     {
-        self.pace.plan(now, self.receiver.reach())
+        let now = self.pace.now();
+        let reach = self.receiver.reach();
+        self.pace.plan(now, reach)
     }
 }

@@ -6,6 +6,7 @@ use crate::pace::Pace;
 use crate::packet::{PacketFault, octets_to_play, packet_in};
 use g704_bits::BitAligner;
 use gw_filter::filter_all;
+use satop_packet::Control;
 use satop_playout::laws::plays_give_octets;
 use satop_playout::{ArrivalFault, SatopPlayout, Settings};
 use std::alloc::{AllocError, Global};
@@ -45,8 +46,8 @@ impl Receiver {
     ghost use Rattle.satop_playout.specs.Plays.{reach_after};
     ghost use Rattle.gw_satop.specs.Line.{calls_for, calls_of_receipt, HasPlayed, played};
     ghost use Rattle.gw_satop.specs.Line.{receipt_by, receipt_of};
-    ghost use Rattle.gw_satop.specs.Pace.{beginning};
-    ghost use Rattle.gw_satop.specs.Packets.{packet_in};
+    ghost use Rattle.gw_satop.specs.Pace.{after_outcome, after_packet_outcome, beginning};
+    ghost use Rattle.gw_satop.specs.Packets.{control_in, packet_in};
 
     /// A receiver before any datagram. `rtp` is whether packets have an RTP header.
     pub fn new(alloc: Global, settings: Settings, rtp: bool) -> Result<Receiver, AllocError>
@@ -75,6 +76,9 @@ impl Receiver {
             (calls ++ calls_for self.old.settings.size result
             (packet_in self.old.rtp self.old.settings.size datagram.now))
             ≡ given_octets self.old.settings calls }
+        ensures pace { pace.new ≡ after_outcome pace.old result
+            (packet_in self.old.rtp self.old.settings.size datagram.now) now }
+        ensures timing { pace.new.timing ≡ pace.old.timing }
         ensures settings { self.new.settings ≡ self.old.settings }
         ensures rtp { self.new.rtp ≡ self.old.rtp }
     {
@@ -87,6 +91,16 @@ impl Receiver {
         }
     }
 
+    /// The control word of a datagram, if it is a packet of the circuit.
+    pub fn control(&self, datagram: &[u8]) -> Option<Control>
+        ensures { result ≡ control_in (packet_in self.now.rtp self.now.settings.size datagram.now) }
+    {
+        match packet_in(self.rtp, self.settings.size, datagram) {
+            Ok(view) => Some(view.control()),
+            Err(_) => None,
+        }
+    }
+
     // A packet arrives. If it is refused a stream may begin with it.
     fn arrive(&mut self, pace: &mut Pace, now: u64, sequence: u16, octets: &[u8]) -> DatagramOutcome
         ensures receipt { (calls : List Call) → HasPlayed self.old calls
@@ -96,6 +110,8 @@ impl Receiver {
             → HasPlayed self.new (calls ++ calls_of_receipt result sequence octets.now) }
         ensures given { (calls : List Call) → given_octets self.old.settings
             (calls ++ calls_of_receipt result sequence octets.now) ≡ given_octets self.old.settings calls }
+        ensures pace { pace.new ≡ after_packet_outcome pace.old result sequence now }
+        ensures timing { pace.new.timing ≡ pace.old.timing }
         ensures settings { self.new.settings ≡ self.old.settings }
         ensures rtp { self.new.rtp ≡ self.old.rtp }
     {

@@ -1,7 +1,8 @@
 //! When packets are played, and when a stream begins.
 
-ghost use Rattle.std.specs.Prelude.{◌≡◌, ◌≤◌, ◌||◌};
-ghost use Rattle.gw_satop.specs.Pace.{after_packet, after_play, after_refusal, at_time};
+ghost use Rattle.std.specs.Prelude.{◌≡◌, ◌≤◌};
+ghost use Rattle.gw_satop.specs.Pace.{after_listening, after_packet, after_plan, after_play, after_refusal};
+ghost use Rattle.gw_satop.specs.Pace.{at_time, new_pace};
 ghost use Rattle.gw_satop.specs.Pace.{beginning, by_clock, falls_silent, first_number, is_due, is_in_step};
 ghost use Rattle.gw_satop.specs.Pace.{is_long, is_stream, new_run, next_time, run_left, run_with};
 
@@ -102,7 +103,7 @@ pub struct Pace {
 impl Pace {
     /// The pace from now on.
     pub fn new(timing: Timing, now: u64) -> Pace
-        ensures timing { result.timing ≡ timing }
+        ensures { result ≡ new_pace timing now }
     {
         Pace {
             timing,
@@ -117,6 +118,13 @@ impl Pace {
         }
     }
 
+    /// The time of this turn.
+    pub fn now(&self) -> u64
+        ensures { result ≡ self.now.counted }
+    {
+        self.counted
+    }
+
     /// Whether no packet comes, so that this machine's clock plays.
     pub fn is_silent(&self) -> bool
         ensures { result ≡ self.now.silent }
@@ -126,7 +134,8 @@ impl Pace {
 
     /// A packet of the stream has come.
     pub fn accept(&mut self, now: u64)
-        ensures { self.new ≡ after_packet self.old now }
+        ensures stands { self.new ≡ after_packet self.old now }
+        ensures timing { self.new.timing ≡ self.old.timing }
     {
         self.heard = now;
         self.silent = false;
@@ -153,6 +162,7 @@ impl Pace {
         ensures stays { self.new ≡ record self.old {
           run = run_left self.old.timing.packet (run_with self.old.run sequence now) now;
         } }
+        ensures timing { self.new.timing ≡ self.old.timing }
     {
         let run = run_with(self.run, sequence, now);
         if !is_long(run, now) {
@@ -171,6 +181,7 @@ impl Pace {
     pub fn refuse(&mut self, fault: ArrivalFault, sequence: u16, now: u64) -> Option<u16>
         ensures begins { result ≡ beginning self.old fault sequence now }
         ensures stands { self.new ≡ after_refusal self.old fault sequence now }
+        ensures timing { self.new.timing ≡ self.old.timing }
     {
         match fault {
             ArrivalFault::NotBegun => Some(self.first_number(sequence)),
@@ -206,7 +217,8 @@ impl Pace {
 
     /// A packet was played.
     pub fn play(&mut self)
-        ensures { self.new ≡ after_play self.old }
+        ensures stands { self.new ≡ after_play self.old }
+        ensures timing { self.new.timing ≡ self.old.timing }
     {
         if self.by_clock() {
             self.reached = self.reached.saturating_add(self.timing.packet);
@@ -217,7 +229,8 @@ impl Pace {
 
     /// It is now so late.
     pub fn advance(&mut self, now: u64)
-        ensures { self.new ≡ at_time self.old now }
+        ensures stands { self.new ≡ at_time self.old now }
+        ensures timing { self.new.timing ≡ self.old.timing }
     {
         let passed = now.saturating_sub(self.counted).min(MOST_BEHIND_US);
         self.credit = self
@@ -234,9 +247,8 @@ impl Pace {
     /// All that came was read. Returns whether a silence begins.
     pub fn listen(&mut self, now: u64) -> bool
         ensures begins { result ≡ falls_silent self.old now }
-        ensures stands { self.new ≡ record self.old {
-          silent = self.old.silent || falls_silent self.old now;
-        } }
+        ensures stands { self.new ≡ after_listening self.old now }
+        ensures timing { self.new.timing ≡ self.old.timing }
     {
         let begins = !self.silent
             && now.saturating_sub(self.heard) >= SILENCE_US
@@ -248,7 +260,8 @@ impl Pace {
     /// Plans the next call, and returns when it is due if no packet comes.
     pub fn plan(&mut self, now: u64, reach: u16) -> u64
         ensures time { result ≡ next_time self.old now reach }
-        ensures stands { self.new ≡ record self.old { planned = next_time self.old now reach } }
+        ensures stands { self.new ≡ after_plan self.old now reach }
+        ensures timing { self.new.timing ≡ self.old.timing }
     {
         self.planned = self.next_time(now, reach);
         self.planned

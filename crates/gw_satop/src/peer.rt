@@ -1,6 +1,9 @@
 //! The far end of an emulated circuit.
 
 ghost use Rattle.std.specs.Prelude.{◌≡◌, ◌≤◌, ◌++◌, ◌∷◌, ℕ, List, [], length, take, IfSome, IfNone, IfOk};
+ghost use Rattle.std.specs.Prelude.{IfErr};
+ghost use Rattle.gw_satop.specs.Opening.{FailsToJoin, HasAddress, IsJoined, LacksAddress, SystemFinds};
+ghost use Rattle.gw_satop.specs.Opening.{SystemRefusesPeer, SystemRefusesSocket};
 
 use crate::log::History;
 use gw_udp::Socket;
@@ -50,12 +53,15 @@ impl<S: Socket> UdpPeer<S> {
     /// The far end at the address of `peer`, by a socket at that of `local`; each text is a host and a port.
     /// The error is the system's, or says that one has no address.
     pub fn open<N: Net>(net: &N, local: &str, peer: &str) -> io::Result<UdpPeer<S>>
+        ensures ok { IfOk result (λ p. IsJoined S.is_bound local.now peer.now p.socket p.address) }
+        ensures err { IfErr result (FailsToJoin local.now peer.now) }
         ensures received { IfOk result (λ p. p.received.datagrams ≡ []) }
         ensures sent { IfOk result (λ p. p.sent.datagrams ≡ []) }
     {
         let address = address_of(net, peer)?;
-        let socket = S::bind(net, address_of(net, local)?)?;
-        socket.connect(address)?;
+        let here = address_of(net, local)?;
+        let socket: S = socket_at(net, here)?;
+        take_from(&socket, address)?;
         Ok(UdpPeer {
             socket,
             address,
@@ -74,11 +80,39 @@ impl<S: Socket> UdpPeer<S> {
 }
 
 // The first address of a host and a port.
-fn address_of<N: Net>(net: &N, text: &str) -> io::Result<SocketAddr> {
-    match text.to_socket_addrs(net)?.next() {
+fn address_of<N: Net>(net: &N, text: &str) -> io::Result<SocketAddr>
+    ensures ok { IfOk result (HasAddress text.now) }
+    ensures err { IfErr result (λ _. LacksAddress text.now) }
+{
+    match find(net, text)? {
         Some(address) => Ok(address),
         None => Err(Error::from(ErrorKind::NotFound)),
     }
+}
+
+// Asks the system for it.
+#[tactic(auto, unfolding(crate::specs::Opening::SystemFinds))]
+fn find<N: Net>(net: &N, text: &str) -> io::Result<Option<SocketAddr>>
+    ensures { SystemFinds text.now result }
+{
+    Ok(text.to_socket_addrs(net)?.next())
+}
+
+// A socket at this address.
+#[tactic(auto, unfolding(crate::specs::Opening::SystemRefusesSocket))]
+fn socket_at<S: Socket, N: Net>(net: &N, here: SocketAddr) -> io::Result<S>
+    ensures ok { IfOk result (λ s. S.is_bound s here) }
+    ensures err { IfErr result (SystemRefusesSocket here) }
+{
+    S::bind(net, here)
+}
+
+// Has the socket take datagrams from this address alone.
+#[tactic(auto, unfolding(crate::specs::Opening::SystemRefusesPeer))]
+fn take_from<S: Socket>(socket: &S, peer: SocketAddr) -> io::Result<()>
+    ensures err { IfErr result (SystemRefusesPeer peer) }
+{
+    socket.connect(peer)
 }
 
 impl<S: Socket> Peer for UdpPeer<S> {

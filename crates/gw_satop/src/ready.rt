@@ -1,10 +1,12 @@
 //! A trunk that is read only if it has something.
 
-ghost use Rattle.std.specs.Prelude.{◌≡◌, IfOk};
+ghost use Rattle.std.specs.Prelude.{◌≡◌, [], IfOk, IfErr};
+ghost use Rattle.gw_satop.specs.Opening.{SystemRefusesTrunk};
 
-use gw_trunk::{DeviceFault, DeviceRead, Incoming, Waiting};
+use gw_trunk::{DeviceFault, DeviceRead, FromDevice, Incoming, ToDevice, Waiting};
 use mio::Interest;
 use std::io;
+use std::io::Read;
 use std::time::Duration;
 
 /// Octets of a trunk from a descriptor, which is read only if the system says that something has come; so a
@@ -17,14 +19,47 @@ pub struct WhenReady<I: Incoming> {
 
 impl<I: Incoming + Drop> WhenReady<I> {
     /// What comes from `incoming`, whose descriptor this is. The error is the system's.
+    #[tactic(auto, unfolding(crate::specs::Opening::SystemRefusesTrunk))]
     pub fn open(rt: &HostRuntime, incoming: I, descriptor: i32) -> io::Result<WhenReady<I>>
-        ensures { IfOk result (λ r. r.incoming ≡ incoming) }
+        ensures ok { IfOk result (λ r. r.incoming ≡ incoming) }
+        ensures err { IfErr result SystemRefusesTrunk }
     {
         Ok(WhenReady {
             incoming,
             waiting: Waiting::open(rt, descriptor, Interest::READABLE)?,
         })
     }
+}
+
+// What comes from a reader, whose descriptor this is.
+#[tactic(auto, unfolding(crate::specs::Opening::SystemRefusesTrunk))]
+fn device<R: Drop>(rt: &HostRuntime, reader: R, descriptor: i32) -> io::Result<FromDevice<R>>
+    ensures ok { IfOk result (λ d. d.log.octets ≡ []) }
+    ensures err { IfErr result SystemRefusesTrunk }
+{
+    FromDevice::open(rt, reader, descriptor)
+}
+
+/// What comes from a reader, whose descriptor this is, if it has something. The error is the system's.
+pub fn open_input<R: Read + Drop>(
+    rt: &HostRuntime,
+    reader: R,
+    descriptor: i32,
+) -> io::Result<WhenReady<FromDevice<R>>>
+    ensures ok { IfOk result (λ r. r.incoming.log.octets ≡ []) }
+    ensures err { IfErr result SystemRefusesTrunk }
+{
+    let incoming = device(rt, reader, descriptor)?;
+    WhenReady::open(rt, incoming, descriptor)
+}
+
+/// What goes to a writer, whose descriptor this is. The error is the system's.
+#[tactic(auto, unfolding(crate::specs::Opening::SystemRefusesTrunk))]
+pub fn open_output<W: Drop>(rt: &HostRuntime, writer: W, descriptor: i32) -> io::Result<ToDevice<W>>
+    ensures ok { IfOk result (λ d. d.log.octets ≡ []) }
+    ensures err { IfErr result SystemRefusesTrunk }
+{
+    ToDevice::open(rt, writer, descriptor)
 }
 
 impl<I: Incoming> Incoming for WhenReady<I> {

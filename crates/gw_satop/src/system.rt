@@ -1,6 +1,7 @@
 //! What an emulated circuit has of this system: its clock, what is waited for, and standard error.
 
-ghost use Rattle.std.specs.Prelude.{◌≡◌};
+ghost use Rattle.std.specs.Prelude.{◌≡◌, IfErr};
+ghost use Rattle.gw_satop.specs.Opening.{SystemRefusesTrunk};
 
 use crate::carrying::Clock;
 use crate::counts::Counts;
@@ -34,6 +35,7 @@ pub struct SystemClock<'r> {
 
 impl<'r> SystemClock<'r> {
     /// Waits for the socket of the far end and for a descriptor. The error is the system's.
+    #[tactic(auto, unfolding(crate::specs::Opening::SystemRefusesTrunk))]
     pub fn open<S: Socket>(
         rt: &'r HostRuntime,
         descriptor: i32,
@@ -41,6 +43,7 @@ impl<'r> SystemClock<'r> {
     ) -> io::Result<SystemClock<'r>>
         ensures received { peer.new.received ≡ peer.old.received }
         ensures sent { peer.new.sent ≡ peer.old.sent }
+        ensures err { IfErr result SystemRefusesTrunk }
     {
         let poll = Poll::new(rt)?;
         let events = Events::with_capacity(rt.alloc(), 4)?;

@@ -11,7 +11,8 @@ matched N F None found none = none
 
 pub returns-clause-ok : goal.returns-clause-ok
 returns-clause-ok c =
-    rw (c.new-circuit.ensures.receiver, c.new-circuit.ensures.sender) (record {
+    rw (c.new-circuit.ensures.receiver, c.new-circuit.ensures.sender, c.new-circuit.ensures.pace, c.new-pace.ensures)
+    (record {
       size = rw c.in_ok-receiver.ensures.settings c.in_ok-settings.ensures.size;
       sizes = rw (c.new-sender.ensures.start, c.start_at_random.ensures.size, c.in_ok-receiver.ensures.settings) refl;
       rtp = rw (c.new-sender.ensures.start, c.start_at_random.ensures.rtp)
@@ -21,4 +22,9 @@ returns-clause-ok c =
           c.is_some.ensures;
       ones = rw c.in_ok-receiver.ensures.settings c.in_ok-settings.ensures.ones;
       again = rw c.in_ok-receiver.ensures.settings c.in_ok-settings.ensures.again;
+      jitter = rw c.new-timing.ensures.jitter c.in_ok-jitter.ensures.ok;
+      window = rw (c.in_ok-receiver.ensures.settings, c.new-timing.ensures.jitter) c.in_ok-settings.ensures.window;
+      packet = rw (c.in_ok-receiver.ensures.settings, c.new-timing.ensures.packet) refl;
+      own = rw c.new-timing.ensures.own_clock c.has_own_clock.ensures.own;
+      by_packets = rw c.new-timing.ensures.own_clock c.has_own_clock.ensures.by_packets;
     })

@@ -1,8 +1,11 @@
-use Rattle.std.proofs.Common.{length, take, ◌-◌, ◌≡◌, ◌++◌, ◌<◌, ◌≤◌}
+use Rattle.std.proofs.Common.{length, take, ◌-◌, ◌≡◌, ◌++◌, ◌<◌, ◌≤◌, ℕ, List}
+use Rattle.gw_satop.specs.declared.line.Receiver.{Receiver}
+use Rattle.gw_satop.specs.declared.pace.Pace.{Pace}
+use Rattle.gw_satop.specs.Session.{PlaysAll}
 use Rattle.gw_satop.specs.Sending.{packets_of}
 use Rattle.gw_satop.proofs.circuit.send_all.Given as goal
 
--- The octets before this place were taken, and the packets of all that came were sent.
+-- The octets before this place were taken, and the packets of all that came were sent, with bit R in silence.
 abbrev pub invariant-loop-at : goal.invariant-loop-at
 invariant-loop-at g l = record {
   rest : length l.sender.held.items < l.sender.start.size;
@@ -11,6 +14,9 @@ invariant-loop-at g l = record {
   within : l.at ≤ length l.octets;
   received : g.P.Peer.received l.peer ≡ g.P.Peer.received l.initial.peer;
   start : l.sender.start ≡ l.initial.sender.start;
+  plays : (receiver : Receiver) (pace : Pace) (received : List (List ℕ)) (went : List ℕ) → l.missing ≡ pace.silent
+      → PlaysAll receiver pace l.initial.counts l.initial.sender.log.flags received went
+      → PlaysAll receiver pace l.counts l.sender.log.flags received went;
 }
 
 abbrev pub decreases-loop-at : goal.decreases-loop-at

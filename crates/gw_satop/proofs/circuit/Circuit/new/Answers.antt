@@ -2,16 +2,31 @@ use Rattle.std.proofs.Common.{[], refl}
 use Rattle.satop_playout.specs.Plays.{given_octets, stream}
 use Rattle.g704_framing.specs.Replies.{replies_after}
 use Rattle.gw_satop.specs.Sending.{packets_from}
+use Rattle.gw_satop.specs.Turns.{AllDue, datagrams_in, standing_after}
 use Rattle.gw_satop.proofs.circuit.Circuit.new.Goals as goal
 
 pub invariant_of-result : goal.invariant_of-result
-unfolding given_octets stream replies_after packets_from
+unfolding given_octets stream replies_after packets_from standing_after AllDue datagrams_in
 invariant_of-result g c = record {
   plays = ∣ record {
-    calls = [];
+    past = record {
+      settings = c.args.receiver.settings;
+      rtp = c.args.receiver.rtp;
+      timing = c.args.pace.timing;
+      began = c.args.pace.counted;
+      events = [];
+    };
+    settings_are = refl;
+    rtp_is = refl;
+    timing_is = refl;
     stands = c.requires.receiver;
+    pace_is = c.requires.pace;
+    flags_are = c.requires.sender.1;
+    counts_are = c.new.ensures;
+    due = tt;
+    received_are = c.requires.received;
     arrivals_are = rw c.requires.received refl;
-    went_are = rw (c.requires.went, c.new.ensures) refl;
+    went_are = rw (c.requires.went, c.new-2.ensures) refl;
   } ∣₁;
   sends = record {
     came_are = rw (c.requires.came) c.requires.sender.0;
