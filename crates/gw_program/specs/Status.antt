@@ -45,6 +45,7 @@ trouble_status troubles.Nothing = 2
 trouble_status troubles.File = 2
 trouble_status troubles.Recording = 2
 trouble_status troubles.OldRecording = 2
+trouble_status troubles.Reports = 2
 trouble_status troubles.NoState = 2
 trouble_status (troubles.State fault) = load_status fault
 trouble_status troubles.NotSaved = 1

@@ -8,6 +8,7 @@ mod listing;
 mod performing;
 mod recording;
 mod report;
+mod reports;
 mod requests;
 mod satop;
 mod sealed;
@@ -22,7 +23,11 @@ pub use filters::{do_filter, perform_crc4_check};
 pub use jobs::do_job;
 pub use performing::{System, perform_job, perform_session};
 pub use recording::{Recording, Tape, begin, tell_end};
-pub use report::{Skipped, passed_over, print_discarded, print_tally, print_totals};
+pub use report::{
+    CheckTells, LiveCounts, Skipped, passed_over, print_discarded, print_tally, print_totals,
+    print_unreported,
+};
+pub use reports::open_reports;
 pub use requests::{Commands, perform};
 pub use satop::perform_satop;
 pub use sessions::{check, replay, replay_watched, serve_through};
