@@ -6,7 +6,7 @@ use Rattle.gw_records.specs.declared.outcome.Totals.{Totals}
 use Rattle.gw_records.specs.declared.outcome.RunFault.{RunFault}
 use Rattle.gw_records.specs.Streams.{SourceState, SinkState}
 use Rattle.gw_command.specs.declared.command.Filter.{Filter}
-use Rattle.gw_program.specs.declared.trouble.ProgramFault.{ProgramFault}
+use Rattle.gw_program.specs.declared.program_fault.ProgramFault.{ProgramFault}
 use Rattle.gw_program.specs.Filters.{DoesFilter, DoesFilterUntil, HasChecked, HasCheckedUntil}
 use Rattle.gw_program.specs.Performing.{Ended, told_as}
 use Rattle.gw_program.specs.Requests.{OnNewStreams, RunsFilter, ChecksCrc4}
@@ -46,8 +46,8 @@ is_named path e = none-some path (sym e)
 pub no_reports_to_run : (path : List ℕ) (filter : Filter) (fault : ProgramFault)
     → RunsFilter (Some path) filter (Err fault)
 no_reports_to_run path filter fault =
-    inl (record { trouble = fault; is_named = is_named path; told_is = refl })
+    inl (record { program_fault = fault; is_named = is_named path; told_is = refl })
 
 -- Nor is anything checked.
 pub no_reports_to_check : (path : List ℕ) (fault : ProgramFault) → ChecksCrc4 (Some path) (Err fault)
-no_reports_to_check path fault = inl (record { trouble = fault; is_named = is_named path; told_is = refl })
+no_reports_to_check path fault = inl (record { program_fault = fault; is_named = is_named path; told_is = refl })

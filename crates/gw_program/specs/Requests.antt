@@ -1,5 +1,6 @@
 -- What was done of what the command line asks for (module `requests`).
-use Rattle.std.specs.Prelude.{◌≡◌, ◌≢◌, ◌⊎◌, ⊤, ℕ, List, [], Option, Some, None, Bool, Result, Err, IfOk, IfErr}
+use Rattle.std.specs.Prelude.{◌≡◌, ◌≢◌, ◌⊎◌, ⊤, ℕ, List, [], Option, Some, None, Bool, Result, Err, IfOk}
+use Rattle.std.specs.Prelude.{IfErr}
 use Rattle.std.specs.Prelude.{MatchResult, MatchOption, codes}
 use Rattle.clap.specs.Words.{Row}
 use Rattle.gw_switch.specs.declared.gateway.Gateway.{Gateway}
@@ -12,8 +13,8 @@ use Rattle.gw_command.specs.declared.command.SpeechJob.{SpeechJob}
 use Rattle.gw_command.specs.declared.command.Request.{Request}
 use Rattle.gw_command.specs.declared.command.Request.TheVariants as requests
 use Rattle.gw_command.specs.declared.command.Session.{Session}
-use Rattle.gw_program.specs.declared.trouble.ProgramFault.{ProgramFault}
-use Rattle.gw_program.specs.declared.trouble.ProgramFault.TheVariants as troubles
+use Rattle.gw_program.specs.declared.program_fault.ProgramFault.{ProgramFault}
+use Rattle.gw_program.specs.declared.program_fault.ProgramFault.TheVariants as program_faults
 use Rattle.gw_program.specs.Filters.{DoesFilter, DoesFilterUntil, HasChecked, HasCheckedUntil}
 use Rattle.gw_program.specs.Jobs.{Does, DoesUntil}
 use Rattle.gw_program.specs.Performing.{Ended, EndedSaved, NotBegun, HasConfig, by_session}
@@ -55,7 +56,7 @@ pub record HasRequest (command : Command) (does : Command → Request → Type 0
 -- the command asks for nothing, and this is told
 pub record NoRequest (command : Command) (told : Result Totals ProgramFault) : Type 0 where
   pub nothing : (request : Request) → ¬ IsRequest command request
-  pub told_is : told ≡ Err troubles.Nothing
+  pub told_is : told ≡ Err program_faults.Nothing
 
 -- nothing has happened to the streams: no read, no octet and no failure
 pub record AreNew (a : Around) : Type 0 where
@@ -82,9 +83,9 @@ reports_in command = text_in (codes "reports") command
 
 -- a file of reports is named and can't be opened, and this is told
 pub record LacksReports (named : Option (List ℕ)) (told : Result Totals ProgramFault) : Type 0 where
-  pub trouble : ProgramFault
+  pub program_fault : ProgramFault
   pub is_named : named ≢ None
-  pub told_is : told ≡ Err trouble
+  pub told_is : told ≡ Err program_fault
 
 -- this was done with the reports that came from the file, and none came where no file is named
 pub record WithReports (named : Option (List ℕ)) (does : Option (List ℕ) → Type 0) : Type 0 where
@@ -105,7 +106,7 @@ ChecksCrc4 named told = LacksReports named told ⊎ OnNewStreams (λ a a'.
     IfOk told (HasChecked a.source a'.source a.sink a'.sink)
     × IfErr told (HasCheckedUntil a.source a'.source a.sink a'.sink))
 
--- a trouble is told, and nothing was read or written; or this was done with a gateway that was begun by a
+-- a fault is told, and nothing was read or written; or this was done with a gateway that was begun by a
 -- configuration, from a state if one is named, and with the wait that is asked for
 abbrev pub ByGateway : Around → Around → Result Totals ProgramFault → Option (List ℕ) → (Option ℕ → Type 0)
     → (Gateway → Gateway → Type 0) → Type 0

@@ -5,9 +5,9 @@ ghost use Rattle.gw_records.specs.Streams.{CanBegin};
 ghost use Rattle.gw_filter.specs.Crc4.{HasSent};
 ghost use Rattle.gw_program.specs.Filters.{DoesFilter, DoesFilterUntil, HasChecked, HasCheckedUntil};
 
+use crate::program_fault::ProgramFault;
 use crate::report::{CheckTells, LiveCounts, print_tally, print_unreported};
 use crate::sealed::{StandardInput, StandardOutput};
-use crate::trouble::ProgramFault;
 use gw_command::Filter;
 use gw_filter::{
     ReportSink, ReportingChecker, ReportingSender, align_stream, crc4_check_stream, crc4_stream,

@@ -6,6 +6,7 @@ mod filters;
 mod jobs;
 mod listing;
 mod performing;
+mod program_fault;
 mod recording;
 mod report;
 mod reports;
@@ -16,12 +17,12 @@ mod sessions;
 mod setup;
 mod standard;
 mod state;
-mod trouble;
 mod trunks;
 
 pub use filters::{do_filter, perform_crc4_check};
 pub use jobs::do_job;
 pub use performing::{System, perform_job, perform_session};
+pub use program_fault::{DONE, NO_MEMORY, ProgramFault, REFUSED};
 pub use recording::{Recording, Tape, begin, tell_end};
 pub use report::{
     CheckTells, LiveCounts, Skipped, passed_over, print_discarded, print_tally, print_totals,
@@ -34,5 +35,4 @@ pub use sessions::{check, replay, replay_watched, serve_through};
 pub use setup::read_config;
 pub use standard::{ReservedDescriptors, reserve_descriptors};
 pub use state::{begin_gateway, keep_gateway, load_from, save_to};
-pub use trouble::{DONE, NO_MEMORY, ProgramFault, REFUSED};
 pub use trunks::perform_trunk;

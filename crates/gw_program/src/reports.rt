@@ -1,7 +1,7 @@
 //! The file through which `crc4 --check` tells `crc4` of errored submultiframes.
 
+use crate::program_fault::ProgramFault;
 use crate::recording::never_wait;
-use crate::trouble::ProgramFault;
 use std::fs::{self, File, OpenOptions};
 use std::io;
 

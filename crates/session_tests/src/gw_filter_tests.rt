@@ -175,7 +175,8 @@ fn multiframes_are_sent(rt: HostRuntime) {
     }
 }
 
-// Five errored submultiframes are reported before the first octet, in two reports: the two E bits of the first
+// Five errored submultiframes are reported before the first octet, in two reports: the two E bits of the
+// first
 // 600 octets are 0, frames 13 and 15 (ITU-T G.704, 2.3.3.4).
 #[test]
 fn reports_become_e_bits(rt: HostRuntime) {
@@ -221,7 +222,8 @@ fn a_checked_trunk_passes(rt: HostRuntime) {
     }
 }
 
-// Gives twelve multiframes as they are sent, 512 octets in a read, one bit of each of two submultiframes wrong.
+// Gives twelve multiframes as they are sent, 512 octets in a read, one bit of each of two submultiframes
+// wrong.
 #[derive(Drop)]
 struct Damaged {
     multiframer: Crc4Inserter,
