@@ -16,7 +16,7 @@ _e1gw_values() {
 _e1gw_options() {
   case $1 in
     align) echo '--totals --help' ;;
-    crc4) echo '--check --totals --help' ;;
+    crc4) echo '--check --live --reports --totals --help' ;;
     encode | decode) echo '--law --codec --payload --ptime --ssrc --sequence --timestamp --totals --help' ;;
     replay) echo '--config --load --save --seizure-wait --tell --totals --help' ;;
     check) echo '--config --load --seizure-wait --totals --help' ;;
@@ -47,7 +47,7 @@ _e1gw() {
       return ;;
     --payload | --ssrc | --sequence | --timestamp | --repeat | --seizure-wait | --size | --jitter | --rtp)
       return ;;
-    --config | --load | --save | --control | --record | --tell)
+    --config | --load | --save | --control | --record | --reports | --tell)
       compopt -o filenames 2> /dev/null
       mapfile -t COMPREPLY < <(compgen -f -- "$cur")
       return ;;

@@ -1,14 +1,11 @@
 """CRC-4 of a trunk (ITU-T G.704, 2.3.3) by filters of the program: what is received goes through `e1gw crc4 --check`,
-what is sent through `e1gw crc4`.
-
-A check tells its counts at its end. So it ends after a second of the trunk while there is no CRC multiframe alignment,
-and after ten seconds while there is, and another one goes on at the next octet. That one finds alignment in 8 ms and
-two multiframes, and does not check the submultiframes of that time.
+what is sent through `e1gw crc4`. A pipe joins the two: what is received errored is reported to the far end by E bits.
+A check tells its counts after each second of the trunk, and at its end.
 """
 from __future__ import annotations
 
+import os
 import time
-from collections import deque
 from typing import Any, Callable
 
 from .filtered import Received, Sent
@@ -19,35 +16,45 @@ from .trunks import Trunk
 
 # What `e1gw crc4 --check` counts, by the names that it prints.
 COUNTS = ('submultiframes', 'errored', 'far_end_errored', 'multiframes_found', 'multiframes_lost', 'given_up')
-SEARCHED, CHECKED = OCTETS_A_SECOND, 10 * OCTETS_A_SECOND   # octets that one check reads, without and with alignment
-SHORT = 16 * MULTIFRAME         # one that has read fewer may not have found alignment yet
+LOOK = OCTETS_A_SECOND // 20    # octets after which the words of a check are read
+QUIET = 10                      # counts without an error after which errors are over
 
 
-def counts_of(text: str) -> dict[str, int] | None:
-    """The counts that a check prints, or None if they are none."""
-    found = {}
-    for line in text.splitlines():
-        name, _, digits = line.partition(' ')
-        if name in COUNTS and digits.isascii() and digits.isdecimal():
-            found[name] = int(digits)
+def _counts_in(words: list[str]) -> dict[str, int] | None:
+    """The counts among these names and numbers, or None if one is missing."""
+    found = {name: int(digits) for name, digits in zip(words[::2], words[1::2])
+             if name in COUNTS and digits.isascii() and digits.isdecimal()}
     return found if len(found) == len(COUNTS) else None
 
 
+def live_counts(line: str) -> dict[str, int] | None:
+    """The counts in a line that a check prints after a second, or None if it is another line."""
+    first, *words = line.split() or ['']
+    return _counts_in(words) if first == 'live' else None
+
+
+def counts_of(lines: list[str]) -> dict[str, int] | None:
+    """The counts that a check prints at its end, a line each, or None if they are none."""
+    pairs = [words for line in lines if len(words := line.split()) == 2]
+    return _counts_in([word for pair in pairs for word in pair])
+
+
 class Errors:
-    """Errored submultiframes of one end: told when they begin, and with their number once a check counts none."""
+    """Errored submultiframes of one end: told when they begin, and with their number once QUIET counts have none."""
 
     def __init__(self) -> None:
         self.on = False
-        self._errored = self._checked = 0
+        self._errored = self._checked = self._quiet = 0
 
     def add(self, errored: int, checked: int) -> dict[str, Any] | None:
-        """What is told with the counts of a check."""
+        """What is told with further counts."""
         began = not self.on and errored > 0
         if began:
             self.on, self._errored, self._checked = True, 0, 0
         self._errored += errored
         self._checked += checked
-        if began or self.on and not errored:
+        self._quiet = 0 if errored else self._quiet + 1
+        if began or self.on and self._quiet >= QUIET:
             self.on = began
             return {'on': began, 'count': self._errored, 'of': self._checked}
         return None
@@ -62,84 +69,69 @@ class Crc4:
         self.counts = dict.fromkeys(COUNTS, 0)
         self.aligned: bool | None = None        # whether alignment stood at the last count of this device
         self._errors = {'errored': Errors(), 'far_end_errored': Errors()}
+        self._last, self._last_octets = dict.fromkeys(COUNTS, 0), 0     # of this device, at the last count
 
-    def period(self) -> int:
-        """Octets that a check reads before it tells its counts."""
-        return CHECKED if self.aligned else SEARCHED
-
-    def add(self, counts: dict[str, int], octets: int) -> list[Event]:
-        """The counts of a check that has read so many octets; returns what is to be told."""
-        stood, found, lost = self.aligned, counts['multiframes_found'], counts['multiframes_lost']
-        stands = found > lost or bool(stood) and octets < SHORT
-        if stood and found:
-            found -= 1          # the alignment that stood is found by each check
-        elif stood and not stands:
-            lost += 1           # it ended with the check before
-        self.aligned = stands
-        self.checked += octets
-        for name, count in {**counts, 'multiframes_found': found, 'multiframes_lost': lost}.items():
+    def take(self, counts: dict[str, int], octets: int) -> list[Event]:
+        """The counts of a check that has read so many octets up to now; returns what is to be told."""
+        more = {name: counts[name] - self._last[name] for name in COUNTS}
+        self.checked += octets - self._last_octets
+        self._last, self._last_octets = counts, octets
+        for name, count in more.items():
             self.counts[name] += count
+        stood, self.aligned = self.aligned, counts['multiframes_found'] > counts['multiframes_lost']
+        return [{'event': 'crc4', **each} for each in (*self._alignment(stood, more), *self._errored(more))]
+
+    def _alignment(self, stood: bool | None, more: dict[str, int]) -> list[Event]:
         told: list[Event] = []
-        if counts['given_up']:
-            told.append({'what': 'given up', 'on': True, 'count': counts['given_up']})
-        if stands != stood:
-            told.append({'what': 'found' if stands else 'lost' if stood else 'none', 'on': not stands})
-        if lost and stands:
-            told.append({'what': 'lost and found', 'on': True, 'count': lost})
-        for name, errors in self._errors.items():
-            if (change := errors.add(counts[name], counts['submultiframes'])):
-                told.append({'what': name.replace('_', ' '), **change})
-        return [{'event': 'crc4', **each} for each in told]
+        if more['given_up']:
+            told.append({'what': 'given up', 'on': True, 'count': more['given_up']})
+        if self.aligned != stood:
+            told.append({'what': 'found' if self.aligned else 'lost' if stood else 'none', 'on': not self.aligned})
+        if more['multiframes_lost'] and self.aligned:
+            told.append({'what': 'lost and found', 'on': True, 'count': more['multiframes_lost']})
+        return told
+
+    def _errored(self, more: dict[str, int]) -> list[Event]:
+        return [{'what': name.replace('_', ' '), **change} for name, errors in self._errors.items()
+                if (change := errors.add(more[name], more['submultiframes']))]
 
     def ended(self) -> None:
         """A device has ended: another one may have no CRC-4."""
         self.aligned = None
+        self._last, self._last_octets = dict.fromkeys(COUNTS, 0), 0
 
     def status(self) -> dict[str, Any]:
         """As plain values."""
         return {**self.counts, 'aligned': self.aligned, 'checked': self.checked}
 
 
-def _check_of(program: str) -> Filter:
-    return Filter(program, 'crc4', '--check', tells=True)
-
-
 class Checked(Received):
     """A trunk what is received of which is checked."""
 
-    def __init__(self, device: Trunk, program: str, crc4: Crc4) -> None:
-        super().__init__(device, _check_of(program), 'crc4_checking')
-        self._program, self._crc4 = program, crc4
-        self._leaving: deque[tuple[Filter, float]] = deque()    # checks whose input has ended, and when
-        self._not_before = 0        # octets of this check before which no other one is tried
+    def __init__(self, device: Trunk, program: str, crc4: Crc4, reports: int) -> None:
+        super().__init__(device, Filter(program, 'crc4', '--check', tells=True, reports=reports), 'crc4_checking')
+        self._crc4 = crc4
+        self._seconds = 0           # of the trunk, whose counts were told
+        self._look_at = LOOK        # octets after which the check's words are read
 
     def read(self, most: int) -> bytes:
-        check = self._filter
-        if check.open and not (check.inside or self._end):
-            if check.given >= max(self._crc4.period(), self._not_before):
-                self._go_on()
-        while self._leaving and (self._leaving[0][0].has_ended() or time.monotonic() - self._leaving[0][1] > GRACE):
-            self._count(self._leaving.popleft()[0], 0.0)
-        return super().read(most)
+        octets = super().read(most)
+        if self._filter.given >= self._look_at:
+            self._look_at = self._filter.given + LOOK
+            self._hear()
+        return octets
 
-    def _go_on(self) -> None:
-        """Another check goes on; this one, which has given all, tells its counts. If none can be started this one goes
-        on, and another is tried a second of the trunk later."""
-        old = self._filter
-        try:
-            self._filter, self._not_before = _check_of(self._program), 0
-        except OSError:
-            self._not_before = old.given + SEARCHED
-            return
-        self._ready.watch({})
-        old.end_input()
-        self._leaving.append((old, time.monotonic()))
+    def _hear(self) -> list[str]:
+        """Takes the counts of each second that were told; returns the lines."""
+        lines = self._filter.said()
+        for line in lines:
+            if (counts := live_counts(line)):
+                self._seconds += 1
+                self._take(counts, self._seconds * OCTETS_A_SECOND)
+        return lines
 
-    def _count(self, check: Filter, grace: float) -> None:
-        """Adds the counts of a check that has ended well."""
-        counts = counts_of(check.last_words()) if check.ended(grace) == 0 else None
-        check.close(grace)
-        for event in self._crc4.add(counts, check.given) if counts else []:
+    def _take(self, counts: dict[str, int], octets: int) -> None:
+        for event in self._crc4.take(counts, octets):
             if self.tell:
                 self.tell(event)
 
@@ -148,8 +140,10 @@ class Checked(Received):
         self._ready.watch({})
         until = time.monotonic() + GRACE
         self._filter.take_rest(until)
-        for check, _ in [*self._leaving, (self._filter, until)]:
-            self._count(check, max(0.0, until - time.monotonic()))
+        ended = self._filter.ended(max(0.0, until - time.monotonic()))
+        counts = counts_of(self._hear())
+        if counts and ended == 0:
+            self._take(counts, self._filter.given)
         self._crc4.ended()
         super().close()
 
@@ -158,8 +152,8 @@ class Multiframes(Sent):
     """A trunk what is sent on which has CRC-4 multiframes. A gateway's frames begin at its first octet and go on over
     its trunks; so the filter of a later trunk is first given the octets that its multiframe lacks."""
 
-    def __init__(self, device: Trunk, program: str, crc4: Crc4) -> None:
-        super().__init__(device, Filter(program, 'crc4'), 'crc4_sending')
+    def __init__(self, device: Trunk, program: str, crc4: Crc4, reports: int) -> None:
+        super().__init__(device, Filter(program, 'crc4', reports=reports), 'crc4_sending')
         self._crc4 = crc4
 
     def write(self, octets: bytes) -> None:
@@ -171,11 +165,15 @@ class Multiframes(Sent):
 
 def with_crc4(opens: Callable[[], Trunk], program: str, crc4: Crc4) -> Trunk:
     """The trunk that `opens` opens, with CRC-4 both ways. OSError if it can't be opened, or the program not be
-    started."""
-    trunk = opens()
+    started. The pipe of reports stays open in the two processes alone."""
+    trunk, reports = opens(), list[int]()
     try:
-        trunk = Checked(trunk, program, crc4)
-        return Multiframes(trunk, program, crc4)
+        reports += os.pipe()
+        trunk = Checked(trunk, program, crc4, reports[0])
+        return Multiframes(trunk, program, crc4, reports[0])
     except OSError:
         trunk.close()
         raise
+    finally:
+        for end in reports:
+            os.close(end)

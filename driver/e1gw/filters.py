@@ -17,18 +17,24 @@ GRACE = 1.0                 # seconds between the end of the output and that of 
 
 class Filter:
     """A filter of these words of the command line. OSError if it can't be started. `tells` keeps what it prints on
-    standard error, for `last_words`."""
+    standard error, for `said` and `last_words`; `reports` is the pipe of --reports."""
 
-    def __init__(self, program: str, *words: str, tells: bool = False) -> None:
+    def __init__(self, program: str, *words: str, tells: bool = False, reports: int | None = None) -> None:
         self.name = ' '.join(('e1gw', *words))
-        self._process = subprocess.Popen([program, *words], stdin=subprocess.PIPE, stdout=subprocess.PIPE,
+        more = [] if reports is None else ['--reports', f'/dev/fd/{reports}']
+        more += ['--live'] if tells else []
+        self._process = subprocess.Popen([program, *words, *more], stdin=subprocess.PIPE, stdout=subprocess.PIPE,
                                          stderr=subprocess.PIPE if tells else subprocess.DEVNULL,
+                                         pass_fds=() if reports is None else (reports,),
                                          start_new_session=True, bufsize=0)
         assert self._process.stdin and self._process.stdout
         self._to, self._of = self._process.stdin, self._process.stdout
         self.to, self.of = self._to.fileno(), self._of.fileno()
-        for pipe in (self.to, self.of):
-            os.set_blocking(pipe, False)
+        self._says = self._process.stderr.fileno() if self._process.stderr else None
+        for pipe in (self.to, self.of, self._says):
+            if pipe is not None:
+                os.set_blocking(pipe, False)
+        self._unsaid = b''              # printed, and no whole line yet
         self._poll = select.poll()
         self._poll.register(self.of, select.POLLIN)
         self._until = 0.0               # up to then what it owes is waited for
@@ -117,9 +123,18 @@ class Filter:
         status = self.ended(grace)
         return f'{self.name} ended {f"with status {status}" if status >= 0 else f"by signal {-status}"}'
 
-    def last_words(self) -> str:
-        """What it printed on standard error, once it has ended."""
-        return self._process.stderr.read().decode(errors='replace') if self._process.stderr else ''
+    def said(self) -> list[str]:
+        """The lines that it has printed on standard error since the last call. Nothing waits for them."""
+        while self._says is not None:
+            try:
+                piece = os.read(self._says, MOST_INSIDE)
+            except BlockingIOError:
+                break
+            if not piece:
+                break
+            self._unsaid += piece
+        *lines, self._unsaid = self._unsaid.split(b'\n')
+        return [line.decode(errors='replace') for line in lines]
 
     def close(self, grace: float = GRACE) -> None:
         self._process.kill()

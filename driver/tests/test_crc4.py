@@ -21,7 +21,7 @@ from . import support
 from .test_trunk import FOUR, aligned, call
 from .world import LAUNCHER, SECONDS, World, config_of, descendant
 from e1gw import crc4, filtered, metrics
-from e1gw.crc4 import Crc4, counts_of, with_crc4
+from e1gw.crc4 import Crc4, counts_of, live_counts, with_crc4
 from e1gw.events import words_of
 from e1gw.options import Usage
 from e1gw.trunk import options_of
@@ -93,7 +93,7 @@ def multiframe_in(octets: bytes, at: int) -> int | None:
     return None
 
 
-def checked(octets: bytes, at: int) -> list[bool]:
+def checked(octets: bytes | bytearray, at: int) -> list[bool]:
     """Of each whole submultiframe from here on whose check bits have come: whether they are its remainder."""
     found = []
     for start in range(at, len(octets) - 2 * HALF + 1, HALF):
@@ -105,6 +105,12 @@ def checked(octets: bytes, at: int) -> list[bool]:
     return found
 
 
+def e_bits(octets: bytes | bytearray, at: int) -> int:
+    """The E bits that are 0 in the multiframes from here on: those of frames 13 and 15 (G.704, 2.3.3.4)."""
+    return sum(octets[start + frame * FRAME] < 128 for start in range(at, len(octets) - MULTIFRAME + 1, MULTIFRAME)
+               for frame in (13, 15))
+
+
 def of_children(parent: int, *words: str) -> list[int]:
     """The processes that a process has started with these words behind the program's name."""
     found = []
@@ -112,7 +118,8 @@ def of_children(parent: int, *words: str) -> list[int]:
         try:
             with open(f'/proc/{name}/stat', encoding='ascii') as stat, open(f'/proc/{name}/cmdline', 'rb') as line:
                 is_child = int(stat.read().rpartition(')')[2].split()[1]) == parent
-                if is_child and line.read().split(b'\0')[1:-1] == [word.encode() for word in words]:
+                begins = b'\0'.join([b'', *(word.encode() for word in words), b'--reports', b''])
+                if is_child and begins in line.read():
                     found.append(int(name))
         except (OSError, ValueError):
             pass
@@ -191,18 +198,24 @@ class Service(unittest.TestCase):
         self.assertEqual(checked(bytes(world.heard), world.alignment_of(bytes(world.heard))).count(False), 0)
 
     def test_one_in_a_thousand(self) -> None:
-        """Errored submultiframes, and E bits of 0, are counted one by one; alignment is found once over all checks."""
+        """One submultiframe in a thousand is damaged in each direction. Each end counts those that it received, and by
+        the E bits of the other end those that it sent."""
         world = self.world('--reopen')
         first = len(world.sent) // HALF
         world.sender.errored_at = {first + n for n in range(500, 12_000, 1000)}
-        world.sender.far_at = {first + n for n in range(301, 12_000, 2000)}
+        world.sender.far_at = {first + n for n in range(301, 12_000, 1000)}
         world.step(6_000)
-        submultiframes = len(world.sent) // HALF
+        heard, submultiframes = bytearray(world.heard), len(world.sent) // HALF
+        at = world.alignment_of(bytes(heard))
+        self.assertEqual(e_bits(heard, at), 12)
+        for n in range(301, 11_500, 1000):
+            heard[at + n * HALF + 77] ^= 4
+        self.assertEqual(checked(bytes(heard), at).count(False), 12)
         counts = self.ended(world)
-        self.assertEqual((counts['errored'], counts['far_end_errored']), (12, 6))
+        self.assertEqual((counts['errored'], counts['far_end_errored']), (12, 12))
         self.assertEqual((counts['multiframes_found'], counts['multiframes_lost'], counts['given_up']), (1, 0, 0))
-        # Each of three checks passes by 8 ms and what is missing of two multiframes.
-        self.assertTrue(12_000 - 3 * 16 < counts['submultiframes'] < submultiframes, counts)
+        # All but 8 ms and what is missing of two multiframes.
+        self.assertTrue(12_000 - 16 < counts['submultiframes'] < submultiframes, counts)
         self.assertEqual(counts['checked'], submultiframes * HALF)
         status, said = world.quit()
         self.assertEqual(status, 0)
@@ -325,14 +338,10 @@ class LateDemanding(Demanding):
 
 
 class Checks(unittest.TestCase):
-    """One check after another, each over some thousand octets."""
+    """What a check tells while it runs, and at its end."""
 
     def setUp(self) -> None:
         support.program()
-        for name, octets in (('SEARCHED', 6_000), ('CHECKED', 20_000), ('SHORT', 5_000)):
-            patch = mock.patch.object(crc4, name, octets)
-            patch.start()
-            self.addCleanup(patch.stop)
         ours, self.theirs = socket.socketpair()
         self.addCleanup(self.theirs.close)
         self.theirs.settimeout(SECONDS)
@@ -361,31 +370,22 @@ class Checks(unittest.TestCase):
         self.assertEqual((self.crc4.checked, self.crc4.counts), (len(given), dict.fromkeys(crc4.COUNTS, 0)))
         self.assertEqual(self.told, ['no CRC multiframe alignment'])
 
-    def test_none_can_be_started(self) -> None:
-        given = random.Random(6).randbytes(50_000)
-        with mock.patch.object(crc4, '_check_of', side_effect=OSError('no process')) as tried:
-            self.assertEqual(self.through(given), given)
-        self.assertIn(tried.call_count, range(2, 9))
-        self.assertEqual(self.crc4.checked, 0)
-        self.assertEqual(self.through(given), given)
-        self.trunk.close()
-        self.assertEqual(self.crc4.checked, 2 * len(given))
-
-    def test_errors_begin_and_end(self) -> None:
+    def test_errors_are_told_after_a_second(self) -> None:
         sender, exchange = Sender(), support.Exchange()
-        sender.errored_at = {60, 70, 200}
-        given = b''.join(sender.multiframe(exchange.multiframe()) for _ in range(250))
+        sender.errored_at = {60, 70, 1200}
+        given = b''.join(sender.multiframe(exchange.multiframe()) for _ in range(550))
         self.assertEqual(self.through(given), given)
+        self.assertEqual([line.partition(' of ')[0] for line in self.told],
+                         ['CRC multiframe alignment found', 'CRC-4 errors: 2'])
+        self.assertEqual(self.crc4.checked, 256_000)
         self.trunk.close()
         counts = self.crc4.counts
-        self.assertEqual((counts['errored'], counts['multiframes_found'], counts['multiframes_lost']), (3, 1, 0))
-        self.assertEqual([line.partition(' of ')[0] for line in self.told],
-                         ['CRC multiframe alignment found', 'CRC-4 errors: 2', 'CRC-4 errors over: 2',
-                          'CRC-4 errors: 1', 'CRC-4 errors over: 1'])
+        self.assertEqual((counts['errored'], counts['multiframes_found'], counts['multiframes_lost']), (2, 1, 0))
+        self.assertEqual(self.crc4.checked, len(given))
 
     def test_lost_for_good(self) -> None:
         sender, exchange = Sender(), support.Exchange()
-        self.through(b''.join(sender.multiframe(exchange.multiframe()) for _ in range(60)))
+        self.through(b''.join(sender.multiframe(exchange.multiframe()) for _ in range(530)))
         self.through(b'\xD5' * 60_000)
         self.trunk.close()
         self.assertEqual(self.told, ['CRC multiframe alignment found', 'CRC multiframe alignment lost'])
@@ -415,36 +415,42 @@ class Counts(unittest.TestCase):
 
     def test_what_a_check_prints(self) -> None:
         text = 'submultiframes 19\nerrored 1\nfar_end_errored 2\nmultiframes_found 3\nmultiframes_lost 4\ngiven_up 5\n'
-        self.assertEqual(counts_of(text), self.counts(19, 1, 2, 3, 4, 5))
-        self.assertEqual(counts_of('fault 5 Read\n' + text), self.counts(19, 1, 2, 3, 4, 5))
+        self.assertEqual(counts_of(text.splitlines()), self.counts(19, 1, 2, 3, 4, 5))
+        self.assertEqual(counts_of(['fault 5 Read', *text.splitlines(), 'unreported 0']),
+                         self.counts(19, 1, 2, 3, 4, 5))
         for other in ('', text[20:], text.replace('19', 'x'), 'fault 5 Read\n'):
-            self.assertIsNone(counts_of(other))
+            self.assertIsNone(counts_of(other.splitlines()))
+        live = 'live ' + text.replace('\n', ' ')
+        self.assertEqual(live_counts(live), self.counts(19, 1, 2, 3, 4, 5))
+        for other in ('', 'live', live[5:], live.replace('19', 'x')):
+            self.assertIsNone(live_counts(other))
 
     def test_what_is_told(self) -> None:
-        """Each state once, over checks one after another."""
-        rows: tuple[tuple[tuple[int, ...], int, list[str], tuple[int, int]], ...] = (
-            ((0, 0, 0, 0, 0, 0), 256_000, ['no CRC multiframe alignment'], (0, 0)),
-            ((0, 0, 0, 0, 0, 0), 256_000, [], (0, 0)),
-            ((988, 0, 0, 1, 0, 0), 256_000, ['CRC multiframe alignment found'], (1, 0)),
-            ((9988, 3, 0, 1, 0, 0), 2_560_000, ['CRC-4 errors: 3 of 9988 submultiframes'], (1, 0)),
-            ((9988, 4, 2, 1, 0, 0), 2_560_000,
-             ['CRC-4 errors reported by the other end (E bits): 2 of 9988 submultiframes'], (1, 0)),
-            ((9988, 0, 0, 1, 0, 0), 2_560_000, ['CRC-4 errors over: 7 of 29964 submultiframes',
-             'CRC-4 errors reported by the other end (E bits) over: 2 of 19976 submultiframes'], (1, 0)),
-            ((9000, 0, 0, 3, 2, 0), 2_560_000, ['CRC multiframe alignment lost and found again, 2 times'], (3, 2)),
-            ((0, 0, 0, 0, 0, 0), 1_000, [], (3, 2)),
-            ((0, 0, 0, 0, 0, 0), 2_560_000, ['CRC multiframe alignment lost'], (3, 3)),
-            ((900, 0, 0, 2, 1, 0), 256_000,
-             ['CRC multiframe alignment found', 'CRC multiframe alignment lost and found again'], (5, 4)),
-            ((0, 0, 0, 0, 0, 0), 256_000, ['CRC multiframe alignment lost'], (5, 5)),
-            ((915, 915, 0, 1, 1, 1), 256_000, ['false frame alignment: 915 of 1000 submultiframes errored',
-             'CRC-4 errors: 915 of 915 submultiframes'], (6, 6)))
+        """Each state once, by the counts of one check; errors are over after ten counts without one."""
+        rows: tuple[tuple[tuple[int, ...], int, list[str]], ...] = (
+            ((0, 0, 0, 0, 0, 0), 2, ['no CRC multiframe alignment']),
+            ((988, 0, 0, 1, 0, 0), 1, ['CRC multiframe alignment found']),
+            ((1988, 3, 0, 1, 0, 0), 1, ['CRC-4 errors: 3 of 1000 submultiframes']),
+            ((2988, 4, 2, 1, 0, 0), 1, ['CRC-4 errors reported by the other end (E bits): 2 of 1000 submultiframes']),
+            ((2988, 4, 2, 1, 0, 0), 9, []),
+            ((2988, 4, 2, 1, 0, 0), 1, ['CRC-4 errors over: 4 of 2000 submultiframes',
+             'CRC-4 errors reported by the other end (E bits) over: 2 of 1000 submultiframes']),
+            ((3988, 4, 2, 3, 2, 0), 1, ['CRC multiframe alignment lost and found again, 2 times']),
+            ((3988, 4, 2, 3, 3, 0), 1, ['CRC multiframe alignment lost']),
+            ((4988, 4, 2, 5, 4, 0), 1,
+             ['CRC multiframe alignment found', 'CRC multiframe alignment lost and found again']),
+            ((5903, 919, 2, 5, 5, 1), 1, ['false frame alignment: 915 of 1000 submultiframes errored',
+             'CRC multiframe alignment lost', 'CRC-4 errors: 915 of 915 submultiframes']))
         known, octets = Crc4(), 0
-        for numbers, count, told, alignments in rows:
-            octets += count
-            self.assertEqual([words_of(event) for event in known.add(self.counts(*numbers), count)], told, numbers)
-            self.assertEqual((known.counts['multiframes_found'], known.counts['multiframes_lost']), alignments)
-        self.assertEqual(known.checked, octets)
+        for numbers, times, told in rows:
+            for number in range(times):
+                octets += 256_000
+                events = [words_of(event) for event in known.take(self.counts(*numbers), octets)]
+                self.assertEqual(events, [] if number and told else told, numbers)
+        self.assertEqual((known.checked, known.counts), (octets, self.counts(5903, 919, 2, 5, 5, 1)))
+        known.ended()
+        known.take(self.counts(100, 0, 0, 1, 0, 0), 256_000)
+        self.assertEqual(known.counts, self.counts(6003, 919, 2, 6, 5, 1))
 
     def test_metrics(self) -> None:
         known, status = Crc4(), dict[str, Any](crc4=None)
@@ -452,7 +458,7 @@ class Counts(unittest.TestCase):
         status['crc4'] = known.status()
         text = ''.join(metrics.family(*each) for each in metrics.crc4_families(status))
         self.assertNotRegex(text, r'(?m)^e1gw_crc4_aligned')        # nothing is known yet
-        known.add(self.counts(9988, 3, 2, 1, 0, 0), 2_560_000)
+        known.take(self.counts(9988, 3, 2, 1, 0, 0), 2_560_000)
         status['crc4'] = known.status()
         text = ''.join(metrics.family(*each) for each in metrics.crc4_families(status))
         self.assertEqual([line for line in text.splitlines() if not line.startswith('#')], [

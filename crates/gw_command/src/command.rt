@@ -355,6 +355,17 @@ pub fn save_of<'m>(matches: &'m ArgMatches<'_>) -> Option<&'m str>
     text_of(matches, "save")
 }
 
+// Whether the flag is there.
+fn asks(matches: &ArgMatches<'_>, flag: &str) -> bool
+    ensures yes { text_in flag.now (subcommand_rows_of matches.now) ≡ Some (codes "true") → result ≡ true }
+    ensures no { result ≡ true → text_in flag.now (subcommand_rows_of matches.now) ≡ Some (codes "true") }
+{
+    match text_of(matches, flag) {
+        Some("true") => true,
+        _ => false,
+    }
+}
+
 /// Whether CRC-4 multiframes are to be checked in place of sent.
 pub fn asks_check(matches: &ArgMatches<'_>) -> bool
     ensures yes { text_in (codes "check") (subcommand_rows_of matches.now) ≡ Some (codes "true")
@@ -362,10 +373,25 @@ pub fn asks_check(matches: &ArgMatches<'_>) -> bool
     ensures no { result ≡ true
         → text_in (codes "check") (subcommand_rows_of matches.now) ≡ Some (codes "true") }
 {
-    match text_of(matches, "check") {
-        Some("true") => true,
-        _ => false,
-    }
+    asks(matches, "check")
+}
+
+/// Whether the counts of CRC-4 multiframes are to be told after each second of the trunk.
+pub fn asks_live(matches: &ArgMatches<'_>) -> bool
+    ensures yes { text_in (codes "live") (subcommand_rows_of matches.now) ≡ Some (codes "true")
+        → result ≡ true }
+    ensures no { result ≡ true
+        → text_in (codes "live") (subcommand_rows_of matches.now) ≡ Some (codes "true") }
+{
+    asks(matches, "live")
+}
+
+/// The path of the file of reports that the matches name, the first one, if they name one.
+pub fn reports_of<'m>(matches: &'m ArgMatches<'_>) -> Option<&'m str>
+    ensures { option_map (λ path. path.now) result
+        ≡ text_in (codes "reports") (subcommand_rows_of matches.now) }
+{
+    text_of(matches, "reports")
 }
 
 /// Whether a recording may be written over an old file.

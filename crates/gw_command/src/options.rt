@@ -73,6 +73,10 @@ With --check the octets are those of any trunk, from any octet on. They go out
 as they came. At the end standard error tells how many submultiframes came and
 were errored, and how often CRC multiframe alignment was found and lost.
 
+Two processes of a trunk have the same FIFO by --reports: the one with --check
+writes to it how many submultiframes were errored, an octet for at most 255 of
+them; the other one sends an E bit of 0 for each (G.704, 2.3.3.4).
+
 Example: e1gw crc4 < trunk.raw > crc4.raw";
 
 const SATOP_HELP: &str = "\
@@ -85,6 +89,11 @@ at most once a second.
 Example: e1gw satop 0.0.0.0:5000 192.0.2.2:5000 < trunk.in > trunk.out";
 
 const CRC4_CHECK_TEXT: &str = "Pass octets as they come, and count errored submultiframes";
+
+const REPORTS_TEXT: &str =
+    "FIFO through which errored submultiframes are reported to the\nfar end, by E bits";
+
+const LIVE_TEXT: &str = "With --check: tell the counts after each second of the trunk";
 
 const CODEC_TEXT: &str =
     "Coding of the datagrams [possible values: g711, g726-16,\ng726-24, g726-32, g726-40]";
@@ -148,6 +157,8 @@ enum OptionName {
     Control,
     Tell,
     Crc4Check,
+    Live,
+    Reports,
     Local,
     Peer,
     Size,
@@ -280,7 +291,12 @@ const SUBCOMMANDS: [Subcommand; 9] = [
         name: "crc4",
         about: "A trunk as it is sent to the same with CRC-4 multiframes",
         after_help: CRC4_HELP,
-        options: &[OptionName::Crc4Check, OptionName::Totals],
+        options: &[
+            OptionName::Crc4Check,
+            OptionName::Live,
+            OptionName::Reports,
+            OptionName::Totals,
+        ],
     },
     Subcommand {
         name: "satop",
@@ -439,6 +455,11 @@ fn place<'a>(alloc: Global, name: &'a str, value: &'a str, help: &'a str) -> Arg
         .required(true)
 }
 
+// The FIFO of reports.
+fn reports_option<'a>(alloc: Global) -> Arg<'a> {
+    option(alloc, "reports", REPORTS_TEXT).value_name("FIFO")
+}
+
 // The octets of a packet.
 fn size_option<'a>(alloc: Global) -> Arg<'a> {
     option(alloc, "size", SIZE_TEXT)
@@ -500,6 +521,8 @@ fn declared<'a>(alloc: Global, option: OptionName) -> Arg<'a> {
         OptionName::Control => control_option(alloc),
         OptionName::Tell => tell_option(alloc),
         OptionName::Crc4Check => flag(alloc, "check", CRC4_CHECK_TEXT),
+        OptionName::Live => flag(alloc, "live", LIVE_TEXT),
+        OptionName::Reports => reports_option(alloc),
         OptionName::Local => place(
             alloc,
             "local",

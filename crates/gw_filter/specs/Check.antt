@@ -1,29 +1,53 @@
--- The octets of a trunk, unchanged from a source to a sink, and the counts of its CRC-4 multiframes.
-use Rattle.std.specs.Prelude.{◌≡◌, ℕ, List, length}
+-- The octets of a trunk, unchanged from a source to a sink, the counts of its CRC-4 multiframes, and the
+-- reports of its errored submultiframes.
+use Rattle.std.specs.Prelude.{◌≡◌, ◌+◌, ℕ, List, [], length, sum}
 use Rattle.std.specs.Io.KnownBytes.{Appends, IsAtEnd}
 use Rattle.g704_crc4.specs.ReceiverCounts.{tally_of}
+use Rattle.g704_crc4.specs.Receivers.{ChecksTrunk}
+use Rattle.g704_crc4.specs.declared.tallying.TrunkChecker.{TrunkChecker}
 use Rattle.gw_records.specs.declared.outcome.RunFault.{RunFault}
 use Rattle.gw_records.specs.Streams.{SourceState, SinkState, Yields}
-use Rattle.gw_filter.specs.declared.filters.Checked.{Checked}
+use Rattle.gw_filter.specs.declared.checking.Checked.{Checked}
 use Rattle.gw_filter.specs.Filter.{FiltersUntil, filter_totals}
 
 -- The octet as received.
 abbrev pub same_octet : List ℕ → ℕ → ℕ
 same_octet before octet = octet
 
--- The source gave octets to its end. The sink took the same octets, and they were counted.
-pub record ChecksMultiframes (source source' : SourceState) (sink sink' : SinkState) (checked : Checked)
-    : Type 0 where
+-- So many errored submultiframes of these octets are not yet reported; the reports sent add up to the others.
+abbrev pub AreReported : List ℕ → List ℕ → ℕ → Type 0
+AreReported octets reports unreported = sum reports + unreported ≡ (tally_of octets).errored
+
+-- Octets that went out as they came in, and whose errored submultiframes are reported, all but some.
+pub record IsChecked (reports octets returned : List ℕ) : Type 0 where
+  pub same : returned ≡ octets
+  pub unreported : ℕ
+  pub reported : AreReported octets reports unreported
+
+-- A checker after octets, with the number that its reports add up to.
+pub record HasReported (checker : TrunkChecker) (reported : ℕ) (reports octets returned : List ℕ) : Type 0 where
+  pub checks : ChecksTrunk checker octets
+  pub same : returned ≡ octets
+  pub total : sum reports ≡ reported
+  pub unreported : ℕ
+  pub others : reported + unreported ≡ (tally_of octets).errored
+
+-- The source gave octets to its end. The sink took the same octets; they were counted, and their errored
+-- submultiframes reported, except for those that are told.
+pub record ChecksMultiframes (source source' : SourceState) (sink sink' : SinkState) (reports : List ℕ)
+    (checked : Checked) : Type 0 where
   pub octets : List ℕ
   pub gives : Yields source source' octets
   pub ended : IsAtEnd source'.to_come
   pub took : Appends sink.taken sink'.taken octets
   pub totals_are : checked.totals ≡ filter_totals (length octets)
   pub tally_is : checked.tally ≡ tally_of octets
+  pub reported : AreReported octets reports checked.unreported
   pub no_read : source'.failures ≡ source.failures
   pub no_write : sink'.failures ≡ sink.failures
 
 -- Checking ends before the end of the source: the sink took the octets that it gave, or a prefix of them.
-abbrev pub ChecksMultiframesUntil : SourceState → SourceState → SinkState → SinkState → RunFault → Type 0
-ChecksMultiframesUntil source source' sink sink' fault =
-    FiltersUntil same_octet source source' sink sink' fault
+abbrev pub ChecksMultiframesUntil : SourceState → SourceState → SinkState → SinkState → List ℕ → RunFault
+    → Type 0
+ChecksMultiframesUntil source source' sink sink' reports fault =
+    FiltersUntil (IsChecked reports) source source' sink sink' fault

@@ -1,9 +1,15 @@
 //! Filters of a trunk: one octet to the sink for each octet of the source.
 #![tactic(auto)]
 
+mod checking;
 mod filters;
+mod reports;
+mod sending;
 mod through;
 
-pub use filters::{Checked, align_stream, crc4_check_stream, crc4_stream};
+pub use checking::{Checked, ReportingChecker, crc4_check_stream};
+pub use filters::align_stream;
 pub use g704_crc4::ReceiverCounts;
-pub use through::{OctetFilter, filter_all, octets_through};
+pub use reports::{CountsTeller, NoReports, ReportSink, ToReports};
+pub use sending::{ReportingSender, crc4_stream};
+pub use through::{BufferFilter, OctetFilter, filter_all, octets_through};

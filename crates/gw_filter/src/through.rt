@@ -3,7 +3,7 @@
 ghost use Rattle.std.specs.Prelude.{◌≡◌, ◌-◌, ◌^◌, ◌<◌, ◌∷◌, ◌++◌, ℕ, List, [], length, IfOk, IfErr};
 ghost use Rattle.g704_framing.specs.Replies.{replies_after};
 ghost use Rattle.gw_records.specs.Streams.{CanBegin};
-ghost use Rattle.gw_filter.specs.Filter.{Filters, FiltersUntil, HasTakenAll};
+ghost use Rattle.gw_filter.specs.Filter.{Filters, FiltersUntil};
 
 use gw_records::{MAX_READS, NO_TOTALS, RunFault, Sink, Source, Totals, read_behind, write_all};
 
@@ -39,26 +39,36 @@ pub fn filter_all<F: OctetFilter>(filter: &mut F, octets: &mut [u8])
     }
 }
 
-/// Writes the filter's octet for each octet of the source.
+/// Takes the octets of a buffer and returns as many for them.
+pub trait BufferFilter {
+    /// The filter has taken these octets, and has returned these for them.
+    ghost has_returned: { Self → List ℕ → List ℕ → Type 0 };
+
+    /// Replaces the next octets of the stream by those that the filter returns.
+    fn filter_buffer(&mut self, octets: &mut [u8])
+        ensures len { length octets.new ≡ length octets.old }
+        ensures stands { (taken returned : List ℕ) → has_returned self.old taken returned
+            → has_returned self.new (taken ++ octets.old) (returned ++ octets.new) };
+}
+
+/// Writes what the filter returns for the octets of the source.
 ///
-/// All are written before the source is read again. The octets are counted. No memory is taken.
+/// All of it is written before the source is read again. The octets are counted. No memory is taken.
 ///
 /// # Errors
 ///
 /// [`RunFault::Read`] if the source failed, or after 2^62 reads: the octets for all that it gave are written.
 /// [`RunFault::Write`] if the sink failed: it has a prefix of what would be written.
-pub fn octets_through<F: OctetFilter, S: Source, K: Sink>(
+pub fn octets_through<F: BufferFilter, S: Source, K: Sink>(
     filter: &mut F,
     source: &mut S,
     sink: &mut K,
 ) -> Result<Totals, RunFault>
-    requires begins { F.has_taken filter.old [] }
+    requires begins { F.has_returned filter.old [] [] }
     requires streams { CanBegin (S.tells source.old) (K.tells sink.old) }
-    ensures ok { IfOk result (Filters F.reply_after
+    ensures ok { IfOk result (Filters (F.has_returned filter.new)
         (S.tells source.old) (S.tells source.new) (K.tells sink.old) (K.tells sink.new)) }
-    ensures taken { IfOk result (λ totals. HasTakenAll (F.has_taken filter.new) F.reply_after
-        (S.tells source.old) (S.tells source.new) (K.tells sink.old) (K.tells sink.new) totals) }
-    ensures fault { IfErr result (FiltersUntil F.reply_after
+    ensures fault { IfErr result (FiltersUntil (F.has_returned filter.new)
         (S.tells source.old) (S.tells source.new) (K.tells sink.old) (K.tells sink.new)) }
 {
     let mut buffer = [0u8; BUFFER_LEN];
@@ -74,7 +84,7 @@ pub fn octets_through<F: OctetFilter, S: Source, K: Sink>(
                 ..NO_TOTALS
             });
         }
-        filter_all(filter, &mut buffer[..n]);
+        filter.filter_buffer(&mut buffer[..n]);
         write_all(sink, &buffer[..n])?;
         octets = octets.saturating_add(n as u64);
     }

@@ -1,31 +1,36 @@
 -- What each filter does from a source to a sink.
+use Rattle.std.specs.Prelude.{◌≡◌, ℕ, List, Option}
 use Rattle.gw_records.specs.declared.outcome.Totals.{Totals}
 use Rattle.gw_records.specs.declared.outcome.RunFault.{RunFault}
 use Rattle.gw_records.specs.Streams.{SourceState, SinkState}
 use Rattle.gw_filter.specs.Align.{Aligns, AlignsUntil}
 use Rattle.gw_filter.specs.Crc4.{SendsMultiframes, SendsMultiframesUntil}
 use Rattle.gw_filter.specs.Check.{ChecksMultiframes, ChecksMultiframesUntil}
-use Rattle.gw_filter.specs.declared.filters.Checked.{Checked}
+use Rattle.gw_filter.specs.declared.checking.Checked.{Checked}
 use Rattle.gw_program.specs.declared.program_fault.ProgramFault.{ProgramFault}
 use Rattle.gw_program.specs.declared.program_fault.ProgramFault.TheVariants as program_faults
-use Rattle.std.specs.Prelude.{◌≡◌}
 use Rattle.gw_command.specs.declared.command.Filter.{Filter}
 use Rattle.gw_command.specs.declared.command.Filter.TheVariants.{Align, Crc4}
 
--- The filter takes the whole of the source, with these totals.
-abbrev pub DoesFilter : Filter → SourceState → SourceState → SinkState → SinkState → Totals → Type 0
-DoesFilter Align = Aligns
-DoesFilter Crc4 = SendsMultiframes
+-- The filter takes the whole of the source, with these totals. Errored submultiframes are reported to the far
+-- end by these reports.
+abbrev pub DoesFilter : Option (List ℕ) → Filter → SourceState → SourceState → SinkState → SinkState → Totals
+    → Type 0
+DoesFilter reports Align = Aligns
+DoesFilter reports Crc4 = SendsMultiframes reports
 
 -- The filter ends with this fault.
-abbrev pub DoesFilterUntil : Filter → SourceState → SourceState → SinkState → SinkState → RunFault → Type 0
-DoesFilterUntil Align = AlignsUntil
-DoesFilterUntil Crc4 = SendsMultiframesUntil
+abbrev pub DoesFilterUntil : Option (List ℕ) → Filter → SourceState → SourceState → SinkState → SinkState
+    → RunFault → Type 0
+DoesFilterUntil reports Align = AlignsUntil
+DoesFilterUntil reports Crc4 = SendsMultiframesUntil reports
 
--- CRC-4 multiframes were checked in the whole of the source, with these totals.
+-- CRC-4 multiframes were checked in the whole of the source, with these totals, and errored submultiframes
+-- reported.
 pub record HasChecked (source source' : SourceState) (sink sink' : SinkState) (totals : Totals) : Type 0 where
   pub checked : Checked
-  pub done : ChecksMultiframes source source' sink sink' checked
+  pub reports : List ℕ
+  pub done : ChecksMultiframes source source' sink sink' reports checked
   pub totals_are : totals ≡ checked.totals
 
 -- Checking ended with this trouble, which tells the fault.
@@ -33,5 +38,6 @@ pub record HasCheckedUntil (source source' : SourceState) (sink sink' : SinkStat
     (program_fault : ProgramFault)
     : Type 0 where
   pub fault : RunFault
-  pub done : ChecksMultiframesUntil source source' sink sink' fault
+  pub reports : List ℕ
+  pub done : ChecksMultiframesUntil source source' sink sink' reports fault
   pub told_is : program_fault ≡ program_faults.Session fault

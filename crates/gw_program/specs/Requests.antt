@@ -1,5 +1,6 @@
 -- What was done of what the command line asks for (module `requests`).
-use Rattle.std.specs.Prelude.{◌≡◌, ◌⊎◌, ⊤, ℕ, List, [], Option, Some, Bool, Result, Err, IfOk, IfErr}
+use Rattle.std.specs.Prelude.{◌≡◌, ◌≢◌, ◌⊎◌, ⊤, ℕ, List, [], Option, Some, None, Bool, Result, Err, IfOk}
+use Rattle.std.specs.Prelude.{IfErr}
 use Rattle.std.specs.Prelude.{MatchResult, MatchOption, codes}
 use Rattle.clap.specs.Words.{Row}
 use Rattle.gw_switch.specs.declared.gateway.Gateway.{Gateway}
@@ -72,15 +73,33 @@ abbrev pub DoesJob : SpeechJob → Result Totals ProgramFault → Type 0
 DoesJob job told = OnNewStreams (λ a a'. Ended (λ end. MatchResult end
     (Does job a.source a'.source a.sink a'.sink) (DoesUntil job a.source a'.source a.sink a'.sink)) told)
 
--- what the filter told when it had run
-abbrev pub RunsFilter : Filter → Result Totals ProgramFault → Type 0
-RunsFilter filter told = OnNewStreams (λ a a'. Ended (λ end. MatchResult end
-    (DoesFilter filter a.source a'.source a.sink a'.sink)
-    (DoesFilterUntil filter a.source a'.source a.sink a'.sink)) told)
+-- the file of reports that the command names
+abbrev pub reports_in : Command → Option (List ℕ)
+reports_in command = text_in (codes "reports") command
 
--- what was told when CRC-4 multiframes had been checked
-abbrev pub ChecksCrc4 : Result Totals ProgramFault → Type 0
-ChecksCrc4 told = OnNewStreams (λ a a'. IfOk told (HasChecked a.source a'.source a.sink a'.sink)
+-- a file of reports is named and can't be opened, and this is told
+pub record LacksReports (named : Option (List ℕ)) (told : Result Totals ProgramFault) : Type 0 where
+  pub program_fault : ProgramFault
+  pub is_named : named ≢ None
+  pub told_is : told ≡ Err program_fault
+
+-- this was done with the reports that came from the file, and none came where no file is named
+pub record WithReports (named : Option (List ℕ)) (does : Option (List ℕ) → Type 0) : Type 0 where
+  pub reports : Option (List ℕ)
+  pub none : named ≡ None → reports ≡ Some []
+  pub done : does reports
+
+-- what the filter told when it had run, by the file of reports if one is named
+abbrev pub RunsFilter : Option (List ℕ) → Filter → Result Totals ProgramFault → Type 0
+RunsFilter named filter told = LacksReports named told ⊎ WithReports named (λ reports. OnNewStreams (λ a a'.
+    Ended (λ end. MatchResult end
+    (DoesFilter reports filter a.source a'.source a.sink a'.sink)
+    (DoesFilterUntil reports filter a.source a'.source a.sink a'.sink)) told))
+
+-- what was told when CRC-4 multiframes had been checked, by the file of reports if one is named
+abbrev pub ChecksCrc4 : Option (List ℕ) → Result Totals ProgramFault → Type 0
+ChecksCrc4 named told = LacksReports named told ⊎ OnNewStreams (λ a a'.
+    IfOk told (HasChecked a.source a'.source a.sink a'.sink)
     × IfErr told (HasCheckedUntil a.source a'.source a.sink a'.sink))
 
 -- a fault is told, and nothing was read or written; or this was done with a gateway that was begun by a
@@ -132,7 +151,7 @@ AsksWait command wait = MatchOption wait ((signals : ℕ) → ¬ SaysWait comman
 -- what the command asks for was done, and this is told
 abbrev pub Performs : Command → Result Totals ProgramFault → Type 0
 Performs command told = HasRequest command (by_request (λ job. DoesJob job told)
-    (λ filter. RunsFilter filter told) (ChecksCrc4 told)
+    (λ filter. RunsFilter (reports_in command) filter told) (ChecksCrc4 (reports_in command) told)
     (λ session. DoesSession (load_in command) (save_in command) (AsksWait command) session told)
     (ServesTrunk (load_in command) (save_in command) (AsksWait command) told) (DoesSatop command told))
     ⊎ NoRequest command told

@@ -45,6 +45,7 @@ program_fault_status program_faults.Nothing = 2
 program_fault_status program_faults.File = 2
 program_fault_status program_faults.Recording = 2
 program_fault_status program_faults.OldRecording = 2
+program_fault_status program_faults.Reports = 2
 program_fault_status program_faults.NoState = 2
 program_fault_status (program_faults.State fault) = load_status fault
 program_fault_status program_faults.NotSaved = 1

@@ -1,50 +1,73 @@
 //! Filters of a trunk: `align` and `crc4`.
 
-ghost use Rattle.std.specs.Prelude.{IfOk, IfErr};
+ghost use Rattle.std.specs.Prelude.{◌≡◌, [], IfOk, IfErr};
 ghost use Rattle.gw_records.specs.Streams.{CanBegin};
+ghost use Rattle.gw_filter.specs.Crc4.{HasSent};
 ghost use Rattle.gw_program.specs.Filters.{DoesFilter, DoesFilterUntil, HasChecked, HasCheckedUntil};
 
 use crate::program_fault::ProgramFault;
-use crate::report::print_tally;
+use crate::report::{CheckTells, LiveCounts, print_tally, print_unreported};
 use crate::sealed::{StandardInput, StandardOutput};
 use gw_command::Filter;
-use gw_filter::{align_stream, crc4_check_stream, crc4_stream};
+use gw_filter::{
+    ReportSink, ReportingChecker, ReportingSender, align_stream, crc4_check_stream, crc4_stream,
+};
 use gw_session::{RunFault, Sink, Source, Totals};
 
 /// Runs a filter from standard input to standard output.
-pub fn do_filter<S: Source + StandardInput, K: Sink + StandardOutput>(
+pub fn do_filter<R: Source, S: Source + StandardInput, K: Sink + StandardOutput>(
     filter: Filter,
+    sender: &mut ReportingSender<R>,
     source: &mut S,
     sink: &mut K,
 ) -> Result<Totals, RunFault>
-    requires { CanBegin (S.tells source.old) (K.tells sink.old) }
-    ensures ok { IfOk result (DoesFilter filter
+    requires begins { HasSent sender.old.sender (R.tells sender.old.reports).given [] [] }
+    requires streams { CanBegin (S.tells source.old) (K.tells sink.old) }
+    ensures ok { IfOk result (DoesFilter (R.tells sender.new.reports).given filter
         (S.tells source.old) (S.tells source.new) (K.tells sink.old) (K.tells sink.new)) }
-    ensures fault { IfErr result (DoesFilterUntil filter
+    ensures fault { IfErr result (DoesFilterUntil (R.tells sender.new.reports).given filter
         (S.tells source.old) (S.tells source.new) (K.tells sink.old) (K.tells sink.new)) }
 {
     match filter {
         Filter::Align => align_stream(source, sink),
-        Filter::Crc4 => crc4_stream(source, sink),
+        Filter::Crc4 => crc4_stream(sender, source, sink),
     }
 }
 
-/// Checks the CRC-4 multiframes of a trunk from standard input to standard output, and prints the counts.
+/// Checks the CRC-4 multiframes of a trunk from standard input to standard output, and reports errored
+/// submultiframes. It prints what was counted at the end, and what else is asked for.
 #[inline(never)]
-pub fn perform_crc4_check<S: Source + StandardInput, K: Sink + StandardOutput>(
+pub fn perform_crc4_check<
+    R: ReportSink + Drop,
+    S: Source + StandardInput,
+    K: Sink + StandardOutput,
+>(
     rt: &impl Eprint,
+    reports: R,
+    tells: CheckTells,
     source: &mut S,
     sink: &mut K,
 ) -> Result<Totals, ProgramFault>
-    requires { CanBegin (S.tells source.old) (K.tells sink.old) }
+    requires unsent { R.sent reports ≡ [] }
+    requires streams { CanBegin (S.tells source.old) (K.tells sink.old) }
     ensures ok { IfOk result (HasChecked
         (S.tells source.old) (S.tells source.new) (K.tells sink.old) (K.tells sink.new)) }
     ensures fault { IfErr result (HasCheckedUntil
         (S.tells source.old) (S.tells source.new) (K.tells sink.old) (K.tells sink.new)) }
 {
-    match crc4_check_stream(source, sink) {
+    let mut checker = ReportingChecker::new(
+        reports,
+        LiveCounts {
+            rt,
+            live: tells.live,
+        },
+    );
+    match crc4_check_stream(&mut checker, source, sink) {
         Ok(checked) => {
             print_tally(rt, &checked.tally);
+            if tells.unreported {
+                print_unreported(rt, checked.unreported);
+            }
             Ok(checked.totals)
         }
         Err(fault) => Err(ProgramFault::Session(fault)),

@@ -9,6 +9,7 @@ mod performing;
 mod program_fault;
 mod recording;
 mod report;
+mod reports;
 mod requests;
 mod satop;
 mod sealed;
@@ -23,7 +24,11 @@ pub use jobs::do_job;
 pub use performing::{System, perform_job, perform_session};
 pub use program_fault::{DONE, NO_MEMORY, ProgramFault, REFUSED};
 pub use recording::{Recording, Tape, begin, tell_end};
-pub use report::{Skipped, passed_over, print_discarded, print_tally, print_totals};
+pub use report::{
+    CheckTells, LiveCounts, Skipped, passed_over, print_discarded, print_tally, print_totals,
+    print_unreported,
+};
+pub use reports::open_reports;
 pub use requests::{Commands, perform};
 pub use satop::perform_satop;
 pub use sessions::{check, replay, replay_watched, serve_through};

@@ -54,6 +54,9 @@ pub enum ProgramFault {
     /// The file of the recording is there already, and is not to be written over.
     #[error("the recording is there already: name a new file, or give --record-over")]
     OldRecording,
+    /// The file of reports can't be opened.
+    #[error("cannot open the file of --reports")]
+    Reports,
     /// The file of a state can't be read.
     #[error("cannot read the state")]
     NoState,
@@ -109,6 +112,7 @@ impl ProgramFault {
             | ProgramFault::File
             | ProgramFault::Recording
             | ProgramFault::OldRecording
+            | ProgramFault::Reports
             | ProgramFault::NoState
             | ProgramFault::State(_)
             | ProgramFault::Control

@@ -4,7 +4,7 @@ ghost use Rattle.std.specs.Prelude.{◌≡◌};
 ghost use Rattle.gw_program.specs.Report.{passed_over};
 
 use gw_command::SpeechJob;
-use gw_filter::ReceiverCounts;
+use gw_filter::{CountsTeller, ReceiverCounts};
 use gw_session::Totals;
 use thiserror::Error;
 
@@ -53,4 +53,48 @@ pub fn print_tally(rt: &impl Eprint, tally: &ReceiverCounts) {
     let _ = eprintln!(rt; "multiframes_found {}", tally.found);
     let _ = eprintln!(rt; "multiframes_lost {}", tally.lost);
     let _ = eprintln!(rt; "given_up {}", tally.given_up);
+}
+
+/// Prints how many errored submultiframes were not reported on standard error, in the form of the counts.
+pub fn print_unreported(rt: &impl Eprint, unreported: u64) {
+    let _ = eprintln!(rt; "unreported {}", unreported);
+}
+
+/// What a check of CRC-4 multiframes prints beside its counts at the end.
+#[derive(Clone, Copy, Debug, PartialEq, Eq)]
+pub struct CheckTells {
+    /// The counts after each second of the trunk.
+    pub live: bool,
+    /// How many errored submultiframes were not reported.
+    pub unreported: bool,
+}
+
+/// Prints the counts of CRC-4 multiframes as a line on standard error, if that is asked for.
+#[derive(Drop)]
+pub struct LiveCounts<'r, E> {
+    /// Standard error.
+    pub rt: &'r E,
+    /// It is asked for.
+    pub live: bool,
+}
+
+impl<E: Eprint> CountsTeller for LiveCounts<'_, E> {
+    fn tell(&mut self, counts: &ReceiverCounts) {
+        if self.live {
+            print_live(self.rt, counts);
+        }
+    }
+}
+
+// Prints what was counted up to now as a line.
+fn print_live(rt: &impl Eprint, counts: &ReceiverCounts) {
+    let _ = eprintln!(rt;
+        "live submultiframes {} errored {} far_end_errored {} multiframes_found {} multiframes_lost {} given_up {}",
+        counts.submultiframes,
+        counts.errored,
+        counts.far_end_errored,
+        counts.found,
+        counts.lost,
+        counts.given_up
+    );
 }

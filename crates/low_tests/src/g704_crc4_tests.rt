@@ -1,9 +1,32 @@
-use g704_crc4::{Counts, Crc4Inserter, ReceiverCounts, TrunkChecker, check, find_multiframe};
+use g704_crc4::{
+    Counts, Crc4Inserter, EBitReporter, ReceiverCounts, TrunkChecker, check, find_multiframe,
+};
 use std::process::Abort;
 
 // An octet that comes, at a place of the stream.
 fn given(place: usize) -> u8 {
     (place % 251) as u8
+}
+
+// A trunk as it is sent, with its E bits.
+#[derive(Clone, Copy)]
+struct Sender {
+    error_bits: EBitReporter,
+    multiframer: Crc4Inserter,
+}
+
+impl Sender {
+    fn new() -> Sender {
+        Sender {
+            error_bits: EBitReporter::new(),
+            multiframer: Crc4Inserter::new(),
+        }
+    }
+
+    fn octet(&mut self, octet: u8) -> u8 {
+        let with_bit = self.error_bits.octet(octet);
+        self.multiframer.octet(with_bit)
+    }
 }
 
 // Bit 1 of time slot 0 of the first 32 frames. The check bits of each submultiframe are those that
@@ -16,10 +39,10 @@ const SI: [u8; 32] = [
 
 #[test]
 fn four_submultiframes(rt: HostRuntime) {
-    let mut multiframer = Crc4Inserter::new();
+    let mut sender = Sender::new();
     for place in 0..1024usize {
         let octet = given(place);
-        let sent = multiframer.octet(octet);
+        let sent = sender.octet(octet);
         let expected = match (place % 32, SI[place / 32]) {
             (0, 0) => octet & 0x7F,
             (0, _) => octet | 0x80,
@@ -31,10 +54,10 @@ fn four_submultiframes(rt: HostRuntime) {
 
 // Six multiframes as they are sent.
 fn six_multiframes() -> [u8; 3072] {
-    let mut multiframer = Crc4Inserter::new();
+    let mut sender = Sender::new();
     let mut sent = [0u8; 3072];
     for place in 0..3072usize {
-        sent[place] = multiframer.octet(given(place));
+        sent[place] = sender.octet(given(place));
     }
     sent
 }
@@ -97,10 +120,10 @@ const NO_TALLY: ReceiverCounts = ReceiverCounts {
 
 // Eight multiframes of the trunk as they are sent, some bits of some octets turned.
 fn checked(turned: &[(usize, u8)]) -> ReceiverCounts {
-    let mut multiframer = Crc4Inserter::new();
+    let mut sender = Sender::new();
     let mut checker = TrunkChecker::new();
     for place in 0..4096usize {
-        let mut octet = multiframer.octet(trunk(place));
+        let mut octet = sender.octet(trunk(place));
         for (at, bits) in turned {
             if *at == place {
                 octet ^= *bits;
@@ -157,10 +180,10 @@ fn multiframes_are_lost_with_alignment(rt: HostRuntime) {
 // multiframe after that begins at 4608. Of the four submultiframes up to octet 5632 three are known.
 #[test]
 fn false_alignment_is_given_up(rt: HostRuntime) {
-    let mut multiframer = Crc4Inserter::new();
+    let mut sender = Sender::new();
     let mut checker = TrunkChecker::new();
     for place in 0..5632usize {
-        let octet = multiframer.octet(imitated(place));
+        let octet = sender.octet(imitated(place));
         if place > 0 {
             checker.octet(octet);
         }
@@ -171,4 +194,19 @@ fn false_alignment_is_given_up(rt: HostRuntime) {
         ..NO_TALLY
     };
     assert!(rt; checker.tally() == right);
+}
+
+// Three errored submultiframes are reported by the next three E bits, frames 13 and 15 of the first multiframe
+// and 13 of the second; the fourth E bit is 1 again (ITU-T G.704, 2.3.3.4).
+#[test]
+fn errored_submultiframes_are_reported(rt: HostRuntime) {
+    let mut sender = Sender::new();
+    sender.error_bits.report(3);
+    let mut sent = [0u8; 1024];
+    for place in 0..1024usize {
+        sent[place] = sender.octet(given(place));
+    }
+    assert!(rt; sent[32 * 13] < 128 && sent[32 * 15] < 128);
+    assert!(rt; sent[32 * 29] < 128 && sent[32 * 31] >= 128);
+    assert!(rt; check(&sent).far_end_errored == 3);
 }

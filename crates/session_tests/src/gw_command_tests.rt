@@ -2,8 +2,8 @@ use clap::error::ErrorKind;
 use e1_g711::Law;
 use g726_codec::CodecKind;
 use gw_command::{
-    Filter, Request, Session, SpeechJob, asks_check, job_of, matches, path_of, request_of,
-    seizure_wait_of, senders_of, session_of, wants_totals,
+    Filter, Request, Session, SpeechJob, asks_check, asks_live, job_of, matches, path_of,
+    reports_of, request_of, seizure_wait_of, senders_of, session_of, wants_totals,
 };
 use gw_session::StreamSpec;
 use gw_udp::SourceFilter;
@@ -207,6 +207,29 @@ fn refuses_command_lines(rt: HostRuntime) -> Result<(), Fail> {
         "e1gw replay --config x --senders any",
     ] {
         assert!(rt; job(rt.alloc(), line)?.is_err(), "at {line}");
+    }
+    Ok(())
+}
+
+#[test]
+fn reports_are_named(rt: HostRuntime) -> Result<(), Fail> {
+    for (line, path, live) in [
+        ("e1gw crc4", None, false),
+        ("e1gw crc4 --reports one", Some("one"), false),
+        (
+            "e1gw crc4 --check --live --reports /dev/fd/3",
+            Some("/dev/fd/3"),
+            true,
+        ),
+    ] {
+        let words = words(rt.alloc(), line)?;
+        let matches = matches(rt.alloc(), words.as_slice())
+            .ok()
+            .ok_or("a command line")?;
+        assert!(rt;
+            reports_of(&matches) == path && asks_live(&matches) == live,
+            "at {line}"
+        );
     }
     Ok(())
 }

@@ -6,15 +6,14 @@ use Rattle.gw_records.specs.Outcome.{nothing_counted}
 use Rattle.gw_records.proofs.Writes.{Appends-none, Appends-join, Appends-same, Yields-none, Yields-join, Yields-end}
 use Rattle.gw_records.proofs.Writes.{FailsAfterPrefix-after, read_failed}
 use Rattle.gw_records.proofs.Sessions.{goes_up}
-use Rattle.g704_framing.specs.Replies.{replies_after}
-use Rattle.gw_filter.proofs.Stages.{came-is, answered}
+use Rattle.gw_filter.proofs.Stages.{came-is, replaced}
 use Rattle.gw_filter.proofs.through.octets_through.Goals as goal
 
 pub reading-init : goal.reading-init
-unfolding replies_after
 reading-init g c = record {
   stage = record {
     given = [];
+    returned = [];
     stands = c.requires.begins;
     gives = Yields-none _;
     took = Appends-none _;
@@ -31,16 +30,17 @@ pub reading-preserved : goal.reading-preserved
 reading-preserved g c =
     let w = c.reading.invariant in
     let came = c.in-Ok.ensures.gives in
-    let e = c.filter_all.ensures in record {
+    let e = c.filter_buffer.ensures in record {
       stage = record {
         given = w.stage.given ++ came.octets;
-        stands = subst (λ (xs : List ℕ). g.F.OctetFilter.has_taken c.filter_all.new.filter (w.stage.given ++ xs))
+        returned = w.stage.returned ++ c.filter_buffer.new.octets;
+        stands = subst (λ (xs : List ℕ). g.F.BufferFilter.has_returned c.filter_buffer.new.self
+            (w.stage.given ++ xs) (w.stage.returned ++ c.filter_buffer.new.octets))
             (came-is _ _ _ _ came)
-            (e.stands w.stage.given w.stage.stands);
+            (e.stands w.stage.given w.stage.returned w.stage.stands);
         gives = Yields-join _ _ _ _ _ w.stage.gives came.gives;
         took = Appends-same _ _ _ _
-            (answered g.F.OctetFilter.reply_after w.stage.given c.read_behind.new.buffer _ _ _ _ came
-            (e.replies w.stage.given w.stage.stands) e.len)
+            (ap (λ (xs : List ℕ). w.stage.returned ++ xs) (replaced c.read_behind.new.buffer _ _ _ _ came e.len))
             (Appends-join _ _ _ _ _ w.stage.took c.in_ok-write_all.ensures.ok);
         no_read = c.in-Ok.ensures.counts ∙ w.stage.no_read;
         no_write = c.in_ok-write_all.ensures.no_failure ∙ w.stage.no_write;
@@ -61,7 +61,7 @@ reading-preserved g c =
         came.counted,
         ap length (came-is _ _ _ _ came),
         length-drop c.in-Ok.n c.read_behind.new.buffer,
-        length-append c.filter_all.new.octets (drop c.in-Ok.n c.read_behind.new.buffer),
+        length-append c.filter_buffer.new.octets (drop c.in-Ok.n c.read_behind.new.buffer),
       );
       turns = omega (arith, w.turns, c.if-n-eq0.false, came.counted, length-append w.stage.given came.octets);
       calls = omega (arith, w.calls, c.in-Ok.ensures.turns, c.requires.streams.turns);
@@ -71,13 +71,17 @@ pub returns-in_err-write_all-clause-fault : goal.returns-in_err-write_all-clause
 returns-in_err-write_all-clause-fault g c =
     let w = c.reading.invariant in
     let came = c.in-Ok.ensures.gives in
-    let e = c.filter_all.ensures in
+    let e = c.filter_buffer.ensures in
     let broken = c.in_err-write_all.ensures.fault in
     goes_up _ _ faults.Write c.from_residual.ensures.1 broken.0 (record {
       octets = w.stage.given ++ came.octets;
+      returned = w.stage.returned ++ c.filter_buffer.new.octets;
+      returns = subst (λ (xs : List ℕ). g.F.BufferFilter.has_returned c.filter_buffer.new.self
+          (w.stage.given ++ xs) (w.stage.returned ++ c.filter_buffer.new.octets))
+          (came-is _ _ _ _ came)
+          (e.stands w.stage.given w.stage.returned w.stage.stands);
       gives = Yields-join _ _ _ _ _ w.stage.gives came.gives;
-      breaks = rw (← answered g.F.OctetFilter.reply_after w.stage.given c.read_behind.new.buffer _ _ _ _ came
-          (e.replies w.stage.given w.stage.stands) e.len)
+      breaks = rw (← replaced c.read_behind.new.buffer _ _ _ _ came e.len)
           (FailsAfterPrefix-after _ _ _ _ _ w.stage.took w.stage.no_write broken.1);
       no_read = c.in-Ok.ensures.counts ∙ w.stage.no_read;
     })
@@ -89,6 +93,8 @@ returns-then-n-eq0-clause-ok g c =
     let made : ℕ → Totals = λ n. record nothing_counted { octets = n } in
     record {
       octets = w.stage.given;
+      returned = w.stage.returned;
+      returns = w.stage.stands;
       gives = Yields-end _ _ _ w.stage.given came.octets (came.counted ∙ c.if-n-eq0.true) w.stage.gives came.gives;
       ended = came.ended c.if-n-eq0.true;
       took = w.stage.took;
@@ -97,16 +103,13 @@ returns-then-n-eq0-clause-ok g c =
       no_write = w.stage.no_write;
     }
 
-pub returns-then-n-eq0-clause-taken : goal.returns-then-n-eq0-clause-taken
-unfolding returns-then-n-eq0-clause-ok
-returns-then-n-eq0-clause-taken g c =
-    record { filters = returns-then-n-eq0-clause-ok g c; taken = c.reading.invariant.stage.stands }
-
 pub returns-in_default-clause-fault : goal.returns-in_default-clause-fault
 returns-in_default-clause-fault g c =
     let w = c.reading.invariant in
     record {
       octets = w.stage.given;
+      returned = w.stage.returned;
+      returns = w.stage.stands;
       gives = Yields-end _ _ _ w.stage.given [] refl w.stage.gives c.in_default.ensures.none;
       took = w.stage.took;
       cause = inl (read_failed _ _ _ w.stage.no_read c.requires.streams.reads c.in_default.ensures.counts);
@@ -118,6 +121,8 @@ returns-clause-fault g c =
     let w = c.reading.invariant in
     record {
       octets = w.stage.given;
+      returned = w.stage.returned;
+      returns = w.stage.stands;
       gives = w.stage.gives;
       took = w.stage.took;
       cause = inr (omega (arith, w.calls), omega (arith, w.turns));

@@ -3,11 +3,11 @@ use Rattle.std.proofs.Common.{◌≡◌, ◌+◌, ◌≤◌, length}
 use Rattle.gw_filter.proofs.Stages.{Stage}
 use Rattle.gw_filter.proofs.through.octets_through.Given as goal
 
--- The replies to all that was read are written.
+-- What the filter returned for all that was read is written.
 abbrev pub invariant-reading : goal.invariant-reading
 invariant-reading g l = record {
-  stage : Stage g.F.OctetFilter.has_taken g.F.OctetFilter.reply_after (g.S.Source.tells l.initial.source)
-      (g.S.Source.tells l.source) (g.K.Sink.tells l.initial.sink) (g.K.Sink.tells l.sink) l.filter;
+  stage : Stage g.F.BufferFilter.has_returned (g.S.Source.tells l.initial.source) (g.S.Source.tells l.source)
+      (g.K.Sink.tells l.initial.sink) (g.K.Sink.tells l.sink) l.filter;
   counted : l.octets ≡ at_most (length stage.given);
   room : length l.buffer ≡ 32768;
   turns : l.turn ≤ length stage.given;

@@ -1,0 +1,9 @@
+use Rattle.std.proofs.Common.{refl}
+use Rattle.gw_program.proofs.Filtering.{has_checked}
+use Rattle.gateway_main.proofs.check_alone.Goals as goal
+
+pub returns : goal.returns
+returns c =
+    has_checked _ _ _ _ _ _ c.perform_crc4_check.ensures.ok c.perform_crc4_check.ensures.fault
+    (rw c.new-source.ensures refl) (rw c.new-source.ensures refl) (rw c.new-source.ensures refl)
+    c.new-sink.ensures.failed

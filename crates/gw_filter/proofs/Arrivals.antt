@@ -1,0 +1,97 @@
+-- Octets and reports that arrive, one part after another.
+use Rattle.std.proofs.Common.{◌≡◌, ◌+◌, ◌<◌, ℕ, suc, List, [], ◌∷◌, ◌++◌, length, take, get_or, map, Option, Some, None}
+use Rattle.std.proofs.Common.{refl, sym, ap, ◌∙◌, arith, append_assoc, append-nil}
+use Rattle.std.proofs.lemmas.List.{map-append}
+use Rattle.std.proofs.Math.Seq.{take-suc}
+use Rattle.std.specs.Io.KnownBytes.{Appends}
+use Rattle.g704_framing.specs.Replies.{replies_after}
+use Rattle.g704_framing.proofs.Replies.{replies-append}
+use Rattle.g704_crc4.specs.Multiframe.{sent_octet, sent_octets}
+use Rattle.g704_crc4.specs.Reporting.{Arrival, Octet, Errored, octet_with_e}
+use Rattle.gw_filter.specs.Crc4.{trunk_octets_in, reports_in, with_e_bits}
+
+-- The octets of arrivals, and of others after them.
+pub octets-append : (a b : List Arrival) → trunk_octets_in (a ++ b) ≡ trunk_octets_in a ++ trunk_octets_in b
+unfolding trunk_octets_in
+octets-append [] b = refl
+octets-append (Octet x ∷ a) b = ap (λ xs. x ∷ xs) (octets-append a b)
+octets-append (Errored n ∷ a) b = octets-append a b
+
+-- The reports of arrivals, and of others after them.
+pub reports-append : (a b : List Arrival) → reports_in (a ++ b) ≡ reports_in a ++ reports_in b
+unfolding reports_in
+reports-append [] b = refl
+reports-append (Octet x ∷ a) b = reports-append a b
+reports-append (Errored n ∷ a) b = ap (λ xs. n ∷ xs) (reports-append a b)
+
+-- The octets with E bits of arrivals, and of others after them.
+with-e-append : (before a b : List Arrival) → with_e_bits before (a ++ b)
+    ≡ with_e_bits before a ++ with_e_bits (before ++ a) b
+unfolding with_e_bits
+with-e-append before [] b = ap (λ h. with_e_bits h b) (sym (append-nil before))
+with-e-append before (Octet x ∷ a) b =
+    let more = before ++ Octet x ∷ [] in
+    ap (λ xs. octet_with_e before x ∷ xs) (with-e-append more a b
+    ∙ ap (λ h. with_e_bits more a ++ with_e_bits h b) (append_assoc before (Octet x ∷ []) a))
+with-e-append before (Errored n ∷ a) b =
+    let more = before ++ Errored n ∷ [] in
+    with-e-append more a b
+    ∙ ap (λ h. with_e_bits more a ++ with_e_bits h b) (append_assoc before (Errored n ∷ []) a)
+
+-- One octet more has its E bit.
+pub with-e-octet : (a : List Arrival) (x : ℕ) → with_e_bits [] (a ++ Octet x ∷ [])
+    ≡ with_e_bits [] a ++ octet_with_e a x ∷ []
+unfolding with_e_bits
+with-e-octet a x = with-e-append [] a (Octet x ∷ [])
+
+-- A report is no octet.
+pub with-e-report : (a : List Arrival) (n : ℕ) → with_e_bits [] (a ++ Errored n ∷ []) ≡ with_e_bits [] a
+unfolding with_e_bits
+with-e-report a n = with-e-append [] a (Errored n ∷ []) ∙ append-nil (with_e_bits [] a)
+
+-- What is sent, one octet more.
+pub sent-more : (octets : List ℕ) (x : ℕ) → sent_octets (octets ++ x ∷ [])
+    ≡ sent_octets octets ++ sent_octet octets x ∷ []
+unfolding replies_after
+sent-more octets x = replies-append sent_octet [] octets (x ∷ [])
+
+-- The octets of octets that arrive.
+pub octets-of-octets : (xs : List ℕ) → trunk_octets_in (map Octet xs) ≡ xs
+unfolding trunk_octets_in
+octets-of-octets [] = refl
+octets-of-octets (x ∷ xs) = ap (λ ys. x ∷ ys) (octets-of-octets xs)
+
+-- They have no report.
+pub reports-of-octets : (xs : List ℕ) → reports_in (map Octet xs) ≡ []
+unfolding reports_in
+reports-of-octets [] = refl
+reports-of-octets (x ∷ xs) = reports-of-octets xs
+
+-- Reports that arrive have no octet.
+pub octets-of-reports : (xs : List ℕ) → trunk_octets_in (map Errored xs) ≡ []
+unfolding trunk_octets_in
+octets-of-reports [] = refl
+octets-of-reports (x ∷ xs) = octets-of-reports xs
+
+-- The reports of reports that arrive.
+pub reports-of-reports : (xs : List ℕ) → reports_in (map Errored xs) ≡ xs
+unfolding reports_in
+reports-of-reports [] = refl
+reports-of-reports (x ∷ xs) = ap (λ ys. x ∷ ys) (reports-of-reports xs)
+
+-- Arrivals of the first items, and of one more.
+pub arrives-next : (arrive : ℕ → Arrival) (a : List Arrival) (xs : List ℕ) (i : ℕ) → i < length xs
+    → (a ++ map arrive (take i xs)) ++ arrive (get_or xs i 0) ∷ [] ≡ a ++ map arrive (take (i + 1) xs)
+arrives-next arrive a xs i lt =
+    let one : suc i ≡ i + 1 = omega arith in
+    append_assoc a (map arrive (take i xs)) (arrive (get_or xs i 0) ∷ [])
+    ∙ ap (λ ys. a ++ ys) (sym (map-append arrive (take i xs) (get_or xs i 0 ∷ []))
+    ∙ ap (map arrive) (sym (take-suc xs i 0 lt) ∙ ap (λ k. take k xs) one))
+
+-- Octets known to have been given, and others after them.
+pub given-after : (a b : Option (List ℕ)) (xs ys : List ℕ) → a ≡ Some xs → Appends a b ys → b ≡ Some (xs ++ ys)
+given-after a b xs ys e p = known b xs ys (rw e at p)
+  where
+    known : (b : Option (List ℕ)) (xs ys : List ℕ) → Appends (Some xs) b ys → b ≡ Some (xs ++ ys)
+    known None xs ys p = absurd p
+    known (Some zs) xs ys p = ap Some p

@@ -1,0 +1,82 @@
+-- A checker of CRC-4 multiframes, with more octets and reports.
+use Rattle.std.proofs.Common.{◌≡◌, ◌+◌, ◌-◌, ◌≤◌, ◌^◌, ℕ, Bool, List, [], ◌∷◌, ◌++◌, Option, refl, sym, ap, ◌∙◌, arith}
+use Rattle.std.proofs.Common.{append_assoc, append-nil}
+use Rattle.std.proofs.lemmas.List.Sums.{sum_by-append}
+use Rattle.std.specs.Prelude.{sum}
+use Rattle.g704_framing.specs.Replies.{replies_after}
+use Rattle.g704_crc4.specs.declared.receiving.ReceiverEvent.{ReceiverEvent}
+use Rattle.g704_crc4.specs.declared.tallying.ReceiverCounts.{ReceiverCounts}
+use Rattle.g704_crc4.specs.declared.tallying.TrunkChecker.{TrunkChecker}
+use Rattle.g704_crc4.specs.Receivers.{ChecksTrunk}
+use Rattle.g704_crc4.specs.Remainder.{bit_number}
+use Rattle.g704_crc4.specs.ReceiverCounts.{times_after, tells_errored, tally_of}
+use Rattle.g704_crc4.specs.Aligning.{learned}
+use Rattle.gw_filter.specs.Check.{same_octet, HasReported}
+
+-- Replies that are the octets as they came.
+pub same_octets : (before octets : List ℕ) → replies_after same_octet before octets ≡ octets
+unfolding replies_after
+same_octets before [] = refl
+same_octets before (x ∷ octets) = ap (λ xs. x ∷ xs) (same_octets (before ++ x ∷ []) octets)
+
+-- Events of octets, and of others after them.
+times-append : (passes : Option ReceiverEvent → Bool) (before a b : List ℕ)
+    → times_after passes before (a ++ b) ≡ times_after passes before a + times_after passes (before ++ a) b
+unfolding times_after
+times-append passes before [] b = omega (arith, ap (λ h. times_after passes h b) (append-nil before))
+times-append passes before (x ∷ a) b =
+    omega (
+      arith,
+      times-append passes (before ++ x ∷ []) a b,
+      ap (λ h. times_after passes h b) (append_assoc before (x ∷ []) a),
+    )
+
+-- Errored submultiframes only become more.
+errored-grows : (a b : List ℕ) → (tally_of a).errored ≤ (tally_of (a ++ b)).errored
+errored-grows a b = omega (arith, times-append tells_errored [] a b)
+
+-- A sum with one more number.
+sum-more : (xs : List ℕ) (x : ℕ) → sum (xs ++ x ∷ []) ≡ sum xs + x
+sum-more xs x = omega (arith, sum_by-append (λ x. x) xs (x ∷ []))
+
+-- Before the first octet.
+pub none_checked : (checker : TrunkChecker) (reports : List ℕ) → ChecksTrunk checker [] → reports ≡ []
+    → HasReported checker 0 reports [] []
+unfolding times_after
+none_checked checker reports s none = record {
+  checks = s;
+  same = refl;
+  total = ap (λ (xs : List ℕ). sum xs) none;
+  unreported = 0;
+  others = refl;
+}
+
+-- After more octets, which are returned as they came.
+pub more_checked : (a b : TrunkChecker) (reported : ℕ) (reports octets returned old new : List ℕ)
+    → HasReported a reported reports octets returned → ChecksTrunk b (octets ++ old)
+    → new ≡ replies_after same_octet octets old
+    → HasReported b reported reports (octets ++ old) (returned ++ new)
+more_checked a b reported reports octets returned old new s checks is =
+    let grows = errored-grows octets old in
+    record {
+      checks = checks;
+      same = ap (λ xs. xs ++ new) s.same ∙ ap (λ xs. octets ++ xs) (is ∙ same_octets octets old);
+      total = s.total;
+      unreported = (tally_of (octets ++ old)).errored - reported;
+      others = omega (arith, s.others, grows);
+    }
+
+-- After a report.
+pub report_sent : (checker : TrunkChecker) (reported reported' count : ℕ) (reports reports' octets returned : List ℕ)
+    (tally : ReceiverCounts) → HasReported checker reported reports octets returned → tally ≡ tally_of octets
+    → count ≤ tally.errored - reported → reports' ≡ reports ++ count ∷ [] → reported' ≡ reported + count
+    → HasReported checker reported' reports' octets returned
+report_sent checker reported reported' count reports reports' octets returned tally s is few sent more =
+    let errored = ap (λ (t : ReceiverCounts). t.errored) is in
+    record {
+      checks = s.checks;
+      same = s.same;
+      total = omega (arith, ap (λ (xs : List ℕ). sum xs) sent, sum-more reports count, s.total, more);
+      unreported = s.unreported - count;
+      others = omega (arith, s.others, errored, few, more);
+    }

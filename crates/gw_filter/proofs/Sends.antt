@@ -1,0 +1,141 @@
+-- A sender of CRC-4 multiframes, one arrival more.
+use Rattle.std.proofs.Common.{◌≡◌, ◌+◌, ◌<◌, ◌≤◌, ℕ, suc, List, [], ◌∷◌, ◌++◌, length, take, drop, get_or, slice_set, map}
+use Rattle.std.proofs.Common.{Option, Some, refl, sym, ap, ◌∙◌, arith, subst, append_assoc, append-nil, length-append}
+use Rattle.std.proofs.Math.Seq.{drop-cons, set-append_seam, get_or-append_seam}
+use Rattle.std.proofs.lemmas.List.{length-set, take_all, drop_all}
+use Rattle.std.specs.Io.KnownBytes.{Appends}
+use Rattle.g704_crc4.specs.Multiframe.{sent_octet, sent_octets}
+use Rattle.g704_crc4.specs.Reporting.{Arrival, Octet, Errored, ReportsAfter, octet_with_e}
+use Rattle.g704_crc4.specs.States.{SendsAfter}
+use Rattle.gw_filter.specs.declared.sending.Crc4Sender.{Crc4Sender}
+use Rattle.gw_filter.specs.Crc4.{with_e_bits, sent_for, trunk_octets_in, reports_in, SendsCrc4, HasSent, IsSent}
+use Rattle.gw_filter.proofs.Arrivals.{with-e-octet, with-e-report, sent-more, arrives-next, given-after}
+use Rattle.gw_filter.proofs.Arrivals.{octets-append, reports-append, octets-of-octets, reports-of-octets}
+use Rattle.gw_filter.proofs.Arrivals.{octets-of-reports, reports-of-reports}
+
+-- The same arrivals, and the same octets sent.
+pub sends-same : (s : Crc4Sender) (a b : List Arrival) (xs ys : List ℕ) → a ≡ b → xs ≡ ys → SendsCrc4 s a xs
+    → SendsCrc4 s b ys
+sends-same s a b xs ys e f p = rw (← e, ← f) p
+
+-- After one octet more.
+pub octet-sent : (a b : Crc4Sender) (arrivals : List Arrival) (sent : List ℕ) (x with_bit y : ℕ)
+    → SendsCrc4 a arrivals sent → with_bit ≡ octet_with_e arrivals x
+    → ReportsAfter b.error_bits (arrivals ++ Octet x ∷ []) → y ≡ sent_octet (with_e_bits [] arrivals) with_bit
+    → SendsAfter b.multiframer (with_e_bits [] arrivals ++ with_bit ∷ [])
+    → SendsCrc4 b (arrivals ++ Octet x ∷ []) (sent ++ y ∷ [])
+octet-sent a b arrivals sent x with_bit y s is bits reply multiframer =
+    let all = ap (λ w. with_e_bits [] arrivals ++ w ∷ []) is ∙ sym (with-e-octet arrivals x) in
+    record {
+      bits = bits;
+      multiframer = subst (λ octets. SendsAfter b.multiframer octets) all multiframer;
+      sent_is = ap (λ xs. xs ++ y ∷ []) s.sent_is ∙ ap (λ z. sent_for arrivals ++ z ∷ []) reply
+          ∙ sym (sent-more (with_e_bits [] arrivals) with_bit) ∙ ap sent_octets all;
+    }
+
+-- After one report more.
+pub report-taken : (a b : Crc4Sender) (arrivals : List Arrival) (sent : List ℕ) (n : ℕ) → SendsCrc4 a arrivals sent
+    → ReportsAfter b.error_bits (arrivals ++ Errored n ∷ []) → b.multiframer ≡ a.multiframer
+    → SendsCrc4 b (arrivals ++ Errored n ∷ []) sent
+report-taken a b arrivals sent n s bits same = record {
+  bits = bits;
+  multiframer = rw (same, with-e-report arrivals n) s.multiframer;
+  sent_is = s.sent_is ∙ ap sent_octets (sym (with-e-report arrivals n));
+}
+
+-- The octets up to a place are sent, the others are as they came.
+pub record IsSentTo (first sender : Crc4Sender) (old now : List ℕ) (i : ℕ) : Type 0 where
+  pub done : List ℕ
+  pub counted : length done ≡ i
+  pub within : i ≤ length old
+  pub len : length now ≡ length old
+  pub now_is : now ≡ done ++ drop i old
+  pub sends : (arrivals : List Arrival) (sent : List ℕ) → SendsCrc4 first arrivals sent
+      → SendsCrc4 sender (arrivals ++ map Octet (take i old)) (sent ++ done)
+
+-- So far none is.
+pub none_sent : (first : Crc4Sender) (old : List ℕ) → IsSentTo first first old old 0
+none_sent first old = record {
+  done = [];
+  counted = refl;
+  within = omega arith;
+  len = refl;
+  now_is = refl;
+  sends = λ arrivals sent s. sends-same first _ _ _ _ (sym (append-nil arrivals)) (sym (append-nil sent)) s;
+}
+
+-- The next octet of the slice is sent.
+pub one_sent : (first sender after : Crc4Sender) (old now : List ℕ) (i y : ℕ) → IsSentTo first sender old now i
+    → i < length now
+    → ((arrivals : List Arrival) (sent : List ℕ) → SendsCrc4 sender arrivals sent
+    → SendsCrc4 after (arrivals ++ Octet (get_or now i 0) ∷ []) (sent ++ y ∷ []))
+    → IsSentTo first after old (slice_set now i y) (i + 1)
+one_sent first sender after old now i y so lt step = record {
+  done = so.done ++ y ∷ [];
+  counted = omega (arith, length-append so.done (y ∷ []), so.counted);
+  within = omega (arith, so.len);
+  len = length-set now i y ∙ so.len;
+  now_is = ap (λ (xs : List ℕ). slice_set xs i y) split
+      ∙ ap (λ (k : ℕ). slice_set (so.done ++ get_or old i 0 ∷ drop (suc i) old) k y) (sym so.counted)
+      ∙ set-append_seam so.done (get_or old i 0) (drop (suc i) old) y
+      ∙ sym (append_assoc so.done (y ∷ []) (drop (suc i) old))
+      ∙ ap (λ (k : ℕ). (so.done ++ y ∷ []) ++ drop k old) one;
+  sends = λ arrivals sent s.
+      sends-same after _ _ _ _
+      (ap (λ x. (arrivals ++ map Octet (take i old)) ++ Octet x ∷ []) same
+      ∙ arrives-next Octet arrivals old i (omega (arith, so.len)))
+      (append_assoc sent so.done (y ∷ []))
+      (step (arrivals ++ map Octet (take i old)) (sent ++ so.done) (so.sends arrivals sent s));
+}
+  where
+    one : suc i ≡ i + 1
+    one = omega arith
+
+    split : now ≡ so.done ++ get_or old i 0 ∷ drop (suc i) old
+    split = so.now_is ∙ ap (λ (xs : List ℕ). so.done ++ xs) (drop-cons old i 0 (omega (arith, so.len)))
+
+    same : get_or now i 0 ≡ get_or old i 0
+    same = ap (λ (xs : List ℕ). get_or xs i 0) split
+        ∙ ap (λ (k : ℕ). get_or (so.done ++ get_or old i 0 ∷ drop (suc i) old) k 0) (sym so.counted)
+        ∙ get_or-append_seam so.done (get_or old i 0) (drop (suc i) old) 0
+
+-- All of them are sent.
+pub all_sent : (first sender : Crc4Sender) (old now : List ℕ) (i : ℕ) → IsSentTo first sender old now i
+    → length now ≤ i → (arrivals : List Arrival) (sent : List ℕ) → SendsCrc4 first arrivals sent
+    → SendsCrc4 sender (arrivals ++ map Octet old) (sent ++ now)
+all_sent first sender old now i so end arrivals sent s =
+    sends-same sender _ _ _ _
+    (ap (λ (xs : List ℕ). arrivals ++ map Octet xs) (take_all i old (omega (arith, so.len))))
+    (ap (λ (xs : List ℕ). sent ++ xs) (sym (so.now_is
+    ∙ ap (λ (xs : List ℕ). so.done ++ xs) (drop_all i old (omega (arith, so.len))) ∙ append-nil so.done)))
+    (so.sends arrivals sent s)
+
+-- After more reports, and then more octets.
+pub more_sent : (a b : Crc4Sender) (given given' : Option (List ℕ)) (reports taken returned old new : List ℕ)
+    → (s : HasSent a given taken returned) → Appends given given' reports
+    → SendsCrc4 b ((s.arrivals ++ map Errored reports) ++ map Octet old) (returned ++ new)
+    → HasSent b given' (taken ++ old) (returned ++ new)
+more_sent a b given given' reports taken returned old new s came sends =
+    let first = s.arrivals ++ map Errored reports in
+    record {
+      arrivals = first ++ map Octet old;
+      octets_are = ap (λ xs. xs ++ old) (s.octets_are ∙ sym (append-nil (trunk_octets_in s.arrivals))
+          ∙ ap (λ xs. trunk_octets_in s.arrivals ++ xs) (sym (octets-of-reports reports))
+          ∙ sym (octets-append s.arrivals (map Errored reports)))
+          ∙ ap (λ xs. trunk_octets_in first ++ xs) (sym (octets-of-octets old)) ∙ sym (octets-append first (map Octet old));
+      reports_are = given-after given given' (reports_in s.arrivals) reports s.reports_are came
+          ∙ ap Some (ap (λ xs. reports_in s.arrivals ++ xs) (sym (reports-of-reports reports))
+          ∙ sym (reports-append s.arrivals (map Errored reports)) ∙ sym (append-nil (reports_in first))
+          ∙ ap (λ xs. reports_in first ++ xs) (sym (reports-of-octets old)) ∙ sym (reports-append first (map Octet old)));
+      sends = sends;
+    }
+
+-- What is known of the octets and the reports alone.
+pub is_sent : (sender : Crc4Sender) (given : Option (List ℕ)) (octets sent : List ℕ) → HasSent sender given octets sent
+    → IsSent given octets sent
+is_sent sender given octets sent s = record {
+  arrivals = s.arrivals;
+  octets_are = s.octets_are;
+  reports_are = s.reports_are;
+  sent_is = s.sends.sent_is;
+}

@@ -1,0 +1,141 @@
+//! CRC-4 multiframes of a trunk checked, and their errored submultiframes reported.
+
+ghost use Rattle.std.specs.Prelude.{◌≡◌, ◌+◌, ◌-◌, ◌<◌, ◌≤◌, ◌++◌, ℕ, List, [], length, sum, IfOk, IfErr};
+ghost use Rattle.g704_crc4.specs.ReceiverCounts.{tally_of};
+ghost use Rattle.g704_crc4.specs.Receivers.{ChecksTrunk};
+ghost use Rattle.gw_records.specs.Streams.{CanBegin};
+ghost use Rattle.gw_filter.specs.Check.{same_octet, HasReported, ChecksMultiframes, ChecksMultiframesUntil};
+
+use crate::reports::{CountsTeller, ReportSink};
+use crate::through::{BufferFilter, OctetFilter, filter_all, octets_through};
+use g704_crc4::{ReceiverCounts, TrunkChecker};
+use gw_records::{RunFault, Sink, Source, Totals};
+
+// Octets of a second of the trunk.
+const SECOND: usize = 256_000;
+
+// The most errored submultiframes in one report.
+const MOST_REPORTED: u64 = 255;
+
+impl OctetFilter for TrunkChecker {
+    ghost has_taken = { ChecksTrunk };
+
+    ghost reply_after = { same_octet };
+
+    fn next_octet(&mut self, octet: u8) -> u8 {
+        self.octet(octet);
+        octet
+    }
+}
+
+/// The counts of a checked trunk.
+#[derive(Clone, Copy, Debug, PartialEq, Eq)]
+pub struct Checked {
+    /// The octets.
+    pub totals: Totals,
+    /// The counts of the multiframes.
+    pub tally: ReceiverCounts,
+    /// Errored submultiframes that were not reported.
+    pub unreported: u64,
+}
+
+/// Checks the CRC-4 multiframes of a trunk.
+///
+/// The errored submultiframes of each buffer are reported behind it, at most 255 of them at once; those that
+/// could not be sent are kept. The counts are told after each second of the trunk.
+#[derive(Drop)]
+pub struct ReportingChecker<R, T> {
+    checker: TrunkChecker,
+    reports: R,
+    // The sum of the reports.
+    reported: u64,
+    teller: T,
+    // Octets since the counts were told.
+    untold: usize,
+}
+
+impl<R: ReportSink, T: CountsTeller + Drop> ReportingChecker<R, T> {
+    /// A checker at the start of a stream.
+    pub fn new(reports: R, teller: T) -> Self
+        requires { R.sent reports ≡ [] }
+        ensures { HasReported result.checker result.reported (R.sent result.reports) [] [] }
+    {
+        ReportingChecker {
+            checker: TrunkChecker::new(),
+            reports,
+            reported: 0,
+            teller,
+            untold: 0,
+        }
+    }
+
+    // Reports the errored submultiframes of these octets.
+    fn report(&mut self)
+        ensures { (octets returned : List ℕ) → HasReported self.old.checker self.old.reported
+            (R.sent self.old.reports) octets returned
+            → HasReported self.new.checker self.new.reported (R.sent self.new.reports) octets returned }
+    {
+        let unreported = self.checker.tally().errored.saturating_sub(self.reported);
+        if unreported == 0 {
+            return;
+        }
+        let count = unreported.min(MOST_REPORTED);
+        if self.reports.send(count as u8) {
+            self.reported = self.reported.saturating_add(count);
+        }
+    }
+
+    // Tells the counts if a second has passed with so many octets.
+    fn tell(&mut self, len: usize)
+        ensures checker { self.new.checker ≡ self.old.checker }
+        ensures reported { self.new.reported ≡ self.old.reported }
+        ensures reports { self.new.reports ≡ self.old.reports }
+    {
+        self.untold = self.untold.saturating_add(len);
+        if self.untold >= SECOND {
+            self.untold %= SECOND;
+            let counts = self.checker.tally();
+            self.teller.tell(&counts);
+        }
+    }
+}
+
+impl<R: ReportSink, T: CountsTeller + Drop> BufferFilter for ReportingChecker<R, T> {
+    ghost has_returned = { λ c octets returned. HasReported c.checker c.reported (R.sent c.reports)
+        octets returned };
+
+    fn filter_buffer(&mut self, octets: &mut [u8]) {
+        filter_all(&mut self.checker, octets);
+        self.report();
+        self.tell(octets.len());
+    }
+}
+
+/// Writes a trunk's octets unchanged, counts its CRC-4 multiframes and reports the errored ones.
+///
+/// The counts are those of `g704_crc4::TrunkChecker`. All octets are written before the source is read again.
+/// No memory is taken.
+///
+/// # Errors
+///
+/// Those of [`octets_through`].
+pub fn crc4_check_stream<R: ReportSink, T: CountsTeller + Drop, S: Source, K: Sink>(
+    checker: &mut ReportingChecker<R, T>,
+    source: &mut S,
+    sink: &mut K,
+) -> Result<Checked, RunFault>
+    requires begins { HasReported checker.old.checker checker.old.reported (R.sent checker.old.reports) [] [] }
+    requires streams { CanBegin (S.tells source.old) (K.tells sink.old) }
+    ensures ok { IfOk result (ChecksMultiframes (S.tells source.old) (S.tells source.new)
+        (K.tells sink.old) (K.tells sink.new) (R.sent checker.new.reports)) }
+    ensures fault { IfErr result (ChecksMultiframesUntil (S.tells source.old) (S.tells source.new)
+        (K.tells sink.old) (K.tells sink.new) (R.sent checker.new.reports)) }
+{
+    let totals = octets_through(checker, source, sink)?;
+    let tally = checker.checker.tally();
+    Ok(Checked {
+        totals,
+        tally,
+        unreported: tally.errored.saturating_sub(checker.reported),
+    })
+}

@@ -1,0 +1,27 @@
+//! The file through which `crc4 --check` tells `crc4` of errored submultiframes.
+
+use crate::program_fault::ProgramFault;
+use crate::recording::never_wait;
+use std::fs::{self, File, OpenOptions};
+use std::io;
+
+// Opens the file for both, so that the opening of a FIFO waits for nobody.
+fn open(rt: &HostRuntime, path: &str) -> io::Result<File> {
+    let file = OpenOptions::new().read(true).write(true).open(rt, path)?;
+    never_wait(&file)?;
+    Ok(file)
+}
+
+/// Opens the FIFO of reports; no read or write of it waits.
+///
+/// # Errors
+///
+/// [`ProgramFault::Reports`] if it can't be opened or is a regular file, or want of memory.
+pub fn open_reports(rt: &HostRuntime, path: &str) -> Result<File, ProgramFault> {
+    let found = fs::metadata(rt, path);
+    let found = found.map_err(|error| ProgramFault::of(&error, ProgramFault::Reports))?;
+    if found.is_file() {
+        return Err(ProgramFault::Reports);
+    }
+    open(rt, path).map_err(|error| ProgramFault::of(&error, ProgramFault::Reports))
+}
