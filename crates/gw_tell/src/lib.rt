@@ -7,6 +7,7 @@ mod lines;
 mod picture;
 mod place;
 mod report;
+mod seizures;
 mod teller;
 mod text;
 
