@@ -206,7 +206,8 @@ class Ring(Recorded):
         (run,) = glob.glob(os.path.join(self.memory, 'keep-*', number))
         with open(os.path.join(run, recorder.ROOM), 'wb'):
             pass                        # (the recorder looks once a minute)
-        self.assertIn('the recording begins again', self.goes_on())
+        self.goes_on()
+        self.assertIn('the recording begins again: program', self.told())
         self.step(60)
         self.as_uncut()
         self.ends()
