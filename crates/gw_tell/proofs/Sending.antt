@@ -8,7 +8,6 @@ use Rattle.gw_tell.specs.declared.place.ClientSlot.{ClientSlot}
 use Rattle.gw_tell.specs.declared.picture.TrunkStatus.{TrunkStatus}
 use Rattle.gw_tell.specs.Lines.{at_line}
 use Rattle.gw_tell.specs.Reports.{sent_to, last_after, Shows, Changes, IsStatusOf, place_after}
-use Rattle.gw_tell.specs.Seizures.{AreCounted}
 use Rattle.gw_tell.specs.Clients.{AllAreTold, TellsChanges}
 use Rattle.gw_tell.proofs.Reporting.{changes_go_behind}
 
@@ -33,17 +32,16 @@ front_is line pushed report text front a b c (lines, d) =
 
 -- The clients were told what changed.
 pub tells : (place : ℕ) (r : Record) (code : ℕ) (gateway : Gateway) (was told is : TrunkStatus)
-    (seized seized' : List ℕ) (places places' : List ClientSlot) (at : ℕ) (pushed report text : List ℕ) (front : ℕ)
-    → Shows is gateway → AreCounted seized was.rows is.rows seized' → at ≡ place_after place r → pushed ≡ at_line at → front ≡ length pushed → text ≡ report
+    (places places' : List ClientSlot) (at : ℕ) (pushed report text : List ℕ) (front : ℕ)
+    → Shows is gateway → at ≡ place_after place r → pushed ≡ at_line at → front ≡ length pushed → text ≡ report
     → Changes place r code was is told pushed report → IsStatusOf is told
-    → AllAreTold places places' at (drop front text) → TellsChanges place r code gateway was told seized seized' places places'
-tells place r code gateway was told is seized seized' places places' at pushed report text front shows counted at_is line len same changes
+    → AllAreTold places places' at (drop front text) → TellsChanges place r code gateway was told places places'
+tells place r code gateway was told is places places' at pushed report text front shows at_is line len same changes
     true_picture told_all =
     let behind = changes_go_behind place r code was is told pushed report changes in
     let f = front_is (at_line at) pushed report text front line len same behind in record {
       is = is;
       shows = shows;
-      counted = counted;
       lines = drop front text;
       changes = rw (← at_is, ← f.2, ← line) changes;
       true_picture = true_picture;

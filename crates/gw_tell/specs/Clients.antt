@@ -8,7 +8,6 @@ use Rattle.gw_tell.specs.declared.place.ClientSlot.{ClientSlot}
 use Rattle.gw_tell.specs.Backlog.{waiting}
 use Rattle.gw_tell.specs.declared.picture.TrunkStatus.{TrunkStatus}
 use Rattle.gw_tell.specs.Lines.{at_line}
-use Rattle.gw_tell.specs.Seizures.{AreCounted}
 use Rattle.gw_tell.specs.Reports.{Shows, Changes, IsStatusOf, place_after, whole_state, sent_to, last_after}
 
 -- All that was sent to a client: what it took, and behind it what waits for it. So what it took is a prefix
@@ -47,12 +46,11 @@ AllFree places = (k : ℕ) → at places k ≡ None
 abbrev pub AllAreTold : List ClientSlot → List ClientSlot → ℕ → List ℕ → Type 0
 AllAreTold places places' place lines = (k : ℕ) → IsTold (at places k) (at places' k) place lines
 
--- the clients were told what changed with a record, behind which the gateway stands, and seizures are counted
+-- the clients were told what changed with a record, behind which the gateway stands
 pub record TellsChanges (place : ℕ) (r : Record) (code : ℕ) (gateway : Gateway) (was told : TrunkStatus)
-    (seized seized' : List ℕ) (places places' : List ClientSlot) : Type 0 where
+    (places places' : List ClientSlot) : Type 0 where
   pub is : TrunkStatus
   pub shows : Shows is gateway
-  pub counted : AreCounted seized was.rows is.rows seized'
   pub lines : List ℕ
   pub changes : Changes place r code was is told (at_line (place_after place r))
       (at_line (place_after place r) ++ lines)

@@ -23,10 +23,10 @@ no_seizures = 0 ∷ 0 ∷ 0 ∷ 0 ∷ 0 ∷ 0 ∷ 0 ∷ 0 ∷ 0 ∷ 0 ∷
     0 ∷ 0 ∷ 0 ∷ 0 ∷ 0 ∷ 0 ∷ 0 ∷ 0 ∷ 0 ∷ 0 ∷ []
 
 -- the count of a circuit behind a record, before which it stood so
-abbrev pub count_after : ℕ → Status → Status → ℕ
-count_after n was is = if is_seizure was.state is.state then at_most (n + 1) else n
+abbrev pub seizures_after : ℕ → Status → Status → ℕ
+seizures_after n was is = if is_seizure was.state is.state then at_most (n + 1) else n
 
 -- each circuit was counted
 abbrev pub AreCounted : List ℕ → List Status → List Status → List ℕ → Type 0
 AreCounted counts was is counts' = (c : ℕ) → 1 ≤ c → c ≤ 30
-    → count_of counts' c ≡ count_after (count_of counts c) (of_circuit was c) (of_circuit is c)
+    → count_of counts' c ≡ seizures_after (count_of counts c) (of_circuit was c) (of_circuit is c)

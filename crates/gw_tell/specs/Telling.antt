@@ -9,7 +9,7 @@ use Rattle.gw_tell.specs.declared.place.ClientSlot.{ClientSlot}
 use Rattle.gw_tell.specs.declared.teller.Teller.{Teller}
 use Rattle.gw_tell.specs.Clients.{at, sent, Gets, AllFree, TellsChanges, StaysOrNew}
 use Rattle.gw_tell.specs.Reports.{Shows, place_after, whole_state}
-use Rattle.gw_tell.specs.Seizures.{no_seizures}
+use Rattle.gw_tell.specs.Seizures.{AreCounted, no_seizures}
 
 -- a Teller that was shown nothing yet: it has no client, and what was told last is how this gateway stands
 pub record HasBegun (t : Teller) (law : Law) (gateway : Gateway) : Type 0 where
@@ -44,7 +44,8 @@ pub record TellsRecord (t t' : Teller) (r : Record) (code : ℕ) (gateway : Gate
   pub place_is : t'.place ≡ place_after t.place r
   pub told : TrunkStatus
   pub between : List ClientSlot
-  pub tells : TellsChanges t.place r code gateway t.told told t.seized t'.seized t.places between
+  pub tells : TellsChanges t.place r code gateway t.told told t.places between
+  pub counted : AreCounted t.seized t.told.rows told.rows t'.seized
   pub here : List ClientSlot
   pub listens : (k : ℕ) → Gets (at between k) (at here k) []
   pub lets_in : LetsIn t.law t'.place gateway told t'.told t'.seized here t'.places

@@ -107,6 +107,7 @@ impl Teller {
     ghost use Rattle.gw_tell.specs.Reports.{Shows};
     ghost use Rattle.gw_tell.specs.Clients.{TellsChanges, StaysOrNew};
     ghost use Rattle.gw_tell.specs.Telling.{LetsIn};
+    ghost use Rattle.gw_tell.specs.Seizures.{AreCounted};
 
     /// Listens at a path, with no client yet, and takes the memory of all places. The error is the system's,
     /// or that memory was refused.
@@ -129,7 +130,8 @@ impl Teller {
     #[inline(never)]
     fn tell(&mut self, head: &RecordHeader, body: &[u8], code: u8, gateway: &Gateway)
         ensures changes { TellsChanges self.old.place (named head.now body.now) code gateway.now
-            self.old.told self.new.told self.old.seized self.new.seized self.old.places self.new.places }
+            self.old.told self.new.told self.old.places self.new.places }
+        ensures counted { AreCounted self.old.seized self.old.told.rows self.new.told.rows self.new.seized }
         ensures law { self.new.law ≡ self.old.law }
         ensures place { self.new.place ≡ self.old.place }
     {

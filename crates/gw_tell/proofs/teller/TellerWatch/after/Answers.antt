@@ -10,6 +10,7 @@ returns-in_default c = record {
   told = c.tell.new.self.told;
   between = c.tell.new.self.places;
   tells = c.tell.ensures.changes;
+  counted = c.tell.ensures.counted;
   here = c.tell.new.self.places;
   listens = λ k. none_sent (at c.tell.new.self.places k);
   lets_in = none_let_in _ _ _ _ _ _;
@@ -23,7 +24,8 @@ returns-in-Trunk c = record {
       ∙ rw (c.tell.ensures.place) at c.place_after-self.ensures;
   told = c.tell.new.self.told;
   between = c.tell.new.self.places;
-  tells = rw (← c.listen.ensures.seized, ← c.let_in.ensures.seized) at c.tell.ensures.changes;
+  tells = c.tell.ensures.changes;
+  counted = rw (← c.listen.ensures.seized, ← c.let_in.ensures.seized) at c.tell.ensures.counted;
   here = c.listen.new.self.places;
   listens = c.listen.ensures.clients;
   lets_in = rw (
