@@ -3,7 +3,7 @@ use Rattle.std.proofs.Common.{◌≡◌, ℕ, ◌+◌, ◌-◌, ◌%◌, ◌^◌
 use Rattle.std.proofs.Common.{refl, sym, ap, ◌∙◌, arith, append_assoc, append-nil, inl, inr}
 use Rattle.std.specs.Prelude.{◌≢◌, min, cond, not, ◌&&◌, ◌==◌}
 use Rattle.std.proofs.lemmas.Bool.{cases_eq, eq-eqb, ne_eqb}
-use Rattle.g704_crc4.specs.declared.reporting.ErrorBits.{ErrorBits}
+use Rattle.g704_crc4.specs.declared.reporting.EBitReporter.{EBitReporter}
 use Rattle.g704_crc4.specs.Remainder.{bit_number}
 use Rattle.g704_crc4.specs.Multiframe.{with_si}
 use Rattle.g704_crc4.specs.Reporting.{Arrival, Octet, Errored, octet_count, errored_in_all, has_e_bit}
@@ -108,7 +108,7 @@ unfolding has_e_bit
 e-bit-place p n e = let same : p % 512 ≡ n % 512 = omega (arith, e) in rw same refl
 
 -- One octet more that has no E bit.
-pub without-bit : (bits : ErrorBits) (h : List Arrival) (x : ℕ) → ReportsAfter bits h → has_e_bit bits.place ≡ false
+pub without-bit : (bits : EBitReporter) (h : List Arrival) (x : ℕ) → ReportsAfter bits h → has_e_bit bits.place ≡ false
     → (x ≡ octet_with_e h x)
     × ReportsAfter (record { place = (bits.place + 1) % 65536; unreported = bits.unreported }) (h ++ Octet x ∷ [])
 unfolding octet_with_e
@@ -124,7 +124,7 @@ without-bit bits h x s other =
     )
 
 -- One octet more that has one.
-pub with-bit : (bits : ErrorBits) (h : List Arrival) (x left : ℕ) → ReportsAfter bits h → has_e_bit bits.place ≡ true
+pub with-bit : (bits : EBitReporter) (h : List Arrival) (x left : ℕ) → ReportsAfter bits h → has_e_bit bits.place ≡ true
     → left ≡ bits.unreported - 1
     → (with_si (bits.unreported == 0) x ≡ octet_with_e h x)
     × ReportsAfter (record { place = (bits.place + 1) % 65536; unreported = left }) (h ++ Octet x ∷ [])

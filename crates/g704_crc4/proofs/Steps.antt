@@ -5,7 +5,7 @@ use Rattle.std.specs.Prelude.{◌≢◌}
 use Rattle.std.proofs.lemmas.List.{length_push}
 use Rattle.std.proofs.lemmas.Bool.{cases_eq, ne_eqb}
 use Rattle.g704_crc4.specs.declared.remainder.Remainder.{Remainder}
-use Rattle.g704_crc4.specs.declared.sending.Multiframer.{Multiframer}
+use Rattle.g704_crc4.specs.declared.sending.Crc4Inserter.{Crc4Inserter}
 use Rattle.g704_crc4.specs.Remainder.{no_remainder, after_octet, sent_bits, remainder_of, crc_number}
 use Rattle.g704_crc4.specs.Submultiframes.{each_at, submultiframe}
 use Rattle.g704_crc4.specs.Multiframe.{octet_at, zeroed, check_bits_after}
@@ -46,7 +46,7 @@ check-bits-stay h x ne =
     ]
 
 -- Within a submultiframe a multiframer is ready for the next octet.
-pub next-within : (m : Multiframer) (h : List ℕ) → SendsAfter m h → length h % 256 ≢ 0 → SendsNext m h
+pub next-within : (m : Crc4Inserter) (h : List ℕ) → SendsAfter m h → length h % 256 ≢ 0 → SendsNext m h
 next-within m h s ne =
     let same : (length h - 1) / 256 ≡ length h / 256 = omega (arith, ne) in
     record {
@@ -69,7 +69,7 @@ ended-is-before (x ∷ h) e =
     sym (check-bits-are (x ∷ h) ((length (x ∷ h) - 1) / 256) n)
 
 -- At the end of a submultiframe it is ready once its remainder is that of the one before.
-pub next-begins : (m : Multiframer) (h : List ℕ) → SendsAfter m h → length h % 256 ≡ 0
+pub next-begins : (m : Crc4Inserter) (h : List ℕ) → SendsAfter m h → length h % 256 ≡ 0
     → SendsNext (record { place = m.place; before = m.running; running = 0 }) h
 next-begins m h s e = record {
   place = s.place;
@@ -78,7 +78,7 @@ next-begins m h s e = record {
 }
 
 -- One octet more.
-pub sends-more : (m : Multiframer) (h : List ℕ) (x counted place left : ℕ) → SendsNext m h
+pub sends-more : (m : Crc4Inserter) (h : List ℕ) (x counted place left : ℕ) → SendsNext m h
     → counted ≡ octet_at no_remainder (length h) x → place ≡ (m.place + 1) % 65536
     → ((remainder : Remainder) → m.running ≡ crc_number remainder → left ≡ crc_number (after_octet remainder counted))
     → SendsAfter (record { place = place; before = m.before; running = left }) (h ++ x ∷ [])

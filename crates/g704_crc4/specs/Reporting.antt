@@ -3,7 +3,7 @@
 -- at the first octet.
 use Rattle.std.specs.Prelude.{◌≡◌, ℕ, ◌+◌, ◌-◌, ◌*◌, ◌%◌, ◌^◌, ◌≤◌, Bool, not, ◌&&◌, ◌||◌, ◌==◌, min}
 use Rattle.std.specs.Prelude.{if◌then◌else◌, List, [], ◌∷◌, ◌++◌}
-use Rattle.g704_crc4.specs.declared.reporting.ErrorBits.{ErrorBits}
+use Rattle.g704_crc4.specs.declared.reporting.EBitReporter.{EBitReporter}
 use Rattle.g704_crc4.specs.Remainder.{bit_number}
 use Rattle.g704_crc4.specs.Multiframe.{with_si}
 
@@ -67,6 +67,6 @@ abbrev pub NoneIsReported : Type 0
 NoneIsReported = (arrivals : List Arrival) → errored_in_all arrivals ≡ 0 → unreported arrivals ≡ 0
 
 -- A sender of E bits after these: the octets modulo 2^16, and the errored submultiframes not yet reported.
-pub record ReportsAfter (bits : ErrorBits) (history : List Arrival) : Type 0 where
+pub record ReportsAfter (bits : EBitReporter) (history : List Arrival) : Type 0 where
   pub place : bits.place ≡ octet_count history % 65536
   pub unreported : bits.unreported ≡ unreported_after 0 0 history

@@ -1,6 +1,6 @@
 -- The histories of the two machines: their octets.
 use Rattle.std.specs.Prelude.{◌≡◌, ◌≢◌, ℕ, ◌+◌, ◌-◌, ◌*◌, ◌/◌, ◌%◌, ◌<◌, ◌≤◌, nat_le, List, length}
-use Rattle.g704_crc4.specs.declared.sending.Multiframer.{Multiframer}
+use Rattle.g704_crc4.specs.declared.sending.Crc4Inserter.{Crc4Inserter}
 use Rattle.g704_crc4.specs.declared.checking.Checker.{Checker}
 use Rattle.g704_crc4.specs.Remainder.{remainder_of, crc_number}
 use Rattle.g704_crc4.specs.Submultiframes.{submultiframe}
@@ -9,7 +9,7 @@ use Rattle.g704_crc4.specs.Receiving.{si_of, cleared, remainder_in}
 
 -- A multiframer after these octets: their number modulo 2^16; the remainder of the last octet's
 -- submultiframe, as a number; and that of the one before it, if more of its octets follow.
-pub record SendsAfter (multiframer : Multiframer) (history : List ℕ) : Type 0 where
+pub record SendsAfter (multiframer : Crc4Inserter) (history : List ℕ) : Type 0 where
   pub place : multiframer.place ≡ length history % 65536
   pub before : length history % 256 ≢ 0 → multiframer.before ≡ crc_number (check_bits_after history)
   pub running :
@@ -18,7 +18,7 @@ pub record SendsAfter (multiframer : Multiframer) (history : List ℕ) : Type 0 
 
 -- A multiframer ready for the octet after these: the remainders of that octet's submultiframe so far, and of
 -- the one before it.
-pub record SendsNext (multiframer : Multiframer) (history : List ℕ) : Type 0 where
+pub record SendsNext (multiframer : Crc4Inserter) (history : List ℕ) : Type 0 where
   pub place : multiframer.place ≡ length history % 65536
   pub before : multiframer.before ≡ crc_number (check_bits_after history)
   pub running :

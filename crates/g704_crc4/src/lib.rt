@@ -17,9 +17,9 @@ mod tallying;
 pub use checking::{Checker, Counts, Event, check};
 pub use receiving::{Receiver, ReceiverEvent};
 pub use remainder::Remainder;
-pub use reporting::ErrorBits;
+pub use reporting::EBitReporter;
 pub use searching::find_multiframe;
-pub use sending::Multiframer;
+pub use sending::Crc4Inserter;
 pub use tallying::{ReceiverCounts, TrunkChecker};
 
 // Octets of a frame, a double frame, a submultiframe and a multiframe.

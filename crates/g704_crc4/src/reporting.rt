@@ -11,19 +11,19 @@ use crate::{FRAME, MULTIFRAME};
 /// Multiframes begin at the first octet. Bit 1 of frames 13 and 15 of each is 0 for one errored submultiframe
 /// that was received, otherwise 1 (ITU-T G.704, 2.3.3.4). No other bit changes.
 #[derive(Clone, Copy, Debug, PartialEq, Eq)]
-pub struct ErrorBits {
+pub struct EBitReporter {
     // The octets so far, modulo 2^16, a whole number of multiframes.
     place: u16,
     // The errored submultiframes not yet reported.
     unreported: u32,
 }
 
-impl ErrorBits {
+impl EBitReporter {
     /// Starts a stream, with nothing to report.
     pub fn new() -> Self
         ensures { ReportsAfter result [] }
     {
-        ErrorBits {
+        EBitReporter {
             place: 0,
             unreported: 0,
         }

@@ -12,9 +12,9 @@ use crate::{BIT_1, FRAME, SUBMULTIFRAME};
 /// Puts CRC-4 multiframes into bit 1 of time slot 0.
 ///
 /// The frames begin at the first octet, which carries the frame alignment signal. No other bit changes,
-/// nor do the E bits (see [`crate::ErrorBits`]).
+/// nor do the E bits (see [`crate::EBitReporter`]).
 #[derive(Clone, Copy, Debug, PartialEq, Eq)]
-pub struct Multiframer {
+pub struct Crc4Inserter {
     // The octets so far, modulo 2^16, a whole number of multiframes.
     place: u16,
     // The remainder of the submultiframe before the last octet's, as a number.
@@ -23,12 +23,12 @@ pub struct Multiframer {
     running: u8,
 }
 
-impl Multiframer {
+impl Crc4Inserter {
     /// A multiframer at the start of a stream.
     pub fn new() -> Self
         ensures { SendsAfter result [] }
     {
-        Multiframer {
+        Crc4Inserter {
             place: 0,
             before: 0,
             running: 0,

@@ -17,7 +17,7 @@ use std::marker::Model;
 
 // SE and Y, from the state before a sample.
 #[derive(Clone, Copy)]
-pub(crate) struct Estimates {
+pub(crate) struct EstimateAndScale {
     pub(crate) se: i16,
     pub(crate) y: u16,
     ghost se_low: { negsuc 16383 ≤ℤ se },
@@ -51,11 +51,11 @@ impl State {
         }
     }
 
-    pub(crate) fn forecast(&self) -> Estimates
+    pub(crate) fn forecast(&self) -> EstimateAndScale
         ensures estimate { result.se ≡ se self.now.prediction }
         ensures scale { result.y ≡ scale self.now.adaptation }
     {
-        Estimates {
+        EstimateAndScale {
             se: self.predictor.estimate().1,
             y: self.adapt.scale(),
         }
@@ -64,7 +64,7 @@ impl State {
     // Updates the state by a word.
     //
     // Returns SR, the reconstructed signal.
-    pub(crate) fn step<R: Rate>(&mut self, word: Word<R>, forecast: Estimates) -> i16
+    pub(crate) fn step<R: Rate>(&mut self, word: Word<R>, forecast: EstimateAndScale) -> i16
         requires estimate { forecast.se ≡ se self.old.prediction }
         requires scale { forecast.y ≡ scale self.old.adaptation }
         ensures signal { result ≡ addb R.tables self.old word }
@@ -92,7 +92,7 @@ fn subta(sl: i16, se: i16) -> i16
 }
 
 // SUBTA, LOG, SUBTB and QUAN: the word for an octet.
-pub(crate) fn word_of<R: Rate>(law: Law, octet: u8, forecast: Estimates) -> Word<R>
+pub(crate) fn word_of<R: Rate>(law: Law, octet: u8, forecast: EstimateAndScale) -> Word<R>
     ensures { result ≡ quantised R.tables (wrap16 (expand law octet -ℤ forecast.se)) forecast.y }
 {
     quantise::<R>(subta(expand(law, octet), forecast.se), forecast.y)

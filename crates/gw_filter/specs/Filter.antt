@@ -5,7 +5,7 @@ use Rattle.g704_framing.specs.Replies.{stream_replies}
 use Rattle.gw_records.specs.declared.outcome.Totals.{Totals}
 use Rattle.gw_records.specs.declared.outcome.RunFault.{RunFault}
 use Rattle.gw_records.specs.declared.outcome.RunFault.TheVariants.{Read, Write}
-use Rattle.gw_records.specs.Streams.{SourceState, SinkState, Yields, GivesUp, StopsInWrite, at_most}
+use Rattle.gw_records.specs.Streams.{SourceState, SinkState, Yields, GivesUp, FailsAfterPrefix, at_most}
 use Rattle.gw_records.specs.Outcome.{nothing_counted}
 
 -- The totals after so many octets.
@@ -44,7 +44,7 @@ pub record FiltersUntilWrite (reply : List ℕ → ℕ → ℕ) (source source' 
     : Type 0 where
   pub octets : List ℕ
   pub gives : Yields source source' octets
-  pub breaks : StopsInWrite sink sink' (stream_replies reply octets)
+  pub breaks : FailsAfterPrefix sink sink' (stream_replies reply octets)
   pub no_read : source'.failures ≡ source.failures
 
 -- The end of a filter before that of the source: by a read or a write, and by no other fault.

@@ -10,7 +10,7 @@ ghost use Rattle.gw_filter.specs.Crc4.{SendsCrc4, crc4_octet, SendsMultiframes, 
 
 use crate::through::{OctetFilter, octets_through};
 use g704_bits::BitAligner;
-use g704_crc4::{ErrorBits, Multiframer, ReceiverCounts, TrunkChecker};
+use g704_crc4::{Crc4Inserter, EBitReporter, ReceiverCounts, TrunkChecker};
 use gw_records::{RunFault, Sink, Source, Totals};
 
 impl OctetFilter for BitAligner {
@@ -26,8 +26,8 @@ impl OctetFilter for BitAligner {
 // Puts CRC-4 multiframes with E bits into a trunk.
 #[derive(Clone, Copy, Debug, PartialEq, Eq)]
 struct Crc4Sender {
-    error_bits: ErrorBits,
-    multiframer: Multiframer,
+    error_bits: EBitReporter,
+    multiframer: Crc4Inserter,
 }
 
 impl Crc4Sender {
@@ -36,8 +36,8 @@ impl Crc4Sender {
         ensures { SendsCrc4 result [] }
     {
         Crc4Sender {
-            error_bits: ErrorBits::new(),
-            multiframer: Multiframer::new(),
+            error_bits: EBitReporter::new(),
+            multiframer: Crc4Inserter::new(),
         }
     }
 }
@@ -101,7 +101,7 @@ pub fn align_stream<S: Source, K: Sink>(source: &mut S, sink: &mut K) -> Result<
 
 /// Writes a trunk's octets with CRC-4 multiframes.
 ///
-/// It writes one octet for each octet of the source, as `g704_crc4::Multiframer` returns it. E bits are 1.
+/// It writes one octet for each octet of the source, as `g704_crc4::Crc4Inserter` returns it. E bits are 1.
 /// The frames begin at the first octet, as those of a gateway. All are written before the source is
 /// read again. The octets are counted. No memory is taken.
 ///

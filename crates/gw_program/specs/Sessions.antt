@@ -8,7 +8,7 @@ use Rattle.gw_switch.specs.Standing.{HasHistory}
 use Rattle.gw_records.specs.declared.outcome.Totals.{Totals}
 use Rattle.gw_records.specs.declared.outcome.RunFault.{RunFault}
 use Rattle.gw_records.specs.declared.outcome.RunFault.TheVariants as faults
-use Rattle.gw_records.specs.Streams.{SourceState, SinkState, StopsInWrite}
+use Rattle.gw_records.specs.Streams.{SourceState, SinkState, FailsAfterPrefix}
 use Rattle.gw_session.specs.Running.{RunsAll, RunsUntil}
 use Rattle.gw_session.specs.Serve.{Around, ServesAll, ServesUntil}
 use Rattle.gw_program.specs.Listing.{listing}
@@ -46,7 +46,7 @@ pub record Lists (gateway : Gateway) (ended : Result Totals RunFault) (sink sink
       → text ≡ listing config events
   pub listed : Result (Unit {0}) RunFault
   pub wrote : OnOk listed (Appends sink.taken sink'.taken text)
-  pub broke : IfErr listed (λ e. (e ≡ faults.Write) × StopsInWrite sink sink' text)
+  pub broke : IfErr listed (λ e. (e ≡ faults.Write) × FailsAfterPrefix sink sink' text)
   pub end_is : end ≡ checked ended listed
 
 -- a sink that takes all octets and tells nothing

@@ -6,7 +6,7 @@ use Rattle.gw_switch.specs.declared.GatewayConfig.{GatewayConfig}
 use Rattle.gw_switch.specs.declared.gateway.Gateway.{Gateway}
 use Rattle.gw_switch.specs.Events.{Event}
 use Rattle.gw_switch.specs.Standing.{HasHistory}
-use Rattle.gw_records.specs.Streams.{SourceState, SinkState, Yields, StopsInWrite}
+use Rattle.gw_records.specs.Streams.{SourceState, SinkState, Yields, FailsAfterPrefix}
 use Rattle.gw_state.specs.declared.fault.LoadFault.{LoadFault}
 use Rattle.gw_state.specs.declared.fault.LoadFault.TheVariants as loads
 use Rattle.gw_state.specs.Faults.{Refuses}
@@ -57,7 +57,7 @@ load_trouble fault = troubles.State fault
 
 -- why octets were not saved: a write failed, or memory was refused before one
 abbrev pub FailsToSave : SinkState → SinkState → List ℕ → ProgramFault → Type 0
-FailsToSave sink sink' octets troubles.NotSaved = StopsInWrite sink sink' octets
+FailsToSave sink sink' octets troubles.NotSaved = FailsAfterPrefix sink sink' octets
 FailsToSave sink sink' octets troubles.OutOfMemory = sink' ≡ sink
 FailsToSave sink sink' octets _ = ⊥
 

@@ -12,7 +12,7 @@ use crate::trouble::ProgramFault;
 use gw_config::Config;
 use gw_session::{Ports, RunFault, Sink, Source, Tape, Totals};
 use gw_switch::Gateway;
-use gw_trunk::{Incoming, Outgoing, TrunkSink, TrunkSource, serve_trunk};
+use gw_trunk::{Incoming, Outgoing, TrunkRecordSink, TrunkRecordSource, serve_trunk};
 use std::alloc::Global;
 
 // Serves a trunk and its clients by a gateway, whose datagrams come and go through ports, and records on a
@@ -22,16 +22,18 @@ fn carry_trunk<I: Incoming, O: Outgoing, A: Outgoing, P: Ports, T: Tape>(
     alloc: Global,
     gateway: &mut Gateway,
     ports: &mut P,
-    source: &mut TrunkSource<I>,
-    sink: &mut TrunkSink<O, A>,
+    source: &mut TrunkRecordSource<I>,
+    sink: &mut TrunkRecordSink<O, A>,
     tape: &mut T,
 ) -> Result<Totals, RunFault>
     requires source { (source.old.failed ≡ 0) × (source.old.reads ≡ 0) × (source.old.log.octets ≡ []) }
     requires sink { (sink.old.failed ≡ 0) × (sink.old.log.octets ≡ []) }
     ensures { CarriesTrunk
-        (around (⟦<TrunkSource<I> as Source>⟧.tells source.old) (⟦<TrunkSink<O, A> as Sink>⟧.tells sink.old)
+        (around (⟦<TrunkRecordSource<I> as Source>⟧.tells source.old)
+        (⟦<TrunkRecordSink<O, A> as Sink>⟧.tells sink.old)
         (P.tells ports.old) (T.tells tape.old))
-        (around (⟦<TrunkSource<I> as Source>⟧.tells source.new) (⟦<TrunkSink<O, A> as Sink>⟧.tells sink.new)
+        (around (⟦<TrunkRecordSource<I> as Source>⟧.tells source.new)
+        (⟦<TrunkRecordSink<O, A> as Sink>⟧.tells sink.new)
         (P.tells ports.new) (T.tells tape.new))
         (traffic (I.came source.new.incoming) (I.asked source.new.incoming)
         (O.went sink.new.outgoing) (A.went sink.new.answers)) result gateway.old gateway.new }
@@ -46,8 +48,8 @@ fn perform_carry<Y: System, I: Incoming, O: Outgoing, A: Outgoing>(
     alloc: Global,
     config: &Config,
     gateway: &mut Gateway,
-    source: &mut TrunkSource<I>,
-    sink: &mut TrunkSink<O, A>,
+    source: &mut TrunkRecordSource<I>,
+    sink: &mut TrunkRecordSink<O, A>,
 ) -> Result<Totals, ProgramFault>
     requires source { (source.old.failed ≡ 0) × (source.old.reads ≡ 0) × (source.old.log.octets ≡ []) }
     requires sink { (sink.old.failed ≡ 0) × (sink.old.log.octets ≡ []) }
@@ -56,9 +58,11 @@ fn perform_carry<Y: System, I: Incoming, O: Outgoing, A: Outgoing>(
         ⊎ HasServed (Y.opens system.now config.now) (Y.begins system.now)
         (λ ports ports' tape tape'. EndedSaved
         (λ end. CarriesTrunk
-        (around (⟦<TrunkSource<I> as Source>⟧.tells source.old) (⟦<TrunkSink<O, A> as Sink>⟧.tells sink.old)
+        (around (⟦<TrunkRecordSource<I> as Source>⟧.tells source.old)
+        (⟦<TrunkRecordSink<O, A> as Sink>⟧.tells sink.old)
         (Y.Ports.tells ports) (Y.Tape.tells tape))
-        (around (⟦<TrunkSource<I> as Source>⟧.tells source.new) (⟦<TrunkSink<O, A> as Sink>⟧.tells sink.new)
+        (around (⟦<TrunkRecordSource<I> as Source>⟧.tells source.new)
+        (⟦<TrunkRecordSink<O, A> as Sink>⟧.tells sink.new)
         (Y.Ports.tells ports') (Y.Tape.tells tape'))
         (traffic (I.came source.new.incoming) (I.asked source.new.incoming)
         (O.went sink.new.outgoing) (A.went sink.new.answers)) end gateway.old gateway.new)
@@ -76,8 +80,8 @@ fn perform_carry<Y: System, I: Incoming, O: Outgoing, A: Outgoing>(
 pub fn perform_trunk<Y: System, I: Incoming, O: Outgoing, A: Outgoing>(
     system: &Y,
     alloc: Global,
-    source: &mut TrunkSource<I>,
-    sink: &mut TrunkSink<O, A>,
+    source: &mut TrunkRecordSource<I>,
+    sink: &mut TrunkRecordSink<O, A>,
 ) -> Result<Totals, ProgramFault>
     requires source { (source.old.failed ≡ 0) × (source.old.reads ≡ 0) × (source.old.log.octets ≡ []) }
     requires sink { (sink.old.failed ≡ 0) × (sink.old.log.octets ≡ []) }
@@ -89,9 +93,11 @@ pub fn perform_trunk<Y: System, I: Incoming, O: Outgoing, A: Outgoing>(
         (LacksTapeOrPorts (Y.lacks_tape system.now) (Y.lacks_ports system.now config)) result
         ⊎ HasServed (Y.opens system.now config) (Y.begins system.now) (λ ports ports' tape tape'. EndedSaved
         (λ end. CarriesTrunk
-        (around (⟦<TrunkSource<I> as Source>⟧.tells source.old) (⟦<TrunkSink<O, A> as Sink>⟧.tells sink.old)
+        (around (⟦<TrunkRecordSource<I> as Source>⟧.tells source.old)
+        (⟦<TrunkRecordSink<O, A> as Sink>⟧.tells sink.old)
         (Y.Ports.tells ports) (Y.Tape.tells tape))
-        (around (⟦<TrunkSource<I> as Source>⟧.tells source.new) (⟦<TrunkSink<O, A> as Sink>⟧.tells sink.new)
+        (around (⟦<TrunkRecordSource<I> as Source>⟧.tells source.new)
+        (⟦<TrunkRecordSink<O, A> as Sink>⟧.tells sink.new)
         (Y.Ports.tells ports') (Y.Tape.tells tape'))
         (traffic (I.came source.new.incoming) (I.asked source.new.incoming)
         (O.went sink.new.outgoing) (A.went sink.new.answers)) end gateway gateway')

@@ -8,10 +8,10 @@ pub use Rattle.gw_records.specs.Records.{record_at, Reads}
 unfoldable pub use Rattle.gw_records.specs.Records.{end_of, is_cut, has_bad_kind, has_bad_circuit, has_bad_length}
 unfoldable pub use Rattle.gw_records.specs.Records.{has_bad_command, head_of}
 pub use Rattle.gw_records.specs.Streams.{SourceState, SinkState, Yields, GivesUp, at_most, AppendsPrefix, AppendsBut}
-pub use Rattle.gw_records.specs.Streams.{Forwards, StopsInWrite}
+pub use Rattle.gw_records.specs.Streams.{TakesAllBut, FailsAfterPrefix}
 pub use Rattle.gw_records.specs.declared.reader.Reader.{Reader}
 pub use Rattle.gw_records.specs.declared.records.EndOfRecords.{EndOfRecords}
-pub use Rattle.gw_records.specs.declared.records.ParsedRecord.{ParsedRecord}
+pub use Rattle.gw_records.specs.declared.records.FirstRecord.{FirstRecord}
 pub use Rattle.gw_records.specs.declared.records.AcceptedKinds.{AcceptedKinds}
 pub use Rattle.std.proofs.Common.{◌≡◌, ◌≤◌, ℕ, refl, arith, ◌+◌, ◌-◌, ◌<◌, true, List, ◌++◌, length, take, drop, sym}
 pub use Rattle.std.proofs.Common.{ap, ◌∙◌, inl, inr, length-take-le, length-drop, ◌≢◌, ◌*◌, ◌^◌, ◌⊎◌, suc, false, []}

@@ -6,8 +6,8 @@ use Rattle.gw_records.proofs.Common.{common_steps, AcceptedKinds, spelled, IsGoo
 use Rattle.gw_records.proofs.Common.{has_bad_circuit, has_bad_length, has_bad_command, is_cut, end_of, IsCircuit}
 use Rattle.gw_records.proofs.Common.{IsFirst, head_of, named, EndOfRecords, command_of, codec_of}
 use Rattle.byteorder.specs.Endian.{big_bytes}
-use Rattle.gw_records.specs.declared.records.RecordHeader.{RecordHeader}
-use Rattle.gw_records.specs.declared.records.RecordHeader.TheVariants as heads
+use Rattle.gw_records.specs.declared.records.RecordKind.{RecordKind}
+use Rattle.gw_records.specs.declared.records.RecordKind.TheVariants as heads
 use Rattle.gw_records.specs.declared.records.EndOfRecords.TheVariants as endings
 use Rattle.gw_records.proofs.Again.{octet_of_command_again, octet_of_codec_again}
 
@@ -87,7 +87,7 @@ length_spelled : (h l n : ℕ) → h < 256 → l < 256 → n ≡ h * 256 + l →
 length_spelled h l n p q e = rw e (grind (arith, common_steps))
 
 -- a head of four octets, and a body
-firstly : (kinds : AcceptedKinds) (head : RecordHeader) (k c h l : ℕ) (rest : List ℕ) → h * 256 + l ≤ length rest
+firstly : (kinds : AcceptedKinds) (head : RecordKind) (k c h l : ℕ) (rest : List ℕ) → h * 256 + l ≤ length rest
     → k ∷ c ∷ h ∷ l ∷ take (h * 256 + l) rest ≡ spelled (named head (take (h * 256 + l) rest))
     → IsGood kinds (named head (take (h * 256 + l) rest))
     → IsFirst kinds (record { head = head; len = 4 + (h * 256 + l) }) (k ∷ c ∷ h ∷ l ∷ rest)
@@ -101,7 +101,7 @@ first_octets : (n : ℕ) (rest : List ℕ) → n ≤ length rest → (n ≡ 1 �
 first_octets n rest h = (λ e. rw e (grind (arith, common_steps)), λ e. rw e (grind (arith, common_steps)))
 
 -- the head returned is that of the first octets, which have no bad command
-pub head_told : (octets : List ℕ) (o : Option RecordHeader) (head : RecordHeader)
+pub head_told : (octets : List ℕ) (o : Option RecordKind) (head : RecordKind)
     → SomeIff o (has_bad_command octets ≡ false) (head_of octets) → ok_or o endings.BadCommand ≡ Ok head
     → (has_bad_command octets ≡ false) × (head_of octets ≡ head)
 head_told octets None head h e = cc

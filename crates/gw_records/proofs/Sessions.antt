@@ -2,7 +2,7 @@
 use Rattle.gw_records.proofs.Common.{◌≡◌, ◌+◌, ◌^◌, ◌<◌, ◌≤◌, inl, inr, ℕ, true, List, [], ◌∷◌, ◌++◌, length, drop}
 use Rattle.gw_records.proofs.Common.{refl, sym, ap, ◌∙◌, append_assoc, append-nil, length-append, arith}
 use Rattle.gw_records.proofs.Common.{take-append-drop, Some, Result, Ok, Err, IfOk, IfErr, IsErrAnd, flat_map}
-use Rattle.gw_records.proofs.Common.{AllByRecursion, IsAtEnd, Reader, AcceptedKinds, ParsedRecord, EndOfRecords, Record}
+use Rattle.gw_records.proofs.Common.{AllByRecursion, IsAtEnd, Reader, AcceptedKinds, FirstRecord, EndOfRecords, Record}
 use Rattle.gw_records.proofs.Common.{spelled, IsGood, IsFirst, record_at, end_of, is_open, SourceState, SinkState}
 use Rattle.gw_records.proofs.Common.{Yields, GivesUp, held, Brings, RunsOut, FailsToRead}
 use Rattle.std.proofs.lemmas.List.Concat.{flat_map-append}
@@ -51,7 +51,7 @@ starts a c reader none left = record {
 }
 
 -- the first record is taken
-take_record : (kinds : AcceptedKinds) (octets held : List ℕ) (records : List Record) (f : ParsedRecord)
+take_record : (kinds : AcceptedKinds) (octets held : List ℕ) (records : List Record) (f : FirstRecord)
     → octets ≡ flat_map spelled records ++ held → IsFirst kinds f held
     → octets ≡ flat_map spelled (records ++ record_at f held ∷ []) ++ drop f.len held
 take_record kinds octets held records f e first =
@@ -65,13 +65,13 @@ All-join P [] ys p q = q
 All-join P (x ∷ xs) ys p q = (p.0, All-join P xs ys p.1 q)
 
 -- .. of a slice that is held
-pub first_held : {kinds : AcceptedKinds} {slice held : List ℕ} (f : ParsedRecord) → slice ≡ held → IsFirst kinds f slice
+pub first_held : {kinds : AcceptedKinds} {slice held : List ℕ} (f : FirstRecord) → slice ≡ held → IsFirst kinds f slice
     → IsFirst kinds f held
 first_held f e first = rw e at first
 
 -- a record was acted on and passed
 pub record_taken : {kinds : AcceptedKinds} {a b : SourceState} {c d d' : SinkState} {reader reader' : Reader} {octets : List ℕ}
-    {records : List Record} (f : ParsedRecord) → Stage kinds a b c d reader octets records
+    {records : List Record} (f : FirstRecord) → Stage kinds a b c d reader octets records
     → IsFirst kinds f (held reader)
     → held reader' ≡ drop f.len (held reader) → reader'.reads_left ≡ reader.reads_left → d'.failures ≡ d.failures
     → Stage kinds a b c d' reader' octets (records ++ record_at f (held reader) ∷ [])
@@ -90,7 +90,7 @@ record_taken {kinds} {reader = reader} {octets = octets} {records = records} f w
 
 -- a write failed in a record
 pub stops_in : {kinds : AcceptedKinds} {a b : SourceState} {c d e : SinkState} {reader : Reader} {octets : List ℕ}
-    {records : List Record} {Begun : List Record → Type 0} (f : ParsedRecord)
+    {records : List Record} {Begun : List Record → Type 0} (f : FirstRecord)
     → Stage kinds a b c d reader octets records
     → IsFirst kinds f (held reader) → d.failures < e.failures
     → Begun (records ++ record_at f (held reader) ∷ []) → FailsToWrite kinds a b c e Begun

@@ -1,14 +1,14 @@
 -- Each list of octets is read.
 use Rattle.gw_records.proofs.Common.{◌≡◌, ◌+◌, ◌<◌, ◌≤◌, ℕ, zero, suc, Option, Some, None, List, [], ◌∷◌, length, drop}
 use Rattle.gw_records.proofs.Common.{refl, sym, append_assoc, length-drop, take-append-drop, arith, slice_index}
-use Rattle.gw_records.proofs.Common.{get_or-drop, nat_tests, AcceptedKinds, EndOfRecords, ParsedRecord, Record, Reads}
+use Rattle.gw_records.proofs.Common.{get_or-drop, nat_tests, AcceptedKinds, EndOfRecords, FirstRecord, Record, Reads}
 use Rattle.gw_records.proofs.Common.{body_len, is_cut, end_of, IsFirst, record_at, EachIsRead}
 use Rattle.gw_records.proofs.Firsts.{good_first, found_in}
 
 -- if octets are no end, they begin with a record
 first_of_none : (kinds : AcceptedKinds) (octets : List ℕ) → ((i : ℕ) → slice_index octets i < 256)
     → end_of kinds octets ≡ None
-    → (f : ParsedRecord) × IsFirst kinds f octets
+    → (f : FirstRecord) × IsFirst kinds f octets
 unfolding is_cut
 first_of_none kinds octets bytes e =
     let t = found_in kinds octets None e in

@@ -2,8 +2,8 @@
 use Rattle.gw_records.proofs.Common.{◌+◌, ◌≡◌, ◌-◌, ◌<◌, ◌≤◌, ◌^◌, ◌==◌, ◌&&◌, cond, ℕ, List, [], ◌∷◌, ◌++◌, length}
 use Rattle.gw_records.proofs.Common.{take, drop, Option, refl, sym, append_assoc, append-nil, nat_lt, arith}
 use Rattle.gw_records.proofs.Common.{Consumes-nil, Consumes-trans, common_steps, Appends, length-append, ap, ◌∙◌}
-use Rattle.gw_records.proofs.Common.{SourceState, SinkState, Yields, at_most, AppendsPrefix, AppendsBut, Forwards}
-use Rattle.gw_records.proofs.Common.{StopsInWrite}
+use Rattle.gw_records.proofs.Common.{SourceState, SinkState, Yields, at_most, AppendsPrefix, AppendsBut, TakesAllBut}
+use Rattle.gw_records.proofs.Common.{FailsAfterPrefix}
 -- nothing appended and nothing lost, and two appends that are one
 pub use Rattle.std.proofs.KnownBytes.{Appends-nil as Appends-none, Appends-trans as Appends-join}
 
@@ -30,9 +30,9 @@ pub AppendsPrefix-same : (a b : Option (List ℕ)) (xs ys : List ℕ) → xs ≡
 AppendsPrefix-same a b xs ys e p = rw (← e) p
 
 -- .. of what passes
-pub Forwards-same : (a b : Option (List ℕ)) (waiting xs ys : List ℕ) → xs ≡ ys → Forwards a b waiting xs
-    → Forwards a b waiting ys
-Forwards-same a b waiting xs ys e p = rw (← e) p
+pub TakesAllBut-same : (a b : Option (List ℕ)) (waiting xs ys : List ℕ) → xs ≡ ys → TakesAllBut a b waiting xs
+    → TakesAllBut a b waiting ys
+TakesAllBut-same a b waiting xs ys e p = rw (← e) p
 
 -- an append, and then a prefix
 pub AppendsPrefix-join : (a b c : Option (List ℕ)) (xs ys all : List ℕ) → Appends a b xs → AppendsPrefix b c ys
@@ -56,13 +56,13 @@ AppendsPrefix-more a b octets more q = record {
 
 -- octets of which some are buffered, then a prefix of the buffered ones and of more
 pub AppendsPrefix-behind : (a b c : Option (List ℕ)) (waiting before more : List ℕ)
-    → Forwards a b waiting before → AppendsPrefix b c (waiting ++ more) → AppendsPrefix a c (before ++ more)
+    → TakesAllBut a b waiting before → AppendsPrefix b c (waiting ++ more) → AppendsPrefix a c (before ++ more)
 AppendsPrefix-behind a b c waiting before more p q =
     AppendsPrefix-join a b c p.written (waiting ++ more) (before ++ more) p.appended q (rw (p.whole, append_assoc) refl)
 
 -- octets of which few are buffered, then a prefix of the buffered ones and of more
 pub AppendsBut-behind : (late : ℕ) (a b c : Option (List ℕ)) (waiting before more : List ℕ) → length waiting ≤ late
-    → Forwards a b waiting before → AppendsPrefix b c (waiting ++ more) → AppendsBut late a c before (before ++ more)
+    → TakesAllBut a b waiting before → AppendsPrefix b c (waiting ++ more) → AppendsBut late a c before (before ++ more)
 unfolding AppendsPrefix-behind AppendsPrefix-join
 AppendsBut-behind late a b c waiting before more few p q =
     let len = ap length p.whole ∙ length-append p.written waiting in
@@ -91,67 +91,68 @@ AppendsBut-more more p = record {
 }
 
 -- what waited is written, and then other octets pass
-pub Forwards-after : (a b c : Option (List ℕ)) (before waiting octets : List ℕ)
-    → Appends a b before → Forwards b c waiting octets → Forwards a c waiting (before ++ octets)
-Forwards-after a b c before waiting octets p q = record {
+pub TakesAllBut-after : (a b c : Option (List ℕ)) (before waiting octets : List ℕ)
+    → Appends a b before → TakesAllBut b c waiting octets → TakesAllBut a c waiting (before ++ octets)
+TakesAllBut-after a b c before waiting octets p q = record {
   written = before ++ q.written;
   whole = rw (q.whole, append_assoc) refl;
   appended = Appends-join a b c before q.written p q.appended;
 }
 
 -- octets that pass behind others
-pub Forwards-join : (a b c : Option (List ℕ)) (waiting waiting' before more : List ℕ)
-    → Forwards a b waiting before → Forwards b c waiting' (waiting ++ more) → Forwards a c waiting' (before ++ more)
-Forwards-join a b c waiting waiting' before more p q =
-    rw (p.whole, append_assoc) (Forwards-after a b c p.written waiting' (waiting ++ more) p.appended q)
+pub TakesAllBut-join : (a b c : Option (List ℕ)) (waiting waiting' before more : List ℕ)
+    → TakesAllBut a b waiting before → TakesAllBut b c waiting' (waiting ++ more)
+    → TakesAllBut a c waiting' (before ++ more)
+TakesAllBut-join a b c waiting waiting' before more p q =
+    rw (p.whole, append_assoc) (TakesAllBut-after a b c p.written waiting' (waiting ++ more) p.appended q)
 
 -- what was taken and what is buffered are all
-pub Forwards-appended : (a b c : Option (List ℕ)) (waiting octets : List ℕ) → Forwards a b waiting octets
+pub TakesAllBut-appended : (a b c : Option (List ℕ)) (waiting octets : List ℕ) → TakesAllBut a b waiting octets
     → Appends b c waiting → Appends a c octets
-Forwards-appended a b c waiting octets p q = rw (p.whole) (Appends-join a b c p.written waiting p.appended q)
+TakesAllBut-appended a b c waiting octets p q = rw (p.whole) (Appends-join a b c p.written waiting p.appended q)
 
 -- everything was taken, with nothing buffered
-pub Forwards-empty : (a b : Option (List ℕ)) (waiting : List ℕ) {octets : List ℕ} → waiting ≡ [] → Appends a b octets
-    → Forwards a b waiting octets
-Forwards-empty a b waiting e p = rw e (record { written = _; whole = sym (append-nil _); appended = p })
+pub TakesAllBut-empty : (a b : Option (List ℕ)) (waiting : List ℕ) {octets : List ℕ} → waiting ≡ [] → Appends a b octets
+    → TakesAllBut a b waiting octets
+TakesAllBut-empty a b waiting e p = rw e (record { written = _; whole = sym (append-nil _); appended = p })
 
 -- at the start nothing is buffered
-pub Forwards-start : (a : Option (List ℕ)) (waiting : List ℕ) → waiting ≡ [] → Forwards a a waiting []
-Forwards-start a waiting e = Forwards-empty a a waiting e (Appends-none a)
+pub TakesAllBut-start : (a : Option (List ℕ)) (waiting : List ℕ) → waiting ≡ [] → TakesAllBut a a waiting []
+TakesAllBut-start a waiting e = TakesAllBut-empty a a waiting e (Appends-none a)
 
 -- nothing was written, and everything is buffered
-pub Forwards-none : (a : Option (List ℕ)) (waiting : List ℕ) → Forwards a a waiting (waiting ++ [])
-Forwards-none a waiting = record { written = []; whole = append-nil waiting; appended = Appends-none a }
+pub TakesAllBut-none : (a : Option (List ℕ)) (waiting : List ℕ) → TakesAllBut a a waiting (waiting ++ [])
+TakesAllBut-none a waiting = record { written = []; whole = append-nil waiting; appended = Appends-none a }
 
 -- what waited is written, and then a write fails
-pub StopsInWrite-after : (a b c : SinkState) (before octets : List ℕ)
-    → Appends a.taken b.taken before → b.failures ≡ a.failures → StopsInWrite b c octets
-    → StopsInWrite a c (before ++ octets)
-StopsInWrite-after a b c before octets p e q = record {
+pub FailsAfterPrefix-after : (a b c : SinkState) (before octets : List ℕ)
+    → Appends a.taken b.taken before → b.failures ≡ a.failures → FailsAfterPrefix b c octets
+    → FailsAfterPrefix a c (before ++ octets)
+FailsAfterPrefix-after a b c before octets p e q = record {
   counted = omega (arith, e, q.counted);
   took = AppendsPrefix-join _ _ _ before octets _ p q.took refl;
 }
 
 -- a prefix of octets is one of more octets
-pub StopsInWrite-more : (a b : SinkState) (octets more : List ℕ) → StopsInWrite a b octets
-    → StopsInWrite a b (octets ++ more)
-StopsInWrite-more a b octets more q = record { counted = q.counted; took = AppendsPrefix-more _ _ octets more q.took }
+pub FailsAfterPrefix-more : (a b : SinkState) (octets more : List ℕ) → FailsAfterPrefix a b octets
+    → FailsAfterPrefix a b (octets ++ more)
+FailsAfterPrefix-more a b octets more q = record { counted = q.counted; took = AppendsPrefix-more _ _ octets more q.took }
 
 -- octets that break off behind others
-pub StopsInWrite-join : (a b c : SinkState) (waiting before more : List ℕ)
-    → Forwards a.taken b.taken waiting before → b.failures ≡ a.failures → StopsInWrite b c (waiting ++ more)
-    → StopsInWrite a c (before ++ more)
-StopsInWrite-join a b c waiting before more p e q = record {
+pub FailsAfterPrefix-join : (a b c : SinkState) (waiting before more : List ℕ)
+    → TakesAllBut a.taken b.taken waiting before → b.failures ≡ a.failures → FailsAfterPrefix b c (waiting ++ more)
+    → FailsAfterPrefix a c (before ++ more)
+FailsAfterPrefix-join a b c waiting before more p e q = record {
   counted = omega (arith, e, q.counted);
   took = AppendsPrefix-behind _ _ _ waiting before more p q.took;
 }
 
 -- writing the buffer fails
-pub StopsInWrite-waiting : (a b c : SinkState) (waiting octets : List ℕ)
-    → Forwards a.taken b.taken waiting octets → b.failures ≡ a.failures → StopsInWrite b c waiting
-    → StopsInWrite a c octets
-StopsInWrite-waiting a b c waiting octets p e q = rw (p.whole)
-    (StopsInWrite-after a b c p.written waiting p.appended e q)
+pub FailsAfterPrefix-waiting : (a b c : SinkState) (waiting octets : List ℕ)
+    → TakesAllBut a.taken b.taken waiting octets → b.failures ≡ a.failures → FailsAfterPrefix b c waiting
+    → FailsAfterPrefix a c octets
+FailsAfterPrefix-waiting a b c waiting octets p e q = rw (p.whole)
+    (FailsAfterPrefix-after a b c p.written waiting p.appended e q)
 
 -- a source that gives in turn
 pub Yields-none : (a : SourceState) → Yields a a []

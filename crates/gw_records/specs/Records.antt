@@ -5,9 +5,9 @@ use Rattle.std.specs.Prelude.{Option, Some, None}
 use Rattle.std.specs.List.{flat_map, AllByRecursion}
 use Rattle.byteorder.specs.Endian.{big_bytes}
 use Rattle.gw_records.specs.declared.records.AcceptedKinds.{AcceptedKinds}
-use Rattle.gw_records.specs.declared.records.RecordHeader.{RecordHeader}
-use Rattle.gw_records.specs.declared.records.RecordHeader.TheVariants as heads
-use Rattle.gw_records.specs.declared.records.ParsedRecord.{ParsedRecord}
+use Rattle.gw_records.specs.declared.records.RecordKind.{RecordKind}
+use Rattle.gw_records.specs.declared.records.RecordKind.TheVariants as heads
+use Rattle.gw_records.specs.declared.records.FirstRecord.{FirstRecord}
 use Rattle.gw_records.specs.declared.records.EndOfRecords.{EndOfRecords}
 use Rattle.gw_records.specs.declared.records.EndOfRecords.TheVariants as endings
 use Rattle.gw_records.specs.Octets.{command_of, octet_of_command, codec_of, octet_of_codec}
@@ -109,7 +109,7 @@ pub record Reads (kinds : AcceptedKinds) (octets : List ℕ) (records : List Rec
   pub ends : end_of kinds rest ≡ Some ending
 
 -- the head of the first octets
-unfoldable pub head_of : List ℕ → RecordHeader
+unfoldable pub head_of : List ℕ → RecordKind
 head_of octets =
     if slice_index octets 0 == 0x54 then heads.Trunk
     else (if slice_index octets 0 == 0x44 then heads.Datagram (slice_index octets 1)
@@ -118,18 +118,18 @@ head_of octets =
     else heads.Codec (slice_index octets 1) (codec_of (slice_index octets 4)) (slice_index octets 5)))
 
 -- the record with this head and body
-abbrev pub named : RecordHeader → List ℕ → Record
+abbrev pub named : RecordKind → List ℕ → Record
 named heads.Trunk body = Record.Trunk body
 named (heads.Datagram circuit) body = Record.Datagram circuit body
 named (heads.Command circuit command) body = Record.Command circuit (octet_of_command command)
 named (heads.Codec circuit codec payload_type) body = Record.Codec circuit (octet_of_codec codec) payload_type
 
 -- the record that is first
-abbrev pub record_at : ParsedRecord → List ℕ → Record
+abbrev pub record_at : FirstRecord → List ℕ → Record
 record_at f octets = named f.head (drop 4 (take f.len octets))
 
 -- the octets begin with a good record
-pub record IsFirst (kinds : AcceptedKinds) (f : ParsedRecord) (octets : List ℕ) : Type 0 where
+pub record IsFirst (kinds : AcceptedKinds) (f : FirstRecord) (octets : List ℕ) : Type 0 where
   pub more : 4 ≤ f.len
   pub fits : f.len ≤ length octets
   pub whole : take f.len octets ≡ spelled (record_at f octets)

@@ -86,13 +86,13 @@ pub record AppendsBut (late : ℕ) (old new : Option (List ℕ)) (first octets :
   pub few : length first ≤ length written + late
 
 -- the last of these octets are buffered, and the sink took those before
-pub record Forwards (old new : Option (List ℕ)) (waiting octets : List ℕ) : Type 0 where
+pub record TakesAllBut (old new : Option (List ℕ)) (waiting octets : List ℕ) : Type 0 where
   pub written : List ℕ
   pub whole : octets ≡ written ++ waiting
   pub appended : Appends old new written
 
 -- a write failed and was counted, after a prefix of these octets was taken
-pub record StopsInWrite (old new : SinkState) (octets : List ℕ) : Type 0 where
+pub record FailsAfterPrefix (old new : SinkState) (octets : List ℕ) : Type 0 where
   pub counted : old.failures < new.failures
   pub took : AppendsPrefix old.taken new.taken octets
 
@@ -100,11 +100,11 @@ pub record StopsInWrite (old new : SinkState) (octets : List ℕ) : Type 0 where
 -- was taken
 abbrev pub Puts : {T : Type 0} → SinkState → SinkState → List ℕ → List ℕ → Result T RunFault → Type 0
 Puts old new waiting octets r = MatchResult r
-    (λ _. Forwards old.taken new.taken waiting octets × (new.failures ≡ old.failures))
-    (λ e. (e ≡ Write) × StopsInWrite old new octets)
+    (λ _. TakesAllBut old.taken new.taken waiting octets × (new.failures ≡ old.failures))
+    (λ e. (e ≡ Write) × FailsAfterPrefix old new octets)
 
 -- these octets were taken, and no write failed; or Write, if one failed after a prefix of them was taken
 abbrev pub Writes : {T : Type 0} → SinkState → SinkState → List ℕ → Result T RunFault → Type 0
 Writes old new octets r = MatchResult r
     (λ _. Appends old.taken new.taken octets × (new.failures ≡ old.failures))
-    (λ e. (e ≡ Write) × StopsInWrite old new octets)
+    (λ e. (e ≡ Write) × FailsAfterPrefix old new octets)

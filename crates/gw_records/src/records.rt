@@ -44,7 +44,7 @@ pub enum EndOfRecords {
 
 /// A record without the octets of its body.
 #[derive(Clone, Copy, Debug, PartialEq, Eq)]
-pub enum RecordHeader {
+pub enum RecordKind {
     Trunk,
     Datagram(CircuitNo),
     Command(CircuitNo, Cmd),
@@ -53,8 +53,8 @@ pub enum RecordHeader {
 
 /// A whole first record, and its length.
 #[derive(Clone, Copy, Debug, PartialEq, Eq)]
-pub struct ParsedRecord {
-    pub head: RecordHeader,
+pub struct FirstRecord {
+    pub head: RecordKind,
     pub len: usize,
 }
 
@@ -108,7 +108,7 @@ fn has_bad_length(held: &[u8]) -> bool
 
 // The head of a whole record's first octets; `None` for an unknown command or codec.
 #[tactic(auto, unfolding(crate::specs::Records::has_bad_command, crate::specs::Records::head_of))]
-fn head_of(held: &[u8]) -> Option<RecordHeader>
+fn head_of(held: &[u8]) -> Option<RecordKind>
     requires kind { slice_index held.now 0 ≢ 0x54 → slice_index held.now 0 ≢ 0x44
         → slice_index held.now 0 ≢ 0x43 → slice_index held.now 0 ≡ 0x4B }
     requires circuit { slice_index held.now 0 ≢ 0x54 → IsCircuit (slice_index held.now 1) }
@@ -118,11 +118,11 @@ fn head_of(held: &[u8]) -> Option<RecordHeader>
     ensures { SomeIff result (has_bad_command held.now ≡ false) (head_of held.now) }
 {
     match held[0] {
-        TRUNK => Some(RecordHeader::Trunk),
-        DATAGRAM => Some(RecordHeader::Datagram(CircuitNo::new(held[1])?)),
-        COMMAND => Some(RecordHeader::Command(CircuitNo::new(held[1])?, command_of(held[4])?)),
+        TRUNK => Some(RecordKind::Trunk),
+        DATAGRAM => Some(RecordKind::Datagram(CircuitNo::new(held[1])?)),
+        COMMAND => Some(RecordKind::Command(CircuitNo::new(held[1])?, command_of(held[4])?)),
         _ if held[5] > 127 => None,
-        _ => Some(RecordHeader::Codec(CircuitNo::new(held[1])?, codec_of(held[4])?, held[5])),
+        _ => Some(RecordKind::Codec(CircuitNo::new(held[1])?, codec_of(held[4])?, held[5])),
     }
 }
 
@@ -131,7 +131,7 @@ fn head_of(held: &[u8]) -> Option<RecordHeader>
 /// It is inlined, so that a session that accepts one kind tests for no other.
 #[inline(always)]
 #[tactic(auto, unfolding(crate::specs::Records::end_of, crate::specs::Records::is_cut))]
-pub fn first_record(kinds: &AcceptedKinds, held: &[u8]) -> Result<ParsedRecord, EndOfRecords>
+pub fn first_record(kinds: &AcceptedKinds, held: &[u8]) -> Result<FirstRecord, EndOfRecords>
     ensures good { IfOk result (λ f. IsFirst kinds.now f held.now) }
     ensures end { IfErr result (λ e. end_of kinds.now held.now ≡ Some e) }
 {
@@ -155,7 +155,7 @@ pub fn first_record(kinds: &AcceptedKinds, held: &[u8]) -> Result<ParsedRecord, 
         return Err(EndOfRecords::Truncated);
     }
     let head = head_of(held).ok_or(EndOfRecords::BadCommand)?;
-    Ok(ParsedRecord { head, len })
+    Ok(FirstRecord { head, len })
 }
 
 /// The record of a datagram sent.

@@ -1,7 +1,7 @@
 //! Octets to write to a sink.
 ghost use Rattle.std.specs.Prelude.{◌≡◌, ◌-◌, ◌<◌, ◌++◌, [], length, IfErr, OnOk, OnErr};
 ghost use Rattle.std.specs.Io.KnownBytes.{Appends};
-ghost use Rattle.gw_records.specs.Streams.{CanCount, Puts, Writes, StopsInWrite};
+ghost use Rattle.gw_records.specs.Streams.{CanCount, Puts, Writes, FailsAfterPrefix};
 
 use crate::outcome::RunFault;
 use crate::streams::Sink;
@@ -23,7 +23,7 @@ pub fn write_all<K: Sink>(sink: &mut K, octets: &[u8]) -> Result<(), RunFault>
     ensures no_failure { OnOk result ((K.tells sink.new).failures ≡ (K.tells sink.old).failures) }
     ensures some { OnErr result (0 < length octets.now) }
     ensures fault { IfErr result (λ e. (e ≡ RunFault.Write)
-        × StopsInWrite (K.tells sink.old) (K.tells sink.new) octets.now) }
+        × FailsAfterPrefix (K.tells sink.old) (K.tells sink.new) octets.now) }
 {
     let mut rest = octets;
     while !rest.is_empty() {

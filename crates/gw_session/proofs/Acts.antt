@@ -1,20 +1,21 @@
 -- Records that are acted on.
 use Rattle.gw_session.proofs.Common.{◌≡◌, inl, ◌+◌, ◌-◌, ◌^◌, ◌<◌, ℕ, min, List, [], ◌∷◌, ◌++◌, length, Result, Ok, Err}
 use Rattle.gw_session.proofs.Common.{refl, sym, ap, ◌∙◌, append_assoc, arith, length-map, big_bytes, GatewayConfig}
-use Rattle.gw_session.proofs.Common.{Gateway, Event, HasHistory, reply_to, Totals, RunFault, Record, Forwards, at_most}
-use Rattle.gw_session.proofs.Common.{Appends-none, Forwards-join, AppendsPrefix-behind, RecordEncoding, counted}
+use Rattle.gw_session.proofs.Common.{Gateway, Event, HasHistory, reply_to, Totals, RunFault, Record, TakesAllBut}
+use Rattle.gw_session.proofs.Common.{at_most}
+use Rattle.gw_session.proofs.Common.{Appends-none, TakesAllBut-join, AppendsPrefix-behind, PacketOutput, counted}
 use Rattle.gw_session.proofs.Common.{Written, written_out, code_of, Act, told, turns_of, events_in, events_of_turns}
 use Rattle.gw_session.proofs.Common.{octet_of, answer_to, packets_for, dropped_for, Takes, spelled_for, written_for}
 use Rattle.gw_session.proofs.Common.{Exchanges, ActsOn, TapeState, Recorded, Output, World, state_of, Puts}
-use Rattle.gw_session.proofs.Common.{Forwards-same, AppendsPrefix-same, sent_with_octets, Acts, OnOk}
+use Rattle.gw_session.proofs.Common.{TakesAllBut-same, AppendsPrefix-same, sent_with_octets, Acts, OnOk}
 use Rattle.gw_session.specs.declared.tape.OnTape.{OnTape}
 use Rattle.gw_session.proofs.Turns.{PortTrace-none, counted_is}
 
 -- an act was done, and behind what passes the rest of all that is put for it was put, or a write failed
-acts_put : (spells : RecordEncoding) (w w' : World) (o : Output) (out : List ℕ) {r : Record}
+acts_put : (spells : PacketOutput) (w w' : World) (o : Output) (out : List ℕ) {r : Record}
     (result : Result (Unit {0}) RunFault) (on : ActsOn w.state w'.state w.tape w'.tape r)
     → ((config : GatewayConfig) (before : List Event) → HasHistory config w.state.gateway before → (first : List ℕ)
-    × Forwards w.output.sink.taken o.sink.taken o.waiting first
+    × TakesAllBut w.output.sink.taken o.sink.taken o.waiting first
     × (first ++ out ≡ w.output.waiting ++ written_for spells config before on.act))
     → o.sink.failures ≡ w.output.sink.failures
     → Puts o.sink w'.output.sink w'.output.waiting (o.waiting ++ out) result → Acts spells w w' r result
@@ -23,7 +24,7 @@ acts_put spells w w' o out (Ok u) on first kept puts = (
     acts = on;
     took = λ config before h.
         let f = first config before h in
-        Forwards-same _ _ _ _ _ f.2 (Forwards-join _ _ _ _ _ _ _ f.1 puts.0);
+        TakesAllBut-same _ _ _ _ _ f.2 (TakesAllBut-join _ _ _ _ _ _ _ f.1 puts.0);
   },
   puts.1 ∙ kept,
 )
@@ -39,7 +40,7 @@ acts_put spells w w' o out (Err e) on first kept puts = (
 )
 
 -- octets were exchanged, and the record of them was put
-pub trunk_acts : {spells : RecordEncoding} (w w' : World) (r n : ℕ) (o : Output) {body front answer out : List ℕ}
+pub trunk_acts : {spells : PacketOutput} (w w' : World) (r n : ℕ) (o : Output) {body front answer out : List ℕ}
     (result : Result (Unit {0}) RunFault)
     → (sent : List ℕ) × (x : Exchanges spells
     (record w.state { totals = record w.state.totals { records = r; octets = n } }) w'.state w.output o body sent)
@@ -80,7 +81,7 @@ trunk_acts w w' r n o result x fronts same counts trunk fits puts =
     )) p.no_failure puts
 
 -- an act of one event was done, and the one answer of its circuit, whose record is on the tape, was put
-pub one_acts : (act : Act) (event : Event) (u : Totals) (spells : RecordEncoding) (w : World) (g : Gateway) (t : Totals)
+pub one_acts : (act : Act) (event : Event) (u : Totals) (spells : PacketOutput) (w : World) (g : Gateway) (t : Totals)
     (tape : TapeState) (o : Output) {circuit kind code : ℕ} (result : Result (Unit {0}) RunFault)
     → turns_of act ≡ [] → events_in act ≡ event ∷ []
     → ((config : GatewayConfig) (before : List Event) → packets_for config before (event ∷ []) ≡ [])

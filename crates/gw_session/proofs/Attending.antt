@@ -2,19 +2,20 @@
 use Rattle.gw_session.proofs.Common.{◌≡◌, ◌⊎◌, inl, inr, ◌+◌, ◌-◌, ◌<◌, ◌≤◌, ℕ, zero, suc, Option, List, [], ◌∷◌, ◌++◌}
 use Rattle.gw_session.proofs.Common.{length, take, drop, refl, ap, ◌∙◌, append_assoc, append-nil, length-append, arith}
 use Rattle.gw_session.proofs.Common.{Appends, map_push, flat_map_more, GatewayConfig, Event, octets, HasHistory}
-use Rattle.gw_session.proofs.Common.{AcceptedKinds, Record, IsGood, record_at, SinkState, Forwards, StopsInWrite}
-use Rattle.gw_session.proofs.Common.{AppendsBut, AppendsPrefix, Forwards-appended, Forwards-empty, Forwards-join}
-use Rattle.gw_session.proofs.Common.{Appends-join, AppendsBut-behind, all_kinds, RecordEncoding, Act, told, turns_of}
+use Rattle.gw_session.proofs.Common.{AcceptedKinds, Record, IsGood, record_at, SinkState, TakesAllBut, FailsAfterPrefix}
+use Rattle.gw_session.proofs.Common.{AppendsBut, AppendsPrefix, TakesAllBut-appended, TakesAllBut-empty}
+use Rattle.gw_session.proofs.Common.{TakesAllBut-join}
+use Rattle.gw_session.proofs.Common.{Appends-join, AppendsBut-behind, all_kinds, PacketOutput, Act, told, turns_of}
 use Rattle.gw_session.proofs.Common.{turns, events_in, events_through, Follows, but_last, WatchedTrace, OfFirstActs}
 use Rattle.gw_session.proofs.Common.{written_for, written_by, ActsOn, StopsAt, CutTrace, TapeState, State, Output}
-use Rattle.gw_session.proofs.Common.{drop-take, named, Forwards-start, ActTrace}
-use Rattle.gw_records.specs.declared.records.ParsedRecord.{ParsedRecord}
-use Rattle.gw_session.proofs.Turns.{TurnTrace-none, TurnTrace-join, counted-more, octets-append, turns_have_octets}
+use Rattle.gw_session.proofs.Common.{drop-take, named, TakesAllBut-start, ActTrace}
+use Rattle.gw_records.specs.declared.records.FirstRecord.{FirstRecord}
+use Rattle.gw_session.proofs.Turns.{TurnsTrace-none, TurnsTrace-join, counted-more, octets-append, turns_have_octets}
 use Rattle.gw_session.proofs.Turns.{through-append}
 use Rattle.gw_session.proofs.Taping.{recorded_none, recorded_join}
 
 -- the record that stands first, by its body in what is held
-pub record_is : (f : ParsedRecord) (held slice : List ℕ) → 4 ≤ f.len → slice ≡ held
+pub record_is : (f : FirstRecord) (held slice : List ℕ) → 4 ≤ f.len → slice ≡ held
     → named f.head (take (f.len - 4) (drop 4 slice)) ≡ record_at f held
 record_is f held slice more e =
     let len : 4 + (f.len - 4) ≡ f.len = omega arith in
@@ -45,7 +46,7 @@ follows_more : {s s' s'' : State} {x y z : TapeState} {acts : List Act} {r : Rec
     → (q : ActsOn s' s'' y z r) → Follows s s'' x z (acts ++ q.act ∷ [])
 follows_more {s = s} {acts = acts} p q = record {
   goes = rw (← flat_map_more turns_of [] acts q.act, ← flat_map_more events_in [] acts q.act)
-      (TurnTrace-join _ _ _ _ _ _ _ (acts_octets acts) p.goes q.goes);
+      (TurnsTrace-join _ _ _ _ _ _ _ (acts_octets acts) p.goes q.goes);
   records = rw (length-append acts (q.act ∷ []))
       (counted-more s.totals.records _ _ (length acts) 1 p.records q.records);
   trunk_octets = rw (← flat_map_more turns_of [] acts q.act, length-append (turns acts) (turns_of q.act))
@@ -61,7 +62,7 @@ but_last_more (a ∷ []) act = refl
 but_last_more (a ∷ b ∷ acts) act = ap (λ (xs : List Act). a ∷ xs) (but_last_more (b ∷ acts) act)
 
 -- what is put for all acts but the last is no more than what is put for all
-less_written : (spells : RecordEncoding) (config : GatewayConfig) (before : List Event) (acts : List Act)
+less_written : (spells : PacketOutput) (config : GatewayConfig) (before : List Event) (acts : List Act)
     → length (written_by spells config before (but_last acts)) ≤ length (written_by spells config before acts)
 unfolding but_last
 less_written spells config before [] = omega arith
@@ -76,7 +77,8 @@ less_written spells config before (a ∷ b ∷ acts) = omega (
 
 -- octets of which few wait, and a write of these failed
 waiting_cut : (late : ℕ) (o : Option (List ℕ)) (s s' : SinkState) (w first xs : List ℕ) → length w ≤ late
-    → length first ≤ length xs → Forwards o s.taken w xs → StopsInWrite s s' w → AppendsBut late o s'.taken first xs
+    → length first ≤ length xs → TakesAllBut o s.taken w xs → FailsAfterPrefix s s' w
+    → AppendsBut late o s'.taken first xs
 waiting_cut late o s s' w first xs few less took breaks = record {
   written = took.written ++ breaks.took.written;
   rest = breaks.took.rest;
@@ -92,22 +94,22 @@ waiting_cut late o s s' w first xs few less took breaks = record {
 }
 
 -- before the first record
-pub through_none : (spells : RecordEncoding) (Seen : List Act → Type 0)
+pub through_none : (spells : PacketOutput) (Seen : List Act → Type 0)
     {s : State} {tape : TapeState} {o : Option (List ℕ)}
     {w : List ℕ} → Seen [] → w ≡ []
-    → WatchedTrace (written_by spells) s s tape tape (λ first xs. Forwards o o w xs) Seen []
+    → WatchedTrace (written_by spells) s s tape tape (λ first xs. TakesAllBut o o w xs) Seen []
 through_none spells Seen seen none = (
   record {
     acts = [];
     told_are = refl;
-    follows = record { goes = TurnTrace-none _; records = refl; trunk_octets = refl; recorded = recorded_none _ };
-    took = λ config before at. Forwards-start _ _ none;
+    follows = record { goes = TurnsTrace-none _; records = refl; trunk_octets = refl; recorded = recorded_none _ };
+    took = λ config before at. TakesAllBut-start _ _ none;
   },
   seen,
 )
 
 -- records that were gone through
-module _ (spells : RecordEncoding) (Seen : List Act → Type 0) {s s' : State} {x y : TapeState} {records : List Record}
+module _ (spells : PacketOutput) (Seen : List Act → Type 0) {s s' : State} {x y : TapeState} {records : List Record}
   where
     -- what is known of what was put, and of the acts
     through_as : {Took More : List ℕ → List ℕ → Type 0} (Known : List Act → Type 0)
@@ -129,22 +131,23 @@ module _ (spells : RecordEncoding) (Seen : List Act → Type 0) {s s' : State} {
 
     -- all of it was taken
     pub through_all : {o p : Option (List ℕ)} {w : List ℕ} (q : Option (List ℕ))
-        → WatchedTrace (written_by spells) s s' x y (λ first xs. Forwards o p w xs) Seen records → Appends p q w
+        → WatchedTrace (written_by spells) s s' x y (λ first xs. TakesAllBut o p w xs) Seen records → Appends p q w
         → WatchedTrace (written_by spells) s s' x y (λ first. Appends o q) Seen records
     through_all q h wrote =
-        through_as Seen (λ first xs less took. Forwards-appended _ _ _ _ _ took wrote) (λ acts seen. seen) h
+        through_as Seen (λ first xs less took. TakesAllBut-appended _ _ _ _ _ took wrote) (λ acts seen. seen) h
 
     -- when what waits is written nothing waits, and the rest is as it was
     pub through_on : {o p q : Option (List ℕ)} {w w' : List ℕ}
-        → WatchedTrace (written_by spells) s s' x y (λ first xs. Forwards o p w xs) Seen records → Appends p q w
-        → w' ≡ [] → WatchedTrace (written_by spells) s s' x y (λ first xs. Forwards o q w' xs) Seen records
+        → WatchedTrace (written_by spells) s s' x y (λ first xs. TakesAllBut o p w xs) Seen records → Appends p q w
+        → w' ≡ [] → WatchedTrace (written_by spells) s s' x y (λ first xs. TakesAllBut o q w' xs) Seen records
     through_on h wrote none = through_as Seen
-        (λ first xs less took. Forwards-empty _ _ _ none (Forwards-appended _ _ _ _ _ took wrote)) (λ acts seen. seen) h
+        (λ first xs less took. TakesAllBut-empty _ _ _ none (TakesAllBut-appended _ _ _ _ _ took wrote))
+        (λ acts seen. seen) h
 
     -- .. or a write of what waits failed
     pub waiting_failed : (late : ℕ) {o : Option (List ℕ)} {b c : SinkState} {w : List ℕ} → length w ≤ late
-        → WatchedTrace (written_by spells) s s' x y (λ first xs. Forwards o b.taken w xs) Seen records
-        → 0 < length records → StopsInWrite b c w → (0 < length records)
+        → WatchedTrace (written_by spells) s s' x y (λ first xs. TakesAllBut o b.taken w xs) Seen records
+        → 0 < length records → FailsAfterPrefix b c w → (0 < length records)
         × WatchedTrace (written_by spells) s s' x y (AppendsBut late o c.taken) (OfFirstActs Seen) records
     waiting_failed late {o} {b} {c} {w} few p some breaks = (
       some,
@@ -181,18 +184,18 @@ module _ (spells : RecordEncoding) (Seen : List Act → Type 0) {s s' : State} {
 
       -- records that were gone through, and then one more whose answer passes
       pub through_done : {o : Option (List ℕ)} {a b : Output} (Known : List Act → Type 0)
-          → WatchedTrace (written_by spells) s s' x y (λ first xs. Forwards o a.sink.taken a.waiting xs) Seen records
+          → WatchedTrace (written_by spells) s s' x y (λ first xs. TakesAllBut o a.sink.taken a.waiting xs) Seen records
           → (q : ActTrace spells (record { state = s'; tape = y; output = a })
-          (record { state = s''; tape = z; output = b }) r (Forwards a.sink.taken b.sink.taken b.waiting))
+          (record { state = s''; tape = z; output = b }) r (TakesAllBut a.sink.taken b.sink.taken b.waiting))
           → ((acts : List Act) → Follows s s' x y acts → Seen acts → Known (acts ++ q.acts.act ∷ []))
-          → WatchedTrace (written_by spells) s s'' x z (λ first xs. Forwards o b.sink.taken b.waiting xs) Known
+          → WatchedTrace (written_by spells) s s'' x z (λ first xs. TakesAllBut o b.sink.taken b.waiting xs) Known
           (records ++ r ∷ [])
       through_done Known p q known = through_more Known p q.acts
-          (λ config now at first xs took. Forwards-join _ _ _ _ _ _ _ took (q.took config now at)) known
+          (λ config now at first xs took. TakesAllBut-join _ _ _ _ _ _ _ took (q.took config now at)) known
 
       -- a write failed in it, when it was done or when its first octets were heard
       pub act_failed : (late : ℕ) {o : SinkState} {a b : Output} → length a.waiting ≤ late
-          → WatchedTrace (written_by spells) s s' x y (λ first xs. Forwards o.taken a.sink.taken a.waiting xs) Seen
+          → WatchedTrace (written_by spells) s s' x y (λ first xs. TakesAllBut o.taken a.sink.taken a.waiting xs) Seen
           records
           → ActTrace spells (record { state = s'; tape = y; output = a })
           (record { state = s''; tape = z; output = b }) r (AppendsPrefix a.sink.taken b.sink.taken)

@@ -3,10 +3,10 @@ pub use Rattle.byteorder.specs.Endian.{big_bytes}
 pub use Rattle.gw_circuit.specs.declared.Dropped.{Dropped}
 pub use Rattle.gw_records.proofs.Sessions.{five, goes_up, starts, first_held, record_taken, stops_in, stops_behind}
 pub use Rattle.gw_records.proofs.Sessions.{reads_more, ended, gives_up, ends_so, Stage}
-pub use Rattle.gw_records.proofs.Writes.{Appends-none, Forwards-join, AppendsPrefix-behind, Forwards-same}
-pub use Rattle.gw_records.proofs.Writes.{AppendsPrefix-same, Forwards-appended, Forwards-empty, Appends-join}
-pub use Rattle.gw_records.proofs.Writes.{AppendsBut-behind, Forwards-start, Forwards-none, AppendsBut-same}
-pub use Rattle.gw_records.proofs.Writes.{AppendsBut-more, AppendsPrefix-join, StopsInWrite-waiting}
+pub use Rattle.gw_records.proofs.Writes.{Appends-none, TakesAllBut-join, AppendsPrefix-behind, TakesAllBut-same}
+pub use Rattle.gw_records.proofs.Writes.{AppendsPrefix-same, TakesAllBut-appended, TakesAllBut-empty, Appends-join}
+pub use Rattle.gw_records.proofs.Writes.{AppendsBut-behind, TakesAllBut-start, TakesAllBut-none, AppendsBut-same}
+pub use Rattle.gw_records.proofs.Writes.{AppendsBut-more, AppendsPrefix-join, FailsAfterPrefix-waiting}
 pub use Rattle.gw_records.specs.Outcome.{SessionTo, EndsAll, EndsUntil, OrNoMemory, nothing_counted}
 pub use Rattle.gw_records.specs.Ports.{counted, PortsState, PortCall, Extends, KeepsReceives, Waiting, TakesOut}
 pub use Rattle.gw_records.specs.Ports.{NoneWaits, KeepsSends}
@@ -14,7 +14,8 @@ pub use Rattle.gw_records.specs.Reader.{held, work_left}
 pub use Rattle.gw_records.specs.Records.{Record, IsGood, record_at, named, record_of, spelled, Reads}
 unfoldable pub use Rattle.gw_records.specs.Records.{end_of, has_bad_kind, has_bad_circuit, has_bad_length, is_cut}
 unfoldable pub use Rattle.gw_records.specs.Records.{has_bad_command}
-pub use Rattle.gw_records.specs.Streams.{Forwards, at_most, Puts, SinkState, StopsInWrite, AppendsBut, AppendsPrefix}
+pub use Rattle.gw_records.specs.Streams.{TakesAllBut, at_most, Puts, SinkState, FailsAfterPrefix, AppendsBut}
+pub use Rattle.gw_records.specs.Streams.{AppendsPrefix}
 pub use Rattle.gw_records.specs.Streams.{SourceState}
 pub use Rattle.gw_records.specs.declared.outcome.RunFault.{RunFault}
 pub use Rattle.gw_records.specs.declared.outcome.Totals.{Totals}
@@ -27,7 +28,7 @@ pub use Rattle.gw_session.specs.Exchange.{WatchedTrace, OfFirstActs}
 pub use Rattle.gw_session.specs.Exchange.{ComesInTurn, SendsPacket, OctetTrace, PacketWriteError, TraceToWriteError}
 pub use Rattle.gw_session.specs.Exchange.{Receiving, RecordsBehind, IsGiven, FourCome}
 unfoldable pub use Rattle.gw_session.specs.Exchange.{spelled_for, written_for, most_waiting}
-pub use Rattle.gw_session.specs.PacketPorts.{RecordEncoding, in_record, no_ports, silent}
+pub use Rattle.gw_session.specs.PacketPorts.{PacketOutput, in_record, no_ports, silent}
 pub use Rattle.gw_session.specs.RecordingLaws.{all_answers, answers_to, command_in, RecordingsAnswerAlike}
 pub use Rattle.gw_session.specs.RecordingLaws.{RecordingsAreReadBack, RecordedSessionsRunAlike}
 pub use Rattle.gw_session.specs.Running.{all_kinds, replies_to, is_refusal, trunk_octets, run_totals, RunsThrough}
@@ -37,7 +38,7 @@ pub use Rattle.gw_session.specs.Serve.{sent_with_octets, Turn, events_through, c
 pub use Rattle.gw_session.specs.Serve.{turns, Follows, SessionTrace, events_of_turn, PortTrace, of_circuit, behind_four}
 pub use Rattle.gw_session.specs.Serve.{FirstFour, first_four, Stop, StopsSo, last_receive, LeavesOut, Around, Served}
 pub use Rattle.gw_session.specs.Serve.{ServesAll, ServesUntil, InTurn, served_kinds, IsFew, ComeFirst, IsStopped}
-pub use Rattle.gw_session.specs.Serve.{GatewayTrace, TurnTrace}
+pub use Rattle.gw_session.specs.Serve.{GatewayTrace, TurnsTrace}
 unfoldable pub use Rattle.gw_session.specs.Serve.{answer_to, dropped_for, given_by, but_last}
 pub use Rattle.gw_session.specs.ServeLaws.{ServingIsCutAnywhere, UnmovedCounts, without_datagrams, EventsAreTold}
 pub use Rattle.gw_session.specs.ServeLaws.{DatagramsAreInTurn}

@@ -2,7 +2,8 @@
 use Rattle.gw_session.proofs.Common.{◌≡◌, ◌^◌, ◌<◌, ◌≤◌, ℕ, Bool, true, false, inl, inr, Some, Result, Ok, Err, List}
 use Rattle.gw_session.proofs.Common.{[], ◌∷◌, ◌++◌, length, drop, map, IfErr, refl, sym, ap, ◌∙◌, append_assoc}
 use Rattle.gw_session.proofs.Common.{append-nil, arith, Appends, map-append, drop_all, flat_map-append, Event, Record}
-use Rattle.gw_session.proofs.Common.{IsGood, spelled, RunFault, SinkState, AppendsPrefix, StopsInWrite, Appends-none}
+use Rattle.gw_session.proofs.Common.{IsGood, spelled, RunFault, SinkState, AppendsPrefix, FailsAfterPrefix}
+use Rattle.gw_session.proofs.Common.{Appends-none}
 use Rattle.gw_session.proofs.Common.{Appends-join, events, events_of, all_kinds, Turn, of_circuit, arrivals, coming}
 use Rattle.gw_session.proofs.Common.{events_of_turns, RecordsBehind, TapeState, Recorded, RecordedBut, OnOk, is_err}
 use Rattle.gw_session.proofs.Common.{AppendsPrefix-join, HasEnded, HasLong, AreSpelled, WritesRecords, Taping, taping}
@@ -105,7 +106,7 @@ recorded_all a b records octets s going took whole failed = record {
 pub records_written : (old new : Bool) (s s' : SinkState) (octets : List ℕ)
     (result : Result (Unit {0}) RunFault) (fault : RunFault) → old ≡ false → new ≡ is_err result
     → OnOk result (Appends s.taken s'.taken octets) → OnOk result (s'.failures ≡ s.failures)
-    → IfErr result (λ e. (e ≡ fault) × StopsInWrite s s' octets)
+    → IfErr result (λ e. (e ≡ fault) × FailsAfterPrefix s s' octets)
     → WritesRecords (record { ended = old; failures = s.failures; taken = s.taken })
     (record { ended = new; failures = s'.failures; taken = s'.taken }) octets
 records_written old new s s' octets (Ok u) fault going up took same broke = λ records spelled-are.

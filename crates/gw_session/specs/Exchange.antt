@@ -7,12 +7,12 @@ use Rattle.gw_session.specs.Prelude.{RunFault, Record, SinkState, AppendsPrefix,
 use Rattle.gw_session.specs.Prelude.{PortsState, IfKnown, Extends, counted}
 use Rattle.gw_switch.specs.Whole.{reply_to, octet_reply}
 use Rattle.gw_records.specs.declared.outcome.RunFault.TheVariants.{Write}
-use Rattle.gw_records.specs.Streams.{Forwards, StopsInWrite}
+use Rattle.gw_records.specs.Streams.{TakesAllBut, FailsAfterPrefix}
 use Rattle.gw_session.specs.Answers.{code_of, packet_in}
-use Rattle.gw_session.specs.PacketPorts.{RecordEncoding}
+use Rattle.gw_session.specs.PacketPorts.{PacketOutput}
 use Rattle.gw_records.specs.Ports.{TakesOut, KeepsSends, KeepsReceives}
 use Rattle.gw_session.specs.Serve.{Act, Turn, told, octet_of, turns_of, events_in, events_of_turns, answer_to}
-use Rattle.gw_session.specs.Serve.{TurnTrace, SessionTrace, PortTrace, Stop, StopsSo, as_call, receives_of}
+use Rattle.gw_session.specs.Serve.{TurnsTrace, SessionTrace, PortTrace, Stop, StopsSo, as_call, receives_of}
 use Rattle.gw_session.specs.Serve.{send_of, of_circuit, coming, first_four, behind_four, LeavesOut}
 use Rattle.gw_session.specs.Serve.{packets_for, octets_for, dropped_for, through, but_last}
 use Rattle.gw_session.specs.Tape.{TapeState, Recorded, Taping, RecordedBut}
@@ -25,16 +25,16 @@ Takes gateway gateway' event code = (config : GatewayConfig) (before : List Even
     → HasHistory config gateway' (before ++ event ∷ []) × (code ≡ code_of (reply_to config before event))
 
 -- what the packets of events put in front of the answer
-unfoldable pub spelled_for : RecordEncoding → GatewayConfig → List Event → List Event → List ℕ
+unfoldable pub spelled_for : PacketOutput → GatewayConfig → List Event → List Event → List ℕ
 spelled_for spells config before es = flat_map spells (packets_for config before es)
 
 -- all that is put for an act
-unfoldable pub written_for : RecordEncoding → GatewayConfig → List Event → Act → List ℕ
+unfoldable pub written_for : PacketOutput → GatewayConfig → List Event → Act → List ℕ
 written_for spells config before act =
     spelled_for spells config before (events_in act) ++ answer_to config before act
 
 -- .. for acts, one after another
-abbrev pub written_by : RecordEncoding → GatewayConfig → List Event → List Act → List ℕ
+abbrev pub written_by : PacketOutput → GatewayConfig → List Event → List Act → List ℕ
 written_by spells = through (written_for spells)
 
 -- how many octets wait at most when a record was acted on: none if it is answered at once, else as many as
@@ -107,18 +107,18 @@ pub record SendsPacket (ports ports' : PortsState) (totals totals' : Totals) (pa
 
 -- the gateway heard an octet and sends this one, the packet that it sends with it went to the packet ports,
 -- and what that puts passes
-pub record OctetTrace (spells : RecordEncoding) (s s' : State) (o o' : Output) (octet sent : ℕ) : Type 0 where
+pub record OctetTrace (spells : PacketOutput) (s s' : State) (o o' : Output) (octet sent : ℕ) : Type 0 where
   pub packet : Option (ℕ × List ℕ)
   pub sends : SendsPacket s.ports s'.ports s.totals s'.totals packet
   pub hears : (config : GatewayConfig) (before : List Event) → HasHistory config s.gateway before
       → HasHistory config s'.gateway (before ++ Event.Octet octet ∷ [])
       × (octet_reply config before octet ≡ record { octet = sent; packet = packet })
-  pub passes : Forwards o.sink.taken o'.sink.taken o'.waiting
+  pub passes : TakesAllBut o.sink.taken o'.sink.taken o'.waiting
       (o.waiting ++ flat_map spells (packet_in packet))
   pub no_failure : o'.sink.failures ≡ o.sink.failures
 
 -- the gateway heard an octet, and a write of what its packet puts failed
-pub record PacketWriteError (spells : RecordEncoding) (s s' : State) (o o' : Output)
+pub record PacketWriteError (spells : PacketOutput) (s s' : State) (o o' : Output)
     (octet : ℕ) : Type 0 where
   pub packet : ℕ × List ℕ
   pub some : 0 < length (spells packet)
@@ -126,32 +126,32 @@ pub record PacketWriteError (spells : RecordEncoding) (s s' : State) (o o' : Out
   pub hears : (config : GatewayConfig) (before : List Event) → HasHistory config s.gateway before
       → HasHistory config s'.gateway (before ++ Event.Octet octet ∷ [])
       × ((octet_reply config before octet).packet ≡ Some packet)
-  pub breaks : StopsInWrite o.sink o'.sink (o.waiting ++ spells packet)
+  pub breaks : FailsAfterPrefix o.sink o'.sink (o.waiting ++ spells packet)
 
-abbrev pub Hearing : RecordEncoding → State → State → Output → Output → ℕ → Result ℕ RunFault → Type 0
+abbrev pub Hearing : PacketOutput → State → State → Output → Output → ℕ → Result ℕ RunFault → Type 0
 Hearing spells s s' o o' octet result = MatchResult result
     (λ sent. OctetTrace spells s s' o o' octet sent)
     (λ e. (e ≡ Write) × PacketWriteError spells s s' o o' octet)
 
 -- The gateway heard octets, each after the datagrams that came before it, these were sent, and what the
 -- packets put passes.
-pub record Exchanges (spells : RecordEncoding) (s s' : State) (o o' : Output)
+pub record Exchanges (spells : PacketOutput) (s s' : State) (o o' : Output)
     (octets sent : List ℕ) : Type 0 where
   pub turns : List Turn
   pub heard : map octet_of turns ≡ octets
   pub lengths : length sent ≡ length octets
-  pub goes : TurnTrace s s' turns (events_of_turns turns)
+  pub goes : TurnsTrace s s' turns (events_of_turns turns)
   pub kept : KeepsRecords s.totals s'.totals
   pub sent_are : (config : GatewayConfig) (before : List Event) → HasHistory config s.gateway before
       → octets_for config before (events_of_turns turns) ≡ sent
   pub passes : (config : GatewayConfig) (before : List Event) → HasHistory config s.gateway before
-      → Forwards o.sink.taken o'.sink.taken o'.waiting
+      → TakesAllBut o.sink.taken o'.sink.taken o'.waiting
       (o.waiting ++ spelled_for spells config before (events_of_turns turns))
   pub no_failure : o'.sink.failures ≡ o.sink.failures
 
 -- A write of what a packet puts failed when the gateway had heard the first octets, and a prefix of what
 -- waited and of what their packets put was taken.
-pub record StopsAt (spells : RecordEncoding) (s s' : State) (o : Output) (sink' : SinkState) (octets : List ℕ)
+pub record StopsAt (spells : PacketOutput) (s s' : State) (o : Output) (sink' : SinkState) (octets : List ℕ)
     : Type 0 where
   pub turns : List Turn
   pub rest : List ℕ
@@ -167,7 +167,7 @@ pub record StopsAt (spells : RecordEncoding) (s s' : State) (o : Output) (sink' 
   pub some : 0 < length (spells packet)
 
 -- octets, those to send behind those of the answer; they and the datagrams that came were recorded
-abbrev pub ExchangingAll : {T : Type 0} → RecordEncoding → World → World → List ℕ → List ℕ → List ℕ
+abbrev pub ExchangingAll : {T : Type 0} → PacketOutput → World → World → List ℕ → List ℕ → List ℕ
     → Result T RunFault → Type 0
 ExchangingAll spells w w' octets answer answer' result = MatchResult result
     (λ _. (sent : List ℕ) × (x : Exchanges spells w.state w'.state w.output w'.output octets sent)
@@ -189,13 +189,13 @@ pub record Receiving (s s' : State) (circuit : ℕ) (came : List (List ℕ)) : T
 pub record ActsOn (s s' : State) (tape tape' : TapeState) (r : Record) : Type 0 where
   pub act : Act
   pub told_is : told act ≡ r
-  pub goes : TurnTrace s s' (turns_of act) (events_in act)
+  pub goes : TurnsTrace s s' (turns_of act) (events_in act)
   pub records : s'.totals.records ≡ counted s.totals.records 1
   pub octets : s'.totals.octets ≡ counted s.totals.octets (length (turns_of act))
   pub recorded : Recorded tape tape' (events_in act)
 
 -- .. and this is known of what waited and of all that is put for it
-pub record ActTrace (spells : RecordEncoding) (w w' : World) (r : Record)
+pub record ActTrace (spells : PacketOutput) (w w' : World) (r : Record)
     (Took : List ℕ → Type 0) : Type 0 where
   pub acts : ActsOn w.state w'.state w.tape w'.tape r
   pub took : (config : GatewayConfig) (before : List Event) → HasHistory config w.state.gateway before
@@ -203,9 +203,9 @@ pub record ActTrace (spells : RecordEncoding) (w w' : World) (r : Record)
 
 -- A record was acted on; or a write failed in it, when it was done or when the first octets of a trunk record
 -- were heard.
-abbrev pub Acts : RecordEncoding → World → World → Record → Result (Unit {0}) RunFault → Type 0
+abbrev pub Acts : PacketOutput → World → World → Record → Result (Unit {0}) RunFault → Type 0
 Acts spells w w' r result = MatchResult result
-    (λ _. ActTrace spells w w' r (Forwards w.output.sink.taken w'.output.sink.taken w'.output.waiting)
+    (λ _. ActTrace spells w w' r (TakesAllBut w.output.sink.taken w'.output.sink.taken w'.output.waiting)
     × (w'.output.sink.failures ≡ w.output.sink.failures))
     (λ e. (e ≡ Write) × (w.output.sink.failures < w'.output.sink.failures)
     × (ActTrace spells w w' r (AppendsPrefix w.output.sink.taken w'.output.sink.taken)
@@ -214,13 +214,13 @@ Acts spells w w' r result = MatchResult result
 
 -- A session but for the last record, in which a write failed when its first octets were received; at most
 -- this many octets waited before it.
-pub record CutTrace (late : ℕ) (spells : RecordEncoding) (w w' : World) (begun : List Record) : Type 0 where
+pub record CutTrace (late : ℕ) (spells : PacketOutput) (w w' : World) (begun : List Record) : Type 0 where
   pub records : List Record
   pub octets : List ℕ
   pub all : begun ≡ records ++ Record.Trunk octets ∷ []
   pub between : World
   pub trace : SessionTrace (written_by spells) w.state between.state w.tape between.tape
-      (λ first. Forwards w.output.sink.taken between.output.sink.taken between.output.waiting) records
+      (λ first. TakesAllBut w.output.sink.taken between.output.sink.taken between.output.waiting) records
   pub few : length between.output.waiting ≤ late
   pub stops : StopsAt spells between.state w'.state between.output w'.output.sink octets
 
@@ -236,7 +236,7 @@ OfFirstActs Seen acts = Seen acts ⊎ Seen (but_last acts)
 
 -- a session up to a write that failed, when this many octets waited at most, and this is known of its acts:
 -- of all, or of all but the last one
-abbrev pub TraceToWriteError : ℕ → RecordEncoding → (List Act → Type 0) → World → (Totals → World)
+abbrev pub TraceToWriteError : ℕ → PacketOutput → (List Act → Type 0) → World → (Totals → World)
     → List Record
     → Type 0
 TraceToWriteError late spells Seen w end records = (totals : Totals) × (((0 < length records)

@@ -3,15 +3,15 @@ use Rattle.std.specs.Prelude.{◌≡◌, ◌+◌, ℕ, Bool, true, false, List, 
 use Rattle.gw_session.specs.Prelude.{at_most, record_of, PortsState, PortCall, Extends}
 
 -- the octets that a packet of a circuit puts in front of the answer
-abbrev pub RecordEncoding : Type 0
-RecordEncoding = ℕ × List ℕ → List ℕ
+abbrev pub PacketOutput : Type 0
+PacketOutput = ℕ × List ℕ → List ℕ
 
 -- none, where packets go to ports
-abbrev pub silent : RecordEncoding
+abbrev pub silent : PacketOutput
 silent p = []
 
 -- its record, where they go to the sink
-abbrev pub in_record : RecordEncoding
+abbrev pub in_record : PacketOutput
 in_record p = record_of 0x44 p.0 p.1
 
 -- ports at which nothing waits and nothing fails

@@ -41,7 +41,7 @@ pub fn give_datagram(
 
 /// What a session has done, what it is to write, and where it receives and makes what it sends.
 #[derive(Drop)]
-pub struct Session {
+pub struct SessionBuffers {
     pub totals: Totals,
     pub waiting: OutputBuffer,
     pub answer: TrunkRecord,
@@ -56,7 +56,7 @@ pub struct Session {
     room: Vec<u8>,
 }
 
-impl Session {
+impl SessionBuffers {
     ghost use Rattle.std.specs.Prelude.{◌≡◌, ◌+◌, ◌<◌, ◌≤◌, ◌^◌, ◌++◌, [], length, vec_len, OnOk, OnErr};
     ghost use Rattle.gw_records.specs.Outcome.{nothing_counted};
     ghost use Rattle.gw_records.specs.Streams.{CanCount, Puts};
@@ -65,13 +65,13 @@ impl Session {
     ghost use Rattle.gw_session.specs.World.{state_of, output_of, world_of};
 
     /// Before the first record; a session that answers `at_once` lets nothing wait behind a record.
-    pub fn new(room: Vec<u8>, at_once: bool) -> Session
+    pub fn new(room: Vec<u8>, at_once: bool) -> SessionBuffers
         ensures totals { result.totals ≡ nothing_counted }
         ensures waiting { result.waiting.items ≡ [] }
         ensures at_once { result.at_once ≡ at_once }
         ensures room { vec_len result.room ≡ vec_len room }
     {
-        Session {
+        SessionBuffers {
             totals: NO_TOTALS,
             waiting: OutputBuffer::new(),
             answer: TrunkRecord::new(),

@@ -7,14 +7,14 @@ ghost use Rattle.gw_records.specs.Streams.{CanCount, Puts};
 ghost use Rattle.gw_session.specs.Answers.{code_of};
 ghost use Rattle.gw_session.specs.Exchange.{Takes, most_waiting};
 
-use crate::exchange::{Session, give_datagram};
+use crate::exchange::{SessionBuffers, give_datagram};
 use crate::packet_ports::PacketPorts;
 use crate::tape::{OnTape, Tape, record};
 use byteorder::{BigEndian, ByteOrder};
 use g704_cas::CircuitNo;
 use g726_codec::CodecKind;
 use gw_circuit::CodecFault;
-use gw_records::{OutputBuffer, RecordHeader, RunFault, Sink, TRUNK, flush, put};
+use gw_records::{OutputBuffer, RecordKind, RunFault, Sink, TRUNK, flush, put};
 use gw_switch::Gateway;
 use q421_line::{Cmd, LineFault};
 
@@ -88,7 +88,7 @@ fn put_out<K: Sink>(
     Ok(())
 }
 
-impl Session {
+impl SessionBuffers {
     ghost use Rattle.std.specs.Prelude.{◌≡◌, ◌+◌, ◌^◌, ◌<◌, ◌≤◌, ◌++◌, length, vec_len, OnOk};
     ghost use Rattle.gw_records.specs.Records.{Record, IsGood, named};
     ghost use Rattle.gw_records.specs.Streams.{CanCount, Puts, at_most};
@@ -165,7 +165,7 @@ impl Session {
         &mut self,
         gateway: &mut Gateway,
         packet_ports: &mut O,
-        head: RecordHeader,
+        head: RecordKind,
         body: &[u8],
         sink: &mut K,
         tape: &mut T,
@@ -185,24 +185,18 @@ impl Session {
         ensures room { vec_len self.new.room ≡ vec_len self.old.room }
     {
         match head {
-            RecordHeader::Trunk => self.handle_trunk_record(
-                gateway,
-                packet_ports,
-                body,
-                sink,
-                tape,
-            ),
-            RecordHeader::Datagram(circuit) => {
+            RecordKind::Trunk => self.handle_trunk_record(gateway, packet_ports, body, sink, tape),
+            RecordKind::Datagram(circuit) => {
                 let recorded = record(tape, head, body);
                 let code = give_datagram(gateway, circuit, body, &mut self.totals);
                 self.put_answer(recorded, code, sink)
             }
-            RecordHeader::Command(circuit, command) => {
+            RecordKind::Command(circuit, command) => {
                 let recorded = record(tape, head, body);
                 let code = give_command(gateway, circuit, command);
                 self.put_answer(recorded, code, sink)
             }
-            RecordHeader::Codec(circuit, codec, payload_type) => {
+            RecordKind::Codec(circuit, codec, payload_type) => {
                 let recorded = record(tape, head, body);
                 let code = give_codec(gateway, circuit, codec, payload_type);
                 self.put_answer(recorded, code, sink)

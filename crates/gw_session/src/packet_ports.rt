@@ -2,7 +2,7 @@
 ghost use Rattle.std.specs.Prelude.{◌≡◌, ◌≤◌, ◌<◌, ◌++◌, ℕ, length, IfOk, IfSome, OnOk, OnErr};
 ghost use Rattle.gw_records.specs.Streams.{CanCount, Puts};
 ghost use Rattle.gw_records.specs.Ports.{PortsState, Receives, CountsFault, KeepsSends, KeepsReceives};
-ghost use Rattle.gw_session.specs.PacketPorts.{RecordEncoding, silent, in_record, no_ports, Went};
+ghost use Rattle.gw_session.specs.PacketPorts.{PacketOutput, silent, in_record, no_ports, Went};
 
 use g704_cas::CircuitNo;
 use gw_records::{OutputBuffer, PortFault, Ports, RunFault, Sink, datagram_record, put};
@@ -12,7 +12,7 @@ pub trait PacketPorts {
     /// What its ports tell.
     ghost tells: { Self → PortsState };
     /// What a packet puts in front of the answer.
-    ghost spells: { RecordEncoding };
+    ghost spells: { PacketOutput };
     /// The length of the room that it is lent.
     ghost place: { ℕ };
 

@@ -9,7 +9,7 @@ ghost use Rattle.gw_session.specs.Exchange.{most_waiting};
 ghost use Rattle.gw_session.specs.Watch.{ActsShown};
 ghost use Rattle.gw_session.specs.World.{state_of, world_of};
 
-use crate::exchange::Session;
+use crate::exchange::SessionBuffers;
 use crate::packet_ports::PacketPorts;
 use crate::tape::Tape;
 use crate::watch::Watch;
@@ -25,7 +25,7 @@ use gw_switch::Gateway;
 pub fn process_records<O: PacketPorts, S: Source, K: Sink, T: Tape, W: Watch>(
     kinds: &AcceptedKinds,
     reader: &mut Reader,
-    session: &mut Session,
+    session: &mut SessionBuffers,
     gateway: &mut Gateway,
     packet_ports: &mut O,
     source: &mut S,

@@ -4,7 +4,7 @@ ghost use Rattle.gw_records.specs.Streams.{CanBegin};
 ghost use Rattle.gw_session.specs.Tape.{no_tape};
 ghost use Rattle.gw_session.specs.Serve.{ServesAll, ServesUntil, around};
 
-use crate::exchange::Session;
+use crate::exchange::SessionBuffers;
 use crate::processing::process_records;
 use crate::tape::{NoTape, Tape};
 use crate::watch::NoWatch;
@@ -98,7 +98,7 @@ pub fn serve_recorded<S: Source, P: Ports, K: Sink, T: Tape>(
     let Ok(room) = vec![in alloc; 0u8; ROOM_LEN] else {
         return Err(RunFault::OutOfMemory);
     };
-    let mut session = Session::new(room, true);
+    let mut session = SessionBuffers::new(room, true);
     process_records(
         &SERVED,
         &mut reader,

@@ -10,11 +10,11 @@ use Rattle.gw_speech.proofs.Common.{packet_record, records_from, full_packets, f
 use Rattle.gw_speech.proofs.Common.{full_records_of, header_with, HasEncoded, IsPacket, IsDecoding, EncodesUntilRead}
 use Rattle.std.proofs.Math.Nat.{div-add-mod, mod-lt, mod-eq_of_lt, mod_self, sub-zero}
 use Rattle.gw_records.proofs.Buffers.{moved}
-use Rattle.gw_speech.specs.declared.encode.Progress.{Progress}
+use Rattle.gw_speech.specs.declared.encode.NextPacket.{NextPacket}
 use Rattle.gw_speech.proofs.InPlace.{front_is, came_is, window_is, coded_behind}
 
 -- the records of one packet more
-pub one_more_packet : (s : StreamSpec) (progress : Progress) (k count len : ℕ) (octets rest packet : List ℕ)
+pub one_more_packet : (s : StreamSpec) (progress : NextPacket) (k count len : ℕ) (octets rest packet : List ℕ)
     → IsPacket s progress (k + count) → len ≡ packet_len s → rest ≡ drop (packet_len s * count) octets
     → packet ≡ take len rest
     → records_from s k octets (count + 1) ≡ records_from s k octets count ++ packet_record s

@@ -10,9 +10,9 @@ use Rattle.gw_speech.proofs.Common.{DecodesUntil}
 use Rattle.std.proofs.lemmas.List.Concat.{flat_map-append}
 use Rattle.std.proofs.lemmas.List.Sums.{fold_push}
 use Rattle.std.proofs.lemmas.Bool.Decides.{nat_tests}
-use Rattle.gw_records.specs.declared.records.RecordHeader.{RecordHeader}
-use Rattle.gw_records.specs.declared.records.RecordHeader.TheVariants as heads
-use Rattle.gw_records.specs.declared.records.ParsedRecord.{ParsedRecord}
+use Rattle.gw_records.specs.declared.records.RecordKind.{RecordKind}
+use Rattle.gw_records.specs.declared.records.RecordKind.TheVariants as heads
+use Rattle.gw_records.specs.declared.records.FirstRecord.{FirstRecord}
 use Rattle.gw_records.specs.declared.records.EndOfRecords.{EndOfRecords}
 use Rattle.gw_records.specs.declared.records.EndOfRecords.TheVariants as endings
 use Rattle.gw_records.specs.declared.outcome.Totals.{Totals}
@@ -35,13 +35,13 @@ decoded_more s records r words e first =
     ap (speech_of s) (words_more s records r words e) ∙ speech_splits s (words_in s records) (unwrap_or words []) first
 
 -- the code words of a good record of datagrams are those of its body
-words_named : (s : StreamSpec) (head : RecordHeader) (body : List ℕ) → IsGood only_datagrams (named head body)
+words_named : (s : StreamSpec) (head : RecordKind) (body : List ℕ) → IsGood only_datagrams (named head body)
     → record_words s (named head body) ≡ datagram_words s body
 words_named s (heads.Datagram circuit) body good = refl
 words_named s _ body good = cc (good.0)
 
 -- the words of the first record are those of its body
-pub words_at : {held slice : List ℕ} (s : StreamSpec) (f : ParsedRecord) → IsFirst only_datagrams f held → slice ≡ held
+pub words_at : {held slice : List ℕ} (s : StreamSpec) (f : FirstRecord) → IsFirst only_datagrams f held → slice ≡ held
     → record_words s (record_at f held) ≡ datagram_words s (take (f.len - 4) (drop 4 slice))
 words_at {held} s f first e =
     let len : 4 + (f.len - 4) ≡ f.len = omega (arith, first.more) in

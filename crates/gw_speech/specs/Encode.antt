@@ -8,11 +8,11 @@ use Rattle.rtp_packet.specs.declared.Header.{Header}
 use Rattle.rtp_packet.specs.Rtp.{plain_datagram}
 use Rattle.rtp_pack.specs.Payload.{octets_of}
 use Rattle.gw_speech.specs.declared.spec.StreamSpec.{StreamSpec}
-use Rattle.gw_speech.specs.declared.encode.Progress.{Progress}
+use Rattle.gw_speech.specs.declared.encode.NextPacket.{NextPacket}
 use Rattle.gw_records.specs.declared.outcome.Totals.{Totals}
 use Rattle.gw_records.specs.declared.outcome.RunFault.{RunFault}
 use Rattle.gw_records.specs.declared.outcome.RunFault.TheVariants.{Read, Write}
-use Rattle.gw_records.specs.Streams.{SourceState, SinkState, Yields, GivesUp, StopsInWrite, at_most}
+use Rattle.gw_records.specs.Streams.{SourceState, SinkState, Yields, GivesUp, FailsAfterPrefix, at_most}
 use Rattle.gw_records.specs.Records.{record_of}
 use Rattle.gw_records.specs.Outcome.{nothing_counted}
 
@@ -106,7 +106,7 @@ pub record EncodesUntilWrite (s : StreamSpec) (source source' : SourceState) (si
     : Type 0 where
   pub octets : List ℕ
   pub gives : Yields source source' octets
-  pub breaks : StopsInWrite sink sink' (records_of s octets)
+  pub breaks : FailsAfterPrefix sink sink' (records_of s octets)
   pub no_read : source'.failures ≡ source.failures
 
 -- the end of encoding before that of the source: by a read or a write, and by no other fault
@@ -116,7 +116,7 @@ EncodesUntil s source source' sink sink' Write = EncodesUntilWrite s source sour
 EncodesUntil s source source' sink sink' _ = ⊥
 
 -- the header of the next packet
-abbrev pub header_with : StreamSpec → Progress → Header
+abbrev pub header_with : StreamSpec → NextPacket → Header
 header_with s progress =
     record {
       payload_type = s.payload_type;
@@ -126,7 +126,7 @@ header_with s progress =
     }
 
 -- the next packet is packet k of the stream
-pub record IsPacket (s : StreamSpec) (progress : Progress) (k : ℕ) : Type 0 where
+pub record IsPacket (s : StreamSpec) (progress : NextPacket) (k : ℕ) : Type 0 where
   pub header : header_with s progress ≡ header_at s k
   pub counted : progress.datagrams ≡ at_most k
 

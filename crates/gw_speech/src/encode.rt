@@ -29,7 +29,7 @@ const CIRCUIT: u8 = 1;
 
 // The sequence number and timestamp of the next packet, and the number of packets before it, which saturates.
 #[derive(Clone, Copy, Debug, PartialEq, Eq)]
-struct Progress {
+struct NextPacket {
     sequence: u16,
     timestamp: u32,
     datagrams: u64,
@@ -45,10 +45,10 @@ fn packet_len(spec: &StreamSpec) -> usize
 }
 
 // The state before the first packet.
-fn first_packet(sequence: u16, timestamp: u32) -> Progress
+fn first_packet(sequence: u16, timestamp: u32) -> NextPacket
     ensures { (s : StreamSpec) → s.sequence ≡ sequence → s.timestamp ≡ timestamp → IsPacket s result 0 }
 {
-    Progress {
+    NextPacket {
         sequence,
         timestamp,
         datagrams: 0,
@@ -57,10 +57,10 @@ fn first_packet(sequence: u16, timestamp: u32) -> Progress
 
 // The state after one more packet.
 #[tactic(auto, unfolding(crate::specs::Encode::header_at))]
-fn next_packet(spec: &StreamSpec, progress: &Progress) -> Progress
+fn next_packet(spec: &StreamSpec, progress: &NextPacket) -> NextPacket
     ensures { (k : ℕ) → IsPacket spec.now progress.now k → IsPacket spec.now result (k + 1) }
 {
-    Progress {
+    NextPacket {
         sequence: progress.sequence.wrapping_add(1),
         timestamp: progress.timestamp.wrapping_add(packet_len(spec) as u32),
         datagrams: progress.datagrams.saturating_add(1),
@@ -69,7 +69,7 @@ fn next_packet(spec: &StreamSpec, progress: &Progress) -> Progress
 
 // The record of a packet's datagram.
 #[tactic(auto, unfolding(crate::specs::Encode::packet_record))]
-fn packet_record(spec: &StreamSpec, progress: &Progress, words: &[u8]) -> ArrayVec<u8, 256>
+fn packet_record(spec: &StreamSpec, progress: &NextPacket, words: &[u8]) -> ArrayVec<u8, 256>
     requires { IsPayload (word_bits spec.now) words.now }
     ensures { result.items ≡ packet_record spec.now (header_with spec.now progress.now) words.now }
 {
@@ -87,7 +87,7 @@ fn packet_record(spec: &StreamSpec, progress: &Progress, words: &[u8]) -> ArrayV
 // Adds the record of a packet to the output.
 fn put_packet<K: Sink>(
     spec: &StreamSpec,
-    progress: &Progress,
+    progress: &NextPacket,
     words: &[u8],
     waiting: &mut OutputBuffer,
     sink: &mut K,
@@ -110,7 +110,7 @@ fn put_packet<K: Sink>(
 // Returns how many words are left.
 fn write_packets<K: Sink>(
     spec: &StreamSpec,
-    progress: &mut Progress,
+    progress: &mut NextPacket,
     words: &[u8],
     waiting: &mut OutputBuffer,
     sink: &mut K,

@@ -14,7 +14,7 @@ use Rattle.gw_switch.specs.declared.GatewayConfig.{GatewayConfig}
 use Rattle.gw_switch.specs.Events.{Event, view}
 use Rattle.gw_switch.specs.Whole.{config_of}
 use Rattle.gw_switch.specs.Standing as gateway
-use Rattle.gw_switch.specs.declared.circuits.BoxedCircuit.{BoxedCircuit}
+use Rattle.gw_switch.specs.declared.circuits.Channel.{Channel}
 use Rattle.gw_switch.specs.declared.gateway.Gateway.{Gateway}
 use Rattle.gw_switch.specs.declared.trunk.Trunk.{Trunk}
 use Rattle.gw_switch.specs.declared.trunk.signalling.Signalling.{Signalling}
@@ -59,18 +59,18 @@ pub record TrunkFits (t : Trunk) : Type 0 where
   pub nibbles : length t.signalling.nibbles ≡ 30
   pub each : All IsNibble t.signalling.nibbles
 
-abbrev pub saved_channel : BoxedCircuit → List ℕ
+abbrev pub saved_channel : Channel → List ℕ
 saved_channel channel = saved_circuit channel.circuit
 
 -- the circuits, the first one first
-abbrev pub saved_circuits : List BoxedCircuit → List ℕ
+abbrev pub saved_circuits : List Channel → List ℕ
 saved_circuits channels = flat_map saved_channel channels
 
 -- the trunk, then the circuits
 unfoldable pub saved_gateway : Gateway → List ℕ
 saved_gateway g = saved_trunk g.trunk ++ saved_circuits g.circuits.channels.items
 
-abbrev pub ChannelFits : BoxedCircuit → Type 0
+abbrev pub ChannelFits : Channel → Type 0
 ChannelFits channel = CircuitFits channel.circuit
 
 -- each number of the trunk and of the circuits has its width, as in every gateway
@@ -99,7 +99,7 @@ SameStatesHaveOneHistory = (config : GatewayConfig) (g other : Gateway) (events 
     → gateway.HasHistory config other events → gateway.HasHistory config g events
 
 -- A saved circuit has the law and the configuration of the one that reads it.
-pub record IsAlike (mine saved : BoxedCircuit) : Type 0 where
+pub record IsAlike (mine saved : Channel) : Type 0 where
   pub law : Law
   pub config : CircuitConfig
   pub items : List Item
@@ -109,7 +109,7 @@ pub record IsAlike (mine saved : BoxedCircuit) : Type 0 where
   pub fits : ChannelFits saved
 
 -- so does each of the saved circuits
-pub record AreAlike (mine saved : List BoxedCircuit) : Type 0 where
+pub record AreAlike (mine saved : List Channel) : Type 0 where
   pub many : length saved ≡ length mine
-  pub each : (i : ℕ) (d e : BoxedCircuit) → i < length mine
+  pub each : (i : ℕ) (d e : Channel) → i < length mine
       → IsAlike (slice_index_or mine i d) (slice_index_or saved i e)

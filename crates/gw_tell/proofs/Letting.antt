@@ -4,14 +4,14 @@ use Rattle.std.proofs.Common.{◌∷◌, zero, suc}
 use Rattle.e1_g711.specs.declared.Law.{Law}
 use Rattle.gw_switch.specs.declared.gateway.Gateway.{Gateway}
 use Rattle.gw_tell.specs.declared.client.Client.{Client}
-use Rattle.gw_tell.specs.declared.picture.TrunkStatus.{TrunkStatus}
+use Rattle.gw_tell.specs.declared.gateway_status.GatewayStatus.{GatewayStatus}
 use Rattle.gw_tell.specs.declared.place.ClientSlot.{ClientSlot}
 use Rattle.gw_tell.specs.Clients.{at, sent, AllFree, Gets, StaysOrNew}
 use Rattle.gw_tell.specs.Reports.{Shows}
 use Rattle.gw_tell.specs.Telling.{IsNew, LetsIn}
 
 -- Who stays and stays, stays; and who is new and stays, is new.
-still_here : (law : Law) (place : ℕ) (told : TrunkStatus) (seized : List ℕ) (old mid new : Option Client)
+still_here : (law : Law) (place : ℕ) (told : GatewayStatus) (seized : List ℕ) (old mid new : Option Client)
     → StaysOrNew law place told seized old mid
     → StaysOrNew law place told seized mid new → StaysOrNew law place told seized old new
 still_here law place told seized old mid None first then = tt
@@ -19,21 +19,23 @@ still_here law place told seized old mid (Some client) first (inl e) = rw e at f
 still_here law place told seized old mid (Some client) first (inr is) = inr is
 
 -- Who is new and stays, is new.
-still_new : (law : Law) (place : ℕ) (told : TrunkStatus) (seized : List ℕ) (mid new : Option Client) → IsNew law place told seized mid
+still_new : (law : Law) (place : ℕ) (told : GatewayStatus) (seized : List ℕ) (mid new : Option Client)
+    → IsNew law place told seized mid
     → StaysOrNew law place told seized mid new → IsNew law place told seized new
 still_new law place told seized mid None first then = tt
 still_new law place told seized mid (Some client) first (inl e) = rw e at first
 still_new law place told seized mid (Some client) first (inr is) = is
 
 -- Who is at a place that was free is new.
-none_here : (law : Law) (place : ℕ) (told : TrunkStatus) (seized : List ℕ) (mid new : Option Client) → mid ≡ None
+none_here : (law : Law) (place : ℕ) (told : GatewayStatus) (seized : List ℕ) (mid new : Option Client) → mid ≡ None
     → StaysOrNew law place told seized mid new → IsNew law place told seized new
 none_here law place told seized mid None free then = tt
 none_here law place told seized mid (Some client) free (inl e) = cc
 none_here law place told seized mid (Some client) free (inr is) = is
 
 -- Before the first one all stay.
-pub none_let_in : (law : Law) (place : ℕ) (gateway : Gateway) (told : TrunkStatus) (seized : List ℕ) (places : List ClientSlot)
+pub none_let_in : (law : Law) (place : ℕ) (gateway : Gateway) (told : GatewayStatus) (seized : List ℕ)
+    (places : List ClientSlot)
     → LetsIn law place gateway told told seized places places
 none_let_in law place gateway told seized places = inl (refl, λ k. stays (at places k))
   where
@@ -42,8 +44,9 @@ none_let_in law place gateway told seized places = inl (refl, λ k. stays (at pl
     stays (Some client) = inl refl
 
 -- One more is let in.
-pub one_let_in : (law : Law) (place : ℕ) (gateway : Gateway) (told told' told'' : TrunkStatus)
-    (seized : List ℕ) (places places' places'' : List ClientSlot) → LetsIn law place gateway told told' seized places places'
+pub one_let_in : (law : Law) (place : ℕ) (gateway : Gateway) (told told' told'' : GatewayStatus)
+    (seized : List ℕ) (places places' places'' : List ClientSlot)
+    → LetsIn law place gateway told told' seized places places'
     → (told'' ≡ told') ⊎ (AllFree places' × Shows told'' gateway)
     → ((k : ℕ) → StaysOrNew law place told'' seized (at places' k) (at places'' k))
     → LetsIn law place gateway told told'' seized places places''
@@ -57,7 +60,8 @@ one_let_in law place gateway told told' told'' seized places places' places'' (i
     )
 one_let_in law place gateway told told' told'' seized places places' places'' (inr before) (inl same) then =
     let all = rw same at then in
-    inr (rw same before.0, λ k. rw same (still_new law place told' seized (at places' k) (at places'' k) (before.1 k) (all k)))
+    inr (rw same before.0, λ k. rw same (still_new law place told' seized (at places' k) (at places'' k) (before.1 k)
+        (all k)))
 
 -- Who is sent nothing stays.
 pub none_sent : (client : Option Client) → Gets client client []

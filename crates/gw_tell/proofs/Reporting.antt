@@ -6,7 +6,7 @@ use Rattle.std.proofs.lemmas.Bool.{cases_eq}
 use Rattle.gw_circuit.specs.declared.Status.{Status}
 use Rattle.gw_switch.specs.declared.Alarms.{Alarms}
 use Rattle.gw_records.specs.Records.{Record}
-use Rattle.gw_tell.specs.declared.picture.TrunkStatus.{TrunkStatus}
+use Rattle.gw_tell.specs.declared.gateway_status.GatewayStatus.{GatewayStatus}
 use Rattle.gw_tell.specs.Lines.{alarms_line, row_line, event_line}
 use Rattle.gw_tell.specs.Reports.{no_status, of_circuit, counted_as, RowStep, RowSteps, AlarmsStep}
 use Rattle.gw_tell.specs.Seizures.{AreCounted}
@@ -52,7 +52,7 @@ alarms_go_behind was is text text' (inl s) = (alarms_line is, s.1)
 alarms_go_behind was is text text' (inr s) = ([], s.1 ∙ sym (append-nil text))
 
 -- What is reported of a record goes behind the text.
-pub changes_go_behind : (place : ℕ) (r : Record) (code : ℕ) (was is told : TrunkStatus) (text text' : List ℕ)
+pub changes_go_behind : (place : ℕ) (r : Record) (code : ℕ) (was is told : GatewayStatus) (text text' : List ℕ)
     → Changes place r code was is told text text' → (lines : List ℕ) × (text' ≡ text ++ lines)
 changes_go_behind place r code was is told text text' changes =
     let a = alarms_go_behind was.alarms is.alarms (text ++ event_line r code) changes.between changes.alarms in

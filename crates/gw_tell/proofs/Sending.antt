@@ -5,7 +5,7 @@ use Rattle.std.proofs.Math.Seq.{drop-append_seam, take-append_seam}
 use Rattle.gw_switch.specs.declared.gateway.Gateway.{Gateway}
 use Rattle.gw_records.specs.Records.{Record}
 use Rattle.gw_tell.specs.declared.place.ClientSlot.{ClientSlot}
-use Rattle.gw_tell.specs.declared.picture.TrunkStatus.{TrunkStatus}
+use Rattle.gw_tell.specs.declared.gateway_status.GatewayStatus.{GatewayStatus}
 use Rattle.gw_tell.specs.Lines.{at_line}
 use Rattle.gw_tell.specs.Reports.{sent_to, last_after, Shows, Changes, IsStatusOf, place_after}
 use Rattle.gw_tell.specs.Clients.{AllAreTold, TellsChanges}
@@ -31,7 +31,7 @@ front_is line pushed report text front a b c (lines, d) =
     )
 
 -- The clients were told what changed.
-pub tells : (place : ℕ) (r : Record) (code : ℕ) (gateway : Gateway) (was told is : TrunkStatus)
+pub tells : (place : ℕ) (r : Record) (code : ℕ) (gateway : Gateway) (was told is : GatewayStatus)
     (places places' : List ClientSlot) (at : ℕ) (pushed report text : List ℕ) (front : ℕ)
     → Shows is gateway → at ≡ place_after place r → pushed ≡ at_line at → front ≡ length pushed → text ≡ report
     → Changes place r code was is told pushed report → IsStatusOf is told

@@ -6,7 +6,7 @@ use Rattle.gw_records.specs.Records.{Record}
 use Rattle.gw_tell.specs.declared.client.Client.{Client}
 use Rattle.gw_tell.specs.declared.place.ClientSlot.{ClientSlot}
 use Rattle.gw_tell.specs.Backlog.{waiting}
-use Rattle.gw_tell.specs.declared.picture.TrunkStatus.{TrunkStatus}
+use Rattle.gw_tell.specs.declared.gateway_status.GatewayStatus.{GatewayStatus}
 use Rattle.gw_tell.specs.Lines.{at_line}
 use Rattle.gw_tell.specs.Reports.{Shows, Changes, IsStatusOf, place_after, whole_state, sent_to, last_after}
 
@@ -47,9 +47,9 @@ abbrev pub AllAreTold : List ClientSlot → List ClientSlot → ℕ → List ℕ
 AllAreTold places places' place lines = (k : ℕ) → IsTold (at places k) (at places' k) place lines
 
 -- the clients were told what changed with a record, behind which the gateway stands
-pub record TellsChanges (place : ℕ) (r : Record) (code : ℕ) (gateway : Gateway) (was told : TrunkStatus)
+pub record TellsChanges (place : ℕ) (r : Record) (code : ℕ) (gateway : Gateway) (was told : GatewayStatus)
     (places places' : List ClientSlot) : Type 0 where
-  pub is : TrunkStatus
+  pub is : GatewayStatus
   pub shows : Shows is gateway
   pub lines : List ℕ
   pub changes : Changes place r code was is told (at_line (place_after place r))
@@ -58,7 +58,7 @@ pub record TellsChanges (place : ℕ) (r : Record) (code : ℕ) (gateway : Gatew
   pub told_all : AllAreTold places places' (place_after place r) lines
 
 -- the client at a place stays as it was, or is let go, or is a new one that was sent the whole state
-abbrev pub StaysOrNew : Law → ℕ → TrunkStatus → List ℕ → Option Client → Option Client → Type 0
+abbrev pub StaysOrNew : Law → ℕ → GatewayStatus → List ℕ → Option Client → Option Client → Type 0
 StaysOrNew law place told seized old None = ⊤
 StaysOrNew law place told seized old (Some client') = (old ≡ Some client')
     ⊎ ((sent client' ≡ whole_state law place told seized) × (client'.last ≡ place))

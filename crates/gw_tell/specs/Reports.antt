@@ -1,4 +1,4 @@
--- What is reported, and when (modules `picture` and `report`).
+-- What is reported, and when (modules `gateway_status` and `report`).
 use Rattle.std.specs.Prelude.{◌≡◌, ◌≢◌, ◌⊎◌, ◌++◌, ◌≤◌, ◌/◌, ◌+◌, ◌-◌, ℕ, zero, suc, List, [], ◌∷◌, length}
 use Rattle.std.specs.Prelude.{Bool, true, false, if◌then◌else◌, ◌==◌, nat_lt, None, slice_index_or}
 use Rattle.e1_g711.specs.declared.Law.{Law}
@@ -15,8 +15,9 @@ use Rattle.gw_switch.specs.Whole.{status_after, alarms_after}
 use Rattle.gw_switch.specs.Standing.{HasHistory}
 use Rattle.gw_records.specs.Records.{Record}
 use Rattle.gw_records.specs.Streams.{at_most}
-use Rattle.gw_tell.specs.declared.picture.TrunkStatus.{TrunkStatus}
-use Rattle.gw_tell.specs.Lines.{at_line, alarms_line, event_line, row_line, seizures_line, hello_line, now_line}
+use Rattle.gw_tell.specs.declared.gateway_status.GatewayStatus.{GatewayStatus}
+use Rattle.gw_tell.specs.Lines.{at_line, alarms_line, event_line, row_line, seizures_line, hello_line}
+use Rattle.gw_tell.specs.Lines.{now_line}
 
 -- what stands where no circuit is
 abbrev pub no_status : Status
@@ -43,10 +44,10 @@ AreOf rows gateway = (config : GatewayConfig) (events : List Event) → HasHisto
     → (c : ℕ) → 1 ≤ c → c ≤ 30 → of_circuit rows c ≡ status_after config events c
 
 -- the gateway stands so
-pub record Shows (picture : TrunkStatus) (gateway : Gateway) : Type 0 where
+pub record Shows (gateway_status : GatewayStatus) (gateway : Gateway) : Type 0 where
   pub alarms_are : (config : GatewayConfig) (events : List Event) → HasHistory config gateway events
-      → picture.alarms ≡ alarms_after events
-  pub rows_are : AreOf picture.rows gateway
+      → gateway_status.alarms ≡ alarms_after events
+  pub rows_are : AreOf gateway_status.rows gateway
 
 -- a status with the counts of another
 abbrev pub counted_as : Status → Status → Status
@@ -91,7 +92,7 @@ are_due place place' = nat_lt (place / 65536) (place' / 65536)
 
 -- The lines of a record that was answered with this code go behind a text: its own line, the alarms and the
 -- circuits. What was reported last is then `told`, where it was `was`.
-pub record Changes (place : ℕ) (r : Record) (code : ℕ) (was is told : TrunkStatus) (text text' : List ℕ)
+pub record Changes (place : ℕ) (r : Record) (code : ℕ) (was is told : GatewayStatus) (text text' : List ℕ)
     : Type 0 where
   pub between : List ℕ
   pub alarms : AlarmsStep was.alarms is.alarms (text ++ event_line r code) between
@@ -99,7 +100,7 @@ pub record Changes (place : ℕ) (r : Record) (code : ℕ) (was is told : TrunkS
   pub rows : RowSteps (are_due place (place_after place r)) was.rows is.rows told.rows between text' 30
 
 -- what was reported last is how the trunk stands, but for the counts
-pub record IsStatusOf (is told : TrunkStatus) : Type 0 where
+pub record IsStatusOf (is told : GatewayStatus) : Type 0 where
   pub alarms_are : told.alarms ≡ is.alarms
   pub rows_are : (c : ℕ) → 1 ≤ c → c ≤ 30
       → of_circuit told.rows c ≡ counted_as (of_circuit is.rows c) (of_circuit told.rows c)
@@ -110,9 +111,9 @@ row_lines rows zero = []
 row_lines rows (suc n) = row_lines rows n ++ row_line (suc n) (of_circuit rows (suc n))
 
 -- the whole state, which a new client gets
-abbrev pub whole_state : Law → ℕ → TrunkStatus → List ℕ → List ℕ
-whole_state law place picture seized = hello_line law ++ at_line place ++ alarms_line picture.alarms
-    ++ row_lines picture.rows 30 ++ seizures_line seized ++ now_line
+abbrev pub whole_state : Law → ℕ → GatewayStatus → List ℕ → List ℕ
+whole_state law place gateway_status seized = hello_line law ++ at_line place ++ alarms_line gateway_status.alarms
+    ++ row_lines gateway_status.rows 30 ++ seizures_line seized ++ now_line
 
 -- what a client is sent whose last `at` was this place: nothing, or the lines with the place before them if
 -- it has changed

@@ -1,12 +1,14 @@
 -- How often the lines were seized (module `seizures`).
-use Rattle.std.specs.Prelude.{◌≡◌, ◌≤◌, ◌+◌, ◌-◌, ℕ, List, [], ◌∷◌, Bool, true, false, if◌then◌else◌, slice_index_or}
+use Rattle.std.specs.Prelude.{◌≡◌, ◌≤◌, ◌+◌, ◌-◌, ℕ, List, [], ◌∷◌, Bool, true, false, if◌then◌else◌}
+use Rattle.std.specs.Prelude.{slice_index_or}
 use Rattle.q421_line.specs.declared.State.{State}
 use Rattle.q421_line.specs.declared.State.TheVariants.{Idle, Seized, Acked}
 use Rattle.gw_circuit.specs.declared.Status.{Status}
 use Rattle.gw_records.specs.Streams.{at_most}
 use Rattle.gw_tell.specs.Reports.{of_circuit}
 
--- a line was seized: from idle it is seized or, at the end that is seized, acknowledged (ITU-T Q.421, table 3)
+-- a line was seized: from idle it is seized or, at the end that is seized, acknowledged (ITU-T Q.421, table
+-- 3)
 abbrev pub is_seizure : State → State → Bool
 is_seizure Idle Seized = true
 is_seizure Idle Acked = true

@@ -4,7 +4,7 @@ use Rattle.e1_g711.specs.declared.Law.{Law}
 use Rattle.gw_switch.specs.declared.gateway.Gateway.{Gateway}
 use Rattle.gw_records.specs.Records.{Record}
 use Rattle.gw_tell.specs.declared.client.Client.{Client}
-use Rattle.gw_tell.specs.declared.picture.TrunkStatus.{TrunkStatus}
+use Rattle.gw_tell.specs.declared.gateway_status.GatewayStatus.{GatewayStatus}
 use Rattle.gw_tell.specs.declared.place.ClientSlot.{ClientSlot}
 use Rattle.gw_tell.specs.declared.teller.Teller.{Teller}
 use Rattle.gw_tell.specs.Clients.{at, sent, Gets, AllFree, TellsChanges, StaysOrNew}
@@ -20,13 +20,14 @@ pub record HasBegun (t : Teller) (law : Law) (gateway : Gateway) : Type 0 where
   pub none_seized : t.seized ≡ no_seizures
 
 -- a place has no client, or a new one that was sent the whole state
-abbrev pub IsNew : Law → ℕ → TrunkStatus → List ℕ → Option Client → Type 0
+abbrev pub IsNew : Law → ℕ → GatewayStatus → List ℕ → Option Client → Type 0
 IsNew law place told seized None = ⊤
-IsNew law place told seized (Some client) = (sent client ≡ whole_state law place told seized) × (client.last ≡ place)
+IsNew law place told seized (Some client) = (sent client ≡ whole_state law place told seized)
+    × (client.last ≡ place)
 
 -- New clients were let in: each was sent the whole state by what was told last, and those before them stay.
 -- If there was none before them, that may be how the gateway stands now.
-abbrev pub LetsIn : Law → ℕ → Gateway → TrunkStatus → TrunkStatus → List ℕ → List ClientSlot
+abbrev pub LetsIn : Law → ℕ → Gateway → GatewayStatus → GatewayStatus → List ℕ → List ClientSlot
     → List ClientSlot → Type 0
 LetsIn law place gateway told told' seized places places' =
     ((told' ≡ told) × ((k : ℕ) → StaysOrNew law place told seized (at places k) (at places' k)))
@@ -37,12 +38,14 @@ abbrev pub IsOther : Record → Type 0
 IsOther (Record.Trunk octets) = ⊥
 IsOther _ = ⊤
 
--- A Teller was shown a record, with the code of its answer and the gateway behind it. It counted seizures, and
--- its clients were told what changed. Behind a record of the trunk those who have gone were let go, and then new ones were let in.
+-- A Teller was shown a record, with the code of its answer and the gateway behind it. It counted seizures,
+-- and
+-- its clients were told what changed. Behind a record of the trunk those who have gone were let go, and then
+-- new ones were let in.
 pub record TellsRecord (t t' : Teller) (r : Record) (code : ℕ) (gateway : Gateway) : Type 0 where
   pub law_is : t'.law ≡ t.law
   pub place_is : t'.place ≡ place_after t.place r
-  pub told : TrunkStatus
+  pub told : GatewayStatus
   pub between : List ClientSlot
   pub tells : TellsChanges t.place r code gateway t.told told t.places between
   pub counted : AreCounted t.seized t.told.rows told.rows t'.seized

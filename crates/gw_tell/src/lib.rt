@@ -3,8 +3,8 @@
 
 mod backlog;
 mod client;
+mod gateway_status;
 mod lines;
-mod picture;
 mod place;
 mod report;
 mod seizures;

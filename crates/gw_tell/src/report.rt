@@ -7,13 +7,13 @@ ghost use Rattle.gw_tell.specs.Reports.{counted_as, quiet_at, RowStep, RowSteps,
 ghost use Rattle.gw_tell.specs.Reports.{Changes, IsStatusOf, row_lines, whole_state};
 ghost use Rattle.gw_tell.specs.Lines.{event_line};
 
+use crate::gateway_status::{GatewayStatus, circuit};
 use crate::lines::{hello_line, push_alarms, push_at, push_event, push_row, push_seizures};
-use crate::picture::{TrunkStatus, circuit};
 use crate::text::{Text, push};
 use e1_g711::Law;
 use g704_cas::CircuitNo;
 use gw_circuit::Status;
-use gw_records::RecordHeader;
+use gw_records::RecordKind;
 use gw_switch::Alarms;
 
 // How many octets of the trunk there are between two reports of counts.
@@ -83,11 +83,11 @@ fn report_alarms(told: &mut Alarms, is: &Alarms, text: &mut Text)
 }
 
 /// The place behind a record.
-pub fn place_after(place: u64, head: &RecordHeader, body: &[u8]) -> u64
+pub fn place_after(place: u64, head: &RecordKind, body: &[u8]) -> u64
     ensures { result ≡ place_after place (named head.now body.now) }
 {
     match head {
-        RecordHeader::Trunk => place.saturating_add(body.len() as u64),
+        RecordKind::Trunk => place.saturating_add(body.len() as u64),
         _ => place,
     }
 }
@@ -97,11 +97,11 @@ pub fn place_after(place: u64, head: &RecordHeader, body: &[u8]) -> u64
 #[inline(never)]
 pub fn report(
     place: u64,
-    head: &RecordHeader,
+    head: &RecordKind,
     body: &[u8],
     code: u8,
-    told: &mut TrunkStatus,
-    is: &TrunkStatus,
+    told: &mut GatewayStatus,
+    is: &GatewayStatus,
     text: &mut Text,
 )
     requires { length text.old.items ≤ 24 }
@@ -128,14 +128,20 @@ fn push_rows(text: &mut Text, rows: &[Status; 30])
 
 /// Puts the whole state into the text, which a new client gets.
 #[inline(never)]
-pub fn whole_state(law: Law, place: u64, picture: &TrunkStatus, seized: &[u64; 30], text: &mut Text)
+pub fn whole_state(
+    law: Law,
+    place: u64,
+    gateway_status: &GatewayStatus,
+    seized: &[u64; 30],
+    text: &mut Text,
+)
     requires { text.old.items ≡ [] }
-    ensures { text.new.items ≡ whole_state law place picture.now seized.now }
+    ensures { text.new.items ≡ whole_state law place gateway_status.now seized.now }
 {
     push(text, hello_line(law));
     push_at(text, place);
-    push_alarms(text, &picture.alarms);
-    push_rows(text, &picture.rows);
+    push_alarms(text, &gateway_status.alarms);
+    push_rows(text, &gateway_status.rows);
     push_seizures(text, seized);
     push(text, b"now\n");
 }

@@ -9,14 +9,14 @@ ghost use Rattle.gw_tell.specs.Telling.{HasBegun, TellsRecord};
 
 use crate::backlog::Backlog;
 use crate::client::Client;
+use crate::gateway_status::GatewayStatus;
 use crate::lines::push_at;
-use crate::picture::TrunkStatus;
 use crate::place::ClientSlot;
 use crate::report::{place_after, report, whole_state};
 use crate::seizures::count_seizures;
 use crate::text::Text;
 use e1_g711::Law;
-use gw_records::RecordHeader;
+use gw_records::RecordKind;
 use gw_session::Watch;
 use gw_switch::Gateway;
 use gw_trunk::open_door;
@@ -38,7 +38,7 @@ pub struct Teller {
     // The octets of the trunk that the session has acted on.
     place: u64,
     // What was reported last, also if nobody heard it.
-    told: TrunkStatus,
+    told: GatewayStatus,
     // How often each line was seized since the session began.
     seized: [u64; 30],
     text: Text,
@@ -120,7 +120,7 @@ impl Teller {
             places: open_places(rt.alloc())?,
             law,
             place: 0,
-            told: TrunkStatus::of(gateway),
+            told: GatewayStatus::of(gateway),
             seized: [0u64; 30],
             text: Text::new(),
         })
@@ -128,14 +128,14 @@ impl Teller {
 
     // Counts seizures, and tells all clients what changed with a record.
     #[inline(never)]
-    fn tell(&mut self, head: &RecordHeader, body: &[u8], code: u8, gateway: &Gateway)
+    fn tell(&mut self, head: &RecordKind, body: &[u8], code: u8, gateway: &Gateway)
         ensures changes { TellsChanges self.old.place (named head.now body.now) code gateway.now
             self.old.told self.new.told self.old.places self.new.places }
         ensures counted { AreCounted self.old.seized self.old.told.rows self.new.told.rows self.new.seized }
         ensures law { self.new.law ≡ self.old.law }
         ensures place { self.new.place ≡ self.old.place }
     {
-        let is = TrunkStatus::of(gateway);
+        let is = GatewayStatus::of(gateway);
         let at = place_after(self.place, head, body);
         count_seizures(&mut self.seized, &self.told.rows, &is.rows);
         self.text.clear();
@@ -168,7 +168,7 @@ impl Teller {
             return;
         };
         if are_free(&self.places) {
-            self.told = TrunkStatus::of(gateway);
+            self.told = GatewayStatus::of(gateway);
         }
         self.text.clear();
         whole_state(
@@ -229,10 +229,10 @@ impl Teller {
 impl Watch for Teller {
     ghost shows = { λ old new r code gateway. TellsRecord old new r code gateway };
 
-    fn after(&mut self, head: &RecordHeader, body: &[u8], code: u8, gateway: &Gateway) {
+    fn after(&mut self, head: &RecordKind, body: &[u8], code: u8, gateway: &Gateway) {
         self.tell(head, body, code, gateway);
         self.place = place_after(self.place, head, body);
-        if let RecordHeader::Trunk = head {
+        if let RecordKind::Trunk = head {
             self.listen();
             self.let_in(gateway);
         }

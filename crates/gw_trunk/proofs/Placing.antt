@@ -6,8 +6,8 @@ use Rattle.std.proofs.lemmas.Bool.{cases_eq}
 use Rattle.gw_records.specs.declared.records.EndOfRecords.TheVariants as endings
 use Rattle.gw_records.specs.Records.{end_of}
 use Rattle.gw_trunk.specs.Clients.{HasNoRecord}
-use Rattle.gw_trunk.specs.declared.client.ClientRequest.{ClientRequest}
-use Rattle.gw_trunk.specs.declared.client.ClientRequest.TheVariants.{Command, Nothing, End, Gone}
+use Rattle.gw_trunk.specs.declared.client.ClientPoll.{ClientPoll}
+use Rattle.gw_trunk.specs.declared.client.ClientPoll.TheVariants.{Command, Nothing, End, Gone}
 use Rattle.gw_trunk.specs.declared.client.Client.{Client}
 use Rattle.gw_trunk.specs.Clients.{Keeps, Answers, AllKeep, OnlyAt, at, is_quiet}
 
@@ -19,7 +19,7 @@ keeps-trans None (Some q) (Some r) a b = absurd a
 keeps-trans (Some p) (Some q) (Some r) a b = record { gave_is = b.gave_is ∙ a.gave_is; got_is = b.got_is ∙ a.got_is }
 
 -- A client that was asked, gave nothing and did not ask for the end stays or is let go, and has nothing.
-pub asked-none : (asked : ClientRequest) (p p' : Option Client) (room : List ℕ) → Answers asked p p' room
+pub asked-none : (asked : ClientPoll) (p p' : Option Client) (room : List ℕ) → Answers asked p p' room
     → (asked ≡ Nothing) ⊎ (asked ≡ Gone) → Keeps p p' × (is_quiet p' ≡ true)
 asked-none Nothing p p' room a none = a
 asked-none Gone p p' room a none = rw a (tt, refl)

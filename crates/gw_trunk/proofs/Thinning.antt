@@ -7,9 +7,9 @@ use Rattle.std.proofs.lemmas.Bool.Decides.{nat_tests}
 use Rattle.std.proofs.lemmas.List.{nil_from_length, length-take-le, take-take}
 use Rattle.std.proofs.lemmas.List.Concat.{flat_map-append}
 use Rattle.gw_records.specs.Streams.{at_most}
-use Rattle.gw_trunk.specs.declared.in_time.MultiframePosition.{MultiframePosition}
+use Rattle.gw_trunk.specs.declared.multiframe_dropper.MultiframePosition.{MultiframePosition}
 use Rattle.gw_trunk.specs.Multiframes.{Multiframe, IsWhole, multiframe_octets, left_of, number_discarded, IsThinned}
-use Rattle.gw_trunk.specs.Multiframes.{course_after, course_discarding, PassesOn, Steps, IsPrompt, GoesInTime}
+use Rattle.gw_trunk.specs.Multiframes.{position_after, position_discarding, PassesOn, Steps, IsPrompt, GoesInTime}
 
 -- What is left of octets that are discarded or not, and of more of the same.
 left-goes : (discarded : Bool) (first octets more : List ℕ)
@@ -30,22 +30,22 @@ number-more [] m = omega arith
 number-more (n ∷ ms) m = let e = number-more ms m in omega (arith, e)
 
 -- The course if octets do not complete the multiframe.
-course-goes : (course : MultiframePosition) (n : ℕ) → course.place + n ≢ 512
-    → course_after course n ≡ record course { place = course.place + n }
-course-goes course n more = grind (arith, nat_tests)
+position-goes : (position : MultiframePosition) (n : ℕ) → position.place + n ≢ 512
+    → position_after position n ≡ record position { place = position.place + n }
+position-goes position n more = grind (arith, nat_tests)
 
 -- The course if octets complete the multiframe.
-course-ends : (course : MultiframePosition) (n : ℕ) → course.place + n ≡ 512
-    → course_after course n ≡ record course { place = 0; discards = false }
-course-ends course n all = grind (arith, nat_tests)
+position-ends : (position : MultiframePosition) (n : ℕ) → position.place + n ≡ 512
+    → position_after position n ≡ record position { place = 0; discards = false }
+position-ends position n all = grind (arith, nat_tests)
 
 -- More octets of the last multiframe, which they do not end.
-more-of : (course : MultiframePosition) (sent left left' xs : List ℕ) (t : IsThinned course sent left)
-    → course.place + length xs < 512 → left' ≡ left ++ cond course.discards [] xs
-    → IsThinned (record course { place = course.place + length xs }) (sent ++ xs) left'
-more-of course sent left left' xs t short e =
+more-of : (position : MultiframePosition) (sent left left' xs : List ℕ) (t : IsThinned position sent left)
+    → position.place + length xs < 512 → left' ≡ left ++ cond position.discards [] xs
+    → IsThinned (record position { place = position.place + length xs }) (sent ++ xs) left'
+more-of position sent left left' xs t short e =
     let last = t.thinned.last in
-    let long : length (last.octets ++ xs) ≡ course.place + length xs
+    let long : length (last.octets ++ xs) ≡ position.place + length xs
     = length-append last.octets xs ∙ ap (λ (n : ℕ). n + length xs) (sym t.place_is) in
     record {
       thinned = record {
@@ -64,10 +64,10 @@ more-of course sent left left' xs t short e =
     }
 
 -- More octets of the last multiframe, which is whole with them.
-rest-of : (course : MultiframePosition) (sent left left' xs : List ℕ) (t : IsThinned course sent left)
-    → course.place + length xs ≡ 512 → left' ≡ left ++ cond course.discards [] xs
-    → IsThinned (record course { place = 0; discards = false }) (sent ++ xs) left'
-rest-of course sent left left' xs t all e =
+rest-of : (position : MultiframePosition) (sent left left' xs : List ℕ) (t : IsThinned position sent left)
+    → position.place + length xs ≡ 512 → left' ≡ left ++ cond position.discards [] xs
+    → IsThinned (record position { place = 0; discards = false }) (sent ++ xs) left'
+rest-of position sent left left' xs t all e =
     let last = t.thinned.last in
     let ms = t.thinned.multiframes in
     let one : Multiframe = record { octets = last.octets ++ xs; is_discarded = last.is_discarded } in
@@ -91,12 +91,13 @@ rest-of course sent left left' xs t all e =
     }
 
 -- Octets pass of a multiframe that goes on, or is discarded.
-passes : (course course' : MultiframePosition) (sent left left' xs : List ℕ) → IsThinned course sent left
-    → PassesOn course course' left left' xs → IsThinned course' (sent ++ xs) left'
-passes course course' sent left left' xs t p = elim (cases_eq (course.place + length xs) 512) [
-  | inl all ↦ rw (p.course_is, course-ends course (length xs) all) (rest-of course sent left left' xs t all p.left_is)
-  | inr more ↦ rw (p.course_is, course-goes course (length xs) more)
-      (more-of course sent left left' xs t (omega (arith, p.fits, more)) p.left_is)
+passes : (position position' : MultiframePosition) (sent left left' xs : List ℕ) → IsThinned position sent left
+    → PassesOn position position' left left' xs → IsThinned position' (sent ++ xs) left'
+passes position position' sent left left' xs t p = elim (cases_eq (position.place + length xs) 512) [
+  | inl all ↦ rw (p.course_is, position-ends position (length xs) all)
+      (rest-of position sent left left' xs t all p.left_is)
+  | inr more ↦ rw (p.course_is, position-goes position (length xs) more)
+      (more-of position sent left left' xs t (omega (arith, p.fits, more)) p.left_is)
 ]
 
 -- One more of so many that are counted up to the greatest u64.
@@ -104,13 +105,13 @@ one-more-of : (discarded n : ℕ) → discarded ≡ at_most (n + 0) → at_most 
 one-more-of discarded n e = omega (arith, e)
 
 -- A multiframe of which nothing has come is discarded.
-discards : (course : MultiframePosition) (sent left : List ℕ) → IsThinned course sent left → course.place ≡ 0
-    → course.discards ≡ false → IsThinned (course_discarding course) sent left
-discards course sent left t none goes =
+discards : (position : MultiframePosition) (sent left : List ℕ) → IsThinned position sent left → position.place ≡ 0
+    → position.discards ≡ false → IsThinned (position_discarding position) sent left
+discards position sent left t none goes =
     let last = t.thinned.last in
     let empty : last.octets ≡ [] = nil_from_length last.octets (sym t.place_is ∙ none) in
     let kept : last.is_discarded ≡ false = sym t.discards_is ∙ goes in
-    let number : course.discarded ≡ at_most (number_discarded t.thinned.multiframes + 0)
+    let number : position.discarded ≡ at_most (number_discarded t.thinned.multiframes + 0)
     = rw kept at (t.thinned.discarded_is) in
     record {
       thinned = record {
@@ -120,23 +121,23 @@ discards course sent left t none goes =
         short = omega arith;
         sent_are = t.thinned.sent_are ∙ rw empty refl;
         left_are = t.thinned.left_are ∙ rw (kept, empty) refl;
-        discarded_is = one-more-of course.discarded (number_discarded t.thinned.multiframes) number;
+        discarded_is = one-more-of position.discarded (number_discarded t.thinned.multiframes) number;
       };
       place_is = none;
       discards_is = refl;
     }
 
 -- Octets of a multiframe were taken.
-pub steps-on : (course course' : MultiframePosition) (sent left left' xs : List ℕ) → IsThinned course sent left
-    → Steps course course' left left' xs → IsThinned course' (sent ++ xs) left'
-steps-on course course' sent left left' xs t (inl p) = passes course course' sent left left' xs t p
-steps-on course course' sent left left' xs t (inr (none, goes, p)) =
-    passes (course_discarding course) course' sent left left' xs (discards course sent left t none goes) p
+pub steps-on : (position position' : MultiframePosition) (sent left left' xs : List ℕ) → IsThinned position sent left
+    → Steps position position' left left' xs → IsThinned position' (sent ++ xs) left'
+steps-on position position' sent left left' xs t (inl p) = passes position position' sent left left' xs t p
+steps-on position position' sent left left' xs t (inr (none, goes, p)) =
+    passes (position_discarding position) position' sent left left' xs (discards position sent left t none goes) p
 
 -- Before the first octet.
-pub none-sent : (course : MultiframePosition) (sent left : List ℕ) → sent ≡ [] → left ≡ [] → course.place ≡ 0
-    → course.discards ≡ false → course.discarded ≡ 0 → IsThinned course sent left
-none-sent course sent left a b c d e = record {
+pub none-sent : (position : MultiframePosition) (sent left : List ℕ) → sent ≡ [] → left ≡ [] → position.place ≡ 0
+    → position.discards ≡ false → position.discarded ≡ 0 → IsThinned position sent left
+none-sent position sent left a b c d e = record {
   thinned = record {
     multiframes = [];
     last = record { octets = []; is_discarded = false };
@@ -168,20 +169,20 @@ was-prompt false after stays e = refl
 was-prompt true after stays e = absurd (let h = stays refl in cc)
 
 -- The first octets of these were taken, which are of the multiframe in hand.
-pub stepped : (course course' : MultiframePosition) (sent left left' octets : List ℕ) (most n : ℕ)
-    → IsThinned course sent left
-    → Steps course course' left left' (take n (take most octets)) → most ≤ length octets
-    → n ≤ length (take most octets) → IsThinned course' (sent ++ take n octets) left'
-stepped course course' sent left left' octets most n t steps fits bound =
+pub stepped : (position position' : MultiframePosition) (sent left left' octets : List ℕ) (most n : ℕ)
+    → IsThinned position sent left
+    → Steps position position' left left' (take n (take most octets)) → most ≤ length octets
+    → n ≤ length (take most octets) → IsThinned position' (sent ++ take n octets) left'
+stepped position position' sent left left' octets most n t steps fits bound =
     let long : length (take most octets) ≡ most = length-take-le most octets fits in
     let front : take n (take most octets) ≡ take n octets = take-take n most octets (omega (arith, bound, long)) in
-    steps-on course course' sent left left' (take n octets) t (rw front at steps)
+    steps-on position position' sent left left' (take n octets) t (rw front at steps)
 
 -- Octets that were sent went in time.
-pub in-time : (course : MultiframePosition) (sent went held : List ℕ) (was_slow : Bool)
-    → IsThinned course sent (went ++ held)
-    → (was_slow ≡ false → IsPrompt held course) → GoesInTime sent went course.discarded was_slow
-in-time course sent went held was_slow t prompt = record {
+pub in-time : (position : MultiframePosition) (sent went held : List ℕ) (was_slow : Bool)
+    → IsThinned position sent (went ++ held)
+    → (was_slow ≡ false → IsPrompt held position) → GoesInTime sent went position.discarded was_slow
+in-time position sent went held was_slow t prompt = record {
   untaken = held;
   thinned = t.thinned;
   prompt = λ e. let p = prompt e in (
@@ -196,10 +197,10 @@ in-time course sent went held was_slow t prompt = record {
 }
 
 -- A device that was given what was held for it: nothing is held now if it was never slow.
-pub finished : (course : MultiframePosition) (held held' : List ℕ) (before after : Bool) → (before ≡ true
+pub finished : (position : MultiframePosition) (held held' : List ℕ) (before after : Bool) → (before ≡ true
     → after ≡ true)
-    → length held' ≤ length held → (before ≡ false → IsPrompt held course) → after ≡ false → IsPrompt held' course
-finished course held held' before after stays shorter prompt e =
+    → length held' ≤ length held → (before ≡ false → IsPrompt held position) → after ≡ false → IsPrompt held' position
+finished position held held' before after stays shorter prompt e =
     let p = prompt (was-prompt before after stays e) in record {
       none_held = nil_from_length held' (omega (arith, shorter, ap length p.none_held));
       goes = p.goes;

@@ -2,8 +2,8 @@
 use Rattle.std.specs.Prelude.{◌≡◌, ◌≢◌, ◌⊎◌, ◌<◌, ◌≤◌, ◌++◌, ⊤, ℕ, Bool, true, false, not, List, length, take}
 use Rattle.std.specs.Prelude.{Option, Some, None, IfSome, IfNone, [], slice_index_or}
 use Rattle.std.specs.List.{list_all}
-use Rattle.gw_trunk.specs.declared.client.ClientRequest.{ClientRequest}
-use Rattle.gw_trunk.specs.declared.client.ClientRequest.TheVariants.{Command, Nothing, End, Gone}
+use Rattle.gw_trunk.specs.declared.client.ClientPoll.{ClientPoll}
+use Rattle.gw_trunk.specs.declared.client.ClientPoll.TheVariants.{Command, Nothing, End, Gone}
 use Rattle.gw_trunk.specs.declared.client.Client.{Client}
 use Rattle.gw_trunk.specs.Pieces.{AsksRecord, client_kinds}
 use Rattle.gw_records.specs.declared.records.EndOfRecords.{EndOfRecords}
@@ -26,7 +26,7 @@ HasNoRecord octets = (ending : EndOfRecords) × (end_of client_kinds octets ≡ 
 -- what a client did that was asked: it gave a record, which stands at the front of a room; or it gave none
 -- and has nothing that is whole; or it asks for the end; or it is to be let go, and what is held of it begins
 -- with no whole record, or the room is shorter than what is held of a client at most
-abbrev pub Replies : ClientRequest → Client → Client → List ℕ → Type 0
+abbrev pub Replies : ClientPoll → Client → Client → List ℕ → Type 0
 Replies (Command n) client client' room = (n ≤ length room) × GaveOne client client' (take n room)
 Replies Nothing client client' room = Stays client client' × (client'.ready ≡ false)
 Replies End client client' room = Stays client client'
@@ -67,7 +67,7 @@ IsAwake None = ⊤
 IsAwake (Some client) = client.ready ≡ true
 
 -- what the client at a place did that was asked: one that is to be let go is
-abbrev pub Answers : ClientRequest → Option Client → Option Client → List ℕ → Type 0
+abbrev pub Answers : ClientPoll → Option Client → Option Client → List ℕ → Type 0
 Answers (Command n) place place' room = (n ≤ length room) × GaveAt place place' (take n room)
 Answers Nothing place place' room = Keeps place place' × (is_quiet place' ≡ true)
 Answers End place place' room = Keeps place place'
@@ -106,7 +106,7 @@ pub record HasGiven (places places' : List (Option Client)) (asker : Option ℕ)
 
 -- What clients did that were asked in turn: one of them gave a record, or none has anything, or one asks for
 -- the end. Who is to be let go is, and that ends nothing.
-abbrev pub Asks : ClientRequest → List (Option Client) → List (Option Client) → Option ℕ → List ℕ → Type 0
+abbrev pub Asks : ClientPoll → List (Option Client) → List (Option Client) → Option ℕ → List ℕ → Type 0
 Asks (Command n) places places' asker room = (n ≤ length room) × HasGiven places places' asker (take n room)
 Asks Nothing places places' asker room = AllKeep places places' × (list_all is_quiet places' ≡ true)
 Asks End places places' asker room = AllKeep places places'

@@ -1,9 +1,9 @@
--- Octets for a device that may be slow, in multiframes (module `in_time`).
+-- Octets for a device that may be slow, in multiframes (module `multiframe_dropper`).
 use Rattle.std.specs.Prelude.{◌≡◌, ◌≢◌, ◌⊎◌, ◌==◌, ◌+◌, ◌<◌, ◌≤◌, if◌then◌else◌, ◌++◌, ◌∷◌, ℕ, List, []}
 use Rattle.std.specs.Prelude.{Bool, true, false, length, flat_map}
 use Rattle.std.specs.List.{AllByRecursion}
 use Rattle.gw_records.specs.Streams.{at_most}
-use Rattle.gw_trunk.specs.declared.in_time.MultiframePosition.{MultiframePosition}
+use Rattle.gw_trunk.specs.declared.multiframe_dropper.MultiframePosition.{MultiframePosition}
 
 -- a multiframe, or its first octets, and whether it is discarded
 pub record Multiframe : Type 0 where
@@ -38,41 +38,42 @@ pub record Thinned (sent left : List ℕ) (discarded : ℕ) : Type 0 where
   pub discarded_is : discarded ≡ at_most (number_discarded multiframes + (if last.is_discarded then 1 else 0))
 
 -- the same with what is known of the last multiframe, and the number of those that are discarded
-pub record IsThinned (course : MultiframePosition) (sent left : List ℕ) : Type 0 where
-  pub thinned : Thinned sent left course.discarded
-  pub place_is : course.place ≡ length thinned.last.octets
-  pub discards_is : course.discards ≡ thinned.last.is_discarded
+pub record IsThinned (position : MultiframePosition) (sent left : List ℕ) : Type 0 where
+  pub thinned : Thinned sent left position.discarded
+  pub place_is : position.place ≡ length thinned.last.octets
+  pub discards_is : position.discards ≡ thinned.last.is_discarded
 
 -- the course after so many octets of the multiframe
-abbrev pub course_after : MultiframePosition → ℕ → MultiframePosition
-course_after course n = if course.place + n == 512 then record course { place = 0; discards = false }
-    else record course { place = course.place + n }
+abbrev pub position_after : MultiframePosition → ℕ → MultiframePosition
+position_after position n = if position.place + n == 512 then record position { place = 0; discards = false }
+    else record position { place = position.place + n }
 
 -- the course if a multiframe is discarded
-abbrev pub course_discarding : MultiframePosition → MultiframePosition
-course_discarding course = record course { discards = true; discarded = at_most (course.discarded + 1) }
+abbrev pub position_discarding : MultiframePosition → MultiframePosition
+position_discarding position = record position { discards = true; discarded = at_most
+    (position.discarded + 1) }
 
 -- octets of a multiframe passed: they are left, or discarded
-pub record PassesOn (course course' : MultiframePosition) (left left' octets : List ℕ) : Type 0 where
-  pub fits : course.place + length octets ≤ 512
-  pub course_is : course' ≡ course_after course (length octets)
-  pub left_is : left' ≡ left ++ (if course.discards then [] else octets)
+pub record PassesOn (position position' : MultiframePosition) (left left' octets : List ℕ) : Type 0 where
+  pub fits : position.place + length octets ≤ 512
+  pub course_is : position' ≡ position_after position (length octets)
+  pub left_is : left' ≡ left ++ (if position.discards then [] else octets)
 
 -- octets of a multiframe passed, or it is discarded from its first octet on, of which these are the first
 abbrev pub Steps : MultiframePosition → MultiframePosition → List ℕ → List ℕ → List ℕ → Type 0
-Steps course course' left left' octets = PassesOn course course' left left' octets
-    ⊎ ((course.place ≡ 0) × (course.discards ≡ false)
-    × PassesOn (course_discarding course) course' left left' octets)
+Steps position position' left left' octets = PassesOn position position' left left' octets
+    ⊎ ((position.place ≡ 0) × (position.discards ≡ false)
+    × PassesOn (position_discarding position) position' left left' octets)
 
 -- nothing waits for the device, and no multiframe was discarded
-pub record IsPrompt (held : List ℕ) (course : MultiframePosition) : Type 0 where
+pub record IsPrompt (held : List ℕ) (position : MultiframePosition) : Type 0 where
   pub none_held : held ≡ []
-  pub goes : course.discards ≡ false
-  pub none_discarded : course.discarded ≡ 0
+  pub goes : position.discards ≡ false
+  pub none_discarded : position.discarded ≡ 0
 
 -- there is room for the rest of a multiframe that goes on
 abbrev pub HasRoom : List ℕ → MultiframePosition → Type 0
-HasRoom held course = course.discards ≡ false → course.place ≢ 0 → length held ≤ course.place
+HasRoom held position = position.discards ≡ false → position.place ≢ 0 → length held ≤ position.place
 
 -- Octets were sent to a device that may be slow. They went to it in order, except for discarded whole
 -- multiframes, of this number, and for octets that it has not taken in the end. All of them went if it was

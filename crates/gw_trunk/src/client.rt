@@ -28,7 +28,7 @@ pub struct Away;
 
 /// What a client did that was asked.
 #[derive(Clone, Copy)]
-pub enum ClientRequest {
+pub enum ClientPoll {
     /// It gave a record of so many octets.
     Command(usize),
     /// It has nothing that is whole.
@@ -141,41 +141,41 @@ impl Client {
 
     // What it comes to if no record is whole: it has none yet, unless its end was read, or so much has come
     // that it is none.
-    fn nothing(&self, room: &[u8]) -> ClientRequest
+    fn nothing(&self, room: &[u8]) -> ClientPoll
         requires { HasNoRecord self.now.held.items }
         ensures { Replies result self.now self.now room.now }
     {
         if self.ready || self.ended {
-            ClientRequest::Gone
+            ClientPoll::Gone
         } else {
-            ClientRequest::Nothing
+            ClientPoll::Nothing
         }
     }
 
     // Its next record, of those octets that are held.
-    fn next_record(&mut self, room: &mut [u8]) -> ClientRequest
+    fn next_record(&mut self, room: &mut [u8]) -> ClientPoll
         ensures { Replies result self.old self.new room.new }
     {
         let held = self.held.as_slice();
         match first_record(&KINDS, held) {
             Ok(first) => {
                 if first.len > room.len() {
-                    return ClientRequest::Gone;
+                    return ClientPoll::Gone;
                 }
                 room[..first.len].copy_from_slice(&held[..first.len]);
                 self.pass(first.len);
                 self.gave.append(room, first.len);
                 self.known = true;
-                ClientRequest::Command(first.len)
+                ClientPoll::Command(first.len)
             }
             Err(EndOfRecords::End | EndOfRecords::Truncated) => self.nothing(room),
-            Err(_) => ClientRequest::Gone,
+            Err(_) => ClientPoll::Gone,
         }
     }
 
     /// Takes its next record to the front of `room`, if it has a whole one. Who has hung up is let go only
     /// behind its last whole record.
-    pub fn ask(&mut self, room: &mut [u8]) -> ClientRequest
+    pub fn ask(&mut self, room: &mut [u8]) -> ClientPoll
         ensures { Replies result self.old self.new room.new }
     {
         self.refill();
@@ -184,7 +184,7 @@ impl Client {
             return self.nothing(room);
         }
         if held.starts_with(&END) {
-            return ClientRequest::End;
+            return ClientPoll::End;
         }
         self.next_record(room)
     }

@@ -7,7 +7,7 @@ ghost use Rattle.gw_trunk.specs.Clients.{Answers, Asks, AllKeep, Gets, HasAnswer
 ghost use Rattle.gw_trunk.specs.Clients.{at};
 ghost use Rattle.gw_trunk.specs.Clients.{is_quiet};
 
-use crate::client::{Client, ClientRequest};
+use crate::client::{Client, ClientPoll};
 use gw_records::Log;
 use mio::net::{UnixListener, UnixStream};
 use mio::unix::SourceFd;
@@ -56,21 +56,21 @@ pub struct Clients {
 }
 
 // Asks the client at a place, and lets it go if it is to be.
-fn ask_one(place: &mut Option<Client>, room: &mut [u8]) -> ClientRequest
+fn ask_one(place: &mut Option<Client>, room: &mut [u8]) -> ClientPoll
     ensures { Answers result place.old place.new room.new }
 {
     let Some(client) = place else {
-        return ClientRequest::Nothing;
+        return ClientPoll::Nothing;
     };
     let asked = client.ask(room);
-    if let ClientRequest::Gone = asked {
+    if let ClientPoll::Gone = asked {
         *place = None;
     }
     asked
 }
 
 // Asks the client at the place of this number, and none else.
-fn ask_at(places: &mut [Option<Client>; 8], place: usize, room: &mut [u8]) -> ClientRequest
+fn ask_at(places: &mut [Option<Client>; 8], place: usize, room: &mut [u8]) -> ClientPoll
     requires { place < 8 }
     ensures answers { Answers result (at places.old place) (at places.new place) room.new }
     ensures others { OnlyAt place places.old places.new }
@@ -320,21 +320,21 @@ impl Clients {
     }
 
     /// The next record of a client. They are asked in turn, from behind the one whose record was the last.
-    pub fn ask(&mut self, room: &mut [u8]) -> ClientRequest
+    pub fn ask(&mut self, room: &mut [u8]) -> ClientPoll
         ensures { Asks result self.old.places self.new.places self.new.asker room.new }
     {
         for turn in 0..MOST_CLIENTS {
             let place = (self.next % MOST_CLIENTS + turn) % MOST_CLIENTS;
             match ask_at(&mut self.places, place, room) {
-                ClientRequest::Command(n) => {
+                ClientPoll::Command(n) => {
                     self.asker = Some(place);
                     self.next = place + 1;
-                    return ClientRequest::Command(n);
+                    return ClientPoll::Command(n);
                 }
-                ClientRequest::End => return ClientRequest::End,
-                ClientRequest::Nothing | ClientRequest::Gone => {}
+                ClientPoll::End => return ClientPoll::End,
+                ClientPoll::Nothing | ClientPoll::Gone => {}
             }
         }
-        ClientRequest::Nothing
+        ClientPoll::Nothing
     }
 }

@@ -8,8 +8,8 @@ ghost use Rattle.gw_session.specs.Serve.{ServesAll, ServesUntil, around};
 ghost use Rattle.gw_trunk.specs.Serving.{Carried, traffic};
 
 use crate::device::{Incoming, Outgoing};
-use crate::sink::TrunkSink;
-use crate::source::TrunkSource;
+use crate::sink::TrunkRecordSink;
+use crate::source::TrunkRecordSource;
 use gw_session::{Ports, RunFault, Sink, Source, Tape, Totals, serve_recorded};
 use gw_switch::Gateway;
 use std::alloc::Global;
@@ -28,22 +28,26 @@ pub fn serve_trunk<I: Incoming, O: Outgoing, A: Outgoing, P: Ports, T: Tape>(
     alloc: Global,
     gateway: &mut Gateway,
     ports: &mut P,
-    source: &mut TrunkSource<I>,
-    sink: &mut TrunkSink<O, A>,
+    source: &mut TrunkRecordSource<I>,
+    sink: &mut TrunkRecordSink<O, A>,
     tape: &mut T,
 ) -> Result<Totals, RunFault>
     requires source { (source.old.failed ≡ 0) × (source.old.reads ≡ 0) × (source.old.log.octets ≡ []) }
     requires sink { (sink.old.failed ≡ 0) × (sink.old.log.octets ≡ []) }
     ensures ok { IfOk result (ServesAll
-        (around (⟦<TrunkSource<I> as Source>⟧.tells source.old) (⟦<TrunkSink<O, A> as Sink>⟧.tells sink.old)
+        (around (⟦<TrunkRecordSource<I> as Source>⟧.tells source.old)
+        (⟦<TrunkRecordSink<O, A> as Sink>⟧.tells sink.old)
         (P.tells ports.old) (T.tells tape.old))
-        (around (⟦<TrunkSource<I> as Source>⟧.tells source.new) (⟦<TrunkSink<O, A> as Sink>⟧.tells sink.new)
+        (around (⟦<TrunkRecordSource<I> as Source>⟧.tells source.new)
+        (⟦<TrunkRecordSink<O, A> as Sink>⟧.tells sink.new)
         (P.tells ports.new) (T.tells tape.new))
         gateway.old gateway.new) }
     ensures fault { IfErr result (ServesUntil
-        (around (⟦<TrunkSource<I> as Source>⟧.tells source.old) (⟦<TrunkSink<O, A> as Sink>⟧.tells sink.old)
+        (around (⟦<TrunkRecordSource<I> as Source>⟧.tells source.old)
+        (⟦<TrunkRecordSink<O, A> as Sink>⟧.tells sink.old)
         (P.tells ports.old) (T.tells tape.old))
-        (around (⟦<TrunkSource<I> as Source>⟧.tells source.new) (⟦<TrunkSink<O, A> as Sink>⟧.tells sink.new)
+        (around (⟦<TrunkRecordSource<I> as Source>⟧.tells source.new)
+        (⟦<TrunkRecordSink<O, A> as Sink>⟧.tells sink.new)
         (P.tells ports.new) (T.tells tape.new))
         gateway.old gateway.new) }
     ensures carries { (config : GatewayConfig) (before : List Event) → HasHistory config gateway.old before

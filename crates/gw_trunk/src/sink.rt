@@ -25,7 +25,7 @@ enum RecordPosition {
 /// Takes the records that answer. The bodies of T records go to the trunk, and nothing else does; records of
 /// other kinds go whole to clients. If the trunk takes none now, it waits until it does.
 #[derive(Drop)]
-pub struct TrunkSink<O: Outgoing, A: Outgoing> {
+pub struct TrunkRecordSink<O: Outgoing, A: Outgoing> {
     outgoing: O,
     answers: A,
     failed: u64,
@@ -168,9 +168,9 @@ fn pass<O: Outgoing, A: Outgoing>(
     Ok(n)
 }
 
-impl<O: Outgoing, A: Outgoing> TrunkSink<O, A> {
+impl<O: Outgoing, A: Outgoing> TrunkRecordSink<O, A> {
     /// What takes the records from now on, with no failure yet.
-    pub fn new(outgoing: O, answers: A) -> TrunkSink<O, A>
+    pub fn new(outgoing: O, answers: A) -> TrunkRecordSink<O, A>
         requires went { O.went outgoing ≡ [] }
         requires told { A.went answers ≡ [] }
         ensures outgoing { result.outgoing ≡ outgoing }
@@ -178,7 +178,7 @@ impl<O: Outgoing, A: Outgoing> TrunkSink<O, A> {
         ensures failed { result.failed ≡ 0 }
         ensures log { result.log.octets ≡ [] }
     {
-        TrunkSink {
+        TrunkRecordSink {
             outgoing,
             answers,
             failed: 0,
@@ -188,17 +188,17 @@ impl<O: Outgoing, A: Outgoing> TrunkSink<O, A> {
     }
 }
 
-impl<O: Outgoing, A: Outgoing + Drop> TrunkSink<O, A> {
+impl<O: Outgoing, A: Outgoing + Drop> TrunkRecordSink<O, A> {
     /// What the octets of the trunk go to.
     pub fn into_outgoing(self) -> O
         ensures { result ≡ self.outgoing }
     {
-        let TrunkSink { outgoing, .. } = self;
+        let TrunkRecordSink { outgoing, .. } = self;
         outgoing
     }
 }
 
-impl<O: Outgoing, A: Outgoing> Sink for TrunkSink<O, A> {
+impl<O: Outgoing, A: Outgoing> Sink for TrunkRecordSink<O, A> {
     ghost tells = { λ s. record { failures = s.failed; taken = Some s.log.octets } };
 
     fn write(&mut self, octets: &[u8]) -> Result<usize, SinkFault> {

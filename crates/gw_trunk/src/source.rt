@@ -16,7 +16,7 @@ const MOST_OCTETS: usize = 2_048;
 /// record: the octets that have come, 2,048 of them at most, or a record of a client. Between two records of
 /// clients the trunk was read. If neither has anything it waits.
 #[derive(Drop)]
-pub struct TrunkSource<I: Incoming> {
+pub struct TrunkRecordSource<I: Incoming> {
     incoming: I,
     // Whether clients are asked before the trunk is read.
     turn: bool,
@@ -93,9 +93,9 @@ fn next_record<I: Incoming>(
     Err(SourceFault)
 }
 
-impl<I: Incoming> TrunkSource<I> {
+impl<I: Incoming> TrunkRecordSource<I> {
     /// The records of what comes from now on, with no read yet.
-    pub fn new(incoming: I) -> TrunkSource<I>
+    pub fn new(incoming: I) -> TrunkRecordSource<I>
         requires came { I.came incoming ≡ [] }
         requires asked { I.asked incoming ≡ [] }
         ensures incoming { result.incoming ≡ incoming }
@@ -103,7 +103,7 @@ impl<I: Incoming> TrunkSource<I> {
         ensures reads { result.reads ≡ 0 }
         ensures log { result.log.octets ≡ [] }
     {
-        TrunkSource {
+        TrunkRecordSource {
             incoming,
             turn: false,
             failed: 0,
@@ -113,7 +113,7 @@ impl<I: Incoming> TrunkSource<I> {
     }
 }
 
-impl<I: Incoming> Source for TrunkSource<I> {
+impl<I: Incoming> Source for TrunkRecordSource<I> {
     ghost tells = { λ s. record {
       failures = s.failed;
       reads = s.reads;

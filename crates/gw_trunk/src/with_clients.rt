@@ -4,7 +4,7 @@ ghost use Rattle.std.specs.Prelude.{◌≡◌, ◌||◌, ◌&&◌, [], true, IfO
 ghost use Rattle.std.specs.List.{list_all};
 ghost use Rattle.gw_trunk.specs.Clients.{is_quiet};
 
-use crate::client::ClientRequest;
+use crate::client::ClientPoll;
 use crate::clients::Clients;
 use crate::device::{DeviceFault, DeviceRead, Incoming, ToDevice, is_for_later};
 use crate::door::open_door;
@@ -138,16 +138,16 @@ impl<R: Read> Incoming for WithClients<R> {
         }
         self.clients.let_in();
         match self.clients.ask(room) {
-            ClientRequest::Command(n) => {
+            ClientPoll::Command(n) => {
                 self.turn = false;
                 self.asked.append(room, n);
                 Some(n)
             }
-            ClientRequest::End => {
+            ClientPoll::End => {
                 self.ended = true;
                 None
             }
-            ClientRequest::Nothing | ClientRequest::Gone => None,
+            ClientPoll::Nothing | ClientPoll::Gone => None,
         }
     }
 

@@ -6,10 +6,10 @@ use Rattle.gw_udp.specs.declared.source_filter.SourceFilter.{SourceFilter}
 use Rattle.gw_udp.specs.declared.source_filter.SourceFilter.TheVariants.{Any, Host, Peer}
 
 -- a datagram from this address is accepted, given the peer's
-abbrev pub IsLetIn : SourceFilter → SocketAddr → SocketAddr → Type 0
-IsLetIn Any from peer = ⊤
-IsLetIn Host from peer = socket_ip from ≡ socket_ip peer
-IsLetIn Peer from peer = (socket_ip from ≡ socket_ip peer) × (socket_port from ≡ socket_port peer)
+abbrev pub IsAccepted : SourceFilter → SocketAddr → SocketAddr → Type 0
+IsAccepted Any from peer = ⊤
+IsAccepted Host from peer = socket_ip from ≡ socket_ip peer
+IsAccepted Peer from peer = (socket_ip from ≡ socket_ip peer) × (socket_port from ≡ socket_port peer)
 
 -- the name of senders
 abbrev pub senders_name : SourceFilter → List ℕ

@@ -8,7 +8,7 @@ use Rattle.gw_config.specs.declared.config.Port.{Port}
 use Rattle.gw_records.specs.declared.ports.PortFault.{PortFault}
 use Rattle.gw_records.specs.Ports.{PortsState, PortCall, Addresses, given_by_call, taken_by_call}
 use Rattle.gw_udp.specs.Names.{LookUp, IsAddressOf}
-use Rattle.gw_udp.specs.SourceFilter.{IsLetIn}
+use Rattle.gw_udp.specs.SourceFilter.{IsAccepted}
 use Rattle.gw_udp.specs.Socket.{Bound, Received, Sent}
 use Rattle.gw_udp.specs.declared.source_filter.SourceFilter.{SourceFilter}
 use Rattle.gw_udp.specs.declared.udp.Endpoint.{Endpoint}
@@ -75,8 +75,8 @@ pub record ReceivesFrom {S : Type 0} (receives : Received S) (senders : SourceFi
   pub skipped : ℕ
   pub few : skipped ≤ 16
   pub last : S
-  pub skips : Skips receives (λ from. IsLetIn senders from peer) skipped old last
-  pub ends : EndsWith receives (λ from. IsLetIn senders from peer) skipped last new r room
+  pub skips : Skips receives (λ from. IsAccepted senders from peer) skipped old last
+  pub ends : EndsWith receives (λ from. IsAccepted senders from peer) skipped last new r room
 
 -- the receive of one circuit: no socket was asked, or this one, whose answer is the result
 abbrev pub ReceivesAt : {S : Type 0} → Received S → Option (Endpoint S) → Option (Endpoint S)

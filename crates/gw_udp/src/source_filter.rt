@@ -1,7 +1,7 @@
 //! The senders whose datagrams are accepted.
 
 ghost use Rattle.std.specs.Prelude.{◌≡◌, ◌≢◌, ◌↔◌, IfSome, IfNone, IsTrue};
-ghost use Rattle.gw_udp.specs.SourceFilter.{IsLetIn, senders_name};
+ghost use Rattle.gw_udp.specs.SourceFilter.{IsAccepted, senders_name};
 
 use std::net::SocketAddr;
 
@@ -32,7 +32,7 @@ impl SourceFilter {
 
     /// Whether a datagram from an address is accepted, given the peer's.
     pub fn accepts(self, from: SocketAddr, peer: SocketAddr) -> bool
-        ensures { IsTrue result ↔ IsLetIn self from peer }
+        ensures { IsTrue result ↔ IsAccepted self from peer }
     {
         match self {
             SourceFilter::Any => true,

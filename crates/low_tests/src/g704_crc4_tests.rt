@@ -1,4 +1,4 @@
-use g704_crc4::{Counts, Multiframer, ReceiverCounts, TrunkChecker, check, find_multiframe};
+use g704_crc4::{Counts, Crc4Inserter, ReceiverCounts, TrunkChecker, check, find_multiframe};
 use std::process::Abort;
 
 // An octet that comes, at a place of the stream.
@@ -16,7 +16,7 @@ const SI: [u8; 32] = [
 
 #[test]
 fn four_submultiframes(rt: HostRuntime) {
-    let mut multiframer = Multiframer::new();
+    let mut multiframer = Crc4Inserter::new();
     for place in 0..1024usize {
         let octet = given(place);
         let sent = multiframer.octet(octet);
@@ -31,7 +31,7 @@ fn four_submultiframes(rt: HostRuntime) {
 
 // Six multiframes as they are sent.
 fn six_multiframes() -> [u8; 3072] {
-    let mut multiframer = Multiframer::new();
+    let mut multiframer = Crc4Inserter::new();
     let mut sent = [0u8; 3072];
     for place in 0..3072usize {
         sent[place] = multiframer.octet(given(place));
@@ -97,7 +97,7 @@ const NO_TALLY: ReceiverCounts = ReceiverCounts {
 
 // Eight multiframes of the trunk as they are sent, some bits of some octets turned.
 fn checked(turned: &[(usize, u8)]) -> ReceiverCounts {
-    let mut multiframer = Multiframer::new();
+    let mut multiframer = Crc4Inserter::new();
     let mut checker = TrunkChecker::new();
     for place in 0..4096usize {
         let mut octet = multiframer.octet(trunk(place));
@@ -157,7 +157,7 @@ fn multiframes_are_lost_with_alignment(rt: HostRuntime) {
 // multiframe after that begins at 4608. Of the four submultiframes up to octet 5632 three are known.
 #[test]
 fn false_alignment_is_given_up(rt: HostRuntime) {
-    let mut multiframer = Multiframer::new();
+    let mut multiframer = Crc4Inserter::new();
     let mut checker = TrunkChecker::new();
     for place in 0..5632usize {
         let octet = multiframer.octet(imitated(place));

@@ -4,7 +4,7 @@ use Rattle.gw_records.specs.declared.outcome.RunFault.TheVariants as faults
 use Rattle.gw_records.specs.declared.outcome.Totals.{Totals}
 use Rattle.gw_records.specs.Outcome.{nothing_counted}
 use Rattle.gw_records.proofs.Writes.{Appends-none, Appends-join, Appends-same, Yields-none, Yields-join, Yields-end}
-use Rattle.gw_records.proofs.Writes.{StopsInWrite-after, read_failed}
+use Rattle.gw_records.proofs.Writes.{FailsAfterPrefix-after, read_failed}
 use Rattle.gw_records.proofs.Sessions.{goes_up}
 use Rattle.g704_framing.specs.Replies.{replies_after}
 use Rattle.gw_filter.proofs.Stages.{came-is, answered}
@@ -78,7 +78,7 @@ returns-in_err-write_all-clause-fault g c =
       gives = Yields-join _ _ _ _ _ w.stage.gives came.gives;
       breaks = rw (← answered g.F.OctetFilter.reply_after w.stage.given c.read_behind.new.buffer _ _ _ _ came
           (e.replies w.stage.given w.stage.stands) e.len)
-          (StopsInWrite-after _ _ _ _ _ w.stage.took w.stage.no_write broken.1);
+          (FailsAfterPrefix-after _ _ _ _ _ w.stage.took w.stage.no_write broken.1);
       no_read = c.in-Ok.ensures.counts ∙ w.stage.no_read;
     })
 

@@ -1,10 +1,10 @@
 use Rattle.gw_records.proofs.Common.{◌∙◌, err_from_is_err_and}
-use Rattle.gw_records.proofs.Writes.{Forwards-after, StopsInWrite-after, StopsInWrite-more}
+use Rattle.gw_records.proofs.Writes.{TakesAllBut-after, FailsAfterPrefix-after, FailsAfterPrefix-more}
 use Rattle.gw_records.proofs.writing.put.Goals as goal
 
 pub returns : goal.returns
 returns g c = (
-  Forwards-after _ _ _ _ _ _ c.in_ok-flush.ensures.writes.0 c.in_ok-put_first.ensures.0,
+  TakesAllBut-after _ _ _ _ _ _ c.in_ok-flush.ensures.writes.0 c.in_ok-put_first.ensures.0,
   c.in_ok-put_first.ensures.1 ∙ c.in_ok-flush.ensures.writes.1,
 )
 
@@ -12,9 +12,9 @@ pub returns-in_err-put_first : goal.returns-in_err-put_first
 returns-in_err-put_first g c =
     let p = err_from_is_err_and c.from_residual-in_err-put_first.result c.from_residual-in_err-put_first.ensures.1 in
     rw (p.1, p.2) (let broken = c.in_err-put_first.ensures in
-    (broken.0, StopsInWrite-after _ _ _ _ _ c.in_ok-flush.ensures.writes.0 c.in_ok-flush.ensures.writes.1 broken.1))
+    (broken.0, FailsAfterPrefix-after _ _ _ _ _ c.in_ok-flush.ensures.writes.0 c.in_ok-flush.ensures.writes.1 broken.1))
 
 pub returns-in_err-flush : goal.returns-in_err-flush
 returns-in_err-flush g c =
     let p = err_from_is_err_and c.from_residual.result c.from_residual.ensures.1 in
-    rw (p.1, p.2) ((c.in_err-flush.ensures.writes.0, StopsInWrite-more _ _ _ _ c.in_err-flush.ensures.writes.1))
+    rw (p.1, p.2) ((c.in_err-flush.ensures.writes.0, FailsAfterPrefix-more _ _ _ _ c.in_err-flush.ensures.writes.1))

@@ -1,17 +1,18 @@
-use Rattle.gw_session.proofs.Common.{◌∙◌, arith, most_waiting, err_from_is_err_and, Forwards-empty, Forwards-appended}
-use Rattle.gw_session.proofs.Common.{StopsInWrite-waiting}
+use Rattle.gw_session.proofs.Common.{◌∙◌, arith, most_waiting, err_from_is_err_and, TakesAllBut-empty}
+use Rattle.gw_session.proofs.Common.{TakesAllBut-appended}
+use Rattle.gw_session.proofs.Common.{FailsAfterPrefix-waiting}
 use Rattle.gw_session.proofs.handling.put_out.Goals as goal
 
 pub returns-in_err-flush-clause-puts : goal.returns-in_err-flush-clause-puts
 returns-in_err-flush-clause-puts g c =
     let p = err_from_is_err_and c.from_residual-in_err-flush.result c.from_residual-in_err-flush.ensures.1 in
     let broken = c.in_err-flush.ensures.writes in
-    rw (p.1, p.2) (broken.0, StopsInWrite-waiting _ _ _ _ _ c.in_ok-put.ensures.0 c.in_ok-put.ensures.1 broken.1)
+    rw (p.1, p.2) (broken.0, FailsAfterPrefix-waiting _ _ _ _ _ c.in_ok-put.ensures.0 c.in_ok-put.ensures.1 broken.1)
 
 pub returns-in_ok-flush-clause-puts : goal.returns-in_ok-flush-clause-puts
 returns-in_ok-flush-clause-puts g c = (
-  Forwards-empty _ _ _ c.in_ok-flush.ensures.empty
-      (Forwards-appended _ _ _ _ _ c.in_ok-put.ensures.0 c.in_ok-flush.ensures.writes.0),
+  TakesAllBut-empty _ _ _ c.in_ok-flush.ensures.empty
+      (TakesAllBut-appended _ _ _ _ _ c.in_ok-put.ensures.0 c.in_ok-flush.ensures.writes.0),
   c.in_ok-flush.ensures.writes.1 ∙ c.in_ok-put.ensures.1,
 )
 

@@ -1,4 +1,4 @@
-use Rattle.gw_session.proofs.Common.{◌≡◌, ◌≤◌, List, ℕ, length, vec_len, Record, Forwards, written_by, most_waiting}
+use Rattle.gw_session.proofs.Common.{◌≡◌, ◌≤◌, List, ℕ, length, vec_len, Record, TakesAllBut, written_by, most_waiting}
 use Rattle.gw_session.proofs.Common.{WatchedTrace, ActsShown, nothing_counted, state_of, work_left, Stage}
 use Rattle.gw_session.proofs.processing.process_records.Given as goal
 
@@ -10,7 +10,7 @@ invariant-attending g l = (octets : List ℕ) × (records : List Record) × reco
       (state_of (g.O.PacketPorts.tells l.initial.packet_ports) l.initial.gateway nothing_counted)
       (state_of (g.O.PacketPorts.tells l.packet_ports) l.gateway l.session.totals)
       (g.T.Tape.tells l.initial.tape) (g.T.Tape.tells l.tape)
-      (λ first xs. Forwards (g.K.Sink.tells l.initial.sink).taken (g.K.Sink.tells l.sink).taken
+      (λ first xs. TakesAllBut (g.K.Sink.tells l.initial.sink).taken (g.K.Sink.tells l.sink).taken
       l.session.waiting.items xs)
       (ActsShown g.W.Watch.shows l.initial.gateway l.initial.watch l.watch) records;
   none_waits : length records ≡ 0 → length l.session.waiting.items ≡ 0;

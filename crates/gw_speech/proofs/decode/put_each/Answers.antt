@@ -1,6 +1,7 @@
 use Rattle.gw_speech.proofs.Common.{◌^◌, ◌<◌, ◌++◌, ◌∷◌, [], ap, sym, refl, ◌∙◌, append_assoc, append-nil, All-tail}
-use Rattle.gw_speech.proofs.Common.{err_from_is_err_and, CodecState, Forwards-none, Forwards-join, StopsInWrite-join}
-use Rattle.gw_speech.proofs.Common.{StopsInWrite-more, word_bits}
+use Rattle.gw_speech.proofs.Common.{err_from_is_err_and, CodecState, TakesAllBut-none, TakesAllBut-join}
+use Rattle.gw_speech.proofs.Common.{FailsAfterPrefix-join}
+use Rattle.gw_speech.proofs.Common.{FailsAfterPrefix-more, word_bits}
 use Rattle.gw_speech.proofs.Speech.{speech_of_none, speech_joins, speech_more}
 use Rattle.gw_speech.proofs.decode.put_each.Goals as goal
 
@@ -14,7 +15,7 @@ loop-word-init g c = (
     fit = rw c.into_iter-word-iterator.ensures.into_iter_gives c.requires.fit;
     kind = c.requires.kind;
     stands = λ before at. rw (append-nil before) at;
-    passes = λ before at. rw (speech_of_none c.args.spec.now before c.words_are_counted.ensures) (Forwards-none _ _);
+    passes = λ before at. rw (speech_of_none c.args.spec.now before c.words_are_counted.ensures) (TakesAllBut-none _ _);
     same = refl;
   },
 )
@@ -37,7 +38,7 @@ loop-word-preserved g c =
         passes = λ before at. rw (speech_more s c.args.waiting.now.items before w.0 word c.decode.result
             c.words_are_counted.ensures c.prefixes_come_first.ensures
             (c.decode.ensures.octets _ _ [] (before ++ w.0) (w.1.stands before at)))
-            (Forwards-join _ _ _ _ _ _ _ (w.1.passes before at) c.in_ok-put_octet.ensures.0);
+            (TakesAllBut-join _ _ _ _ _ _ _ (w.1.passes before at) c.in_ok-put_octet.ensures.0);
         same = c.in_ok-put_octet.ensures.1 ∙ w.1.same;
       },
     )
@@ -58,6 +59,6 @@ returns-in_err-put_octet-clause-puts g c =
     let one = speech_more s start before w.0 word c.decode.result counted first octet in (
       c.in_err-put_octet.ensures.0,
       rw (w.1.whole, c.in-Some.ensures.steps, ← all, split, one)
-          (StopsInWrite-more _ _ _ _ (StopsInWrite-join _ _ _ _ _ _ (w.1.passes before at) w.1.same
+          (FailsAfterPrefix-more _ _ _ _ (FailsAfterPrefix-join _ _ _ _ _ _ (w.1.passes before at) w.1.same
           c.in_err-put_octet.ensures.1)),
     ))

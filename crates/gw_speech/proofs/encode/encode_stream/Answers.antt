@@ -1,6 +1,6 @@
 use Rattle.gw_speech.proofs.Common.{◌+◌, ◌-◌, ◌^◌, ◌<◌, inl, inr, [], ◌++◌, refl, ap, ◌∙◌, length-append, arith}
 use Rattle.gw_speech.proofs.Common.{nil_from_length, All-nil, same_len_mid, CodecState, Appends-none, Appends-join}
-use Rattle.gw_speech.proofs.Common.{Yields-none, Yields-join, Yields-end, StopsInWrite-after, StopsInWrite-more}
+use Rattle.gw_speech.proofs.Common.{Yields-none, Yields-join, Yields-end, FailsAfterPrefix-after, FailsAfterPrefix-more}
 use Rattle.gw_speech.proofs.Common.{read_failed, goes_up, word_bits, full_packets}
 use Rattle.gw_records.specs.declared.outcome.RunFault.TheVariants as faults
 use Rattle.gw_speech.proofs.PacketLemmas.{reads_no_more, coded_way, words_left, window_begins, last_written}
@@ -78,7 +78,7 @@ returns-in_err-write_packets-clause-fault g c =
     goes_up _ _ faults.Write c.from_residual.ensures.1 broken.0 (record {
       octets = w.stage.given;
       gives = Yields-end _ _ _ w.stage.given came.octets (came.counted ∙ c.if-n-eq0.true) w.stage.gives came.gives;
-      breaks = rw (all.0) (StopsInWrite-after _ _ _ _ _ w.stage.took w.stage.no_write broken.1);
+      breaks = rw (all.0) (FailsAfterPrefix-after _ _ _ _ _ w.stage.took w.stage.no_write broken.1);
       no_read = c.in-Ok.ensures.counts ∙ w.stage.no_read;
     })
 
@@ -94,8 +94,8 @@ returns-in_err-left-clause-fault g c =
     goes_up _ _ faults.Write c.from_residual-in_err-left.ensures.1 broken.0 (record {
       octets = w.stage.given ++ came.octets;
       gives = Yields-join _ _ _ _ _ w.stage.gives came.gives;
-      breaks = rw (all.1) (StopsInWrite-more _ _ _ _
-          (StopsInWrite-after _ _ _ _ _ w.stage.took w.stage.no_write broken.1));
+      breaks = rw (all.1) (FailsAfterPrefix-more _ _ _ _
+          (FailsAfterPrefix-after _ _ _ _ _ w.stage.took w.stage.no_write broken.1));
       no_read = c.in-Ok.ensures.counts ∙ w.stage.no_read;
     })
 

@@ -1,7 +1,8 @@
 use Rattle.gw_speech.proofs.Common.{◌≡◌, ◌+◌, ◌*◌, ◌^◌, ◌<◌, length, refl, ◌∙◌, arith, All-drop, le-div}
-use Rattle.gw_speech.proofs.Common.{err_from_is_err_and, Forwards-start, Forwards-join, Forwards-appended}
-use Rattle.gw_speech.proofs.Common.{StopsInWrite-join}
-use Rattle.gw_speech.proofs.Common.{StopsInWrite-more, StopsInWrite-waiting, packet_len, word_bits, full_packets}
+use Rattle.gw_speech.proofs.Common.{err_from_is_err_and, TakesAllBut-start, TakesAllBut-join, TakesAllBut-appended}
+use Rattle.gw_speech.proofs.Common.{FailsAfterPrefix-join}
+use Rattle.gw_speech.proofs.Common.{FailsAfterPrefix-more, FailsAfterPrefix-waiting, packet_len, word_bits}
+use Rattle.gw_speech.proofs.Common.{full_packets}
 use Rattle.gw_speech.proofs.PacketLemmas.{one_more_packet, first_packets, full_are, next_place}
 use Rattle.gw_speech.proofs.encode.write_packets.Goals as goal
 
@@ -13,7 +14,7 @@ packets-init g c = (
     whole = omega arith;
     fit = c.requires.fit;
     next = λ k at. let e : k + 0 ≡ k = omega arith in rw e at;
-    passes = λ k at. Forwards-start _ _ c.requires.empty;
+    passes = λ k at. TakesAllBut-start _ _ c.requires.empty;
     same = refl;
   },
 )
@@ -32,7 +33,7 @@ packets-preserved g c =
         next = λ k at. let e : k + (w.0 + 1) ≡ (k + w.0) + 1 = omega arith in rw e (c.next_packet.ensures (k + w.0)
             (w.1.next k at));
         passes = λ k at. rw (one_more_packet s _ k w.0 _ c.args.words.now _ _ (w.1.next k at) len w.1.place
-            c.split_at.ensures.front) (Forwards-join _ _ _ _ _ _ _ (w.1.passes k at) c.in_ok-put_packet.ensures.0);
+            c.split_at.ensures.front) (TakesAllBut-join _ _ _ _ _ _ _ (w.1.passes k at) c.in_ok-put_packet.ensures.0);
         same = c.in_ok-put_packet.ensures.1 ∙ w.1.same;
       },
     )
@@ -49,7 +50,7 @@ returns-in_err-put_packet-clause-writes g c =
     (omega (arith, w.1.whole, len)) in
     let all = first_packets s k c.args.words.now (w.0 + 1) (full_packets s c.args.words.now) full in (
       c.in_err-put_packet.ensures.0,
-      rw (all.1, one) (StopsInWrite-more _ _ _ _ (StopsInWrite-join _ _ _ _ _ _ (w.1.passes k at) w.1.same
+      rw (all.1, one) (FailsAfterPrefix-more _ _ _ _ (FailsAfterPrefix-join _ _ _ _ _ _ (w.1.passes k at) w.1.same
           c.in_err-put_packet.ensures.1)),
     ))
 
@@ -62,7 +63,7 @@ returns g c =
     record {
       left = (short, rw full w.1.whole);
       writes = λ k at. (
-        rw full (Forwards-appended _ _ _ _ _ (w.1.passes k at) c.in_ok-flush.ensures.writes.0),
+        rw full (TakesAllBut-appended _ _ _ _ _ (w.1.passes k at) c.in_ok-flush.ensures.writes.0),
         c.in_ok-flush.ensures.writes.1 ∙ w.1.same,
       );
       next = rw full w.1.next;
@@ -77,5 +78,5 @@ returns-in_err-flush-clause-writes g c =
     let full = full_are c.args.spec.now c.args.words.now w.0 (length c.packets.rest.now) w.1.whole (omega
     (arith, c.packet_len-len.ensures.value)) in (
       c.in_err-flush.ensures.writes.0,
-      rw full (StopsInWrite-waiting _ _ _ _ _ (w.1.passes k at) w.1.same c.in_err-flush.ensures.writes.1),
+      rw full (FailsAfterPrefix-waiting _ _ _ _ _ (w.1.passes k at) w.1.same c.in_err-flush.ensures.writes.1),
     ))

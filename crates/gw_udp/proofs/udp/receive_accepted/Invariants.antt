@@ -1,5 +1,5 @@
 use Rattle.std.proofs.Common.{◌≤◌}
-use Rattle.gw_udp.specs.SourceFilter.{IsLetIn}
+use Rattle.gw_udp.specs.SourceFilter.{IsAccepted}
 use Rattle.gw_udp.specs.Udp.{Skips}
 use Rattle.gw_udp.proofs.udp.receive_accepted.Given as goal
 
@@ -7,5 +7,5 @@ use Rattle.gw_udp.proofs.udp.receive_accepted.Given as goal
 abbrev pub invariant-loop-turn : goal.invariant-loop-turn
 invariant-loop-turn g l = record {
   few : l._turn ≤ 16;
-  skips : Skips g.S.Socket.receives (λ from. IsLetIn l.senders from l.peer) l._turn l.initial.socket l.socket;
+  skips : Skips g.S.Socket.receives (λ from. IsAccepted l.senders from l.peer) l._turn l.initial.socket l.socket;
 }

@@ -1,5 +1,0 @@
-use Rattle.g704_crc4.proofs.Steps.{sends-none}
-use Rattle.g704_crc4.proofs.sending.Multiframer.new.Goals as goal
-
-pub returns : goal.returns
-returns c = sends-none

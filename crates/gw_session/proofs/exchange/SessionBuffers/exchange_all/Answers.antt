@@ -1,0 +1,74 @@
+use Rattle.gw_session.proofs.Common.{◌≡◌, ◌+◌, ◌<◌, ◌++◌, ◌∷◌, [], ap, sym, refl, ◌∙◌, ℕ, List, length, take, drop}
+use Rattle.gw_session.proofs.Common.{get_or, length-append, arith, length-take, take_rest, take_more}
+use Rattle.gw_session.proofs.Common.{err_from_is_err_and, vec_len, take-append-drop}
+use Rattle.gw_session.specs.declared.exchange.SessionBuffers.{SessionBuffers}
+use Rattle.gw_session.proofs.PacketsSent.{exchange_is, stops_once}
+use Rattle.gw_session.proofs.Exchanging.{heard_none, heard_more, heard_all, stops_after}
+use Rattle.gw_session.proofs.exchange.SessionBuffers.exchange_all.Goals as goal
+
+-- the first octets, one more, and the rest
+split_at : (xs : List ℕ) (i : ℕ) → i < length xs
+    → xs ≡ (take i xs ++ get_or xs i 0 ∷ []) ++ drop (i + 1) xs
+split_at xs i h =
+    sym (take-append-drop (i + 1) xs) ∙ ap (λ (ys : List ℕ). ys ++ drop (i + 1) xs) (take_more xs i 0 h)
+
+pub loop-i-init : goal.loop-i-init
+loop-i-init g c = record { heard = heard_none _ _ _ _ _ c.clear.ensures; at_once = refl; room = refl }
+
+pub push-requires : goal.push-requires
+push-requires g c =
+    let w = c.loop-i.invariant.heard in
+    let done = length-take c.loop-i.i c.args.octets.now in
+    let kept : c.receive_octet.new.self.answer
+    ≡ c.loop-i.self.answer = ap (λ (s : SessionBuffers). s.answer) c.receive_octet.ensures.others
+    ∙ ap (λ (s : SessionBuffers). s.answer) c.receive_next.ensures.others in
+    let len : length c.receive_octet.new.self.answer.items ≡ length c.args.self.now.answer.items + length w.sent =
+    rw kept (ap length w.behind ∙ length-append c.args.self.now.answer.items w.sent) in
+    let room : length c.receive_octet.new.self.answer.items < 65539 =
+    omega (arith, w.so.0.lengths, c.requires.fits, c.loop-i-test.true) in
+    (omega arith, room)
+
+pub returns-in_err-sent-clause-exchanges : goal.returns-in_err-sent-clause-exchanges
+returns-in_err-sent-clause-exchanges g c =
+    let octets = c.args.octets.now in
+    let i = c.loop-i.i in
+    let p = err_from_is_err_and c.from_residual.result c.from_residual.ensures.1 in
+    let waits = ap (λ (s : SessionBuffers). s.waiting.items) c.receive_next.ensures.others in
+    let hears = rw waits at c.in_err-sent.ensures.hears in
+    rw (p.1, p.2) (
+      hears.0,
+      stops_after (drop (i + 1) octets) (split_at octets i c.loop-i-test.true) c.loop-i.invariant.heard.so.0
+          (stops_once c.receive_next.ensures.comes hears.1),
+    )
+
+pub loop-i-preserved : goal.loop-i-preserved
+loop-i-preserved g c =
+    let waits = ap (λ (s : SessionBuffers). s.waiting.items) c.receive_next.ensures.others in
+    let kept : c.receive_octet.new.self.answer
+    ≡ c.loop-i.self.answer = ap (λ (s : SessionBuffers). s.answer) c.receive_octet.ensures.others
+    ∙ ap (λ (s : SessionBuffers). s.answer) c.receive_next.ensures.others in
+    let same = ap (λ (s : SessionBuffers). s.recorded) c.receive_octet.ensures.others in
+    let batch = ap (λ (s : SessionBuffers). s.batch.items) c.receive_octet.ensures.others in
+    let q = exchange_is c.receive_next.ensures.comes (rw waits at c.in_ok-sent.ensures.hears) in
+    record {
+      heard = rw (same, batch) (heard_more c.args.octets.now c.loop-i.i c.loop-i.self.recorded _ c.in_ok-sent.sent
+          c.loop-i.invariant.heard c.loop-i-test.true q (rw kept at c.push.ensures.items));
+      at_once = ap (λ (s : SessionBuffers). s.at_once) c.receive_octet.ensures.others
+          ∙ ap (λ (s : SessionBuffers). s.at_once) c.receive_next.ensures.others ∙ c.loop-i.invariant.at_once;
+      room = ap (λ (s : SessionBuffers). vec_len s.room) c.receive_octet.ensures.others ∙ c.receive_next.ensures.room
+          ∙ c.loop-i.invariant.room;
+    }
+
+pub returns-in_err-sent-clause-at_once : goal.returns-in_err-sent-clause-at_once
+returns-in_err-sent-clause-at_once g c =
+    ap (λ (s : SessionBuffers). s.at_once) c.receive_octet.ensures.others
+    ∙ ap (λ (s : SessionBuffers). s.at_once) c.receive_next.ensures.others ∙ c.loop-i.invariant.at_once
+
+pub returns-clause-at_once : goal.returns-clause-at_once
+returns-clause-at_once g c = c.loop-i.invariant.at_once
+
+pub returns-clause-exchanges : goal.returns-clause-exchanges
+returns-clause-exchanges g c =
+    let end : c.loop-i.i ≡ length c.args.octets.now = omega (arith, c.loop-i-test.false, c.loop-i.auto.i-end) in
+    heard_all c.args.octets.now _ c.loop-i.i c.loop-i.self.recorded c.loop-i.invariant.heard end
+    (take_rest c.args.octets.now c.loop-i.self.recorded) c.record_octets.ensures.recorded

@@ -1,0 +1,20 @@
+use Rattle.gw_session.proofs.Common.{◌≡◌, ℕ, List, length, Some, vec_len, of_circuit, coming, Receiving, RecordsBehind}
+use Rattle.gw_session.proofs.Common.{state_of, taping}
+use Rattle.gw_session.proofs.exchange.SessionBuffers.receive_next.Given as goal
+
+abbrev pub invariant-receiving : goal.invariant-receiving
+invariant-receiving g l = record {
+  receiving : (came : List (List ℕ)) × (length came ≡ l._turn)
+      × Receiving (state_of (g.O.PacketPorts.tells l.initial.packet_ports) l.initial.gateway l.initial.self.totals)
+      (state_of (g.O.PacketPorts.tells l.packet_ports) l.gateway l.self.totals) l.circuit came
+      × RecordsBehind (taping (g.T.Tape.tells l.initial.tape) l.initial.self.batch.items)
+      (taping (g.T.Tape.tells l.tape) l.self.batch.items) l.heard l.initial.self.recorded l.self.recorded
+      (coming (of_circuit (Some l.circuit) came));
+  room : vec_len l.self.room ≡ vec_len l.initial.self.room;
+  others : l.self ≡ record l.initial.self {
+    totals = l.self.totals;
+    recorded = l.self.recorded;
+    batch = l.self.batch;
+    room = l.self.room;
+  };
+}

@@ -1,0 +1,43 @@
+use Rattle.std.proofs.Math.Logic.{∥∥₁_map}
+use Rattle.std.proofs.Common.{◌≤◌, length, arith}
+use Rattle.gw_trunk.proofs.Thinning.{stepped, was-prompt}
+use Rattle.gw_trunk.proofs.multiframe_dropper.MultiframeDropperOutgoing.write.Goals as goal
+
+pub invariant_of-self-then-self-gt0 : goal.invariant_of-self-then-self-gt0
+invariant_of-self-then-self-gt0 g c =
+    let s = c.args.self.now in
+    let fits : c.min-most.result ≤ length c.args.octets.now = omega (arith, c.min-most.ensures) in
+    record {
+      thinned = ∥∥₁_map s.thinned (λ t. rw (c.append.ensures)
+          (stepped s.position c.pass.new.position _ _ _ c.args.octets.now c.min-most.result c.in-Ok.n t
+          c.in-Ok.ensures.steps fits c.in-Ok.ensures.bound));
+      below = c.in-Ok.ensures.below;
+      room = c.in-Ok.ensures.room;
+      prompt = λ e. c.in-Ok.ensures.prompt e (s.prompt (was-prompt _ _ c.in-Ok.ensures.stays e));
+    }
+
+pub invariant_of-self-else-self-gt0 : goal.invariant_of-self-else-self-gt0
+invariant_of-self-else-self-gt0 g c =
+    let s = c.args.self.now in
+    let fits : c.min-most.result ≤ length c.args.octets.now = omega (arith, c.min-most.ensures) in
+    record {
+      thinned = ∥∥₁_map s.thinned (λ t. rw (c.append.ensures)
+          (stepped s.position c.pass.new.position _ _ _ c.args.octets.now c.min-most.result c.in-Ok.n t
+          c.in-Ok.ensures.steps fits c.in-Ok.ensures.bound));
+      below = c.in-Ok.ensures.below;
+      room = c.in-Ok.ensures.room;
+      prompt = λ e. c.in-Ok.ensures.prompt e (s.prompt (was-prompt _ _ c.in-Ok.ensures.stays e));
+    }
+
+pub invariant_of-self-else-before-eq0 : goal.invariant_of-self-else-before-eq0
+invariant_of-self-else-before-eq0 g c =
+    let s = c.args.self.now in
+    let fits : c.min-most.result ≤ length c.args.octets.now = omega (arith, c.min-most.ensures) in
+    record {
+      thinned = ∥∥₁_map s.thinned (λ t. rw (c.append.ensures)
+          (stepped s.position c.pass.new.position _ _ _ c.args.octets.now c.min-most.result c.in-Ok.n t
+          c.in-Ok.ensures.steps fits c.in-Ok.ensures.bound));
+      below = c.in-Ok.ensures.below;
+      room = c.in-Ok.ensures.room;
+      prompt = λ e. c.in-Ok.ensures.prompt e (s.prompt (was-prompt _ _ c.in-Ok.ensures.stays e));
+    }

@@ -1,0 +1,272 @@
+//! The octets of a trunk to a device that may be slow. If it does not take octets in time, whole multiframes
+//! are discarded, so that the far end keeps the alignment of frames and multiframes.
+
+ghost use Rattle.std.specs.Prelude.{◌≡◌, ◌<◌, ◌≤◌, ◌+◌, ◌++◌, [], true, false, length, take, drop};
+ghost use Rattle.std.specs.Prelude.{IfOk, IfSome, IfNone, OnErr};
+ghost use Rattle.gw_trunk.specs.Device.{written_of};
+ghost use Rattle.gw_trunk.specs.Multiframes.{IsThinned, IsPrompt, HasRoom, Steps, GoesInTime};
+ghost use Rattle.gw_trunk.specs.Multiframes.{position_after, position_discarding};
+
+use crate::device::{DeviceFault, Outgoing};
+use arrayvec::ArrayVec;
+use gw_records::Log;
+use std::io::Write;
+
+// The octets of a multiframe (ITU-T G.704, 5.1.3.2).
+const MULTIFRAME_LEN: usize = 512;
+
+// The line that reports the first discarded multiframe.
+const SLOW: &[u8] = b"output slow: discarding whole multiframes\n";
+
+/// Octets that wait until a device takes them, of one multiframe.
+type Held = ArrayVec<u8, 512>;
+
+/// Where the octets of a trunk stand in their multiframe.
+#[derive(Clone, Copy, Debug, PartialEq, Eq)]
+struct MultiframePosition {
+    /// The place of the next octet, 0 to 511.
+    place: usize,
+    /// Whether this multiframe is discarded.
+    discards: bool,
+    /// How many were discarded so far, including this one, up to the greatest u64.
+    discarded: u64,
+}
+
+// The course after so many octets of the multiframe.
+fn position_after(position: MultiframePosition, n: usize) -> MultiframePosition
+    requires { position.place + n ≤ 512 }
+    ensures { result ≡ position_after position n }
+{
+    if position.place + n == MULTIFRAME_LEN {
+        return MultiframePosition {
+            place: 0,
+            discards: false,
+            discarded: position.discarded,
+        };
+    }
+    MultiframePosition {
+        place: position.place + n,
+        discards: position.discards,
+        discarded: position.discarded,
+    }
+}
+
+// The course if this multiframe is discarded.
+fn position_discarding(position: MultiframePosition) -> MultiframePosition
+    ensures { result ≡ position_discarding position }
+{
+    MultiframePosition {
+        place: position.place,
+        discards: true,
+        discarded: position.discarded.saturating_add(1),
+    }
+}
+
+// Gives octets to a device, and returns how many it took; None if it was slow to take any.
+fn give<O: Outgoing>(outgoing: &mut O, octets: &[u8]) -> Result<Option<usize>, DeviceFault>
+    ensures bound { IfOk result (λ n. IfSome n (λ m. m ≤ length octets.now)) }
+    ensures went { O.went outgoing.new ≡ O.went outgoing.old ++ written_of result octets.now }
+    ensures slow { IfOk result (λ n. IfNone n (O.was_slow outgoing.new ≡ true)) }
+    ensures stays { O.was_slow outgoing.old ≡ true → O.was_slow outgoing.new ≡ true }
+{
+    for _turn in 0..u64::MAX {
+        match outgoing.write(octets) {
+            Ok(Some(n)) => return Ok(Some(n)),
+            Ok(None) => {
+                if !outgoing.wait_a_while() {
+                    return Ok(None);
+                }
+            }
+            Err(fault) => return Err(fault),
+        }
+    }
+    Err(DeviceFault)
+}
+
+// Drops the first octets that are held.
+fn drop_first(held: &mut Held, len: usize)
+    requires { len ≤ length held.old.items }
+    ensures { held.new.items ≡ drop len held.old.items }
+{
+    let mut rest = ArrayVec::new();
+    let _ = rest.try_extend_from_slice(&held.as_slice()[len..]);
+    *held = rest;
+}
+
+// Gives a device what is held for it, and returns whether it took all; false if it was slow.
+fn give_held<O: Outgoing>(outgoing: &mut O, held: &mut Held) -> Result<bool, DeviceFault>
+    ensures all { IfOk result (λ all. all ≡ true → held.new.items ≡ []) }
+    ensures went { O.went outgoing.new ++ held.new.items ≡ O.went outgoing.old ++ held.old.items }
+    ensures shorter { length held.new.items ≤ length held.old.items }
+    ensures slow { IfOk result (λ all. all ≡ false → O.was_slow outgoing.new ≡ true) }
+    ensures stays { O.was_slow outgoing.old ≡ true → O.was_slow outgoing.new ≡ true }
+{
+    for _turn in 0..u64::MAX {
+        if held.is_empty() {
+            return Ok(true);
+        }
+        match give(outgoing, held.as_slice()) {
+            Ok(Some(n)) if n > 0 => drop_first(held, n),
+            Ok(None) => return Ok(false),
+            _ => return Err(DeviceFault),
+        }
+    }
+    Err(DeviceFault)
+}
+
+// Gives a device what is held for it and then octets, and returns how many of these it took; None if it was
+// slow.
+fn give_behind<O: Outgoing>(
+    outgoing: &mut O,
+    held: &mut Held,
+    octets: &[u8],
+) -> Result<Option<usize>, DeviceFault>
+    ensures bound { IfOk result (λ n. IfSome n (λ m. m ≤ length octets.now)) }
+    ensures went { O.went outgoing.new ++ held.new.items
+        ≡ (O.went outgoing.old ++ held.old.items) ++ written_of result octets.now }
+    ensures shorter { length held.new.items ≤ length held.old.items }
+    ensures all { IfOk result (λ n. IfSome n (λ _. held.new.items ≡ [])) }
+    ensures slow { IfOk result (λ n. IfNone n (O.was_slow outgoing.new ≡ true)) }
+    ensures stays { O.was_slow outgoing.old ≡ true → O.was_slow outgoing.new ≡ true }
+{
+    if give_held(outgoing, held)? {
+        return give(outgoing, octets);
+    }
+    Ok(None)
+}
+
+// Takes all of these octets of the current multiframe while the device is slow. They are held if the
+// multiframe has begun to go; otherwise it is discarded.
+fn take_slow(held: &mut Held, position: &mut MultiframePosition, octets: &[u8])
+    requires fits { position.old.place + length octets.now ≤ 512 }
+    requires below { position.old.place < 512 }
+    requires goes { position.old.discards ≡ false }
+    requires room { HasRoom held.old.items position.old }
+    ensures steps { Steps position.old position.new held.old.items held.new.items octets.now }
+    ensures room { HasRoom held.new.items position.new }
+    ensures below { position.new.place < 512 }
+{
+    if position.place > 0 {
+        let _ = held.try_extend_from_slice(octets);
+        *position = position_after(*position, octets.len());
+    } else {
+        *position = position_after(position_discarding(*position), octets.len());
+    }
+}
+
+// Takes octets of the current multiframe, and returns how many.
+fn pass<O: Outgoing>(
+    outgoing: &mut O,
+    held: &mut Held,
+    position: &mut MultiframePosition,
+    octets: &[u8],
+) -> Result<usize, DeviceFault>
+    requires fits { position.old.place + length octets.now ≤ 512 }
+    requires below { position.old.place < 512 }
+    requires room { HasRoom held.old.items position.old }
+    ensures bound { IfOk result (λ n. n ≤ length octets.now) }
+    ensures steps { IfOk result (λ n. Steps position.old position.new (O.went outgoing.old ++ held.old.items)
+        (O.went outgoing.new ++ held.new.items) (take n octets.now)) }
+    ensures err { OnErr result (position.new ≡ position.old) }
+    ensures left { OnErr result (O.went outgoing.new ++ held.new.items
+        ≡ O.went outgoing.old ++ held.old.items) }
+    ensures room { HasRoom held.new.items position.new }
+    ensures below { position.new.place < 512 }
+    ensures prompt { O.was_slow outgoing.new ≡ false → IsPrompt held.old.items position.old
+        → IsPrompt held.new.items position.new }
+    ensures stays { O.was_slow outgoing.old ≡ true → O.was_slow outgoing.new ≡ true }
+{
+    if position.discards {
+        *position = position_after(*position, octets.len());
+        return Ok(octets.len());
+    }
+    if let Some(n) = give_behind(outgoing, held, octets)? {
+        *position = position_after(*position, n);
+        return Ok(n);
+    }
+    take_slow(held, position, octets);
+    Ok(octets.len())
+}
+
+/// A device that octets go to in time. If it takes none within the time that it is waited for, whole
+/// multiframes are discarded until it takes some again, counted from the first octet. The rest of a
+/// multiframe that has begun to go is held for it. The first discarded multiframe is reported once.
+#[derive(Drop)]
+pub struct MultiframeDropper<O: Outgoing, E> {
+    outgoing: O,
+    // Where the first discarded multiframe is reported.
+    notes: E,
+    held: Held,
+    position: MultiframePosition,
+    log: Log,
+    ghost thinned: { ∥ IsThinned position log.octets (O.went outgoing ++ held.items) ∥₁ },
+    ghost below: { position.place < 512 },
+    ghost room: { HasRoom held.items position },
+    ghost prompt: { O.was_slow outgoing ≡ false → IsPrompt held.items position },
+}
+
+impl<O: Outgoing, E: Write> MultiframeDropper<O, E> {
+    /// A device to which no octet went yet, and where it is reported that it is slow.
+    pub fn new(outgoing: O, notes: E) -> MultiframeDropper<O, E>
+        requires { O.went outgoing ≡ [] }
+        ensures { result.log.octets ≡ [] }
+    {
+        MultiframeDropper {
+            outgoing,
+            notes,
+            held: ArrayVec::new(),
+            position: MultiframePosition {
+                place: 0,
+                discards: false,
+                discarded: 0,
+            },
+            log: Log::new(),
+        }
+    }
+
+    /// The number of discarded multiframes, up to the greatest u64.
+    pub fn discarded(&self) -> u64
+        ensures { result ≡ self.now.position.discarded }
+    {
+        self.position.discarded
+    }
+
+    /// Gives the device what is still held for it, and waits for it as before. What was sent goes to it in
+    /// time.
+    pub fn finish(&mut self)
+        ensures sent { self.new.log.octets ≡ self.old.log.octets }
+        ensures goes { ∥ GoesInTime self.new.log.octets (O.went self.new.outgoing) self.new.position.discarded
+            (O.was_slow self.new.outgoing) ∥₁ }
+    {
+        let _ = give_held(&mut self.outgoing, &mut self.held);
+    }
+}
+
+impl<O: Outgoing, E: Write> Outgoing for MultiframeDropper<O, E> {
+    ghost went = { λ d. d.log.octets };
+
+    fn write(&mut self, octets: &[u8]) -> Result<Option<usize>, DeviceFault> {
+        let before = self.position.discarded;
+        let most = octets.len().min(MULTIFRAME_LEN - self.position.place);
+        let n = match pass(
+            &mut self.outgoing,
+            &mut self.held,
+            &mut self.position,
+            &octets[..most],
+        ) {
+            Ok(n) => n,
+            Err(fault) => return Err(fault),
+        };
+        self.log.append(octets, n);
+        if before == 0 && self.position.discarded > 0 {
+            let _ = self.notes.write(SLOW);
+        }
+        Ok(Some(n))
+    }
+
+    fn wait(&mut self) {}
+
+    fn wait_a_while(&mut self) -> bool {
+        true
+    }
+}
