@@ -11,9 +11,9 @@ use Rattle.gw_config.specs.declared.config.Config.{Config}
 use Rattle.gw_config.specs.declared.fault.Kind.TheVariants as kinds
 use Rattle.gw_config.specs.Octets.{meaning_of_octets, at_top}
 use Rattle.gw_program.specs.Setup.{Says, FailsToRead}
-use Rattle.gw_program.specs.Status.{trouble_of}
-use Rattle.gw_program.specs.declared.trouble.ProgramFault.{ProgramFault}
-use Rattle.gw_program.specs.declared.trouble.ProgramFault.TheVariants as troubles
+use Rattle.gw_program.specs.Status.{fault_of_error}
+use Rattle.gw_program.specs.declared.program_fault.ProgramFault.{ProgramFault}
+use Rattle.gw_program.specs.declared.program_fault.ProgramFault.TheVariants as program_faults
 
 -- what is too long is refused, whatever it is
 pub too_long : (octets : List ℕ) → nat_lt 65536 (length octets) ≡ true
@@ -49,11 +49,11 @@ said_of_all (Some octets) before items slice r empty came is said =
 pub read_whole : (fails : Error → Type 0) (r : Result Config ProgramFault) → IfErr r (FailsToRead (λ _. ⊥))
     → IfErr r (FailsToRead fails)
 read_whole fails (Ok config) h = tt
-read_whole fails (Err troubles.File) h = absurd h.1
+read_whole fails (Err program_faults.File) h = absurd h.1
 read_whole fails (Err _) h = tt
 
 -- what is told of a read that failed: an error of the system, or want of memory
 pub read_failed : (fails : Error → Type 0) (error : Error) (kind : kinds_of.ErrorKind) → fails error
-    → FailsToRead fails (trouble_of kind troubles.File)
+    → FailsToRead fails (fault_of_error kind program_faults.File)
 read_failed fails error errors.OutOfMemory p = tt
 read_failed fails error _ p = (error, p)

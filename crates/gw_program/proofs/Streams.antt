@@ -13,7 +13,7 @@ use Rattle.gw_session.specs.Serve.{Around, around}
 use Rattle.gw_session.specs.Tape.{TapeState, no_tape}
 use Rattle.gw_command.specs.declared.command.Session.{Session}
 use Rattle.gw_command.specs.declared.command.Session.TheVariants.{Replay, Check, Serve}
-use Rattle.gw_program.specs.declared.trouble.ProgramFault.{ProgramFault}
+use Rattle.gw_program.specs.declared.program_fault.ProgramFault.{ProgramFault}
 use Rattle.gw_program.specs.Performing.{EndedSaved, NotBegun, HasServed, HasConfig, by_session}
 use Rattle.gw_program.specs.Sessions.{HasGateway, Runs, Serves, Checks}
 use Rattle.gw_program.specs.State.{HasBegun, BeginsWaiting, IsSaved}
@@ -33,21 +33,21 @@ on_new s s' k k' done reads given failures writes = record {
   done = done;
 }
 
--- a trouble is told of streams that nothing was done with
+-- a fault is told of streams that nothing was done with
 pub untouched : (load : Option (List ℕ)) (asks : Option ℕ → Type 0)
-    (does : Around → Around → Gateway → Gateway → Type 0) (trouble : ProgramFault)
-    → OnNewStreams (λ a a'. ByGateway a a' (Err trouble) load asks (does a a'))
-untouched load asks does trouble =
+    (does : Around → Around → Gateway → Gateway → Type 0) (program_fault : ProgramFault)
+    → OnNewStreams (λ a a'. ByGateway a a' (Err program_fault) load asks (does a a'))
+untouched load asks does program_fault =
     let source : SourceState = record { failures = 0; reads = 0; given = Some []; to_come = None } in
     let sink : SinkState = record { failures = 0; taken = None } in on_new source source sink sink
-    (inl (record { trouble = trouble; why = tt; told_is = refl; unread = refl; unwritten = refl })) refl refl refl refl
+    (inl (record { program_fault = program_fault; why = tt; told_is = refl; unread = refl; unwritten = refl })) refl refl refl refl
 
 -- why nothing was begun is left out, and what the streams are beside what they tell
 told_untouched : {S K : Type 0} {x x' : S} {y y' : K} {why : ProgramFault → Type 0} {told : Result Totals ProgramFault}
     {s s' : SourceState} {k k' : SinkState} → (x' ≡ x → s' ≡ s) → (y' ≡ y → k' ≡ k) → NotBegun x x' y y' why told
     → NotBegun s s' k k' (λ _. ⊤) told
 told_untouched f g n = record {
-  trouble = n.trouble;
+  program_fault = n.program_fault;
   why = tt;
   told_is = n.told_is;
   unread = f n.unread;

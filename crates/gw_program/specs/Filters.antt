@@ -6,8 +6,8 @@ use Rattle.gw_filter.specs.Align.{Aligns, AlignsUntil}
 use Rattle.gw_filter.specs.Crc4.{SendsMultiframes, SendsMultiframesUntil}
 use Rattle.gw_filter.specs.Check.{ChecksMultiframes, ChecksMultiframesUntil}
 use Rattle.gw_filter.specs.declared.filters.Checked.{Checked}
-use Rattle.gw_program.specs.declared.trouble.ProgramFault.{ProgramFault}
-use Rattle.gw_program.specs.declared.trouble.ProgramFault.TheVariants as troubles
+use Rattle.gw_program.specs.declared.program_fault.ProgramFault.{ProgramFault}
+use Rattle.gw_program.specs.declared.program_fault.ProgramFault.TheVariants as program_faults
 use Rattle.std.specs.Prelude.{◌≡◌}
 use Rattle.gw_command.specs.declared.command.Filter.{Filter}
 use Rattle.gw_command.specs.declared.command.Filter.TheVariants.{Align, Crc4}
@@ -29,8 +29,9 @@ pub record HasChecked (source source' : SourceState) (sink sink' : SinkState) (t
   pub totals_are : totals ≡ checked.totals
 
 -- Checking ended with this trouble, which tells the fault.
-pub record HasCheckedUntil (source source' : SourceState) (sink sink' : SinkState) (trouble : ProgramFault)
+pub record HasCheckedUntil (source source' : SourceState) (sink sink' : SinkState)
+    (program_fault : ProgramFault)
     : Type 0 where
   pub fault : RunFault
   pub done : ChecksMultiframesUntil source source' sink sink' fault
-  pub told_is : trouble ≡ troubles.Session fault
+  pub told_is : program_fault ≡ program_faults.Session fault

@@ -6,13 +6,13 @@ use Rattle.gw_records.specs.declared.outcome.RunFault.{RunFault}
 use Rattle.gw_session.specs.Tape.{TapeState, no_tape}
 use Rattle.gw_command.specs.declared.command.Session.{Session}
 use Rattle.gw_command.specs.declared.command.Session.TheVariants.{Replay, Check, Serve}
-use Rattle.gw_program.specs.declared.trouble.ProgramFault.{ProgramFault}
-use Rattle.gw_program.specs.declared.trouble.ProgramFault.TheVariants as troubles
+use Rattle.gw_program.specs.declared.program_fault.ProgramFault.{ProgramFault}
+use Rattle.gw_program.specs.declared.program_fault.ProgramFault.TheVariants as program_faults
 
 -- what is told of how a job or a session ended
 abbrev pub told_as : Result Totals RunFault → Result Totals ProgramFault
 told_as (Ok totals) = Ok totals
-told_as (Err fault) = Err (troubles.Session fault)
+told_as (Err fault) = Err (program_faults.Session fault)
 
 -- a job or a session ended so, and this is told
 pub record Ended (ends : Result Totals RunFault → Type 0) (told : Result Totals ProgramFault) : Type 0 where
@@ -24,7 +24,7 @@ pub record Ended (ends : Result Totals RunFault → Type 0) (told : Result Total
 -- case
 abbrev pub told_after : Result Totals RunFault → Result (Unit {0}) ProgramFault → Result Totals ProgramFault
 told_after end (Ok u) = told_as end
-told_after end (Err trouble) = Err trouble
+told_after end (Err program_fault) = Err program_fault
 
 -- the state was saved so, or was not, and this is told of a session that ended so
 pub record IsTold (Saves : Result (Unit {0}) ProgramFault → Type 0) (end : Result Totals RunFault)
@@ -41,18 +41,18 @@ pub record EndedSaved (ends : Result Totals RunFault → Type 0) (Saves : Result
   pub done : ends end
   pub tells : IsTold Saves end told
 
--- a trouble is told for a reason, and nothing was read or written
+-- a fault is told for a reason, and nothing was read or written
 pub record NotBegun {S K : Type 0} (source source' : S) (sink sink' : K) (Why : ProgramFault → Type 0)
     (told : Result Totals ProgramFault) : Type 0 where
-  pub trouble : ProgramFault
-  pub why : Why trouble
-  pub told_is : told ≡ Err trouble
+  pub program_fault : ProgramFault
+  pub why : Why program_fault
+  pub told_is : told ≡ Err program_fault
   pub unread : source' ≡ source
   pub unwritten : sink' ≡ sink
 
 -- no tape was begun, or no ports were opened
 abbrev pub LacksTapeOrPorts : (ProgramFault → Type 0) → (ProgramFault → Type 0) → ProgramFault → Type 0
-LacksTapeOrPorts lacks_tape lacks_ports trouble = lacks_tape trouble ⊎ lacks_ports trouble
+LacksTapeOrPorts lacks_tape lacks_ports program_fault = lacks_tape program_fault ⊎ lacks_ports program_fault
 
 -- this was done with ports that were opened so and a tape that was begun so
 pub record HasServed {P T : Type 0} (Opens : P → Type 0) (Begins : T → Type 0)

@@ -12,8 +12,8 @@ use Rattle.gw_command.specs.declared.command.SpeechJob.{SpeechJob}
 use Rattle.gw_command.specs.declared.command.Request.{Request}
 use Rattle.gw_command.specs.declared.command.Request.TheVariants as requests
 use Rattle.gw_command.specs.declared.command.Session.{Session}
-use Rattle.gw_program.specs.declared.trouble.ProgramFault.{ProgramFault}
-use Rattle.gw_program.specs.declared.trouble.ProgramFault.TheVariants as troubles
+use Rattle.gw_program.specs.declared.program_fault.ProgramFault.{ProgramFault}
+use Rattle.gw_program.specs.declared.program_fault.ProgramFault.TheVariants as program_faults
 use Rattle.gw_program.specs.Filters.{DoesFilter, DoesFilterUntil, HasChecked, HasCheckedUntil}
 use Rattle.gw_program.specs.Jobs.{Does, DoesUntil}
 use Rattle.gw_program.specs.Performing.{Ended, EndedSaved, NotBegun, HasConfig, by_session}
@@ -55,7 +55,7 @@ pub record HasRequest (command : Command) (does : Command → Request → Type 0
 -- the command asks for nothing, and this is told
 pub record NoRequest (command : Command) (told : Result Totals ProgramFault) : Type 0 where
   pub nothing : (request : Request) → ¬ IsRequest command request
-  pub told_is : told ≡ Err troubles.Nothing
+  pub told_is : told ≡ Err program_faults.Nothing
 
 -- nothing has happened to the streams: no read, no octet and no failure
 pub record AreNew (a : Around) : Type 0 where
@@ -87,7 +87,7 @@ abbrev pub ChecksCrc4 : Result Totals ProgramFault → Type 0
 ChecksCrc4 told = OnNewStreams (λ a a'. IfOk told (HasChecked a.source a'.source a.sink a'.sink)
     × IfErr told (HasCheckedUntil a.source a'.source a.sink a'.sink))
 
--- a trouble is told, and nothing was read or written; or this was done with a gateway that was begun by a
+-- a fault is told, and nothing was read or written; or this was done with a gateway that was begun by a
 -- configuration, from a state if one is named, and with the wait that is asked for
 abbrev pub ByGateway : Around → Around → Result Totals ProgramFault → Option (List ℕ) → (Option ℕ → Type 0)
     → (Gateway → Gateway → Type 0) → Type 0

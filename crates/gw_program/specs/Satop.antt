@@ -9,13 +9,13 @@ use Rattle.gw_satop.specs.declared.line.Receiver.{Receiver}
 use Rattle.gw_satop.specs.declared.sender.Sender.{Sender}
 use Rattle.gw_satop.specs.Session.{PlaysAll, SendsAll}
 use Rattle.satop_playout.specs.declared.Replacement.TheVariants as fills
-use Rattle.gw_program.specs.declared.trouble.ProgramFault.{ProgramFault}
-use Rattle.gw_program.specs.declared.trouble.ProgramFault.TheVariants as troubles
+use Rattle.gw_program.specs.declared.program_fault.ProgramFault.{ProgramFault}
+use Rattle.gw_program.specs.declared.program_fault.ProgramFault.TheVariants as program_faults
 
 -- a read of the trunk failed, and all that was played had gone; or a write failed
 abbrev pub IsDeviceFault : List ℕ → ProgramFault → Type 0
-IsDeviceFault left (troubles.Session faults.Read) = left ≡ []
-IsDeviceFault left (troubles.Session faults.Write) = ⊤
+IsDeviceFault left (program_faults.Session faults.Read) = left ≡ []
+IsDeviceFault left (program_faults.Session faults.Write) = ⊤
 IsDeviceFault left _ = ⊥
 
 -- A circuit was carried: what went to the trunk is what is played for the datagrams that came, but for what
@@ -40,11 +40,11 @@ pub record IsSetUp (command : Option (List ℕ × List Row)) (receiver : Receive
 
 -- the circuit could not be opened
 abbrev pub IsOpeningFault : ProgramFault → Type 0
-IsOpeningFault troubles.Nothing = ⊤
-IsOpeningFault troubles.PacketSize = ⊤
-IsOpeningFault troubles.FarEnd = ⊤
-IsOpeningFault troubles.Trunk = ⊤
-IsOpeningFault troubles.OutOfMemory = ⊤
+IsOpeningFault program_faults.Nothing = ⊤
+IsOpeningFault program_faults.PacketSize = ⊤
+IsOpeningFault program_faults.FarEnd = ⊤
+IsOpeningFault program_faults.Trunk = ⊤
+IsOpeningFault program_faults.OutOfMemory = ⊤
 IsOpeningFault _ = ⊥
 
 -- the circuit that the command asks for was carried

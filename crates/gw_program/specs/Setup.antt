@@ -4,16 +4,17 @@ use Rattle.std.specs.declared.io.Error.{Error}
 use Rattle.gw_config.specs.declared.config.Config.{Config}
 use Rattle.gw_config.specs.Configuration.{Configuration, Refusal}
 use Rattle.gw_config.specs.Views.{Fails, config_view}
-use Rattle.gw_program.specs.declared.trouble.ProgramFault.{ProgramFault}
-use Rattle.gw_program.specs.declared.trouble.ProgramFault.TheVariants as troubles
+use Rattle.gw_program.specs.declared.program_fault.ProgramFault.{ProgramFault}
+use Rattle.gw_program.specs.declared.program_fault.ProgramFault.TheVariants as program_faults
 
 -- the configuration of this meaning, or its refusal, unless a read failed or memory was refused
 abbrev pub Says : Result Config ProgramFault → Result Configuration Refusal → Type 0
 Says (Ok config) meaning = meaning ≡ Ok (config_view config)
-Says (Err (troubles.Config fault)) meaning = Fails fault meaning
-Says (Err trouble) meaning = (trouble ≡ troubles.File) ⊎ (trouble ≡ troubles.OutOfMemory)
+Says (Err (program_faults.Config fault)) meaning = Fails fault meaning
+Says (Err program_fault) meaning = (program_fault ≡ program_faults.File)
+    ⊎ (program_fault ≡ program_faults.OutOfMemory)
 
 -- that the file can't be read is told only where the system gave an error
 abbrev pub FailsToRead : (Error → Type 0) → ProgramFault → Type 0
-FailsToRead fails troubles.File = (error : Error) × fails error
-FailsToRead fails trouble = ⊤
+FailsToRead fails program_faults.File = (error : Error) × fails error
+FailsToRead fails program_fault = ⊤

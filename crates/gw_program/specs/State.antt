@@ -12,8 +12,8 @@ use Rattle.gw_state.specs.declared.fault.LoadFault.TheVariants as loads
 use Rattle.gw_state.specs.Faults.{Refuses}
 use Rattle.gw_state.specs.declared.loading.Loaded.{Loaded}
 use Rattle.gw_state.specs.Loaded.{IsLoaded}
-use Rattle.gw_program.specs.declared.trouble.ProgramFault.{ProgramFault}
-use Rattle.gw_program.specs.declared.trouble.ProgramFault.TheVariants as troubles
+use Rattle.gw_program.specs.declared.program_fault.ProgramFault.{ProgramFault}
+use Rattle.gw_program.specs.declared.program_fault.ProgramFault.TheVariants as program_faults
 
 -- a source gave these octets up to its end
 pub record WasRead (source source' : SourceState) (octets : List ℕ) : Type 0 where
@@ -28,8 +28,9 @@ pub record IsTooLong (source source' : SourceState) : Type 0 where
 
 -- why a source was not read up to its end
 abbrev pub FailsToRead : SourceState → SourceState → ProgramFault → Type 0
-FailsToRead source source' troubles.NoState = (source.failures < source'.failures) ⊎ IsTooLong source source'
-FailsToRead source source' troubles.OutOfMemory = ⊤
+FailsToRead source source' program_faults.NoState = (source.failures < source'.failures)
+    ⊎ IsTooLong source source'
+FailsToRead source source' program_faults.OutOfMemory = ⊤
 FailsToRead source source' _ = ⊥
 
 -- a gateway was loaded from what a source gave
@@ -47,18 +48,18 @@ pub record WasRefused (config : GatewayConfig) (source source' : SourceState)
 
 -- why no gateway was loaded from a source
 abbrev pub FailsToLoad : GatewayConfig → SourceState → SourceState → ProgramFault → Type 0
-FailsToLoad config source source' (troubles.State fault) = WasRefused config source source' fault
-FailsToLoad config source source' trouble = FailsToRead source source' trouble
+FailsToLoad config source source' (program_faults.State fault) = WasRefused config source source' fault
+FailsToLoad config source source' program_fault = FailsToRead source source' program_fault
 
 -- what is told where octets are not loaded
 abbrev pub load_trouble : LoadFault → ProgramFault
-load_trouble loads.OutOfMemory = troubles.OutOfMemory
-load_trouble fault = troubles.State fault
+load_trouble loads.OutOfMemory = program_faults.OutOfMemory
+load_trouble fault = program_faults.State fault
 
 -- why octets were not saved: a write failed, or memory was refused before one
 abbrev pub FailsToSave : SinkState → SinkState → List ℕ → ProgramFault → Type 0
-FailsToSave sink sink' octets troubles.NotSaved = FailsAfterPrefix sink sink' octets
-FailsToSave sink sink' octets troubles.OutOfMemory = sink' ≡ sink
+FailsToSave sink sink' octets program_faults.NotSaved = FailsAfterPrefix sink sink' octets
+FailsToSave sink sink' octets program_faults.OutOfMemory = sink' ≡ sink
 FailsToSave sink sink' octets _ = ⊥
 
 -- the gateway of some state
@@ -100,9 +101,9 @@ pub record AreRefused (config : GatewayConfig) (fault : LoadFault) : Type 0 wher
 
 -- why there is no gateway to begin with
 abbrev pub LacksGateway : {X : Type 0} → GatewayConfig → Option X → ProgramFault → Type 0
-LacksGateway config path troubles.OutOfMemory = ⊤
-LacksGateway config (Some path) troubles.NoState = ⊤
-LacksGateway config (Some path) (troubles.State fault) = AreRefused config fault
+LacksGateway config path program_faults.OutOfMemory = ⊤
+LacksGateway config (Some path) program_faults.NoState = ⊤
+LacksGateway config (Some path) (program_faults.State fault) = AreRefused config fault
 LacksGateway config _ _ = ⊥
 
 -- where no file is named nothing is saved, and that does not fail

@@ -10,13 +10,13 @@ use Rattle.gw_records.specs.declared.outcome.RunFault.{RunFault}
 use Rattle.gw_records.specs.declared.outcome.RunFault.TheVariants as faults
 use Rattle.gw_state.specs.declared.fault.LoadFault.{LoadFault}
 use Rattle.gw_state.specs.declared.fault.LoadFault.TheVariants as loads
-use Rattle.gw_program.specs.declared.trouble.ProgramFault.{ProgramFault}
-use Rattle.gw_program.specs.declared.trouble.ProgramFault.TheVariants as troubles
+use Rattle.gw_program.specs.declared.program_fault.ProgramFault.{ProgramFault}
+use Rattle.gw_program.specs.declared.program_fault.ProgramFault.TheVariants as program_faults
 
 -- what a failed call of the system comes to: want of memory, or else this
-abbrev pub trouble_of : kinds.ErrorKind → ProgramFault → ProgramFault
-trouble_of errors.OutOfMemory otherwise = troubles.OutOfMemory
-trouble_of _ otherwise = otherwise
+abbrev pub fault_of_error : kinds.ErrorKind → ProgramFault → ProgramFault
+fault_of_error errors.OutOfMemory otherwise = program_faults.OutOfMemory
+fault_of_error _ otherwise = otherwise
 
 -- the status at a fault of a session
 abbrev pub fault_status : RunFault → ℕ
@@ -34,21 +34,21 @@ load_status loads.OutOfMemory = 3
 load_status (loads.Refused kind place) = 2
 
 -- the status at any trouble
-abbrev pub trouble_status : ProgramFault → ℕ
-trouble_status (troubles.Session fault) = fault_status fault
-trouble_status (troubles.Socket circuit) = 1
-trouble_status troubles.FarEnd = 1
-trouble_status troubles.PacketSize = 2
-trouble_status troubles.Trunk = 1
-trouble_status troubles.NotText = 2
-trouble_status troubles.Nothing = 2
-trouble_status troubles.File = 2
-trouble_status troubles.Recording = 2
-trouble_status troubles.OldRecording = 2
-trouble_status troubles.NoState = 2
-trouble_status (troubles.State fault) = load_status fault
-trouble_status troubles.NotSaved = 1
-trouble_status troubles.Control = 2
-trouble_status troubles.Tell = 2
-trouble_status (troubles.Config fault) = config_status fault
-trouble_status troubles.OutOfMemory = 3
+abbrev pub program_fault_status : ProgramFault → ℕ
+program_fault_status (program_faults.Session fault) = fault_status fault
+program_fault_status (program_faults.Socket circuit) = 1
+program_fault_status program_faults.FarEnd = 1
+program_fault_status program_faults.PacketSize = 2
+program_fault_status program_faults.Trunk = 1
+program_fault_status program_faults.NotText = 2
+program_fault_status program_faults.Nothing = 2
+program_fault_status program_faults.File = 2
+program_fault_status program_faults.Recording = 2
+program_fault_status program_faults.OldRecording = 2
+program_fault_status program_faults.NoState = 2
+program_fault_status (program_faults.State fault) = load_status fault
+program_fault_status program_faults.NotSaved = 1
+program_fault_status program_faults.Control = 2
+program_fault_status program_faults.Tell = 2
+program_fault_status (program_faults.Config fault) = config_status fault
+program_fault_status program_faults.OutOfMemory = 3

@@ -4,9 +4,9 @@ ghost use Rattle.std.specs.Prelude.{IfOk, IfErr};
 ghost use Rattle.gw_records.specs.Streams.{CanBegin};
 ghost use Rattle.gw_program.specs.Filters.{DoesFilter, DoesFilterUntil, HasChecked, HasCheckedUntil};
 
+use crate::program_fault::ProgramFault;
 use crate::report::print_tally;
 use crate::sealed::{StandardInput, StandardOutput};
-use crate::trouble::ProgramFault;
 use gw_command::Filter;
 use gw_filter::{align_stream, crc4_check_stream, crc4_stream};
 use gw_session::{RunFault, Sink, Source, Totals};

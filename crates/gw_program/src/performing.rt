@@ -9,10 +9,10 @@ ghost use Rattle.gw_program.specs.Performing.{Ended, NotBegun, LacksTapeOrPorts,
 ghost use Rattle.gw_program.specs.Performing.{by_session, told_as, IsTold, EndedSaved};
 
 use crate::jobs::do_job;
+use crate::program_fault::ProgramFault;
 use crate::report::passed_over;
 use crate::sealed::{StandardInput, StandardOutput};
 use crate::sessions::{check, replay_watched, serve_through};
-use crate::trouble::ProgramFault;
 use gw_command::{Session, SpeechJob};
 use gw_config::Config;
 use gw_session::{Ports, RunFault, Sink, Source, Tape, Totals, Watch};
@@ -25,7 +25,7 @@ pub trait System {
     ghost use Rattle.std.specs.Prelude.{Result};
     ghost use Rattle.gw_config.specs.declared.config.Config.{Config};
     ghost use Rattle.gw_switch.specs.declared.gateway.Gateway.{Gateway};
-    ghost use Rattle.gw_program.specs.declared.trouble.ProgramFault.{ProgramFault};
+    ghost use Rattle.gw_program.specs.declared.program_fault.ProgramFault.{ProgramFault};
 
     /// Where the datagrams of circuits come from, and where they go.
     type Ports: Ports + Drop;
@@ -69,12 +69,12 @@ pub trait System {
     /// Reads the configuration.
     fn read_config(&self) -> Result<Config, ProgramFault>
         ensures ok { IfOk result (λ config. reads self.now config) }
-        ensures err { IfErr result (λ trouble. lacks_config self.now trouble) };
+        ensures err { IfErr result (λ program_fault. lacks_config self.now program_fault) };
 
     /// The gateway that a session begins with.
     fn begin_gateway(&self, config: &Config) -> Result<Gateway, ProgramFault>
         ensures ok { IfOk result (λ gateway. starts self.now config.now gateway) }
-        ensures err { IfErr result (λ trouble. lacks_gateway self.now config.now trouble) };
+        ensures err { IfErr result (λ program_fault. lacks_gateway self.now config.now program_fault) };
 
     /// Saves the state of a gateway, if that is asked for.
     fn save_gateway(&self, config: &Config, gateway: &Gateway) -> Result<(), ProgramFault>
@@ -83,16 +83,16 @@ pub trait System {
     /// Begins the recording, if one is asked for.
     fn begin_tape(&self) -> Result<Self::Tape, ProgramFault>
         ensures ok { IfOk result (λ tape. begins self.now tape) }
-        ensures err { IfErr result (λ trouble. lacks_tape self.now trouble) };
+        ensures err { IfErr result (λ program_fault. lacks_tape self.now program_fault) };
 
     /// Opens the ports of a configuration.
     fn open_ports(&self, config: &Config) -> Result<Self::Ports, ProgramFault>
         ensures ok { IfOk result (λ ports. opens self.now config.now ports) }
-        ensures err { IfErr result (λ trouble. lacks_ports self.now config.now trouble) };
+        ensures err { IfErr result (λ program_fault. lacks_ports self.now config.now program_fault) };
 
     /// Opens what the records of a replay are shown to, which begins with this gateway.
     fn open_watch(&self, config: &Config, gateway: &Gateway) -> Result<Self::Watch, ProgramFault>
-        ensures { IfErr result (λ trouble. lacks_watch self.now trouble) };
+        ensures { IfErr result (λ program_fault. lacks_watch self.now program_fault) };
 
     /// Ends what the records of a replay were shown to.
     fn end_watch(&self, watch: &mut Self::Watch);
@@ -101,7 +101,7 @@ pub trait System {
     fn tell_end(&self, tape: &Self::Tape);
 
     /// Tells how a session ended, where more is to be told.
-    fn tell(&self, trouble: &ProgramFault);
+    fn tell(&self, program_fault: &ProgramFault);
 }
 
 // What is told of how a job or a session ended.
@@ -151,11 +151,11 @@ pub(crate) fn end_session<Y: System>(
 {
     match system.save_gateway(config, gateway) {
         Ok(()) => told_as(ended),
-        Err(trouble) => {
+        Err(program_fault) => {
             if let Err(fault) = ended {
                 system.tell(&ProgramFault::Session(fault));
             }
-            Err(trouble)
+            Err(program_fault)
         }
     }
 }

@@ -3,7 +3,7 @@
 ghost use Rattle.std.specs.Prelude.{IfOk};
 ghost use Rattle.gw_program.specs.Performing.{IsBegun};
 
-use crate::trouble::ProgramFault;
+use crate::program_fault::ProgramFault;
 use gw_session::{Recorder, ToWrite, TrunkRecord};
 use std::fs::{self, File, OpenOptions};
 use std::io;

@@ -4,7 +4,7 @@ ghost use Rattle.std.specs.Prelude.{◌⊎◌};
 ghost use Rattle.clap.specs.Words.{subcommand_rows_of};
 ghost use Rattle.gw_program.specs.Requests.{HasRequest, NoRequest, by_request};
 
-use crate::trouble::ProgramFault;
+use crate::program_fault::ProgramFault;
 use clap::ArgMatches;
 use gw_command::{Filter, Request, Session, SpeechJob, asks_check, request_of};
 use gw_session::Totals;
@@ -17,7 +17,7 @@ pub trait Commands {
     ghost use Rattle.gw_command.specs.declared.command.SpeechJob.{SpeechJob};
     ghost use Rattle.gw_command.specs.declared.command.Session.{Session};
     ghost use Rattle.gw_records.specs.declared.outcome.Totals.{Totals};
-    ghost use Rattle.gw_program.specs.declared.trouble.ProgramFault.{ProgramFault};
+    ghost use Rattle.gw_program.specs.declared.program_fault.ProgramFault.{ProgramFault};
 
     /// Holds of a job that was done, and of what is told of its end.
     ghost does_job: { Self → SpeechJob → Result Totals ProgramFault → Type 0 };

@@ -3,7 +3,7 @@
 ghost use Rattle.gw_program.specs.Satop.{CarriesSatop};
 ghost use Rattle.gw_satop.specs.Session.{HasSettings};
 
-use crate::trouble::ProgramFault;
+use crate::program_fault::ProgramFault;
 use gw_records::NO_TOTALS;
 use gw_satop::{Circuit, Clock, Peer, carry_satop};
 use gw_session::{RunFault, Totals};

@@ -5,7 +5,7 @@ ghost use Rattle.std.specs.declared.io.Error.{Error};
 ghost use Rattle.gw_config.specs.Octets.{meaning_of_octets};
 ghost use Rattle.gw_program.specs.Setup.{Says, FailsToRead};
 
-use crate::trouble::ProgramFault;
+use crate::program_fault::ProgramFault;
 use gw_config::Config;
 use std::alloc::Global;
 use std::io::Read;

@@ -8,7 +8,7 @@ ghost use Rattle.gw_program.specs.State.{WasRead, FailsToRead, WasLoaded, FailsT
 ghost use Rattle.gw_program.specs.State.{IsFromState, HasBegun, Waits, BeginsWaiting, LacksGateway, IsSaved};
 ghost use Rattle.gw_program.specs.State.{load_trouble};
 
-use crate::trouble::ProgramFault;
+use crate::program_fault::ProgramFault;
 use gw_records::read_behind;
 use gw_session::{FromRead, Sink, Source, ToWrite, write_all};
 use gw_state::{LoadFault, Loaded, load_gateway, state_file};
@@ -248,9 +248,9 @@ pub fn keep_gateway(
             &error,
             ProgramFault::NotSaved,
         )),
-        Err(trouble) => {
+        Err(program_fault) => {
             let _ = fs::remove_file(rt, new.as_str());
-            Err(trouble)
+            Err(program_fault)
         }
     }
 }

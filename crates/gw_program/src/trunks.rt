@@ -8,7 +8,7 @@ ghost use Rattle.gw_program.specs.Trunks.{CarriesTrunk};
 ghost use Rattle.gw_trunk.specs.Serving.{traffic};
 
 use crate::performing::{System, end_session};
-use crate::trouble::ProgramFault;
+use crate::program_fault::ProgramFault;
 use gw_config::Config;
 use gw_session::{Ports, RunFault, Sink, Source, Tape, Totals};
 use gw_switch::Gateway;

@@ -5,7 +5,7 @@ use std::test::Fail;
 
 #[test]
 fn prints_troubles(rt: HostRuntime) -> Result<(), Fail> {
-    for (trouble, line) in [
+    for (program_fault, line) in [
         (ProgramFault::Session(RunFault::BadKind), "fault 1 BadKind"),
         (
             ProgramFault::Session(RunFault::BadCircuit),
@@ -50,7 +50,7 @@ fn prints_troubles(rt: HostRuntime) -> Result<(), Fail> {
         ),
         (ProgramFault::OutOfMemory, "out of memory"),
     ] {
-        let printed = format!(in rt.alloc(); "{trouble}")?;
+        let printed = format!(in rt.alloc(); "{program_fault}")?;
         assert!(rt; printed.as_str() == line, "at {line}");
     }
     let passed = Skipped {

@@ -2,7 +2,7 @@
 
 ghost use Rattle.std.specs.Prelude.{◌≡◌, ◌≤◌};
 ghost use Rattle.std.specs.IoError.{error_kind};
-ghost use Rattle.gw_program.specs.Status.{trouble_of, fault_status, trouble_status};
+ghost use Rattle.gw_program.specs.Status.{fault_of_error, fault_status, program_fault_status};
 
 use gw_config::ConfigFault;
 use gw_session::RunFault;
@@ -80,7 +80,7 @@ pub enum ProgramFault {
 impl ProgramFault {
     /// What a failed call of the system comes to: want of memory, or else `otherwise`.
     pub fn of(error: &io::Error, otherwise: ProgramFault) -> ProgramFault
-        ensures { result ≡ trouble_of (error_kind error.now) otherwise }
+        ensures { result ≡ fault_of_error (error_kind error.now) otherwise }
     {
         match error.kind() {
             io::ErrorKind::OutOfMemory => ProgramFault::OutOfMemory,
@@ -91,7 +91,7 @@ impl ProgramFault {
     /// The status of the program: 1 at a fault of a session, a socket or a trunk and if a state is not saved,
     /// 2 if the command line, a file or the configuration is refused, and 3 for want of memory.
     pub fn status(&self) -> u8
-        ensures { result ≡ trouble_status self.now }
+        ensures { result ≡ program_fault_status self.now }
     {
         match self {
             ProgramFault::Session(RunFault::OutOfMemory)
