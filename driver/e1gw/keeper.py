@@ -18,6 +18,7 @@ from typing import Any, Callable, Iterable
 from .beside import DEATHS, GRACE, Deaths, Retired, Standby, Trial
 from .faults import words_of_fault
 from .left import note
+from .naming import note_of
 from .outlets import Journal
 from .parent import parent
 from .places import point, store
@@ -179,7 +180,8 @@ class Keeper:
             time.sleep(0.002)
             self.retired.look(time.monotonic())
         recording = self.asked.recording
-        for path in (self.asked.control, self.asked.tell, recording and recording.flow):
+        tell = self.asked.tell
+        for path in (self.asked.control, tell, tell and note_of(tell), recording and recording.flow):
             if path:
                 unlink(path)
         return self.status
@@ -340,6 +342,8 @@ class Keeper:
         elif shadow.stopped() or run.is_behind():
             self.wanted = 'the shadow stood still'
             shadow.signal(signal.SIGKILL)
+        elif run.asks_again():
+            self.wanted = 'the recording begins again'
         else:
             return
         if now - self.up > QUICK:

@@ -1,15 +1,18 @@
 """What a keeper that was killed has left: the program and its shadow, which go on, and what it wrote down of them."""
 from __future__ import annotations
 
+import glob
 import json
 import os
+import re
 import select
+import shutil
 import signal
 import socket
 import time
 from typing import Any, Sequence
 
-from .running import END, Adopted, Process, folder_path
+from .running import END, Adopted, Process, folder_path, started
 
 NOTE = 'kept'               # the file of a keeper's folder in which it notes what it has
 GRACE = 1.0                 # seconds for an orderly end, and for a state to be saved
@@ -38,6 +41,34 @@ def left_in(within: str, trunk: Sequence[str | None]) -> dict[str, Any] | None:
         except (OSError, ValueError, KeyError, TypeError):
             continue        # of another user, or of a keeper that has noted nothing
     return max(found, key=lambda pair: pair[0])[1] if found else None
+
+
+def own_prefix(prefix: str) -> str:
+    """The beginning of the name of a folder of this process."""
+    return f'{prefix}{os.getpid()}.{started(os.getpid())}.'
+
+
+def forget_folders(within: str, prefix: str) -> None:
+    """Takes away folders of processes that are no more, but for those that something of a keeper still needs."""
+    for entry in os.scandir(within):
+        found = re.fullmatch(rf'{re.escape(prefix)}(\d+)\.(\d+)\..*', entry.name)
+        if not found or not entry.is_dir(follow_symlinks=False):
+            continue
+        its = entry.stat(follow_symlinks=False)
+        is_ours = its.st_uid == os.getuid() and Adopted([int(found[1]), int(found[2])]).ended()
+        if is_ours and not any(_is_used(kept) for kept in glob.glob(os.path.join(entry.path, 'keep-*', NOTE))):
+            shutil.rmtree(entry.path, ignore_errors=True)
+
+
+def _is_used(note_path: str) -> bool:
+    """Whether a keeper, its program or its shadow is still there."""
+    try:
+        with open(note_path, encoding='utf-8') as file:
+            kept = json.load(file)
+        its = [kept['keeper'], *(kept['run'][name] for name in ('program', 'shadow') if kept['run'])]
+        return not all(Adopted(each).ended() for each in its if each)
+    except (OSError, ValueError, KeyError, TypeError):
+        return False
 
 
 def end_others(kept: dict[str, Any]) -> None:

@@ -15,6 +15,7 @@ import sys
 import threading
 import time
 from dataclasses import asdict, dataclass
+from math import inf
 from typing import Mapping
 
 from .behind import Behind
@@ -31,8 +32,11 @@ PIECE = 1 << 16
 REST = 8                    # milliseconds in which octets gather
 FLUSH = 5.0                 # seconds at the end for what is not written yet
 NICE = 10                   # of the thread that writes
+AGAIN = 60.0                # seconds between two looks whether a ring that has ended can be written again
+LEAST, TRIED = 32 << 20, 1 << 20    # octets that have to be free for that, and that are written to try it
 # Descriptors of its configuration, of the state that the program began with, and of the recorder before it (a pidfd).
 CONFIG_FILE, STATE_FROM, BEFORE_FILE = 3, 4, 5
+ROOM = 'room'               # the file by which it asks for another program and recorder
 
 
 @dataclass(frozen=True)
@@ -95,7 +99,7 @@ class Kept:
     """What is kept: nothing, a file, or a ring."""
 
     def __init__(self, recording: Recording, part: Part, journal: Journal) -> None:
-        self._journal, self._place = journal, part.place
+        self._journal, self._place, self.is_over = journal, part.place, False
         self._ring: Ring | None = None
         self._outlet: Outlet | None = None
         self._held: list[bytes] = []
@@ -123,6 +127,7 @@ class Kept:
         return Outlet('session', ring.write, self._ended, ring.close, opened, folder)
 
     def _ended(self, what: str, why: str) -> None:
+        self.is_over = True
         self._journal.line(Journal.WARNING, f'{what} ended, the calls go on: {why}')
 
     def add(self, records: bytes) -> None:
@@ -193,6 +198,48 @@ class Flows:
         return self._clock.look(now)
 
 
+def has_room(folder: str) -> bool:
+    """Whether a ring can be written in a folder. It may wait for the disk."""
+    path = os.path.join(folder, 'room.new')
+    try:
+        os.makedirs(folder, mode=0o750, exist_ok=True)
+        about = os.statvfs(folder)
+        if about.f_bavail * about.f_frsize < LEAST:
+            return False
+        file = os.open(path, os.O_WRONLY | os.O_CREAT | os.O_TRUNC, 0o640)
+        try:
+            write_all(file, bytes(TRIED))
+            os.fsync(file)
+        finally:
+            os.close(file)
+            os.unlink(path)
+    except OSError:
+        return False
+    return True
+
+
+class Again:
+    """Of a ring that has ended: once a minute looks whether it can be written again. If so a file asks the keeper for
+    another program and recorder, which begin with the state of now."""
+
+    def __init__(self, folder: str, asks: str) -> None:
+        self._folder, self._asks, self._due = folder, asks, inf
+        self._thread: threading.Thread | None = None
+
+    def look(self, now: float) -> None:
+        """To be called now and then, once the ring has ended."""
+        if self._due == inf:
+            self._due = now + AGAIN
+        elif now >= self._due and not (self._thread and self._thread.is_alive()):
+            self._due = now + AGAIN
+            self._thread = threading.Thread(target=self._try, name='room', daemon=True)
+            self._thread.start()
+
+    def _try(self) -> None:
+        if has_room(self._folder) and os.path.isdir(os.path.dirname(self._asks)):
+            os.close(os.open(self._asks, os.O_WRONLY | os.O_CREAT, 0o600))
+
+
 class Recorder:
     """Passes the recording on, keeps it, and notes how it flows."""
 
@@ -200,6 +247,8 @@ class Recorder:
         self._part = part
         self._records, self._kept = Records(part.place), Kept(recording, part, journal)
         self._flows = Flows(recording, part, journal)
+        ring = recording.session if recording.keep else None
+        self._again = Again(ring, os.path.join(os.path.dirname(part.passed), ROOM)) if ring else None
         self._has_shadow = True
         self._due = time.monotonic() + TICK
 
@@ -226,6 +275,8 @@ class Recorder:
             if finding.what == 'gap':
                 self._kept.slipped(self._records.place, round(finding.value, 3))
         self._kept.put(self._records.place)
+        if self._again and self._kept.is_over:
+            self._again.look(now)
 
     def _pass(self, octets: bytes, now: float) -> None:
         """Octets that were read just now. If they were all that there was, it is known how late they are."""

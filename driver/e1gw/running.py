@@ -15,7 +15,7 @@ import termios
 from dataclasses import asdict, dataclass, field
 from typing import Any, Mapping, Sequence
 
-from .recorder import AROUND, BEFORE_FILE, CONFIG_FILE, STATE_FROM, Part, Recording, words_of
+from .recorder import AROUND, BEFORE_FILE, CONFIG_FILE, ROOM, STATE_FROM, Part, Recording, words_of
 from .session import Kind, spell
 
 TAPE_ROOM = 1 << 20         # octets: two seconds of thirty calls
@@ -344,6 +344,10 @@ class Run:
             return self.shadow
         finally:
             os.close(nowhere)
+
+    def asks_again(self) -> bool:
+        """Whether its recorder, whose ring had ended, could write again."""
+        return self.recorder is not None and os.path.exists(self.path(ROOM))
 
     def saved(self) -> str | None:
         """The file of the state that the program saved at its end, if it did."""

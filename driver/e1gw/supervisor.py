@@ -15,7 +15,7 @@ from math import inf
 from .outlets import Journal
 from .parent import PARENT
 from .running import Process
-from .systemd import Notify
+from .systemd import Notify, Store
 from .watcher import QUIT
 
 SIGNALS = (signal.SIGTERM, signal.SIGINT, signal.SIGHUP, signal.SIGUSR2, signal.SIGCHLD)
@@ -37,7 +37,8 @@ def command(name: str) -> str:
 
 
 class Part:
-    """One of the programs, with these options. It tells that it is ready as it tells systemd."""
+    """One of the programs, with these options. It tells that it is ready as it tells systemd, and has descriptors kept
+    for its next start."""
 
     def __init__(self, name: str, words: list[str], folder: str, has_terminal: bool = False) -> None:
         self.name, self.words = name, words
@@ -45,15 +46,18 @@ class Part:
         self.was_ready = self.is_tried = False      # whether it ever was ready; or that, or has ended
         self.due, self.began, self.pause = 0.0, 0.0, PAUSE      # when it is begun, and was; the next pause
         self._has_terminal, self._path = has_terminal, os.path.join(folder, f'{name}.ready')
+        self._store = Store()
         self._line = socket.socket(socket.AF_UNIX, socket.SOCK_DGRAM)
         self._line.bind(self._path)
         self._line.setblocking(False)
 
     def begin(self, now: float) -> None:
         around = {name: value for name, value in os.environ.items() if not name.startswith('WATCHDOG_')}
-        around |= {'NOTIFY_SOCKET': self._path, PARENT: str(os.getpid())}
+        held, moves = self._store.gives()
+        around |= {'NOTIFY_SOCKET': self._path, PARENT: str(os.getpid()), **held}
         nowhere = os.open(os.devnull, os.O_RDWR)
-        moves = [] if self._has_terminal else [(os.POSIX_SPAWN_DUP2, nowhere, end) for end in (0, 1)]
+        if not self._has_terminal:
+            moves = [*((os.POSIX_SPAWN_DUP2, nowhere, end) for end in (0, 1)), *moves]
         words = [sys.executable, '-B', command(self.name), *self.words]
         # Who reads the terminal stays in the group of processes that it belongs to.
         pid = os.posix_spawn(sys.executable, words, around, file_actions=moves, setsid=not self._has_terminal,
@@ -65,15 +69,15 @@ class Part:
         """What is readable when it has told something, or has ended."""
         return [self._line.fileno(), *([self.process.file] if self.process else [])]
 
-    def hear(self) -> list[bytes]:
+    def hear(self) -> list[str]:
         """What it has told."""
-        told: list[bytes] = []
+        told: list[str] = []
         try:
             while True:
-                told += self._line.recv(4096).split(b'\n')
+                told += self._store.hear(self._line)
         except BlockingIOError:
             pass
-        if self.process and b'READY=1' in told:
+        if self.process and 'READY=1' in told:
             self.was_ready = self.is_tried = True
         return told
 
@@ -199,7 +203,7 @@ class Supervisor:
         """What a part tells: that it is ready. The keeper tells it again after each reload."""
         told = part.hear()
         if all(each.was_ready for each in self.parts.every()):
-            if not self._has_told or part is self.parts.keep and b'READY=1' in told:
+            if not self._has_told or part is self.parts.keep and 'READY=1' in told:
                 self._has_told = True
                 self.notify.ready('in service')
         elif self.parts.reopens and not self._waits and time.monotonic() > self.parts.keep.began + OPENS > OPENS:

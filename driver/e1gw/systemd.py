@@ -9,7 +9,10 @@ import socket
 import time
 from collections import deque
 
+from .parent import PARENT
+
 FIRST_FILE, APART = 3, 64   # the first descriptor that systemd gives, and from where on they are put
+ROOM = socket.CMSG_SPACE(16)    # for descriptors that come with what is told
 
 
 class Notify:
@@ -70,13 +73,47 @@ class Notify:
 
 
 def given() -> dict[str, int]:
-    """The descriptors that systemd has kept, by their names (sd_listen_fds_with_names(3)). To be called once."""
+    """The descriptors that systemd has kept, by their names (sd_listen_fds_with_names(3)), or e1gw-trunk, which gives
+    its own number. To be called once."""
     count, pid = int(os.environ.pop('LISTEN_FDS', '0')), os.environ.pop('LISTEN_PID', '')
     names = os.environ.pop('LISTEN_FDNAMES', '').split(':')
-    if pid != str(os.getpid()):
+    if pid not in (str(os.getpid()), os.environ.get(PARENT)):
         return {}
     files = {}
     for number, name in enumerate(names[:count], FIRST_FILE):
         files[name] = fcntl.fcntl(number, fcntl.F_DUPFD_CLOEXEC, APART)
         os.close(number)
     return files
+
+
+class Store:
+    """Keeps descriptors of a service for its next start, as systemd does."""
+
+    def __init__(self) -> None:
+        self._files: dict[str, int] = {}
+
+    def hear(self, line: socket.socket) -> list[str]:
+        """What the service tells at this socket; BlockingIOError if nothing."""
+        text, rights, _, _ = line.recvmsg(4096, ROOM, socket.MSG_CMSG_CLOEXEC)
+        files = [file for _, _, octets in rights for file in array.array('i', octets)]
+        told = text.decode(errors='replace').split('\n')
+        words = dict(each.partition('=')[::2] for each in told)
+        if 'FDSTORE' in words or 'FDSTOREREMOVE' in words:
+            self._forget(words.get('FDNAME', ''))
+        if 'FDSTORE' in words and files:
+            self._files[words.get('FDNAME', '')] = fcntl.fcntl(files[0], fcntl.F_DUPFD_CLOEXEC, APART)
+        for file in files:
+            os.close(file)
+        return told
+
+    def _forget(self, name: str) -> None:
+        if name in self._files:
+            os.close(self._files.pop(name))
+
+    def gives(self) -> tuple[dict[str, str], list[tuple[int, int, int]]]:
+        """The environment and the moves of descriptors with which the service is started."""
+        if not self._files:
+            return {}, []
+        moves = [(os.POSIX_SPAWN_DUP2, file, number) for number, file in enumerate(self._files.values(), FIRST_FILE)]
+        return {'LISTEN_FDS': str(len(moves)), 'LISTEN_FDNAMES': ':'.join(self._files),
+                'LISTEN_PID': str(os.getpid())}, moves

@@ -33,9 +33,10 @@ class Told(Lines):
         self._session: object = None
         self._is_placed = False
         self._held = b''
+        self.seizures: dict[int, int] = {}  # how often each line was seized in this session, if that is told
         self._led: dict[int, State] = {}    # where commands have led lines whose state is still to be told
         self._words: dict[str, Callable[..., None]] = {
-            'at': self._at, 'alarms': self._alarms, 'line': self._row, 'now': self._now,
+            'at': self._at, 'alarms': self._alarms, 'line': self._row, 'seizures': self._seizures, 'now': self._now,
             'datagram': self._datagram, 'command': self._command, 'codec': self._change}
 
     def when(self, place: int) -> float:
@@ -47,6 +48,7 @@ class Told(Lines):
             self._session, self._before = session, self.place
         self._held, self.live, self._is_placed, self._words['e1gw'] = b'', False, False, self._greet
         self._led.clear()
+        self.seizures = {}
         for row in self.counts.circuits.values():
             row.stream.ssrc = -1            # of what came meanwhile nothing is known
 
@@ -89,6 +91,9 @@ class Told(Lines):
             self._before = self.place       # another session after all
         self._is_placed = True
         self.place = self._before + int(place)
+
+    def _seizures(self, *counts: str) -> None:
+        self.seizures = {n: int(count) for n, count in zip(self.lines, counts, strict=True)}
 
     def _now(self) -> None:
         self.live, self.known, self.counts.ended = True, True, None

@@ -23,6 +23,7 @@ from .keep import seconds_of
 from .lines import SEIZURE_WAIT
 from .options import Usage, add_calls, add_control, add_options, fields_of, run
 from .outlets import Journal
+from .left import forget_folders, own_prefix
 from .places import folder_of
 from .programs import check_config, program_of
 from .supervisor import Part, Parts, Supervisor
@@ -140,7 +141,8 @@ def _serve(words: list[str], journal: Journal) -> int:
     asked = options_of(words)
     program = program_of(asked.program)
     check_config(program, asked.config)
-    folder = folder_of(None, 'trunk-')
+    folder = folder_of(None, own_prefix('trunk-'))
+    forget_folders(os.path.dirname(folder), 'trunk-')
     try:
         return Supervisor(parts_of(asked, program, folder), journal, Notify()).run()
     finally:

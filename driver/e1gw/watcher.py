@@ -3,6 +3,7 @@ program at its control socket. It may end, stand still and be started again at a
 from __future__ import annotations
 
 import json
+import os
 import threading
 import time
 from collections import deque
@@ -16,6 +17,7 @@ from .lines import Event, read_config
 from .links import Link
 from .loop import Loop
 from .managed import Answered, Managed
+from .naming import Naming, note_of
 from .options import Options
 from .outlets import Journal
 from .programs import version_of
@@ -187,7 +189,9 @@ class Watcher(Managed):
             self.quit_words = f'the watcher ends; the trunk and its calls go on\n{self.quit_words}'
         self._connected: dict[str, bool] = {}
         self._since = dict.fromkeys(('shadow', 'program'), time.time())
-        self._shadow = Link(loop, options.tell, lines.begin, self._told, self._shadow_gone, REST)
+        self._naming, self._session = Naming(note_of(options.tell)), ''
+        self._before: dict[int, int] | None = None      # seizures that were known when the shadow began to tell
+        self._shadow = Link(loop, options.tell, self._shadow_came, self._told, self._shadow_gone, REST)
         self._program = Program(loop, options.program_control, self._stands)
         lines.commanded = self._program.told
         self._carried = Carried(loop, options.carrier, self.pass_on) if options.carrier else None
@@ -207,6 +211,16 @@ class Watcher(Managed):
 
     # ---- the shadow ----
 
+    def _shadow_came(self, process: int) -> None:
+        try:
+            made = os.stat(self.options.tell).st_mtime_ns
+        except OSError:
+            made = time.time_ns()       # it has gone already
+        self._session = f'{process}.{made}'
+        lines = self.lines.lines
+        self._before = {n: line.seizures for n, line in lines.items()} if self.lines.known else None
+        self.lines.begin(self._session)
+
     def _told(self, octets: bytes) -> None:
         try:
             self.lines.take(octets)
@@ -220,6 +234,7 @@ class Watcher(Managed):
         self._shadow.rests(0.0 if self._program.waits() else REST)
 
     def _told_all(self) -> None:
+        self._naming.begin(self._session, self._before, self.lines.seizures, self.lines.lines)
         self._stands('shadow', True)
         if self.calls:
             self.calls.begun()
@@ -285,7 +300,8 @@ class Watcher(Managed):
 
     def status(self) -> dict[str, Any]:
         status = super().status() | {
-            'version': self._program.version, 'trunk_up': self._connected.get('program', False),
+            'version': self._program.version, 'life': self._naming.life or None,
+            'trunk_up': self._connected.get('program', False),
             'clock': {**self._flow_status(), 'stalled': bool(self._stood), 'stalls': self._stalls}}
         if self._carried:
             told = self._carried.status

@@ -63,12 +63,14 @@ class Shadow(Door):
     def __init__(self, path: str, rows: list[str] | None = None, greeting: str = 'e1gw tell 1 A') -> None:
         self.rows = dict(enumerate(rows or IDLE, 1))
         self.place, self.alarms, self.greeting, self.flows = 0, '0 0 0 0', greeting, True
+        self.seizures = [0] * 30
         super().__init__(path)
 
     def came(self, line: socket.socket) -> None:
         if self.flows:
             rows = [f'line {row}' for row in self.rows.values()]
-            text = '\n'.join([self.greeting, f'at {self.place}', f'alarms {self.alarms}', *rows, 'now', ''])
+            text = '\n'.join([self.greeting, f'at {self.place}', f'alarms {self.alarms}', *rows,
+                              f'seizures {" ".join(map(str, self.seizures))}', 'now', ''])
             with suppress(OSError):
                 line.sendall(text.encode())
 
@@ -78,12 +80,16 @@ class Shadow(Door):
             self.place += 512
             for line in lines:
                 if line.startswith('line '):
-                    self.rows[int(line[5:7])] = line[5:]
+                    self._row(int(line[5:7]), line[5:])
                 elif line.startswith('alarms '):
                     self.alarms = line[7:]
             for client in self.clients:
                 with suppress(OSError):
                     client.sendall(('\n'.join([f'at {self.place}', *lines]) + '\n').encode())
+
+    def _row(self, circuit: int, row: str) -> None:
+        was, self.rows[circuit] = self.rows[circuit].split()[2], row
+        self.seizures[circuit - 1] += was == 'idle' and row.split()[2] in ('seized', 'acked')
 
     def row(self, circuit: int, state: str, bits: str = '10 10', counts: tuple[int, int, int] = (0, 0, 0),
             role: str = 'outgoing', codec: str = 'pcma      8') -> None:

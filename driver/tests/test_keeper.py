@@ -130,6 +130,7 @@ class Kept(support.Folder):
         self.addCleanup(told.close)
         memory = tempfile.TemporaryDirectory(dir='/dev/shm' if os.path.isdir('/dev/shm') else None)
         self.addCleanup(memory.cleanup)
+        self.memory = memory.name
         words = [sys.executable, '-B', LAUNCHER, '--program', support.program(), '--config', self.config, '--unix',
                  self.device.path, '--control', self.path('control'), '--folder', memory.name, *options]
         self.keeper = subprocess.Popen(words, stderr=told, stdin=subprocess.DEVNULL, env={**os.environ, **around})

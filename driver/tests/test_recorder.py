@@ -4,17 +4,21 @@ A file of a ring, too, replays from the state beside it. What keeps them may be 
 be full: the calls go on."""
 from __future__ import annotations
 
+import glob
 import json
 import os
 import re
 import signal
 import subprocess
 import sys
+import tempfile
 import time
 import unittest
+from unittest import mock
 
 from . import support
 from .test_keeper import LAUNCHER, SECONDS, Kept
+from e1gw import recorder
 from e1gw.behind import run_last
 from e1gw.kept import beside, kept, octets_of
 from e1gw.session import MULTIFRAME, Kind, records_in
@@ -190,6 +194,28 @@ class Ring(Recorded):
         with open(f'{front}.e1gw', 'rb') as file:
             self.assertEqual(self.answers(file.read(), '--load', f'{front}.state'), self.heard_all()[place:])
 
+    def test_a_ring_that_begins_again(self) -> None:
+        """Where it could not be written, and the recorder finds that it can: no octet is lost, and the file that is
+        begun replays from its state."""
+        self.write('ring', '')
+        self.starts_ring()
+        self.awaits('session ended, the calls go on: File exists')
+        os.unlink(self.path('ring'))
+        self.step(20)
+        number = os.path.realpath(self.path('control')).rpartition('.')[2]
+        (run,) = glob.glob(os.path.join(self.memory, 'keep-*', number))
+        with open(os.path.join(run, recorder.ROOM), 'wb'):
+            pass                        # (the recorder looks once a minute)
+        self.goes_on()
+        self.assertIn('the recording begins again: program', self.told())
+        self.step(60)
+        self.as_uncut()
+        self.ends()
+        (front,) = self.files()
+        place = beside(f'{front}.e1gw')['place']
+        with open(f'{front}.e1gw', 'rb') as file:
+            self.assertEqual(self.answers(file.read(), '--load', f'{front}.state'), self.heard_all()[place:])
+
     def test_picture_and_records(self) -> None:
         """Those who read a ring read this one."""
         self.starts_ring()
@@ -204,6 +230,28 @@ class Ring(Recorded):
                 self.assertEqual(json.load(file)['config'], self.config)
             status, said = run_last([os.path.join(support.TOP, 'tools', 'records'), f'{front}.e1gw'])
             self.assertEqual(status, 0, said)
+
+
+class Room(unittest.TestCase):
+    def test_room(self) -> None:
+        """It asks when a minute has gone by and there is room, and not before."""
+        with tempfile.TemporaryDirectory() as folder:
+            ring, asks = os.path.join(folder, 'ring'), os.path.join(folder, 'asks')
+            with open(ring, 'wb'):
+                pass                    # a file in the place of its folder
+            again = recorder.Again(ring, asks)
+
+            def look(now: float) -> bool:
+                again.look(now)
+                if thread := again._thread:     # pylint: disable=protected-access
+                    thread.join(SECONDS)
+                return os.path.exists(asks)
+            self.assertEqual([look(now) for now in (0.0, 59.0, 61.0)], [False] * 3)
+            os.unlink(ring)
+            with mock.patch.object(recorder, 'LEAST', 1 << 62):
+                self.assertFalse(look(122.0))
+            self.assertEqual([look(now) for now in (181.0, 183.0)], [False, True])
+            self.assertEqual(os.listdir(ring), [])
 
 
 class Refusals(Recorded):

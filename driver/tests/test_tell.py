@@ -64,6 +64,11 @@ class Replay:
                 stream.close()
 
 
+def seizures(**counts: int) -> str:
+    """The line of seizures, with those of circuits that had some."""
+    return ' '.join(['seizures', *(str(counts.get(f'c{n}', 0)) for n in range(1, 31))])
+
+
 class Client:
     """One who is told."""
 
@@ -115,7 +120,8 @@ class Told(support.Folder):
     def test_whole_state_first(self) -> None:
         client = self.client()
         self.replay.passes(trunk_record(bytes(32)))
-        whole = ['e1gw tell 1 A', 'at 64', 'alarms 1 1 0 0', *(row(c, 'fault', '10 --') for c in range(1, 31)), 'now']
+        whole = ['e1gw tell 1 A', 'at 64', 'alarms 1 1 0 0', *(row(c, 'fault', '10 --') for c in range(1, 31)),
+                 seizures(), 'now']
         self.assertEqual(client.lines(), whole)
         self.replay.passes(trunk_record(bytes(32)))
         self.assertEqual(client.lines(), [])
@@ -142,6 +148,18 @@ class Told(support.Folder):
         self.multiframes(60)
         self.assertEqual([line.split()[3] for line in client.lines() if line.startswith('line  1')][0], 'idle')
 
+    def test_seizures(self) -> None:
+        """They are counted, also if nobody is told."""
+        self.multiframes(60)
+        for _ in range(2):
+            self.replay.passes(command_record(1, Command.SEIZE))
+            self.multiframes(30)
+            self.replay.passes(command_record(1, Command.CLEAR))
+            self.multiframes(60)
+        client = self.client()
+        self.multiframes(1)
+        self.assertEqual(client.lines()[-2:], [seizures(c1=2), 'now'])
+
     def test_what_datagrams_were_answered(self) -> None:
         client = self.client()
         self.multiframes(60)
@@ -163,7 +181,7 @@ class Told(support.Folder):
         second = self.client()
         self.multiframes(1)
         whole = ['e1gw tell 1 A', f'at {32 + 61 * 512}', 'alarms 0 0 0 0',
-                 *(row(c, 'idle', '10 10') for c in range(1, 31)), 'now']
+                 *(row(c, 'idle', '10 10') for c in range(1, 31)), seizures(), 'now']
         self.assertEqual((first.lines(), second.lines()), ([], whole))
         self.replay.passes(command_record(9, Command.SEIZE))
         change = ['command 9 1 0', row(9, 'seized', '00 10')]

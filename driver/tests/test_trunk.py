@@ -18,6 +18,7 @@ from . import support
 from .flowing import is_seized
 from .world import ANSWERED, IDLE, LAUNCHER, SECONDS, SEIZED, World, config_of, descendant, free_ports
 from e1gw import session
+from e1gw.left import forget_folders, own_prefix
 from e1gw.trunk import options_of, parts_of
 
 FOUR = range(1, 5)
@@ -54,6 +55,14 @@ def is_there(pid: int) -> bool:
             return stat.read().rpartition(')')[2].split()[0] != 'Z'
     except OSError:
         return False
+
+
+def keepers(world: World) -> list[int]:
+    """The keeper of now, once it is there."""
+    try:
+        return [descendant(world.process.pid, 'e1gw-keep')]
+    except AssertionError:
+        return []
 
 
 def call(world: World, circuit: int) -> None:
@@ -255,23 +264,61 @@ class Beside(unittest.TestCase):
                 self.assertEqual(bytes(world.heard), uncut)
                 self.assertEqual(world.quit()[0], 0)
 
-    def test_a_keeper_or_a_carrier_that_is_killed(self) -> None:
+    def test_a_keeper_that_is_killed(self) -> None:
+        """Twice; the program goes on, and what is sent is to the octet what one uncut replay gives."""
+        with World('law = "A"\n') as world:
+            aligned(world)
+            before = len(world.sent)
+            self.assertEqual(world.ask('seize 1'), 'seize 1: done')
+            world.step(60)
+            program = descendant(world.process.pid, 'trunk', '/dev/fd/3')       # not the one that waits
+            for _ in range(2):
+                keeper = descendant(world.process.pid, 'e1gw-keep')
+                os.kill(keeper, signal.SIGKILL)
+                world.step(100)
+                until = time.monotonic() + SECONDS
+                while not (others := keepers(world)) or others == [keeper]:
+                    self.assertLess(time.monotonic(), until)
+                    world.step(1)
+                world.step(200)
+            self.assertTrue(is_there(program))
+            self.assertEqual(world.state(1), 'answered')
+            given = records_of(world.sent[:before]) + session.command_record(1, session.Command.SEIZE)
+            answered = support.run('replay', '--config', world.config, given=given + records_of(world.sent[before:]))
+            uncut = b''.join(r.body for r in session.records_in(answered) if r.kind is session.Kind.TRUNK)
+            self.assertEqual(bytes(world.heard), uncut)
+            status, said = world.quit()
+            self.assertEqual((status, said.count('e1gw-keep ended by signal 9 (SIGKILL), the calls go on'),
+                              said.count(f'the keeper was killed; program {program} goes on')), (0, 2, 2))
+
+    def test_a_carrier_that_is_killed(self) -> None:
         """Another one opens the trunk again, and the call is up."""
-        for name, options in (('e1gw-keep', ()), ('e1gw-carry', ('--align', '--reopen'))):
-            with self.subTest(name), World(config_of(FOUR), *options) as world:
-                aligned(world)
-                call(world, 1)
-                with world.new_door() as door:
-                    os.kill(descendant(world.process.pid, name), signal.SIGKILL)
-                    world.line.close()
-                    world.take(door)
-                world.exchange = support.Exchange()
-                world.exchange.pairs[1] = ANSWERED
-                world.connected()
-                world.step(60)
-                self.assertEqual(world.state(1), 'answered')
-                status, said = world.quit()
-                self.assertEqual((status, said.count(f'{name} ended by signal 9 (SIGKILL), the calls go on')), (0, 1))
+        with World(config_of(FOUR), '--align', '--reopen') as world:
+            aligned(world)
+            call(world, 1)
+            with world.new_door() as door:
+                os.kill(descendant(world.process.pid, 'e1gw-carry'), signal.SIGKILL)
+                world.line.close()
+                world.take(door)
+            world.exchange = support.Exchange()
+            world.exchange.pairs[1] = ANSWERED
+            world.connected()
+            world.step(60)
+            self.assertEqual(world.state(1), 'answered')
+            status, said = world.quit()
+            self.assertEqual((status, said.count('e1gw-carry ended by signal 9 (SIGKILL), the calls go on')), (0, 1))
+
+    def test_a_folder_that_a_killed_one_left(self) -> None:
+        """The next start takes it away, and none of a process that is there."""
+        with tempfile.TemporaryDirectory() as folder:
+            with subprocess.Popen(['true']) as gone:
+                pass
+            left = [os.path.join(folder, f'{front}.x') for front in
+                    (f'trunk-{gone.pid}.1', own_prefix('trunk-')[:-1], 'trunk-abc')]
+            for path in left:
+                os.mkdir(path)
+            forget_folders(folder, 'trunk-')
+            self.assertEqual([os.path.exists(path) for path in left], [False, True, True])
 
     def test_what_ends_with_e1gw_trunk(self) -> None:
         """All that it has started ends once it is killed."""

@@ -140,6 +140,23 @@ class Kept(unittest.TestCase):
         self.assertEqual(trunk.ask('quit').splitlines()[-1], 'quit: done')
         self.assertIsNone(trunk.keeper.poll())
 
+    def test_names_of_calls(self) -> None:
+        """Another watcher counts seizures as the one before it, and one that happened in between."""
+        trunk = self.trunk
+        trunk.is_in(1, 'idle')
+        trunk.type('seize 2')
+        trunk.is_in(2, 'acked')
+        life = trunk.told()['life']
+        for line, seizures in ((), 1), (('clear 2', 'seize 2'), 2):
+            trunk.process.kill()
+            trunk.process.wait(SECONDS)
+            for each in line:
+                trunk.type(each)
+                time.sleep(1.0)
+            trunk.begin()
+            trunk.is_in(2, 'acked')
+            self.assertEqual((trunk.told()['life'], trunk.told()['circuits'][1]['seizures']), (life, seizures))
+
     def test_a_trunk_that_stops(self) -> None:
         trunk = self.trunk
         trunk.is_in(1, 'idle')

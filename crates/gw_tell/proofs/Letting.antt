@@ -11,53 +11,60 @@ use Rattle.gw_tell.specs.Reports.{Shows}
 use Rattle.gw_tell.specs.Telling.{IsNew, LetsIn}
 
 -- Who stays and stays, stays; and who is new and stays, is new.
-still_here : (law : Law) (place : ℕ) (told : GatewayStatus) (old mid new : Option Client)
-    → StaysOrNew law place told old mid
-    → StaysOrNew law place told mid new → StaysOrNew law place told old new
-still_here law place told old mid None first then = tt
-still_here law place told old mid (Some client) first (inl e) = rw e at first
-still_here law place told old mid (Some client) first (inr is) = inr is
+still_here : (law : Law) (place : ℕ) (told : GatewayStatus) (seized : List ℕ) (old mid new : Option Client)
+    → StaysOrNew law place told seized old mid
+    → StaysOrNew law place told seized mid new → StaysOrNew law place told seized old new
+still_here law place told seized old mid None first then = tt
+still_here law place told seized old mid (Some client) first (inl e) = rw e at first
+still_here law place told seized old mid (Some client) first (inr is) = inr is
 
 -- Who is new and stays, is new.
-still_new : (law : Law) (place : ℕ) (told : GatewayStatus) (mid new : Option Client) → IsNew law place told mid
-    → StaysOrNew law place told mid new → IsNew law place told new
-still_new law place told mid None first then = tt
-still_new law place told mid (Some client) first (inl e) = rw e at first
-still_new law place told mid (Some client) first (inr is) = is
+still_new : (law : Law) (place : ℕ) (told : GatewayStatus) (seized : List ℕ) (mid new : Option Client)
+    → IsNew law place told seized mid
+    → StaysOrNew law place told seized mid new → IsNew law place told seized new
+still_new law place told seized mid None first then = tt
+still_new law place told seized mid (Some client) first (inl e) = rw e at first
+still_new law place told seized mid (Some client) first (inr is) = is
 
 -- Who is at a place that was free is new.
-none_here : (law : Law) (place : ℕ) (told : GatewayStatus) (mid new : Option Client) → mid ≡ None
-    → StaysOrNew law place told mid new → IsNew law place told new
-none_here law place told mid None free then = tt
-none_here law place told mid (Some client) free (inl e) = cc
-none_here law place told mid (Some client) free (inr is) = is
+none_here : (law : Law) (place : ℕ) (told : GatewayStatus) (seized : List ℕ) (mid new : Option Client) → mid ≡ None
+    → StaysOrNew law place told seized mid new → IsNew law place told seized new
+none_here law place told seized mid None free then = tt
+none_here law place told seized mid (Some client) free (inl e) = cc
+none_here law place told seized mid (Some client) free (inr is) = is
 
 -- Before the first one all stay.
-pub none_let_in : (law : Law) (place : ℕ) (gateway : Gateway) (told : GatewayStatus) (places : List ClientSlot)
-    → LetsIn law place gateway told told places places
-none_let_in law place gateway told places = inl (refl, λ k. stays (at places k))
+pub none_let_in : (law : Law) (place : ℕ) (gateway : Gateway) (told : GatewayStatus) (seized : List ℕ)
+    (places : List ClientSlot)
+    → LetsIn law place gateway told told seized places places
+none_let_in law place gateway told seized places = inl (refl, λ k. stays (at places k))
   where
-    stays : (client : Option Client) → StaysOrNew law place told client client
+    stays : (client : Option Client) → StaysOrNew law place told seized client client
     stays None = tt
     stays (Some client) = inl refl
 
 -- One more is let in.
 pub one_let_in : (law : Law) (place : ℕ) (gateway : Gateway) (told told' told'' : GatewayStatus)
-    (places places' places'' : List ClientSlot) → LetsIn law place gateway told told' places places'
+    (seized : List ℕ) (places places' places'' : List ClientSlot)
+    → LetsIn law place gateway told told' seized places places'
     → (told'' ≡ told') ⊎ (AllFree places' × Shows told'' gateway)
-    → ((k : ℕ) → StaysOrNew law place told'' (at places' k) (at places'' k))
-    → LetsIn law place gateway told told'' places places''
-one_let_in law place gateway told told' told'' places places' places'' before (inr free) then =
-    inr (free.1, λ k. none_here law place told'' (at places' k) (at places'' k) (free.0 k) (then k))
-one_let_in law place gateway told told' told'' places places' places'' (inl before) (inl same) then =
+    → ((k : ℕ) → StaysOrNew law place told'' seized (at places' k) (at places'' k))
+    → LetsIn law place gateway told told'' seized places places''
+one_let_in law place gateway told told' told'' seized places places' places'' before (inr free) then =
+    inr (free.1, λ k. none_here law place told'' seized (at places' k) (at places'' k) (free.0 k) (then k))
+one_let_in law place gateway told told' told'' seized places places' places'' (inl before) (inl same) then =
     let all = rw (same, before.0) at then in
     inl (
       same ∙ before.0,
-      λ k. still_here law place told (at places k) (at places' k) (at places'' k) (before.1 k) (all k),
+      λ k. still_here law place told seized (at places k) (at places' k) (at places'' k) (before.1 k) (all k),
     )
-one_let_in law place gateway told told' told'' places places' places'' (inr before) (inl same) then =
+one_let_in law place gateway told told' told'' seized places places' places'' (inr before) (inl same) then =
     let all = rw same at then in
-    inr (rw same before.0, λ k. rw same (still_new law place told' (at places' k) (at places'' k) (before.1 k) (all k)))
+    inr (
+      rw same before.0,
+      λ k. rw same (still_new law place told' seized (at places' k) (at places'' k) (before.1 k)
+          (all k)),
+    )
 
 -- Who is sent nothing stays.
 pub none_sent : (client : Option Client) → Gets client client []

@@ -9,6 +9,7 @@ use Rattle.gw_records.specs.Records.{Record}
 use Rattle.gw_tell.specs.declared.gateway_status.GatewayStatus.{GatewayStatus}
 use Rattle.gw_tell.specs.Lines.{alarms_line, row_line, event_line}
 use Rattle.gw_tell.specs.Reports.{no_status, of_circuit, counted_as, RowStep, RowSteps, AlarmsStep}
+use Rattle.gw_tell.specs.Seizures.{AreCounted}
 use Rattle.gw_tell.specs.Reports.{row_lines, Changes, are_due, place_after}
 
 -- What was reported last of a circuit is what it is, but for its counts.
@@ -143,3 +144,12 @@ pub rest_on : (was told : List Status) (number i : ℕ) (new : Status) → 1 ≤
     → (k : ℕ) → number + 1 ≤ k → of_circuit (set told (i - 1) new) k ≡ of_circuit was k
 rest_on was told number i new some i_is rest = λ k more.
     get_or-set_other told (i - 1) (k - 1) new no_status (λ q. omega arith) ∙ rest k (omega arith)
+
+-- A seizure is counted alike by what a circuit is and by what is reported of it, which is that but for the counts.
+pub counted_alike : (counts counts' : List ℕ) (was is told : List Status) → AreCounted counts was is counts'
+    → ((c : ℕ) → 1 ≤ c → c ≤ 30 → of_circuit told c ≡ counted_as (of_circuit is c) (of_circuit told c))
+    → AreCounted counts was told counts'
+counted_alike counts counts' was is told counted alike = λ c some most.
+    let e : (of_circuit told c).state ≡ (of_circuit is c).state =
+    ap (λ (s : Status). s.state) (alike c some most) in
+    rw e (counted c some most)

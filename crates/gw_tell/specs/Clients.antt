@@ -58,7 +58,7 @@ pub record TellsChanges (place : ℕ) (r : Record) (code : ℕ) (gateway : Gatew
   pub told_all : AllAreTold places places' (place_after place r) lines
 
 -- the client at a place stays as it was, or is let go, or is a new one that was sent the whole state
-abbrev pub StaysOrNew : Law → ℕ → GatewayStatus → Option Client → Option Client → Type 0
-StaysOrNew law place told old None = ⊤
-StaysOrNew law place told old (Some client') = (old ≡ Some client')
-    ⊎ ((sent client' ≡ whole_state law place told) × (client'.last ≡ place))
+abbrev pub StaysOrNew : Law → ℕ → GatewayStatus → List ℕ → Option Client → Option Client → Type 0
+StaysOrNew law place told seized old None = ⊤
+StaysOrNew law place told seized old (Some client') = (old ≡ Some client')
+    ⊎ ((sent client' ≡ whole_state law place told seized) × (client'.last ≡ place))

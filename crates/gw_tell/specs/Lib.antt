@@ -2,4 +2,5 @@ pub mod Lines
 pub mod Reports
 pub mod Backlog
 pub mod Clients
+pub mod Seizures
 pub mod Telling

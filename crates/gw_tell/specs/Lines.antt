@@ -54,6 +54,10 @@ event_line (Record.Codec circuit codec payload_type) code =
 unfoldable pub row_line : ℕ → Status → List ℕ
 row_line circuit status = codes "line " ++ row circuit status ++ 10 ∷ []
 
+-- how often each of circuits 1 to 30 was seized
+abbrev pub seizures_line : List ℕ → List ℕ
+seizures_line counts = number_line (codes "seizures") counts
+
 -- the first line, with the law of the trunk as the configuration names it
 abbrev pub hello_line : Law → List ℕ
 hello_line A = codes "e1gw tell 1 A\n"

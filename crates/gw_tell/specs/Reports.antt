@@ -16,7 +16,8 @@ use Rattle.gw_switch.specs.Standing.{HasHistory}
 use Rattle.gw_records.specs.Records.{Record}
 use Rattle.gw_records.specs.Streams.{at_most}
 use Rattle.gw_tell.specs.declared.gateway_status.GatewayStatus.{GatewayStatus}
-use Rattle.gw_tell.specs.Lines.{at_line, alarms_line, event_line, row_line, hello_line, now_line}
+use Rattle.gw_tell.specs.Lines.{at_line, alarms_line, event_line, row_line, seizures_line, hello_line}
+use Rattle.gw_tell.specs.Lines.{now_line}
 
 -- what stands where no circuit is
 abbrev pub no_status : Status
@@ -110,9 +111,9 @@ row_lines rows zero = []
 row_lines rows (suc n) = row_lines rows n ++ row_line (suc n) (of_circuit rows (suc n))
 
 -- the whole state, which a new client gets
-abbrev pub whole_state : Law → ℕ → GatewayStatus → List ℕ
-whole_state law place gateway_status = hello_line law ++ at_line place ++ alarms_line gateway_status.alarms
-    ++ row_lines gateway_status.rows 30 ++ now_line
+abbrev pub whole_state : Law → ℕ → GatewayStatus → List ℕ → List ℕ
+whole_state law place gateway_status seized = hello_line law ++ at_line place ++ alarms_line gateway_status.alarms
+    ++ row_lines gateway_status.rows 30 ++ seizures_line seized ++ now_line
 
 -- what a client is sent whose last `at` was this place: nothing, or the lines with the place before them if
 -- it has changed

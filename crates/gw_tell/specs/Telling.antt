@@ -9,6 +9,7 @@ use Rattle.gw_tell.specs.declared.place.ClientSlot.{ClientSlot}
 use Rattle.gw_tell.specs.declared.teller.Teller.{Teller}
 use Rattle.gw_tell.specs.Clients.{at, sent, Gets, AllFree, TellsChanges, StaysOrNew}
 use Rattle.gw_tell.specs.Reports.{Shows, place_after, whole_state}
+use Rattle.gw_tell.specs.Seizures.{AreCounted, no_seizures}
 
 -- a Teller that was shown nothing yet: it has no client, and what was told last is how this gateway stands
 pub record HasBegun (t : Teller) (law : Law) (gateway : Gateway) : Type 0 where
@@ -16,41 +17,39 @@ pub record HasBegun (t : Teller) (law : Law) (gateway : Gateway) : Type 0 where
   pub place_is : t.place ≡ 0
   pub free : AllFree t.places
   pub shows : Shows t.told gateway
+  pub none_seized : t.seized ≡ no_seizures
 
 -- a place has no client, or a new one that was sent the whole state
-abbrev pub IsNew : Law → ℕ → GatewayStatus → Option Client → Type 0
-IsNew law place told None = ⊤
-IsNew law place told (Some client) = (sent client ≡ whole_state law place told) × (client.last ≡ place)
-
--- the clients were told what changed with a record; if there is none, nothing was told
-abbrev pub TellsAny : ℕ → Record → ℕ → Gateway → GatewayStatus → GatewayStatus → List ClientSlot
-    → List ClientSlot → Type 0
-TellsAny place r code gateway told told' places places' =
-    TellsChanges place r code gateway told told' places places'
-    ⊎ (AllFree places × (told' ≡ told) × (places' ≡ places))
+abbrev pub IsNew : Law → ℕ → GatewayStatus → List ℕ → Option Client → Type 0
+IsNew law place told seized None = ⊤
+IsNew law place told seized (Some client) = (sent client ≡ whole_state law place told seized)
+    × (client.last ≡ place)
 
 -- New clients were let in: each was sent the whole state by what was told last, and those before them stay.
 -- If there was none before them, that may be how the gateway stands now.
-abbrev pub LetsIn : Law → ℕ → Gateway → GatewayStatus → GatewayStatus → List ClientSlot → List ClientSlot
-    → Type 0
-LetsIn law place gateway told told' places places' =
-    ((told' ≡ told) × ((k : ℕ) → StaysOrNew law place told (at places k) (at places' k)))
-    ⊎ (Shows told' gateway × ((k : ℕ) → IsNew law place told' (at places' k)))
+abbrev pub LetsIn : Law → ℕ → Gateway → GatewayStatus → GatewayStatus → List ℕ → List ClientSlot
+    → List ClientSlot → Type 0
+LetsIn law place gateway told told' seized places places' =
+    ((told' ≡ told) × ((k : ℕ) → StaysOrNew law place told seized (at places k) (at places' k)))
+    ⊎ (Shows told' gateway × ((k : ℕ) → IsNew law place told' seized (at places' k)))
 
 -- a record is not of the trunk
 abbrev pub IsOther : Record → Type 0
 IsOther (Record.Trunk octets) = ⊥
 IsOther _ = ⊤
 
--- A Teller was shown a record, with the code of its answer and the gateway behind it. Its clients were told
--- what changed. Behind a record of the trunk those who have gone were let go, and then new ones were let in.
+-- A Teller was shown a record, with the code of its answer and the gateway behind it. It counted seizures,
+-- and
+-- its clients were told what changed. Behind a record of the trunk those who have gone were let go, and then
+-- new ones were let in.
 pub record TellsRecord (t t' : Teller) (r : Record) (code : ℕ) (gateway : Gateway) : Type 0 where
   pub law_is : t'.law ≡ t.law
   pub place_is : t'.place ≡ place_after t.place r
   pub told : GatewayStatus
   pub between : List ClientSlot
-  pub tells : TellsAny t.place r code gateway t.told told t.places between
+  pub tells : TellsChanges t.place r code gateway t.told told t.places between
+  pub counted : AreCounted t.seized t.told.rows told.rows t'.seized
   pub here : List ClientSlot
   pub listens : (k : ℕ) → Gets (at between k) (at here k) []
-  pub lets_in : LetsIn t.law t'.place gateway told t'.told here t'.places
+  pub lets_in : LetsIn t.law t'.place gateway told t'.told t'.seized here t'.places
   pub others : IsOther r → (t'.places ≡ between) × (t'.told ≡ told)

@@ -7,6 +7,7 @@ mod gateway_status;
 mod lines;
 mod place;
 mod report;
+mod seizures;
 mod teller;
 mod text;
 

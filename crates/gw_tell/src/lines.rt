@@ -3,7 +3,7 @@
 ghost use Rattle.std.specs.Prelude.{◌≡◌, ◌≤◌, ◌+◌, ◌++◌, length};
 ghost use Rattle.gw_records.specs.Records.{named};
 ghost use Rattle.gw_tell.specs.Lines.{at_line, flag, alarms_line, rtp_numbers, event_line, row_line};
-ghost use Rattle.gw_tell.specs.Lines.{hello_line};
+ghost use Rattle.gw_tell.specs.Lines.{hello_line, seizures_line};
 
 use crate::text::{Text, push, push_line};
 use byteorder::{BigEndian, ByteOrder};
@@ -18,7 +18,7 @@ const HEADER_LEN: usize = 12;
 
 /// Adds the line of a place.
 pub fn push_at(text: &mut Text, place: u64)
-    requires { length text.old.items + 24 ≤ 2700 }
+    requires { length text.old.items + 24 ≤ 3200 }
     ensures line { text.new.items ≡ text.old.items ++ at_line place }
     ensures len { length text.new.items ≤ length text.old.items + 24 }
 {
@@ -34,7 +34,7 @@ fn flag(alarm: bool) -> u64
 
 /// Adds the line of the alarms.
 pub fn push_alarms(text: &mut Text, alarms: &Alarms)
-    requires { length text.old.items + 91 ≤ 2700 }
+    requires { length text.old.items + 91 ≤ 3200 }
     ensures line { text.new.items ≡ text.old.items ++ alarms_line alarms.now }
     ensures len { length text.new.items ≤ length text.old.items + 91 }
 {
@@ -63,7 +63,7 @@ fn rtp_numbers(octets: &[u8]) -> [u64; 3]
 
 /// Adds the line of a record that was answered with this code, if it has one.
 pub fn push_event(text: &mut Text, head: &RecordKind, body: &[u8], code: u8)
-    requires { length text.old.items + 114 ≤ 2700 }
+    requires { length text.old.items + 114 ≤ 3200 }
     ensures line { text.new.items ≡ text.old.items ++ event_line (named head.now body.now) code }
     ensures len { length text.new.items ≤ length text.old.items + 114 }
 {
@@ -95,13 +95,22 @@ pub fn push_event(text: &mut Text, head: &RecordKind, body: &[u8], code: u8)
 /// Adds the line of a circuit.
 #[tactic(auto, unfolding(crate::specs::Lines::row_line))]
 pub fn push_row(text: &mut Text, circuit: CircuitNo, status: &Status)
-    requires { length text.old.items + 80 ≤ 2700 }
+    requires { length text.old.items + 80 ≤ 3200 }
     ensures line { text.new.items ≡ text.old.items ++ row_line circuit status.now }
     ensures len { length text.new.items ≡ length text.old.items + 80 }
 {
     push(text, b"line ");
     push(text, gw_listing::line(circuit, status).as_str().as_bytes());
     push(text, b"\n");
+}
+
+/// Adds the line of how often each circuit was seized.
+pub fn push_seizures(text: &mut Text, counts: &[u64; 30])
+    requires { length text.old.items + 639 ≤ 3200 }
+    ensures line { text.new.items ≡ text.old.items ++ seizures_line counts.now }
+    ensures len { length text.new.items ≤ length text.old.items + 639 }
+{
+    push_line(text, b"seizures", counts);
 }
 
 /// The first line.

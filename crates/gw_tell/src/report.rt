@@ -8,7 +8,7 @@ ghost use Rattle.gw_tell.specs.Reports.{Changes, IsStatusOf, row_lines, whole_st
 ghost use Rattle.gw_tell.specs.Lines.{event_line};
 
 use crate::gateway_status::{GatewayStatus, circuit};
-use crate::lines::{hello_line, push_alarms, push_at, push_event, push_row};
+use crate::lines::{hello_line, push_alarms, push_at, push_event, push_row, push_seizures};
 use crate::text::{Text, push};
 use e1_g711::Law;
 use g704_cas::CircuitNo;
@@ -46,7 +46,7 @@ fn quiet_at(due: bool, was: &Status, is: &Status) -> Status
 
 // Reports a circuit if there is anything to report of it.
 fn report_row(circuit: CircuitNo, due: bool, told: &mut Status, is: &Status, text: &mut Text)
-    requires { length text.old.items + 80 ≤ 2700 }
+    requires { length text.old.items + 80 ≤ 3200 }
     ensures step { RowStep due circuit told.old is.now told.new text.old.items text.new.items }
     ensures len { length text.new.items ≤ length text.old.items + 80 }
 {
@@ -59,7 +59,7 @@ fn report_row(circuit: CircuitNo, due: bool, told: &mut Status, is: &Status, tex
 
 // Reports the circuits.
 fn report_rows(due: bool, told: &mut [Status; 30], is: &[Status; 30], text: &mut Text)
-    requires { length text.old.items + 2400 ≤ 2700 }
+    requires { length text.old.items + 2400 ≤ 3200 }
     ensures steps { RowSteps due told.old is.now told.new text.old.items text.new.items 30 }
     ensures count { length told.new ≡ length told.old }
 {
@@ -71,7 +71,7 @@ fn report_rows(due: bool, told: &mut [Status; 30], is: &[Status; 30], text: &mut
 
 // Reports the alarms if they changed.
 fn report_alarms(told: &mut Alarms, is: &Alarms, text: &mut Text)
-    requires { length text.old.items + 91 ≤ 2700 }
+    requires { length text.old.items + 91 ≤ 3200 }
     ensures step { AlarmsStep told.old is.now text.old.items text.new.items }
     ensures told { told.new ≡ is.now }
     ensures len { length text.new.items ≤ length text.old.items + 91 }
@@ -117,7 +117,7 @@ pub fn report(
 
 // Adds the lines of all circuits.
 fn push_rows(text: &mut Text, rows: &[Status; 30])
-    requires { length text.old.items + 2400 ≤ 2700 }
+    requires { length text.old.items + 2400 ≤ 3200 }
     ensures lines { text.new.items ≡ text.old.items ++ row_lines rows.now 30 }
     ensures len { length text.new.items ≡ length text.old.items + 2400 }
 {
@@ -128,13 +128,20 @@ fn push_rows(text: &mut Text, rows: &[Status; 30])
 
 /// Puts the whole state into the text, which a new client gets.
 #[inline(never)]
-pub fn whole_state(law: Law, place: u64, gateway_status: &GatewayStatus, text: &mut Text)
+pub fn whole_state(
+    law: Law,
+    place: u64,
+    gateway_status: &GatewayStatus,
+    seized: &[u64; 30],
+    text: &mut Text,
+)
     requires { text.old.items ≡ [] }
-    ensures { text.new.items ≡ whole_state law place gateway_status.now }
+    ensures { text.new.items ≡ whole_state law place gateway_status.now seized.now }
 {
     push(text, hello_line(law));
     push_at(text, place);
     push_alarms(text, &gateway_status.alarms);
     push_rows(text, &gateway_status.rows);
+    push_seizures(text, seized);
     push(text, b"now\n");
 }

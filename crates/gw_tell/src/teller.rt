@@ -13,6 +13,7 @@ use crate::gateway_status::GatewayStatus;
 use crate::lines::push_at;
 use crate::place::ClientSlot;
 use crate::report::{place_after, report, whole_state};
+use crate::seizures::count_seizures;
 use crate::text::Text;
 use e1_g711::Law;
 use gw_records::RecordKind;
@@ -36,8 +37,10 @@ pub struct Teller {
     law: Law,
     // The octets of the trunk that the session has acted on.
     place: u64,
-    // What was reported last; if there is no client it is kept as it was.
+    // What was reported last, also if nobody heard it.
     told: GatewayStatus,
+    // How often each line was seized since the session began.
+    seized: [u64; 30],
     text: Text,
 }
 
@@ -103,7 +106,8 @@ fn open_places(alloc: Global) -> io::Result<[ClientSlot; 8]>
 impl Teller {
     ghost use Rattle.gw_tell.specs.Reports.{Shows};
     ghost use Rattle.gw_tell.specs.Clients.{TellsChanges, StaysOrNew};
-    ghost use Rattle.gw_tell.specs.Telling.{TellsAny, LetsIn};
+    ghost use Rattle.gw_tell.specs.Telling.{LetsIn};
+    ghost use Rattle.gw_tell.specs.Seizures.{AreCounted};
 
     /// Listens at a path, with no client yet, and takes the memory of all places. The error is the system's,
     /// or that memory was refused.
@@ -117,20 +121,23 @@ impl Teller {
             law,
             place: 0,
             told: GatewayStatus::of(gateway),
+            seized: [0u64; 30],
             text: Text::new(),
         })
     }
 
-    // Tells all clients what changed with a record.
+    // Counts seizures, and tells all clients what changed with a record.
     #[inline(never)]
     fn tell(&mut self, head: &RecordKind, body: &[u8], code: u8, gateway: &Gateway)
         ensures changes { TellsChanges self.old.place (named head.now body.now) code gateway.now
             self.old.told self.new.told self.old.places self.new.places }
+        ensures counted { AreCounted self.old.seized self.old.told.rows self.new.told.rows self.new.seized }
         ensures law { self.new.law ≡ self.old.law }
         ensures place { self.new.place ≡ self.old.place }
     {
         let is = GatewayStatus::of(gateway);
         let at = place_after(self.place, head, body);
+        count_seizures(&mut self.seized, &self.told.rows, &is.rows);
         self.text.clear();
         push_at(&mut self.text, at);
         let front = self.text.len();
@@ -146,19 +153,6 @@ impl Teller {
         tell_all(&mut self.places, self.text.as_slice(), front, at);
     }
 
-    // Tells the clients, if there is one, what changed with a record.
-    fn tell_any(&mut self, head: &RecordKind, body: &[u8], code: u8, gateway: &Gateway)
-        ensures tells { TellsAny self.old.place (named head.now body.now) code gateway.now
-            self.old.told self.new.told self.old.places self.new.places }
-        ensures law { self.new.law ≡ self.old.law }
-        ensures place { self.new.place ≡ self.old.place }
-    {
-        if are_free(&self.places) {
-            return;
-        }
-        self.tell(head, body, code, gateway);
-    }
-
     // Gives a new client the whole state, if there is a place for it.
     #[inline(never)]
     fn welcome(&mut self, stream: UnixStream, gateway: &Gateway)
@@ -167,7 +161,8 @@ impl Teller {
         ensures law { self.new.law ≡ self.old.law }
         ensures place { self.new.place ≡ self.old.place }
         ensures clients { (k : ℕ) → StaysOrNew self.old.law self.old.place self.new.told
-            (at self.old.places k) (at self.new.places k) }
+            self.old.seized (at self.old.places k) (at self.new.places k) }
+        ensures seized { self.new.seized ≡ self.old.seized }
     {
         let Some(free) = free_place(&self.places) else {
             return;
@@ -176,7 +171,13 @@ impl Teller {
             self.told = GatewayStatus::of(gateway);
         }
         self.text.clear();
-        whole_state(self.law, self.place, &self.told, &mut self.text);
+        whole_state(
+            self.law,
+            self.place,
+            &self.told,
+            &self.seized,
+            &mut self.text,
+        );
         let Some(room) = take_room(&mut self.places[free]) else {
             return;
         };
@@ -192,6 +193,7 @@ impl Teller {
         ensures law { self.new.law ≡ self.old.law }
         ensures place { self.new.place ≡ self.old.place }
         ensures told { self.new.told ≡ self.old.told }
+        ensures seized { self.new.seized ≡ self.old.seized }
     {
         for place in 0..MOST_CLIENTS {
             self.places[place].listen();
@@ -201,7 +203,8 @@ impl Teller {
     // Lets in who knocks, as many as there are places at most.
     fn let_in(&mut self, gateway: &Gateway)
         ensures lets_in { LetsIn self.old.law self.old.place gateway.now self.old.told self.new.told
-            self.old.places self.new.places }
+            self.old.seized self.old.places self.new.places }
+        ensures seized { self.new.seized ≡ self.old.seized }
         ensures law { self.new.law ≡ self.old.law }
         ensures place { self.new.place ≡ self.old.place }
     {
@@ -227,7 +230,7 @@ impl Watch for Teller {
     ghost shows = { λ old new r code gateway. TellsRecord old new r code gateway };
 
     fn after(&mut self, head: &RecordKind, body: &[u8], code: u8, gateway: &Gateway) {
-        self.tell_any(head, body, code, gateway);
+        self.tell(head, body, code, gateway);
         self.place = place_after(self.place, head, body);
         if let RecordKind::Trunk = head {
             self.listen();

@@ -6,12 +6,12 @@ ghost use Rattle.gw_tell.specs.Lines.{spaced, number_line};
 use arrayvec::ArrayVec;
 use itoa::Buffer;
 
-/// Room for the longest text, which all lines of thirty circuits stand in.
-pub type Text = ArrayVec<u8, 2_700>;
+/// Room for the longest text, which the whole state stands in.
+pub type Text = ArrayVec<u8, 3_200>;
 
 /// Adds octets.
 pub fn push(text: &mut Text, octets: &[u8])
-    requires { length text.old.items + length octets.now ≤ 2700 }
+    requires { length text.old.items + length octets.now ≤ 3200 }
     ensures { text.new.items ≡ text.old.items ++ octets.now }
 {
     let _ = text.try_extend_from_slice(octets);
@@ -19,7 +19,7 @@ pub fn push(text: &mut Text, octets: &[u8])
 
 // Adds a space and a number in decimal.
 fn push_number(text: &mut Text, n: u64)
-    requires { length text.old.items + 21 ≤ 2700 }
+    requires { length text.old.items + 21 ≤ 3200 }
     ensures number { text.new.items ≡ text.old.items ++ spaced n }
     ensures len { length text.new.items ≤ length text.old.items + 21 }
 {
@@ -30,7 +30,7 @@ fn push_number(text: &mut Text, n: u64)
 
 /// Adds a line of a word and numbers.
 pub fn push_line(text: &mut Text, word: &[u8], numbers: &[u64])
-    requires { length text.old.items + (length word.now + 21 * length numbers.now + 1) ≤ 2700 }
+    requires { length text.old.items + (length word.now + 21 * length numbers.now + 1) ≤ 3200 }
     ensures line { text.new.items ≡ text.old.items ++ number_line word.now numbers.now }
     ensures len { length text.new.items
         ≤ length text.old.items + (length word.now + 21 * length numbers.now + 1) }

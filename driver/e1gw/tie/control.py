@@ -9,7 +9,8 @@ from ..faults import words_of_fault
 from .client import ControlClient, Event, connect, life_of
 
 LOOK = 0.5                  # seconds between two looks at the trunk
-AGAIN = 0.5                 # seconds until the driver, or a refused command, is retried
+AGAIN = 0.5                 # seconds until a refused command is retried
+SOON = 0.1                  # seconds until the driver is
 Tell = Callable[..., None]
 
 
@@ -60,7 +61,7 @@ class ControlLink:
                     self._tell('trunk gone', why=why)
                 self._why = why
             self._trunk.lost()
-            await asyncio.sleep(AGAIN)
+            await asyncio.sleep(SOON)
 
     async def _follow(self) -> None:
         client = await connect(self._path, self._told)
@@ -70,7 +71,9 @@ class ControlLink:
             await client.ask('events')
             await self._ask_on_loss(client)
             life = life_of(self._path)
-            await client.ask('status json', lambda text: self._begin(client, json.loads(text), life))
+            while not self.client:
+                await client.ask('status json', lambda text: self._begin(client, json.loads(text), life))
+                await asyncio.sleep(0 if self.client else SOON)
             while True:
                 await asyncio.wait((reading,), timeout=LOOK)
                 if reading.done():
@@ -90,8 +93,11 @@ class ControlLink:
         self._tell('warning', about='the driver clears no calls if this program dies', answer=answer)
 
     def _begin(self, client: ControlClient, status: dict[str, Any], life: str) -> None:
-        self.client, self._why = client, ''
-        self._trunk.begin(status, life)
+        """Takes the status. A watcher names its life, once it knows how the lines stand."""
+        named = status.get('life', life)
+        if named is not None:
+            self.client, self._why = client, ''
+            self._trunk.begin(status, named)
 
     def _told(self, event: Event) -> None:
         if self.client:

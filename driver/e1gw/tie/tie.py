@@ -154,12 +154,17 @@ class Tie:
             n = int(row['circuit'])
             circuit = self.circuits[n]
             self.codecs.codings.stands(n, row)
-            if row['state'] != circuit.state and n not in self._busy:
-                self.calls.seizures[n] = int(row['seizures'])
-                call = self.calls.latest(n) if circuit.role is Role.INCOMING else circuit.call
-                self._put(n, circuit.moved(State(row['state']), None if call == circuit.call else call))
-                self.releases.moved(n, self.circuits[n].state)
+            if n not in self._busy:
+                self._missed(n, circuit, State(row['state']), int(row['seizures']))
             self._look_at_codec(n)
+
+    def _missed(self, n: int, circuit: TieCircuit, state: State, seizures: int) -> None:
+        """Takes a state, or another call, that no event has told."""
+        self.calls.seizures[n] = seizures
+        call = self.calls.latest(n) if circuit.role is Role.INCOMING else circuit.call
+        if state is not circuit.state or call != circuit.call:
+            self._put(n, circuit.moved(state, None if call == circuit.call else call))
+            self.releases.moved(n, self.circuits[n].state)
 
     def told(self, event: Event) -> None:
         """Takes an event of the driver."""

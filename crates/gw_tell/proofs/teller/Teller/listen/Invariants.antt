@@ -10,5 +10,6 @@ invariant-loop-place l = record {
   law : l.self.law ≡ l.fn.self.law;
   place : l.self.place ≡ l.fn.self.place;
   told : l.self.told ≡ l.fn.self.told;
+  seized : l.self.seized ≡ l.fn.self.seized;
   rest : (k : ℕ) → l.place ≤ k → at l.self.places k ≡ at l.fn.self.places k;
 }

@@ -1,6 +1,6 @@
 use Rattle.std.proofs.Common.{◌∙◌, ◌++◌, ap, List, ℕ}
 use Rattle.gw_tell.specs.Lines.{at_line}
-use Rattle.gw_tell.proofs.Reporting.{changes_go_behind}
+use Rattle.gw_tell.proofs.Reporting.{changes_go_behind, counted_alike}
 use Rattle.gw_tell.proofs.Sending.{front_is, tells}
 use Rattle.gw_tell.proofs.teller.Teller.tell.Goals as goal
 
@@ -20,3 +20,6 @@ returns-clause-changes c = let line = at_line c.place_after-at.result in
     (c.push_at.ensures.line ∙ ap (λ (xs : List ℕ). xs ++ line) c.clear.ensures)
     c.len-front.ensures.value c.as_slice.ensures.value c.report.ensures.changes c.report.ensures.true_picture
     c.tell_all.ensures
+
+pub returns-clause-counted : goal.returns-clause-counted
+returns-clause-counted c = counted_alike _ _ _ _ _ c.count_seizures.ensures c.report.ensures.true_picture.rows_are
