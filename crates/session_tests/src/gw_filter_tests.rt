@@ -263,7 +263,7 @@ impl Sink for All {
     }
 }
 
-fn damaged() -> Damaged
+fn make_damaged() -> Damaged
     ensures failed { result.failed ≡ 0 }
     ensures reads { result.reads ≡ 0 }
 {
@@ -279,7 +279,7 @@ fn damaged() -> Damaged
 #[test]
 fn errored_submultiframes_are_reported(rt: HostRuntime) {
     let mut checker = ReportingChecker::new(ToReports::new(std::io::sink()), Untold);
-    let ended = crc4_check_stream(&mut checker, &mut damaged(), &mut All { failed: 0 });
+    let ended = crc4_check_stream(&mut checker, &mut make_damaged(), &mut All { failed: 0 });
     let counts = ended.map(|checked| (checked.tally.errored, checked.unreported));
     assert!(rt; counts == Ok((2, 0)));
 }
@@ -288,7 +288,7 @@ fn errored_submultiframes_are_reported(rt: HostRuntime) {
 #[test]
 fn unreported_submultiframes_are_counted(rt: HostRuntime) {
     let mut checker = ReportingChecker::new(NoReports::new(), Untold);
-    let ended = crc4_check_stream(&mut checker, &mut damaged(), &mut All { failed: 0 });
+    let ended = crc4_check_stream(&mut checker, &mut make_damaged(), &mut All { failed: 0 });
     let counts = ended.map(|checked| (checked.tally.errored, checked.unreported));
     assert!(rt; counts == Ok((2, 2)));
 }
