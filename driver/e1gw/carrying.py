@@ -25,21 +25,21 @@ from typing import Callable, NoReturn
 
 from . import satop
 from .carrier import MOST_READ, Carrier
-from .control import DoorTaken, listen_unix
+from .connections import Connection, Listener
+from .control import SocketTaken, listen_unix
 from .crc4 import Crc4
 from .events import WARNED, words_of
 from .faults import Parser, named, options_words, words_of_fault
 from .lines import Event, law_of, read_config
 from .loop import GONE, READ, WRITE, Loop
 from .options import Usage
-from .outlets import Journal, Outlet, hold_descriptors, to_descriptor, to_file
 from .parent import parent
-from .peers import Door, Peer
 from .programs import program_of
 from .session import MULTIFRAME, OCTETS_A_SECOND
 from .systemd import Notify
 from .trunk_options import add_trunk, opening_of
 from .trunks import Stream, Trunk
+from .writers import Journal, Writer, hold_descriptors, to_descriptor, to_file
 
 MODE = 0o660                # of the sockets
 REOPEN_MOST = 30.0          # seconds between two tries to open the trunk
@@ -67,16 +67,16 @@ def parser() -> argparse.ArgumentParser:
     return words
 
 
-class Follower(Peer):
+class FollowerConnection(Connection):
     """One who is told what changes, and says nothing."""
 
     def took(self, octets: bytes) -> None:
         pass
 
 
-def _listening(option: str, path: str) -> socket.socket:
+def _listener(loop: Loop, option: str, path: str, came: Callable[[socket.socket, object], None]) -> Listener:
     try:
-        return listen_unix(path, MODE, None)
+        return Listener(loop, listen_unix(path, MODE, None), came, path)
     except OSError as fault:
         raise named(fault, f'{option} {path}') from None
 
@@ -95,13 +95,13 @@ class Carriage:
         self._program_events, self._says_more = 0, False
         self._due: float | None = None      # when the trunk is read next, if that is not when octets come
         self._json = self._open_json(asked.json)
-        self._door = Door(loop, _listening('--listen', asked.listen), self._came, asked.listen)
-        self._status_door = asked.status and Door(loop, _listening('--status', asked.status), self._asked, asked.status)
-        self._tell_door = asked.tell and Door(loop, _listening('--tell', asked.tell), self._follow, asked.tell)
-        self._followers: set[Peer] = set()
+        self._listener = _listener(loop, '--listen', asked.listen, self._came)
+        self._status_listener = asked.status and _listener(loop, '--status', asked.status, self._asked)
+        self._tell_listener = asked.tell and _listener(loop, '--tell', asked.tell, self._follow)
+        self._followers: set[Connection] = set()
         self._notify.ready(f'listens at {asked.listen}')
 
-    def _open_json(self, path: str | None) -> Outlet | None:
+    def _open_json(self, path: str | None) -> Writer | None:
         def ended(_: str, why: str) -> None:
             self.journal.line(Journal.WARNING, f'json ended, the octets go on: {why}')
         if not path:
@@ -212,7 +212,7 @@ class Carriage:
 
     def _came(self, line: socket.socket, _: object) -> None:
         file = line.detach()
-        self.loop.change(self._door.door.fileno(), 0)
+        self.loop.change(self._listener.line.fileno(), 0)
         self.loop.watch(file, READ, self._program_ready)
         self._program_events, self._says_more = READ, False
         self.carrier.join(Stream(file, file, 'program'))
@@ -221,7 +221,7 @@ class Carriage:
     def _gone(self, program: Stream) -> None:
         self.loop.forget(program.fileno())
         program.close()
-        self.loop.change(self._door.door.fileno(), READ)
+        self.loop.change(self._listener.line.fileno(), READ)
 
     def _program_ready(self, events: int) -> None:
         if events & WRITE:
@@ -254,7 +254,7 @@ class Carriage:
 
     def _follow(self, line: socket.socket, _: object) -> None:
         if len(self._followers) < MOST_FOLLOWERS:
-            self._followers.add(Follower(self.loop, line, self._followers.discard))
+            self._followers.add(FollowerConnection(self.loop, line, self._followers.discard))
             self._pass_on(self._status())
         else:
             line.close()
@@ -298,9 +298,9 @@ class Carriage:
             elif deadline is not None and time.monotonic() >= deadline:
                 self._do(self._carry)
         self._notify.tell('STOPPING=1')
-        for door in (self._door, self._status_door, self._tell_door):
-            if door:
-                door.close()
+        for listener in (self._listener, self._status_listener, self._tell_listener):
+            if listener:
+                listener.close()
         if self.carrier.program:
             _end_input(self.carrier.program)
         self.carrier.close()
@@ -352,7 +352,7 @@ def main(words: list[str] | None = None) -> NoReturn:
         status = _serve(parser().parse_args(words), journal)
     except (Usage, ValueError) as fault:
         journal.line(Journal.ERROR, f'{fault}; see e1gw-carry --help{options_words()}')
-    except DoorTaken as fault:
+    except SocketTaken as fault:
         journal.line(Journal.ERROR, f'cannot listen: {fault}')
     except (OSError, subprocess.CalledProcessError) as fault:
         journal.line(Journal.ERROR, words_of_fault(fault))

@@ -33,7 +33,7 @@ def counts_of(text: str) -> dict[str, int] | None:
     return found if len(found) == len(COUNTS) else None
 
 
-class Errors:
+class ErroredSubmultiframes:
     """Errored submultiframes of one end: told when they begin, and with their number once a check counts none."""
 
     def __init__(self) -> None:
@@ -61,7 +61,7 @@ class Crc4:
         self.checked = 0                        # octets that came and whose counts are known
         self.counts = dict.fromkeys(COUNTS, 0)
         self.aligned: bool | None = None        # whether alignment stood at the last count of this device
-        self._errors = {'errored': Errors(), 'far_end_errored': Errors()}
+        self._errors = {'errored': ErroredSubmultiframes(), 'far_end_errored': ErroredSubmultiframes()}
 
     def period(self) -> int:
         """Octets that a check reads before it tells its counts."""

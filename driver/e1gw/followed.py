@@ -10,8 +10,8 @@ from __future__ import annotations
 from dataclasses import dataclass, field
 from typing import Any, Iterable, Mapping
 
-from .lines import (LEADS, OPEN, SEIZURE_WAIT, WAIT, Alignment, Line, Lines, Role, State, Tell, both, law_of, lines_of,
-                    read_config)
+from .lines import (LEADS, OPEN, SEIZURE_WAIT, WAIT, Alignment, Line, Role, State, Tell, TrunkState, both, law_of,
+                    lines_of, read_config)
 from .session import FRAME, MULTIFRAME, OCTETS_A_SECOND, Codec, Command
 
 RECOGNISED = 10             # equal pairs in a row
@@ -81,14 +81,14 @@ class FollowedLine(Line):
                 self.state = State.RELEASING
                 self.unacknowledged += 1
 
-    def settled(self) -> bool:
+    def is_steady(self) -> bool:
         """More of the same pair changes nothing."""
         return (self.state is not State.SEIZED and self.recognised is not None and self.last == self.recognised
                 and TABLES[self.role][self.state][self.recognised] is self.state)
 
 
 @dataclass(frozen=True)
-class Standing:
+class CircuitState:
     """What a circuit is at a moment."""
 
     circuit: int
@@ -146,7 +146,7 @@ class _Multiframes:
     before: int | None = None           # the octet of slot 16 before this one, while there is no alignment
 
 
-class Followed(Lines):
+class FollowedTrunk(TrunkState):
     """Follows a trunk. Its clock is the trunk's."""
 
     lines: dict[int, FollowedLine]
@@ -175,7 +175,7 @@ class Followed(Lines):
     def when(self, place: int) -> float:
         return place / OCTETS_A_SECOND
 
-    def begin(self, place: int, circuits: Iterable[Standing]) -> None:
+    def begin(self, place: int, circuits: Iterable[CircuitState]) -> None:
         """Follows from this place of the trunk on, with circuits that are this. What is sent tells the alarms."""
         self.place, self.alarms = place, both(False)
         for each in circuits:
@@ -209,7 +209,7 @@ class Followed(Lines):
         """Whether more of the same changes nothing."""
         lines = self.lines
         return (not self._disturbed and self._multi.start is not None and not self._multi.errors
-                and self._frames.errors == [0, 0] and all(line.settled() for line in lines.values())
+                and self._frames.errors == [0, 0] and all(line.is_steady() for line in lines.values())
                 and all(lines[n].last == pair for n, pair in self._fresh.items()))
 
     def _look_at(self, given: bytes, answered: bytes) -> None:

@@ -26,13 +26,13 @@ from .keep import seconds_of
 from .keeper import KEPT, MOST_REOPEN, REOPEN, TRUNK_NAMES, Asked, Keeper
 from .left import end_left_overs, end_others, left_in, state_of
 from .lines import SEIZURE_WAIT, wait_words
-from .outlets import Journal, hold_descriptors
 from .parent import parent
 from .places import folder_of, is_taken
 from .programs import SENDERS, ConfigRefused, check_config, program_of, senders_of
 from .recorder import Recording
 from .systemd import Notify, given
 from .trunks import Stream, host_and_port, open_files, open_tcp, open_unix
+from .writers import Journal, hold_descriptors
 
 
 RUN_NAMES = 'tape', 'hello', 'program'          # of the descriptors of a run

@@ -149,7 +149,7 @@ def both(value: bool) -> dict[Alignment, bool]:
     return dict.fromkeys(Alignment, value)
 
 
-class Lines:
+class TrunkState:
     """The lines and the alarms of a trunk. `tell(event)` is called with a dictionary at each change."""
 
     def __init__(self, law: str, lines: Mapping[int, Line], tell: Tell | None = None) -> None:
@@ -168,7 +168,7 @@ class Lines:
         """Whether the gateway sends an alarm."""
         return any(self.alarms.values())
 
-    def dark_words(self) -> str | None:
+    def outage(self) -> str | None:
         """Why no seizure can reach the other end, or None."""
         if self.alarm():
             return 'no alignment'

@@ -8,12 +8,12 @@ import sys
 from dataclasses import dataclass, field
 from typing import Any, Callable, NoReturn
 
+from .disconnects import DisconnectPolicy, on_loss_of
 from .explain import config_words
 from .faults import number, options_words, words_of_fault
-from .guards import OnLoss, on_loss_of
-from .outlets import Journal, hold_descriptors
 from .programs import ConfigRefused
 from .trunks import host_and_port
+from .writers import Journal, hold_descriptors
 
 
 class Usage(Exception):
@@ -36,7 +36,7 @@ class Options:
     json: str | None = None
     calls: str | None = None
     dark: float | None = None
-    on_loss: OnLoss = OnLoss()
+    on_loss: DisconnectPolicy = DisconnectPolicy()
     drawn: dict[str, Any] = field(default_factory=dict)
 
 

@@ -17,7 +17,7 @@ FILLS, CLOCKS = ('again', 'ones'), ('packets', 'own')
 
 
 @dataclass(frozen=True)
-class Circuit:
+class SatopCircuit:
     """The settings of an emulated circuit; both ends agree on all except jitter, fill and clock."""
 
     size: int = 256                 # octets of the trunk in a packet
@@ -60,7 +60,7 @@ def ends_of(text: str) -> tuple[tuple[str, int], tuple[str, int]]:
     return host_and_port(local), host_and_port(peer)
 
 
-def open_satop(local_and_peer: str, circuit: Circuit, program: str) -> SatopProcess:
+def open_satop(local_and_peer: str, circuit: SatopCircuit, program: str) -> SatopProcess:
     """The trunk at LOCAL:PORT,PEER:PORT, by this program. ValueError for other text, OSError for a host without address
     or a program that cannot be started."""
     try:
@@ -84,7 +84,7 @@ def add_arguments(parser: argparse.ArgumentParser) -> None:
                        help='the clock: the received packets, or this machine [default: packets]')
 
 
-def circuit_of(options: argparse.Namespace) -> Circuit:
+def circuit_of(options: argparse.Namespace) -> SatopCircuit:
     """The circuit of these options, or ValueError."""
-    return Circuit(options.satop_size, options.satop_jitter, options.satop_rtp, options.satop_fill,
-                   options.satop_clock)
+    return SatopCircuit(options.satop_size, options.satop_jitter, options.satop_rtp, options.satop_fill,
+                        options.satop_clock)

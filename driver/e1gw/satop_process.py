@@ -33,7 +33,7 @@ def counts_of(line: str) -> dict[str, int] | None:
     return counts
 
 
-class Said:
+class SatopMessages:
     """What the program says on standard error, line by line."""
 
     def __init__(self, pipe: int) -> None:
@@ -53,7 +53,7 @@ class Said:
         return [line.decode(errors='replace') for line in whole]
 
 
-class Missing:
+class MissingPackets:
     """Whether packets are missing: the program plays by its own clock then, and counts each tick."""
 
     def __init__(self) -> None:
@@ -87,7 +87,7 @@ class SatopProcess(Stream):
         finally:
             its.close()
         assert self._process.stderr
-        self._said, self._missing = Said(self._process.stderr.fileno()), Missing()
+        self._said, self._missing = SatopMessages(self._process.stderr.fileno()), MissingPackets()
         self.counts: dict[str, int] = {}
         self._looks_at = 0.0
         file = ours.detach()

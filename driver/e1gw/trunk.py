@@ -22,12 +22,12 @@ from .faults import Parser, number
 from .keep import seconds_of
 from .lines import SEIZURE_WAIT
 from .options import Usage, add_calls, add_control, add_options, fields_of, run
-from .outlets import Journal
 from .places import folder_of
 from .programs import check_config, program_of
 from .supervisor import Part, Parts, Supervisor
 from .systemd import Notify
 from .trunk_options import add_trunk, opening_of
+from .writers import Journal
 
 NO_MORE = 'without effect, as the program reads the trunk when octets come'
 # What the keeper is given, the carrier, and the watcher, as these options are asked for.

@@ -18,9 +18,9 @@ from .faults import Parser, number
 from .loop import Loop
 from .managed import serve
 from .options import Usage, add_calls, add_control, add_options, fields_of, run
-from .outlets import Journal
 from .programs import ConfigRefused
-from .watcher import Watcher, WatchOptions
+from .watcher import WatchOptions, Watcher
+from .writers import Journal
 
 
 def parser() -> argparse.ArgumentParser:

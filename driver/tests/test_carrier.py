@@ -14,7 +14,7 @@ from typing import Any
 from unittest import mock
 
 from . import support
-from .test_clear import Device
+from .test_clear import ClearDevice
 from .world import SECONDS
 from e1gw import carrier
 from e1gw.carrier import ONES, Carrier
@@ -40,7 +40,7 @@ def all_of(line: socket.socket) -> bytes:
     return out
 
 
-class Pairs(unittest.TestCase):
+class CarrierTests(unittest.TestCase):
     """A trunk and programs, each the other end of a socket pair."""
 
     def setUp(self) -> None:
@@ -208,7 +208,7 @@ class Pairs(unittest.TestCase):
         self.assertEqual(self.give(bytes(324)), ONES * 324)
 
 
-class Alarms(unittest.TestCase):
+class CarrierAlarmTests(unittest.TestCase):
     def test_ones_with_crc4_are_still_ais(self) -> None:
         """Fewer than three zeros in two frames (ITU-T O.162)."""
         octets = support.run('crc4', given=AIS * 200)
@@ -216,12 +216,12 @@ class Alarms(unittest.TestCase):
             self.assertLess(16 * FRAME - int.from_bytes(octets[at:at + 2 * FRAME], 'big').bit_count(), 3)
 
 
-class Cards(unittest.TestCase):
+class CarrierCardTests(unittest.TestCase):
     """A card that keeps slot 0 behind a carrier: its slots stay in their places whoever is connected."""
 
     def test_slots_of_programs_one_after_another(self) -> None:
         chance = random.Random(11)
-        device = Device(b'')
+        device = ClearDevice(b'')
         one = Carrier(lambda event: None)
         self.addCleanup(one.close)
         one.open(Clear(device, Place('A')))
@@ -250,16 +250,16 @@ class Cards(unittest.TestCase):
             device.taken = device.taken[len(device.taken) // 31 * 31:]
 
 
-class Started(support.Folder):
+class CarrierCase(support.Folder):
     """The command itself, with a Unix socket as its trunk."""
 
     def setUp(self) -> None:
         super().setUp()
-        self.door = socket.socket(socket.AF_UNIX)
-        self.addCleanup(self.door.close)
-        self.door.bind(self.path('card'))
-        self.door.listen(1)
-        self.door.settimeout(SECONDS)
+        self.listener = socket.socket(socket.AF_UNIX)
+        self.addCleanup(self.listener.close)
+        self.listener.bind(self.path('card'))
+        self.listener.listen(1)
+        self.listener.settimeout(SECONDS)
 
     def starts(self, *words: str) -> None:
         self.process = subprocess.Popen(
@@ -276,7 +276,7 @@ class Started(support.Folder):
         return self.process.returncode, said.decode() if said else ''
 
     def accept(self) -> None:
-        self.far = self.door.accept()[0]
+        self.far = self.listener.accept()[0]
         self.addCleanup(self.far.close)
         self.far.settimeout(SECONDS)
 
@@ -312,7 +312,7 @@ class Started(support.Folder):
         return out
 
 
-class Service(Started):
+class CarrierServiceTests(CarrierCase):
     def both_ways(self, program: socket.socket, seed: int) -> None:
         octets = random.Random(seed).randbytes(20 * MULTIFRAME)
         for at in range(0, len(octets), MULTIFRAME):

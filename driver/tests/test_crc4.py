@@ -47,7 +47,7 @@ def with_bit(octet: int, bit: int) -> int:
     return octet & 0x7F | bit << 7
 
 
-class Sender:
+class Crc4Sender:
     """What an exchange sends, with CRC-4 multiframes."""
 
     def __init__(self) -> None:
@@ -124,11 +124,11 @@ def of_carrier(world: World, *words: str) -> int:
     return of_children(descendant(world.process.pid, 'e1gw-carry'), *words)[0]
 
 
-class Demanding(World):
+class Crc4World(World):
     """A driver with --crc4, whose exchange sends CRC-4."""
 
     def __init__(self, config: str, *options: str) -> None:
-        self.sender = Sender()
+        self.sender = Crc4Sender()
         super().__init__(config, '--crc4', *options)
 
     def give(self, octets: bytes) -> bytes:
@@ -141,7 +141,7 @@ class Demanding(World):
         return found
 
 
-class Exchanges(unittest.TestCase):
+class Crc4ExchangeTests(unittest.TestCase):
     """The exchange's own CRC-4."""
 
     def test_long_division(self) -> None:
@@ -149,7 +149,7 @@ class Exchanges(unittest.TestCase):
         self.assertEqual([remainder(bytes([n])) for n in (1, 2, 3)], [0b0011, 0b0110, 0b0101])
 
     def test_what_it_sends_is_found_right(self) -> None:
-        sender, exchange = Sender(), support.Exchange()
+        sender, exchange = Crc4Sender(), support.Exchange()
         sent = b''.join(sender.multiframe(exchange.multiframe()) for _ in range(20))
         at = multiframe_in(sent, frame_alignment(sent, 7))
         assert at is not None
@@ -160,12 +160,12 @@ class Exchanges(unittest.TestCase):
         self.assertEqual(checked(bytes(turned), at).count(False), 1)
 
 
-class Service(unittest.TestCase):
+class Crc4ServiceTests(unittest.TestCase):
     def setUp(self) -> None:
         support.program()
 
-    def world(self, *options: str) -> Demanding:
-        world = Demanding(config_of(FOUR), *options)
+    def world(self, *options: str) -> Crc4World:
+        world = Crc4World(config_of(FOUR), *options)
         self.addCleanup(world.__exit__)
         return world
 
@@ -210,11 +210,11 @@ class Service(unittest.TestCase):
                      'CRC-4 errors reported by the other end (E bits): 1 of '):
             self.assertEqual(said.count(line), 1, said)
 
-    def ended(self, world: Demanding) -> dict[str, int]:
+    def ended(self, world: Crc4World) -> dict[str, int]:
         """The counts up to the end of a trunk; another one is opened then."""
-        with world.new_door() as door:
+        with world.new_listener() as listener:
             world.line.close()
-            world.take(door)
+            world.take(listener)
         until = time.monotonic() + SECONDS
         counts: dict[str, int] = {}
         while counts.get('checked') != len(world.sent) and time.monotonic() < until:
@@ -226,9 +226,9 @@ class Service(unittest.TestCase):
         world = aligned(self.world('--reopen'))
         world.line.sendall(b'\xD5' * 77)
         world.all_read()
-        with world.new_door() as door:
+        with world.new_listener() as listener:
             world.line.close()
-            world.take(door)
+            world.take(listener)
         world.exchange = support.Exchange()
         begun = len(world.heard) + 77
         world.give(b'\xD5' * (MULTIFRAME - 77))
@@ -247,7 +247,7 @@ class Service(unittest.TestCase):
             self.assertEqual(world.quit()[1].count('no CRC multiframe alignment'), 1)
 
     def test_behind_align(self) -> None:
-        with LateDemanding(config_of(FOUR), '--align') as world:
+        with LateCrc4World(config_of(FOUR), '--align') as world:
             aligned(world)
             call(world, 1)
             world.step(SECOND)
@@ -261,7 +261,7 @@ class Service(unittest.TestCase):
     def test_it_ends_with_each_filter(self) -> None:
         for words, said in ((('crc4',), 'cannot be read or written: e1gw crc4 ended by signal 9'),
                             (('crc4', '--check'), 'cannot be read or written: e1gw crc4 --check ended by signal 9')):
-            with self.subTest(words), Demanding(config_of(FOUR)) as world:
+            with self.subTest(words), Crc4World(config_of(FOUR)) as world:
                 aligned(world)
                 os.kill(of_carrier(world, *words), signal.SIGKILL)
                 try:
@@ -275,14 +275,14 @@ class Service(unittest.TestCase):
     def test_it_comes_again(self) -> None:
         world = aligned(self.world('--reopen'))
         call(world, 1)
-        with world.new_door() as door:
+        with world.new_listener() as listener:
             os.kill(of_carrier(world, 'crc4'), signal.SIGKILL)
             try:
                 world.step()
             except (EOFError, ConnectionError, BrokenPipeError):
                 pass
             world.line.close()
-            world.take(door)
+            world.take(listener)
         world.exchange = support.Exchange()
         world.exchange.pairs[1] = 1
         begun = len(world.heard)
@@ -312,7 +312,7 @@ class Service(unittest.TestCase):
             self.assertEqual(out[1], support.run('crc4', given=out[0]))
 
 
-class LateDemanding(Demanding):
+class LateCrc4World(Crc4World):
     """Its exchange is heard three bits late."""
 
     last = 0xFF
@@ -324,7 +324,7 @@ class LateDemanding(Demanding):
         return World.give(self, (bits & (1 << 8 * len(octets)) - 1).to_bytes(len(octets), 'big'))
 
 
-class Checks(unittest.TestCase):
+class Crc4CheckTests(unittest.TestCase):
     """One check after another, each over some thousand octets."""
 
     def setUp(self) -> None:
@@ -372,7 +372,7 @@ class Checks(unittest.TestCase):
         self.assertEqual(self.crc4.checked, 2 * len(given))
 
     def test_errors_begin_and_end(self) -> None:
-        sender, exchange = Sender(), support.Exchange()
+        sender, exchange = Crc4Sender(), support.Exchange()
         sender.errored_at = {60, 70, 200}
         given = b''.join(sender.multiframe(exchange.multiframe()) for _ in range(250))
         self.assertEqual(self.through(given), given)
@@ -384,7 +384,7 @@ class Checks(unittest.TestCase):
                           'CRC-4 errors: 1', 'CRC-4 errors over: 1'])
 
     def test_lost_for_good(self) -> None:
-        sender, exchange = Sender(), support.Exchange()
+        sender, exchange = Crc4Sender(), support.Exchange()
         self.through(b''.join(sender.multiframe(exchange.multiframe()) for _ in range(60)))
         self.through(b'\xD5' * 60_000)
         self.trunk.close()
@@ -409,7 +409,7 @@ class Checks(unittest.TestCase):
         self.assertEqual(len(out), 35_600)
 
 
-class Counts(unittest.TestCase):
+class Crc4CountTests(unittest.TestCase):
     def counts(self, *numbers: int) -> dict[str, int]:
         return dict(zip(crc4.COUNTS, numbers))
 

@@ -16,7 +16,7 @@ from .world import World, config_of
 from e1gw import ctl, ctl_all
 
 
-class Words(unittest.TestCase):
+class CtlWordTests(unittest.TestCase):
     def test_several_circuits(self) -> None:
         for command, each in (('seize 1-3,7', ['seize 1', 'seize 2', 'seize 3', 'seize 7']),
                               ('codec 4-5 pcma 8', ['codec 4 pcma 8', 'codec 5 pcma 8']), ('seize 3', ['seize 3']),
@@ -36,7 +36,7 @@ class Words(unittest.TestCase):
         self.assertEqual(ctl.unit_words('./west.control', FileNotFoundError()), '')
 
 
-class Machine(unittest.TestCase):
+class CtlMachineTests(unittest.TestCase):
     """Two trunks, west in service and east that does not answer, and a unit that is not in service."""
 
     def setUp(self) -> None:

@@ -13,8 +13,8 @@ import time
 import unittest
 
 from . import devices, support
-from .test_trunk import FOUR, aligned, call
 from .bits import expected, late
+from .test_trunk import FOUR, aligned, call
 from .world import LAUNCHER, SECONDS, World, aligner_of, config_of, descendant
 from e1gw import session
 from e1gw.filtered import Received, align
@@ -32,7 +32,7 @@ def carried(bits: int, start: int, end: int) -> bytes:
 ENDED = 'the trunk cannot be read or written: e1gw align ended by signal 9'
 
 
-class Broken(Stream):
+class BrokenStream(Stream):
     """A device that fails where another ends."""
 
     def read(self, most: int) -> bytes:
@@ -42,7 +42,7 @@ class Broken(Stream):
             raise OSError(errno.EIO, 'no carrier') from None
 
 
-class Through(unittest.TestCase):
+class FilterTests(unittest.TestCase):
     def setUp(self) -> None:
         support.program()
 
@@ -107,14 +107,14 @@ class Through(unittest.TestCase):
         self.assertEqual(trunk.waiting(), 0)
 
     def test_the_end_comes_after_the_last_octet(self) -> None:
-        for kind, end in ((Stream, EOFError), (Broken, OSError)):
+        for kind, end in ((Stream, EOFError), (BrokenStream, OSError)):
             trunk, theirs = self.opened(kind)
             theirs.sendall(carried(0, 0, 3000))
             theirs.shutdown(socket.SHUT_WR)
             self.assertEqual(self.octets(trunk, 3000), carried(0, 0, 3000))
             with self.assertRaises(end) as raised:
                 self.octets(trunk, 1)
-            if kind is Broken:
+            if kind is BrokenStream:
                 self.assertIn('no carrier', str(raised.exception))
 
     def test_a_process_that_is_killed(self) -> None:
@@ -197,7 +197,7 @@ class Through(unittest.TestCase):
                 options_of(['--config', 'trunk.toml', '--align', *words])
 
 
-class Late(World):
+class LateWorld(World):
     """A driver whose exchange is heard three bits late."""
 
     last = 0xFF
@@ -208,12 +208,12 @@ class Late(World):
         return super().give((bits & (1 << 8 * len(octets)) - 1).to_bytes(len(octets), 'big'))
 
 
-class Service(unittest.TestCase):
+class FilterServiceTests(unittest.TestCase):
     def setUp(self) -> None:
         support.program()
 
     def test_a_call(self) -> None:
-        with Late(config_of(FOUR), '--align') as world:
+        with LateWorld(config_of(FOUR), '--align') as world:
             aligned(world)
             call(world, 1)
             self.assertEqual(world.status()['transport']['aligning'], 0)
@@ -234,28 +234,28 @@ class Service(unittest.TestCase):
             self.assertEqual(os.path.getsize(writes), 20_001)
 
     def test_without_it_there_is_no_alignment(self) -> None:
-        with Late(config_of(FOUR)) as world:
+        with LateWorld(config_of(FOUR)) as world:
             world.step(100)
             self.assertEqual(world.ask('seize 1'), 'seize 1: no alignment')
 
     def test_it_ends_with_the_process(self) -> None:
-        with Late(config_of(FOUR), '--align') as world:
+        with LateWorld(config_of(FOUR), '--align') as world:
             aligned(world)
             os.kill(descendant(world.process.pid, 'align'), signal.SIGKILL)
             status, said = world.wait()
             self.assertEqual((status, said.count(ENDED)), (1, 1))
 
     def test_it_comes_again(self) -> None:
-        with Late(config_of(FOUR), '--align', '--reopen') as world:
+        with LateWorld(config_of(FOUR), '--align', '--reopen') as world:
             aligned(world)
             call(world, 1)
             world.line.close()
-            with world.new_door() as door:
-                world.take(door)
+            with world.new_listener() as listener:
+                world.take(listener)
                 world.step(50)
                 os.kill(descendant(world.process.pid, 'align'), signal.SIGKILL)
                 world.line.close()
-                world.take(door)
+                world.take(listener)
             world.step(50)
             world.connected()
             world.until(lambda: bool(world.status()['trunk_up']))

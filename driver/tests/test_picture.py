@@ -11,14 +11,14 @@ import unittest
 
 from .support import program, run
 
-from .picture_made import TROUBLES, Made, Sender, answered, recorded, rtp
+from .picture_made import TROUBLES, MadeSession, PictureSender, answered, recorded, rtp
 
-from e1gw.followed import Followed
+from e1gw.followed import FollowedTrunk
 from e1gw.lines import read_config
 from e1gw.picture import page
-from e1gw.picture.facts import MOST, Facts, Row, Spans, RANK
+from e1gw.picture.facts import MOST, RANK, Facts, Row, Spans
 from e1gw.picture.findings import findings
-from e1gw.picture.following import Follower
+from e1gw.picture.following import PictureFollower
 from e1gw.picture.page import MOST as MOST_OCTETS
 from e1gw.picture.page import draw, numbers
 from e1gw.picture.reading import read
@@ -36,12 +36,12 @@ FOUND = {'no-datagrams': 'none', 'other-type': 'type', 'other-codec': 'words', '
          'not-open': 'not open', 'other-order': 'order other', 'unacknowledged': 'unacknowledged'}
 
 
-def config_of(session: Made) -> dict[str, object]:
+def config_of(session: MadeSession) -> dict[str, object]:
     import tomllib
     return tomllib.loads(session.config())
 
 
-def facts_of(session: Made, codes: list[int], last: int | None = None) -> Facts:
+def facts_of(session: MadeSession, codes: list[int], last: int | None = None) -> Facts:
     """What is gathered of a session whose datagrams are answered by these codes."""
     records = list(session.given())
     return read(io.BytesIO(b''.join(records)), io.BytesIO(answered(records, codes)), config_of(session), last)
@@ -64,13 +64,13 @@ def made_folder() -> str:
     return folder.name
 
 
-class Gathered(unittest.TestCase):
+class FactsTests(unittest.TestCase):
     """What becomes of each datagram, by answers that are written by hand."""
 
-    def call(self, count: int = 40, **sender: object) -> Made:
-        session = Made(0.4 + 0.02 * count, {3: {'prefill': 320}})
+    def call(self, count: int = 40, **sender: object) -> MadeSession:
+        session = MadeSession(0.4 + 0.02 * count, {3: {'prefill': 320}})
         session.call(3, 0.05, 9.0)
-        session.senders.append(Sender(3, 0.2, 0.2 + 0.02 * count - 0.001, **sender))    # type: ignore[arg-type]
+        session.senders.append(PictureSender(3, 0.2, 0.2 + 0.02 * count - 0.001, **sender))    # type: ignore[arg-type]
         return session
 
     def test_counts(self) -> None:
@@ -86,7 +86,7 @@ class Gathered(unittest.TestCase):
     def test_later_datagrams_come_later_before_their_turn(self) -> None:
         # The second to the last come 10 ms, 80 samples, after their time.
         session = self.call(3)
-        session.senders = [Sender(3, 0.2, 0.21), Sender(3, 0.23, 0.24), Sender(3, 0.25, 0.26)]
+        session.senders = [PictureSender(3, 0.2, 0.21), PictureSender(3, 0.23, 0.24), PictureSender(3, 0.25, 0.26)]
         records = list(session.given())
         stamps = iter((0, 160, 320))
         records = [record[:4] + rtp(0, next(stamps), 7) if record[0] == Kind.DATAGRAM else record for record in records]
@@ -151,13 +151,13 @@ class Gathered(unittest.TestCase):
         self.assertEqual(places, sorted(set(places)))
 
 
-class Quick(unittest.TestCase):
+class PictureFollowerTests(unittest.TestCase):
     """Passing over multiframes that are alike changes nothing."""
 
     def test_like_each_octet(self) -> None:
         for seed in range(4):
             rng = random.Random(seed)
-            session = Made(1.6, {n: {'role': 'incoming'} for n in range(2, 31, 3)})
+            session = MadeSession(1.6, {n: {'role': 'incoming'} for n in range(2, 31, 3)})
             for n in range(1, 29, 4):
                 session.call(n, rng.uniform(0.05, 0.6), rng.uniform(0.7, 1.3), 0.1, rng.random() < 0.8)
             session.events += [(rng.uniform(0, 1.5), 'pair', n, rng.randrange(4)) for n in range(1, 31, 2)]
@@ -172,7 +172,7 @@ class Quick(unittest.TestCase):
 
     def alike(self, records: list[bytes], config: dict[str, object], seed: int) -> None:
         told: tuple[list[object], list[object]] = ([], [])
-        slow, quick = Followed(config, told[0].append), Follower(config, told[1].append)
+        slow, quick = FollowedTrunk(config, told[0].append), PictureFollower(config, told[1].append)
         answers = records_in(answered(records, []))
         waiting: list[tuple[bytes, bytes]] = []
         for record, answer in zip(records, answers):
@@ -190,7 +190,7 @@ class Quick(unittest.TestCase):
         self.assertEqual(slow.place, quick.place)
 
 
-class BesideTheProgram(unittest.TestCase):
+class FactsBesideCheckTests(unittest.TestCase):
     """The figures are those of `e1gw check` and of the answers of `e1gw replay`."""
 
     def test_figures(self) -> None:
@@ -244,7 +244,7 @@ class BesideTheProgram(unittest.TestCase):
         self.assertIn('come 380 ms earlier', next(each.seen for each in found if each.kind == 'gap'))
 
 
-class Checker(html.parser.HTMLParser):
+class PageChecker(html.parser.HTMLParser):
     """Sees that what is opened is closed, and that nothing is fetched."""
     EMPTY = {'meta', 'br', 'rect', 'path', 'circle'}
 
@@ -267,7 +267,7 @@ class Checker(html.parser.HTMLParser):
         self.words.append(data)
 
 
-class Drawn(unittest.TestCase):
+class PicturePageTests(unittest.TestCase):
     """The page."""
 
     def busy(self) -> Facts:
@@ -288,7 +288,7 @@ class Drawn(unittest.TestCase):
         return facts
 
     def checked(self, text: str) -> str:
-        checker = Checker()
+        checker = PageChecker()
         checker.feed(text)
         self.assertEqual(checker.open, [])
         return ' '.join(checker.words)
@@ -300,9 +300,9 @@ class Drawn(unittest.TestCase):
         self.assertLess(MOST_OCTETS, 2_000_000)
 
     def test_says_what_was_counted(self) -> None:
-        session = Made(1.4, {3: {'prefill': 320, 'local_port': 24006, 'peer_port': 24106}})
+        session = MadeSession(1.4, {3: {'prefill': 320, 'local_port': 24006, 'peer_port': 24106}})
         session.call(3, 0.05, 9.0)
-        session.senders.append(Sender(3, 0.2, 1.0 - 0.001, kind=13))
+        session.senders.append(PictureSender(3, 0.2, 1.0 - 0.001, kind=13))
         records = list(session.given())
         words = self.checked(page(b''.join(records), answered(records, [11] * 40), config_of(session)))
         self.assertIn('40 of 40 packets were discarded as PayloadType: type 13 came, the circuit has 8', words)
@@ -320,7 +320,7 @@ class Drawn(unittest.TestCase):
                 self.assertEqual(len(re.findall(f'<path [^>]*class="{kind}"', text)), 2)
 
     def test_a_codec_given_again_is_no_other_command(self) -> None:
-        session = Made(1.0, {3: {'prefill': 320}})
+        session = MadeSession(1.0, {3: {'prefill': 320}})
         records = [codec_record(3, codec, payload) for codec, payload in
                    ((Codec.G711, 8), (Codec.G726_32, 96), (Codec.G726_32, 96))]
         whole = b''.join([*session.given(), *records])

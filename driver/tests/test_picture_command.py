@@ -12,8 +12,8 @@ import unittest
 
 from .support import TOP, Folder, program, run
 
-from .picture_made import (
-    BEGIN, CAPTURED, PEER, TROUBLES, Made, Sender, answered, beside, captured, icmp, pcap, recorded, udp)
+from .picture_made import (BEGIN, CAPTURED, PEER, TROUBLES, MadeSession, PictureSender, answered, beside, captured,
+                           icmp, pcap, recorded, udp)
 
 from e1gw.picture.capture import reckoned
 from e1gw.picture.main import parser
@@ -40,7 +40,7 @@ def pcapng(packets: list[tuple[float, bytes]]) -> bytes:
     return b''.join(out)
 
 
-class Drawn(Folder):
+class PictureCommandCase(Folder):
     """Runs the command on files."""
 
     def drawn(self, *words: str, status: int = 0, given: bytes = b'') -> tuple[str, str]:
@@ -52,15 +52,15 @@ class Drawn(Folder):
 
     def small(self, codes: int = 0) -> tuple[str, str, str]:
         """A session of a call whose twenty datagrams are all answered so: configuration, session, answers."""
-        made = Made(1.2, {3: {'prefill': 320}})
+        made = MadeSession(1.2, {3: {'prefill': 320}})
         made.call(3, 0.05, 1.0)
-        made.senders.append(Sender(3, 0.2, 0.5999))
+        made.senders.append(PictureSender(3, 0.2, 0.5999))
         records = list(made.given())
         return (self.write('trunk.toml', made.config()), self.write('given.rec', b''.join(records)),
                 self.write('answers.rec', answered(records, [codes] * 20)))
 
 
-class Run(Drawn):
+class PictureCommandTests(PictureCommandCase):
     """The command line."""
 
     def test_help_comes_first(self) -> None:
@@ -217,7 +217,7 @@ class Run(Drawn):
         self.assertIn('0 sent, 0 received, 0 discarded', page)
 
 
-class WithProgram(Drawn):
+class PictureAnswersTests(PictureCommandCase):
     """With `e1gw replay` for the answers."""
 
     def test_replayed(self) -> None:
@@ -270,7 +270,7 @@ class WithProgram(Drawn):
         self.assertEqual(len(drawn), len(TROUBLES) - 1 + len(CAPTURED))
 
 
-class Captured(Drawn):
+class PictureCaptureTests(PictureCommandCase):
     """Datagrams of a capture."""
 
     def test_forms_of_captures(self) -> None:

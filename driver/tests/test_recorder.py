@@ -14,7 +14,7 @@ import time
 import unittest
 
 from . import support
-from .test_keeper import LAUNCHER, SECONDS, Kept
+from .test_keeper import LAUNCHER, SECONDS, KeeperCase
 from e1gw.behind import run_last
 from e1gw.kept import beside, kept, octets_of
 from e1gw.session import MULTIFRAME, Kind, records_in
@@ -22,7 +22,7 @@ from e1gw.session import MULTIFRAME, Kind, records_in
 RECORDER = re.compile(r'recorder (\d+)')
 
 
-class Recorded(Kept):
+class RecorderCase(KeeperCase):
     """A kept trunk whose recordings are kept."""
 
     def recorder(self) -> int:
@@ -58,7 +58,7 @@ class Recorded(Kept):
         self.step(self.chance.randrange(1, 40))
 
 
-class OneFile(Recorded):
+class RecordedFileTests(RecorderCase):
     def test_whole_session(self) -> None:
         """Whatever ends beside the program, nothing that was heard is lost; what is kept begins as it was."""
         self.starts('--session', self.path('kept'))
@@ -116,7 +116,7 @@ class OneFile(Recorded):
         self.ends()
 
 
-class Ring(Recorded):
+class RecordedRingTests(RecorderCase):
     def files(self) -> list[str]:
         """The files of the ring without their endings, in their order."""
         names = os.listdir(self.path('ring')) if os.path.exists(self.path('ring')) else []
@@ -206,7 +206,7 @@ class Ring(Recorded):
             self.assertEqual(status, 0, said)
 
 
-class Refusals(Recorded):
+class RecorderRefusalTests(RecorderCase):
     def test_options(self) -> None:
         words = ('--config', self.config, '--unix', self.device.path)
         for options, said in ((('--keep', '1h'), '--keep wants --session'),

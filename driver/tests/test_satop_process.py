@@ -7,7 +7,7 @@ import tempfile
 import unittest
 from typing import Any
 
-from e1gw.satop_process import Missing, SatopProcess, counts_of
+from e1gw.satop_process import MissingPackets, SatopProcess, counts_of
 
 PATIENCE = 10.0
 WORDS = ['127.0.0.1:5000', '127.0.0.1:5001', '--size', '256']
@@ -27,7 +27,7 @@ sys.exit(3)
 '''
 
 
-class Lines(unittest.TestCase):
+class SatopCountLineTests(unittest.TestCase):
     def test_counts(self) -> None:
         self.assertEqual(counts_of('satop received=1000 sent=999 malformed_short=0'),
                          {'received': 1000, 'sent': 999, 'malformed_short': 0})
@@ -36,14 +36,14 @@ class Lines(unittest.TestCase):
 
     def test_missing_packets(self) -> None:
         """They are missing from the first tick on, until packets come and no tick."""
-        missing, told = Missing(), []
+        missing, told = MissingPackets(), []
         for received, ticks in ((5, 0), (9, 0), (9, 80), (9, 1080), (40, 1100), (1040, 1100), (2040, 1100)):
             if missing.changes({'received': received, 'ticks': ticks}):
                 told.append((received, missing.on))
         self.assertEqual(told, [(9, True), (1040, False)])
 
 
-class Process(unittest.TestCase):
+class SatopProcessTests(unittest.TestCase):
     def setUp(self) -> None:
         folder = tempfile.TemporaryDirectory()
         self.addCleanup(folder.cleanup)

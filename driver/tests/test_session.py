@@ -21,7 +21,7 @@ def manual() -> str:
         return file.read()
 
 
-class Words(unittest.TestCase):
+class SessionNameTests(unittest.TestCase):
     def test_kinds_are_the_manuals(self) -> None:
         rows = re.findall(r'^\.It ([TDCKR]) ([0-9A-F]{2}) Ta', manual(), re.M)
         self.assertEqual({(kind.letter, f'{kind:02X}') for kind in Kind}, set(rows))
@@ -50,7 +50,7 @@ class Words(unittest.TestCase):
         self.assertEqual(session.CodecRefusal.PAYLOAD_TYPE.words, 'no payload type of the codec')
 
 
-class Reading(unittest.TestCase):
+class RecordReaderTests(unittest.TestCase):
     def test_the_manuals_session(self) -> None:
         given = SEIZE + DATAGRAM + CODEC + EMPTY + ANSWER
         read = list(session.records(io.BytesIO(given)))
@@ -98,7 +98,7 @@ def datagram(first: int, rest: bytes) -> bytes:
     return struct.pack('>BBHII', first, 8, 1, 2, 3) + rest
 
 
-class Packets(unittest.TestCase):
+class RtpPacketTests(unittest.TestCase):
     def test_a_packet(self) -> None:
         octets = bytes.fromhex('80 E0 12 34 00 00 00 A0 DE AD BE EF') + b'speech'
         packet = session.packet_of(octets)

@@ -20,11 +20,12 @@ from e1gw.tie.circuit import CircuitEnd
 from e1gw.tie.coding import Coding, Codings
 from e1gw.tie.kept import KeptBlocks, read
 from e1gw.tie.main import ANYBODY, is_loopback, parser
-from e1gw.tie.messages import All, Alive, BadMessage, Change, Dark, Greeting, Message, message_of, spell
+from e1gw.tie.messages import (BadMessage, CircuitChange, Greeting, KeepAlive, Message, OutOfService, SiteState,
+                               message_of, spell)
 from e1gw.tie.pairs import BadPairs, agreed, pairs_of
 from e1gw.tie.site import Site, context_of, has_name
-from e1gw.tie.strangers import Stage, Stranger, Strangers, address_of
-from e1gw.tie.tie import TieOptions, Tie
+from e1gw.tie.strangers import Stranger, StrangerStage, Strangers, address_of
+from e1gw.tie.tie import Tie, TieOptions
 from tests.test_tie_circuit import CALLED, COLUMN, DONE, INCOMING, OUTGOING
 
 HERE = os.path.dirname(os.path.dirname(os.path.abspath(__file__)))
@@ -33,7 +34,7 @@ IDLE, SEIZED, ANSWER, HELD = 0b10, 0b00, 0b01, 0b11         # bits a and b
 PCMA, G726 = Coding('pcma', 8), Coding('g726-16', 96)
 
 
-class Pairs(unittest.TestCase):
+class TiePairsTests(unittest.TestCase):
     def test_text(self) -> None:
         self.assertEqual(pairs_of('1 2 # here there\n\n3-5 7-9\n'), {1: 2, 3: 7, 4: 8, 5: 9})
 
@@ -49,12 +50,13 @@ class Pairs(unittest.TestCase):
         self.assertEqual(agreed({1: 2, 3: 4}, {2: 1, 4: 5}), {1: 2})
 
 
-class Messages(unittest.TestCase):
+class TieMessageTests(unittest.TestCase):
     def test_there_and_back(self) -> None:
         end = CircuitEnd(Role.INCOMING, State.ACKED, 'a.1', True, 'a.0')
         sent: list[Message] = [
-            Greeting('ab', None), Greeting('ab', {1: 30}), All(True, {30: end}), All(False, {}, 'pcma'),
-            Change(1, end), Dark(False), Alive(), Change(2, CircuitEnd(Role.OUTGOING, State.FAULT, None))]
+            Greeting('ab', None), Greeting('ab', {1: 30}), SiteState(True, {30: end}), SiteState(False, {}, 'pcma'),
+            CircuitChange(1, end), OutOfService(False), KeepAlive(),
+            CircuitChange(2, CircuitEnd(Role.OUTGOING, State.FAULT, None))]
         for message in sent:
             self.assertEqual(message_of(spell(message)), message)
 
@@ -69,7 +71,7 @@ class Messages(unittest.TestCase):
                 message_of(line)
 
 
-class Help(unittest.TestCase):
+class TieHelpTests(unittest.TestCase):
     def test_help(self) -> None:
         said = subprocess.run([os.path.join(HERE, 'e1gw-tie'), '--help'], check=True, stdout=subprocess.PIPE).stdout
         for option in ('--control', '--listen', '--connect', '--map', '--tls', '--insecure', '--peer', '--hold',
@@ -87,7 +89,7 @@ class Help(unittest.TestCase):
             self.assertEqual(end.exception.code, 2)
 
 
-class Doors(unittest.TestCase):
+class TieAddressTests(unittest.TestCase):
     """Where a tie may listen."""
 
     def said(self, *words: str) -> tuple[int | None, str, list[dict[str, Any]]]:
@@ -126,13 +128,13 @@ class Doors(unittest.TestCase):
             parser().parse_args('--control a --listen 127.0.0.1:1 --insecure --tls a b c'.split())
 
 
-class Crowd(unittest.TestCase):
+class StrangersTests(unittest.TestCase):
     """Who is closed where too many connect, at a peer of 10.0.0.1."""
 
     def setUp(self) -> None:
         self.strangers = Strangers('10.0.0.1')
 
-    def add(self, address: str, stage: Stage = Stage.SILENT) -> Stranger:
+    def add(self, address: str, stage: StrangerStage = StrangerStage.SILENT) -> Stranger:
         made = Stranger(address, stage)
         self.strangers.add(made)
         return made
@@ -160,16 +162,16 @@ class Crowd(unittest.TestCase):
 
     def test_silent_ones_go_first(self) -> None:
         """Who has sent something, or shown a certificate, stays while there is one that has not."""
-        shown = self.add('10.0.0.1', Stage.CERTIFIED)
-        speaks = self.add('10.0.0.1', Stage.SPEAKS)
+        shown = self.add('10.0.0.1', StrangerStage.CERTIFIED)
+        speaks = self.add('10.0.0.1', StrangerStage.SPEAKS)
         added = [self.add('10.0.0.1') for _ in range(20)]
         self.assertEqual(self.found, [shown, speaks, *added[-6:]])
-        more = [self.add('10.0.0.1', Stage.SPEAKS) for _ in range(7)]
+        more = [self.add('10.0.0.1', StrangerStage.SPEAKS) for _ in range(7)]
         self.assertEqual(self.found, [shown, *more])
 
     def test_pace(self) -> None:
         """New ones wait where one that speaks is closed for them, but not where an address has one too many."""
-        silent, speaks = Stranger('10.0.0.2'), Stranger('10.0.0.2', Stage.SPEAKS)
+        silent, speaks = Stranger('10.0.0.2'), Stranger('10.0.0.2', StrangerStage.SPEAKS)
         same, other = Stranger('10.0.0.2'), Stranger('10.0.0.3')
         hard = [self.strangers.is_hard(*pair) for pair in ((silent, other), (speaks, same), (speaks, other))]
         self.assertEqual(hard, [False, False, True])
@@ -184,7 +186,7 @@ class Crowd(unittest.TestCase):
         self.assertEqual(address_of('fe80::1%eth0'), address_of('fe80::2'))
 
 
-class Reasons(unittest.TestCase):
+class RefusalReportTests(unittest.TestCase):
     def test_told(self) -> None:
         """Why nobody was let in is told once a minute for each reason, and for ten of them at most."""
         told: list[str] = []
@@ -200,7 +202,7 @@ class Reasons(unittest.TestCase):
             self.assertEqual(told[10:], ['reason 3'])
 
 
-class KeptFile(unittest.TestCase):
+class KeptBlocksTests(unittest.TestCase):
     def test_file(self) -> None:
         with tempfile.TemporaryDirectory() as folder:
             path = os.path.join(folder, 'kept')
@@ -215,7 +217,7 @@ class KeptFile(unittest.TestCase):
             KeptBlocks(os.path.join(folder, 'none', 'kept')).put((1,))        # is not written, and ends nothing
 
 
-class Played:
+class StandInDriver:
     """A driver at a control socket, whose lines go by the tables and whose exchange sends what the test sets."""
 
     def __init__(self, path: str, roles: dict[int, Role]) -> None:
@@ -306,7 +308,7 @@ class Played:
             self.move(n, table[self.states[n]][COLUMN[self.pairs[n]]])
 
 
-class Sites(unittest.IsolatedAsyncioTestCase):
+class TieCase(unittest.IsolatedAsyncioTestCase):
     """Two ties with played drivers: on odd circuits the west calls, on even ones the east."""
 
     async def asyncSetUp(self) -> None:
@@ -320,7 +322,7 @@ class Sites(unittest.IsolatedAsyncioTestCase):
                 change = mock.patch.object(patched, name, number)
                 change.start()
                 self.addCleanup(change.stop)
-        self.west, self.east = (Played(os.path.join(self.folder.name, name), {
+        self.west, self.east = (StandInDriver(os.path.join(self.folder.name, name), {
             n: Role.INCOMING if n % 2 == odd else Role.OUTGOING for n in CIRCUITS})
             for name, odd in (('west.ctl', 1), ('east.ctl', 0)))
         for driver in (self.west, self.east):
@@ -385,7 +387,7 @@ class Sites(unittest.IsolatedAsyncioTestCase):
         return lambda: (self.west.states[n], self.east.states[n]) == (west, east)
 
 
-class Lines(Sites):
+class TieCallTests(TieCase):
     """Calls from end to end."""
 
     async def test_call(self) -> None:
@@ -546,7 +548,7 @@ class Lines(Sites):
         await self.until(self.at(3, State.ACKED, State.ACKED))
 
 
-class UntilAnswer(Sites):
+class UntilAnswerTests(TieCase):
     """G.711 until the answer, and the configured codec from it on, at both ends."""
 
     def have(self, n: int, coding: Coding) -> Callable[[], bool]:
@@ -652,7 +654,7 @@ class UntilAnswer(Sites):
         self.assertEqual([n for n in CIRCUITS if self.west.codecs[n] == PCMA], [3])
 
 
-class WantedCodec(unittest.TestCase):
+class WantedCodecTests(unittest.TestCase):
     """Which codec is wanted where, by hand."""
 
     def codings(self, law: str = 'A', payload: int = 96, codec: str = 'g726-16') -> tuple[Codings, str | None]:
@@ -699,10 +701,10 @@ def free_port() -> int:
 
 
 @unittest.skipUnless(shutil.which('openssl'), 'openssl makes the certificates')
-class Certificates(Sites):
+class CertificateTests(TieCase):
     """The same connection by TLS, and who is let in."""
 
-    test_call, test_strangers = Lines.test_call, Lines.test_strangers
+    test_call, test_strangers = TieCallTests.test_call, TieCallTests.test_strangers
 
     async def asyncSetUp(self) -> None:
         await super().asyncSetUp()
@@ -753,7 +755,7 @@ class Certificates(Sites):
         rows: list[tuple[list[str], list[str]]] = [([], [ANYBODY]), (['--peer', 'east'], [])]
         for more, told in rows:
             words = ('--listen', f'127.0.0.1:{free_port()}', '--tls', *files, *more)
-            events = Doors().said(*words)[2]
+            events = TieAddressTests().said(*words)[2]
             self.assertEqual([each['about'] for each in events if each['event'] == 'warning'], told)
 
     async def test_without_tls(self) -> None:

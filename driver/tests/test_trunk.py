@@ -63,7 +63,7 @@ def call(world: World, circuit: int) -> None:
     assert world.state(circuit) == 'answered'
 
 
-class Commands(unittest.TestCase):
+class TrunkCommandTests(unittest.TestCase):
     """Each command's each answer, by the tables of e1gw-session(5)."""
 
     def setUp(self) -> None:
@@ -151,7 +151,7 @@ class Commands(unittest.TestCase):
                       [{key: each for key, each in event.items() if key != 'time'} for event in told])
 
 
-class Sessions(unittest.TestCase):
+class TrunkSessionTests(unittest.TestCase):
     def setUp(self) -> None:
         support.program()
 
@@ -206,7 +206,7 @@ class Sessions(unittest.TestCase):
                 self.assertEqual(world.status()['circuits'][0]['datagrams'].get('Short', 0), short)
 
 
-class Beside(unittest.TestCase):
+class BesideCallsTests(unittest.TestCase):
     """What ends beside the calls; the calls go on."""
 
     def setUp(self) -> None:
@@ -261,10 +261,10 @@ class Beside(unittest.TestCase):
             with self.subTest(name), World(config_of(FOUR), *options) as world:
                 aligned(world)
                 call(world, 1)
-                with world.new_door() as door:
+                with world.new_listener() as listener:
                     os.kill(descendant(world.process.pid, name), signal.SIGKILL)
                     world.line.close()
-                    world.take(door)
+                    world.take(listener)
                 world.exchange = support.Exchange()
                 world.exchange.pairs[1] = ANSWERED
                 world.connected()
@@ -410,7 +410,7 @@ def cut(options: Sequence[str]) -> list[list[str]]:
     return found
 
 
-class Refused(support.Folder):
+class RefusedOptionsTests(support.Folder):
     """Command lines that are refused with status 2, before anything is emptied."""
 
     def setUp(self) -> None:
@@ -453,9 +453,9 @@ class Refused(support.Folder):
 
     def test_a_socket_that_is_taken(self) -> None:
         path = os.path.join(self.folder, 'ctl')
-        with socket.socket(socket.AF_UNIX) as door:
-            door.bind(path)
-            door.listen()
+        with socket.socket(socket.AF_UNIX) as listener:
+            listener.bind(path)
+            listener.listen()
             status, said = self.run_driver('--config', self.good, '--unix', 'none', '--control', path)
         self.assertEqual((status, 'another one listens' in said), (2, True))
 
@@ -563,7 +563,7 @@ class Refused(support.Folder):
             self.assertEqual(file.read(), answered[0].body)
 
 
-class Units(support.Folder):
+class UnitTests(support.Folder):
     """What systemd is told."""
 
     def setUp(self) -> None:
@@ -592,11 +592,11 @@ class Units(support.Folder):
         return process
 
     def test_in_service_reload_and_end(self) -> None:
-        with socket.socket(socket.AF_UNIX) as door:
-            door.bind(self.path('card'))
-            door.listen(1)
+        with socket.socket(socket.AF_UNIX) as listener:
+            listener.bind(self.path('card'))
+            listener.listen(1)
             process = self.starts('--unix', self.path('card'))
-            line = door.accept()[0]
+            line = listener.accept()[0]
             self.assertEqual(self.told(), 'READY=1\nSTATUS=in service')
             self.assertTrue(os.path.exists(self.path('ctl')))
             process.send_signal(signal.SIGHUP)
@@ -611,7 +611,7 @@ class Units(support.Folder):
         self.assertEqual(self.told(), 'READY=1\nSTATUS=the trunk is not open yet')
 
 
-class OnLoss(unittest.TestCase):
+class OnLossTests(unittest.TestCase):
     def setUp(self) -> None:
         support.program()
 
@@ -658,7 +658,7 @@ class OnLoss(unittest.TestCase):
             self.assertEqual(world.state(1), 'answered')
 
 
-class Darkness(unittest.TestCase):
+class DarkTrunkTests(unittest.TestCase):
     def setUp(self) -> None:
         support.program()
 

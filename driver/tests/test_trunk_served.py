@@ -53,7 +53,7 @@ def read_all(end: socket.socket, length: int) -> bytes:
     return got
 
 
-class Configured(unittest.TestCase):
+class ServedTrunkCase(unittest.TestCase):
     """A configuration of thirty circuits without ports."""
 
     def setUp(self) -> None:
@@ -69,7 +69,7 @@ class Configured(unittest.TestCase):
         return [support.program(), 'trunk', '--config', self.config, *words]
 
 
-class Served(Configured):
+class ServedTrunkTests(ServedTrunkCase):
     """A trunk without clients, and a seizure of each circuit."""
 
     def seizures(self) -> tuple[bytes, bytes]:
@@ -187,7 +187,7 @@ class Served(Configured):
         self.assertEqual(held[0], 0)
 
 
-class Trunk:
+class TrunkProcess:
     """A trunk in service over a socket pair, and the socket that its clients connect to."""
 
     def __init__(self, words: Sequence[str], control: str, passed: tuple[int, ...] = (), waits: bool = False) -> None:
@@ -199,7 +199,7 @@ class Trunk:
                                         pass_fds=passed)
         there.close()
 
-    def __enter__(self) -> Trunk:
+    def __enter__(self) -> TrunkProcess:
         return self
 
     def __exit__(self, kind: type[BaseException] | None, error: BaseException | None,
@@ -244,16 +244,16 @@ def answers_of(client: socket.socket, count: int) -> list[tuple[int, bytes]]:
     return [(record.circuit, record.body) for record in records_in(read_all(client, count * ANSWER_LENGTH))]
 
 
-class Clients(Configured):
+class TrunkClientTests(ServedTrunkCase):
     """Clients of a trunk, in lock step: a client's answer is read before anything else is sent."""
 
     def setUp(self) -> None:
         super().setUp()
         self.control = os.path.join(os.path.dirname(self.config), 'control')
 
-    def trunk(self, *words: str, passed: tuple[int, ...] = (), waits: bool = False) -> Trunk:
+    def trunk(self, *words: str, passed: tuple[int, ...] = (), waits: bool = False) -> TrunkProcess:
         """A trunk that has begun, over a socket that may wait."""
-        trunk = Trunk(self.serves('--control', self.control, *words), self.control, passed, waits)
+        trunk = TrunkProcess(self.serves('--control', self.control, *words), self.control, passed, waits)
         self.addCleanup(trunk.__exit__, None, None, None)
         self.assertEqual(len(trunk.passes(bytes(64))), 64)
         return trunk
@@ -392,9 +392,9 @@ class Clients(Configured):
 
     def test_a_socket_that_is_taken(self) -> None:
         self.trunk()
-        with Trunk(self.serves('--control', self.control), self.control) as second:
+        with TrunkProcess(self.serves('--control', self.control), self.control) as second:
             self.assertEqual(second.ended(), (2, 'cannot open the control socket\n'))
-        with Trunk(self.serves('--control', self.config), self.control) as third:
+        with TrunkProcess(self.serves('--control', self.config), self.control) as third:
             self.assertEqual(third.ended(), (2, 'cannot open the control socket\n'))
         self.assertEqual(os.stat(self.control).st_mode & 0o777, 0o660)
 
@@ -408,7 +408,7 @@ class Clients(Configured):
         self.assertEqual(trunk.ends(), (0, 'recording ended: a write failed\n'))
 
 
-class GoesOn(Configured):
+class HandedOverTrunkTests(ServedTrunkCase):
     """A trunk whose program ends at a client's word, and goes on in another one on the same device."""
 
     def setUp(self) -> None:

@@ -13,7 +13,7 @@ from e1gw.trunks import Stream, Trunk, host_and_port, open_files
 OCTETS = bytes(range(256)) * 2
 
 
-class Kinds(support.Folder):
+class TrunkKindTests(support.Folder):
     """Each kind gives the octets that come and sends those that go, and ends with an EOFError."""
 
     def both_ways(self, trunk: Trunk, reads: int, writes: int) -> None:
@@ -94,7 +94,7 @@ def port_of(world: World) -> int:
         return int(file.read().split('local_port = ')[1].split()[0])
 
 
-class Service(unittest.TestCase):
+class TrunkKindServiceTests(unittest.TestCase):
     def setUp(self) -> None:
         support.program()
 

@@ -88,7 +88,7 @@ def config_of(circuits: range, codec: str = 'pcma', payload: int = 8, prefill: i
     return ''.join(text)
 
 
-class Served:
+class ServedProgram:
     """A program in service whose control socket is `ctl` of a folder of its own."""
 
     process: subprocess.Popen[bytes]
@@ -170,7 +170,7 @@ SETTLES = 'codec 30 g726-16 95'     # a command that is refused and changes noth
 SETTLED = 'codec 30: no payload type of the codec'
 
 
-class World(Served):
+class World(ServedProgram):
     """An e1gw-trunk at a Unix socket, with a folder of its own. The exchange acknowledges and answers what is seized.
 
     It gives octets when a test does, and not by a clock; so but for an option --gap no pause is one. What it is asked
@@ -188,7 +188,7 @@ class World(Served):
         if '--gap' not in options:
             options += ('--gap', '10000')
         os.mkdir(self.path('run'))
-        with self._door() as door:
+        with self._listener() as listener:
             streams = {'stdin': subprocess.DEVNULL, 'stdout': subprocess.DEVNULL, 'stderr': subprocess.PIPE} | streams
             self.process = subprocess.Popen(
                 [*front, sys.executable, '-B', LAUNCHER, '--program', support.program(), '--config', self.config,
@@ -196,7 +196,7 @@ class World(Served):
                  *(word.replace('@', self.folder) for word in options)],
                 env={**os.environ, 'RUNTIME_DIRECTORY': self.path('run')}, **streams)
             try:
-                self.take(door)
+                self.take(listener)
                 self.connected()
             except BaseException:
                 self.__exit__()
@@ -232,10 +232,10 @@ class World(Served):
         """Returns once the watcher knows what was given."""
         assert self.ask_at_once(SETTLES) == SETTLED
 
-    def new_door(self) -> socket.socket:
+    def new_listener(self) -> socket.socket:
         """The socket anew, for a driver that opens its trunk again."""
         os.unlink(self.path('card'))
-        return self._door()
+        return self._listener()
 
     def all_read(self) -> None:
         """Returns once the other end has read all that was sent."""
@@ -247,20 +247,20 @@ class World(Served):
 
     def comes_again(self) -> None:
         """Takes whoever opens the trunk again, and waits until the watcher knows it."""
-        with self.new_door() as door:
-            self.take(door)
+        with self.new_listener() as listener:
+            self.take(listener)
         self.connected()
 
-    def _door(self) -> socket.socket:
-        door = socket.socket(socket.AF_UNIX)
-        door.bind(self.path('card'))
-        door.listen(1)
-        door.settimeout(SECONDS)
-        return door
+    def _listener(self) -> socket.socket:
+        listener = socket.socket(socket.AF_UNIX)
+        listener.bind(self.path('card'))
+        listener.listen(1)
+        listener.settimeout(SECONDS)
+        return listener
 
-    def take(self, door: socket.socket) -> None:
+    def take(self, listener: socket.socket) -> None:
         """Takes the driver that comes there."""
-        self.line = door.accept()[0]
+        self.line = listener.accept()[0]
         self.line.settimeout(SECONDS)
 
     def __enter__(self) -> Self:

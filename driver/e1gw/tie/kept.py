@@ -6,8 +6,8 @@ import json
 from typing import Iterable
 
 from ..keep import put_file
-from ..outlets import Outlet
 from ..session import CIRCUITS
+from ..writers import Writer
 
 
 class KeptBlocks:
@@ -15,7 +15,7 @@ class KeptBlocks:
 
     def __init__(self, path: str | None) -> None:
         self._circuits = read(path) if path else frozenset()
-        self._outlet = Outlet('state', functools.partial(put_file, path)) if path else None
+        self._outlet = Writer('state', functools.partial(put_file, path)) if path else None
 
     def has(self, circuit: int) -> bool:
         return circuit in self._circuits

@@ -14,7 +14,7 @@ from .circuit import NO_CALL, CallNames, CircuitEnd, LinkState, TieCircuit, begu
 from .client import ControlClient, Event
 from .control import AGAIN, ControlLink, Tasks, Tell
 from .kept import KeptBlocks
-from .messages import All, Change, Dark, Greeting, Message
+from .messages import CircuitChange, Greeting, Message, OutOfService, SiteState
 from .pairs import Pairs, agreed
 from .site import Site
 
@@ -34,7 +34,7 @@ class TieOptions:
     until_answer: str | None = None     # the codec of each call until it is answered
 
 
-class Refusals:
+class RefusalReports:
     """Why nobody is connected: each reason is reported once a minute, ten of them at most."""
 
     def __init__(self, tell: Tell) -> None:
@@ -113,7 +113,7 @@ class Tie:
         self.tasks = Tasks()
         self.control = ControlLink(options.control, options.hold, self, tell)
         self.codecs = CodecChanges(options.until_answer, self.control, self.tasks, tell, self._look_at_codec)
-        self.refusals = Refusals(tell)
+        self.refusals = RefusalReports(tell)
         self.calls = CallNames()
         self._octets = -1
         self._dark = self._far_dark = True
@@ -219,12 +219,12 @@ class Tie:
         if not self.control.client or n in self._busy or n not in self.there:
             return
         link = self._link_of(n)
-        settled = self.circuits[n].settled(link)
-        if settled is not self.circuits[n]:
-            self.tell('over', circuit=n, call=settled.call, link=link.value)
-            self.circuits[n] = settled
+        marked_over = self.circuits[n].marked_over(link)
+        if marked_over is not self.circuits[n]:
+            self.tell('over', circuit=n, call=marked_over.call, link=link.value)
+            self.circuits[n] = marked_over
             self._send(n)
-        command = settled.wants(link, self.options.waits)
+        command = marked_over.wants(link, self.options.waits)
         if command is not None:
             self._busy[n] = command
             self.tasks.begin(self._do(self.control.client, n, command))
@@ -271,7 +271,7 @@ class Tie:
             self._dark = dark
             self.tell('dark' if dark else 'light')
             if self.site:
-                self.site.send(Dark(dark))
+                self.site.send(OutOfService(dark))
             self._look_at_link()
 
     def _look_at_link(self) -> None:
@@ -296,18 +296,18 @@ class Tie:
         self._send_all()
 
     def heard(self, message: Message) -> None:
-        if isinstance(message, All):
+        if isinstance(message, SiteState):
             self._far, self._far_dark = dict(message.ends), message.dark
             self.codecs.heard(message.until_answer)
             self._join()
             self._look_at_link()
             self._look_at_all()
-        elif isinstance(message, Change) and self._far is not None:
+        elif isinstance(message, CircuitChange) and self._far is not None:
             self._far[message.circuit] = message.end
             for here, there in self.there.items():
                 if there == message.circuit and here in self.circuits:
                     self._put(here, self.circuits[here].heard(message.end))
-        elif isinstance(message, Dark):
+        elif isinstance(message, OutOfService):
             self._far_dark = message.dark
             self._look_at_link()
 
@@ -336,13 +336,13 @@ class Tie:
 
     def _send(self, n: int) -> None:
         if self.site and n in self.there:
-            self.site.send(Change(n, self.circuits[n].end()))
+            self.site.send(CircuitChange(n, self.circuits[n].end()))
 
     def _send_all(self) -> None:
         """Sends the state of all circuits, once it is known."""
         if self.site and self.circuits:
             ends = {n: self.circuits[n].end() for n in self.there if n in self.circuits}
-            self.site.send(All(self._dark, ends, self.codecs.codings.own))
+            self.site.send(SiteState(self._dark, ends, self.codecs.codings.own))
         if self._far is not None:
             self._join()
             self._look_at_link()

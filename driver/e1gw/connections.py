@@ -10,12 +10,12 @@ from .loop import GONE, READ, WRITE, Loop
 MOST_HELD = 256 << 10       # octets that wait for one who does not read, before the connection is closed
 
 
-class Peer:
+class Connection:
     """One end of a connection. What the other end does not take at once waits, up to a bound."""
 
     TAKES = 65536           # octets that are received at once
 
-    def __init__(self, loop: Loop, line: socket.socket, closed: Callable[[Peer], None]) -> None:
+    def __init__(self, loop: Loop, line: socket.socket, closed: Callable[[Connection], None]) -> None:
         self.loop, self.line, self._closed = loop, line, closed
         self.open, self._out, self._last = True, bytearray(), False
         self._reads, self._blocked, self._queued, self._gone = True, False, False, False
@@ -114,26 +114,26 @@ class Peer:
             self._closed(self)
 
 
-class Door:
+class Listener:
     """A socket that listens, and gives each who connects to `came`."""
 
-    def __init__(self, loop: Loop, door: socket.socket, came: Callable[[socket.socket, Any], object],
+    def __init__(self, loop: Loop, line: socket.socket, came: Callable[[socket.socket, Any], object],
                  path: str | None = None) -> None:
-        self.loop, self.door, self.path, self._came = loop, door, path, came
+        self.loop, self.line, self.path, self._came = loop, line, path, came
         self._inode = os.lstat(path).st_ino if path else 0
-        door.setblocking(False)
-        loop.watch(door.fileno(), READ, lambda _: self._accept(), beside=True)
+        line.setblocking(False)
+        loop.watch(line.fileno(), READ, lambda _: self._accept(), beside=True)
 
     def _accept(self) -> None:
         try:
-            line, address = self.door.accept()
+            line, address = self.line.accept()
         except OSError:
             return
         self._came(line, address)
 
     def close(self) -> None:
-        self.loop.forget(self.door.fileno())
-        self.door.close()
+        self.loop.forget(self.line.fileno())
+        self.line.close()
         if self.path:
             try:
                 if os.lstat(self.path).st_ino == self._inode:

@@ -6,30 +6,30 @@ from typing import Callable
 
 
 @dataclass(frozen=True)
-class OnLoss:
+class DisconnectPolicy:
     """After so many seconds calls are cleared, and idle circuits blocked where that is asked too; None keeps them."""
 
     seconds: float | None = None
     blocks: bool = False
 
 
-def on_loss_of(words: list[str]) -> OnLoss:
+def on_loss_of(words: list[str]) -> DisconnectPolicy:
     """`keep`, `clear SECONDS` or `block SECONDS`. ValueError where it is none."""
     if words == ['keep']:
-        return OnLoss()
+        return DisconnectPolicy()
     if len(words) == 2 and words[0] in ('clear', 'block'):
         seconds = float(words[1])
         if 0 <= seconds <= 86400:
-            return OnLoss(seconds, words[0] == 'block')
+            return DisconnectPolicy(seconds, words[0] == 'block')
     raise ValueError('keep, or clear or block SECONDS (0 to 86400)')
 
 
-class Guards:
+class DisconnectWatch:
     """The clients that asked for something to be done when the last of them is gone."""
 
-    def __init__(self, usual: OnLoss, clear: Callable[[str, bool], None]) -> None:
+    def __init__(self, usual: DisconnectPolicy, clear: Callable[[str, bool], None]) -> None:
         self._usual, self._clear = usual, clear
-        self._asked: dict[object, OnLoss] = {}
+        self._asked: dict[object, DisconnectPolicy] = {}
         self._due: float | None = None
         self._blocks = False
 
