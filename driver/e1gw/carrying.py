@@ -16,8 +16,6 @@ import os
 import select
 import signal
 import socket
-import subprocess
-import sys
 import threading
 import time
 from collections import deque
@@ -25,23 +23,21 @@ from typing import Callable, NoReturn
 
 from . import satop
 from .carrier import MOST_READ, Carrier
-from .connections import Connection, Listener
-from .control import SocketTaken, listen_unix
+from .command import run
+from .connections import Connection, listen
 from .crc4 import Crc4
 from .events import WARNED, words_of
-from .faults import Parser, named, options_words, words_of_fault
+from .faults import Parser, words_of_fault
 from .lines import Event, law_of, read_config
 from .loop import GONE, READ, WRITE, Loop
-from .options import Usage
 from .parent import parent
 from .programs import program_of
 from .session import MULTIFRAME, OCTETS_A_SECOND
 from .systemd import Notify
 from .trunk_options import add_trunk, opening_of
 from .trunks import Stream, Trunk
-from .writers import Journal, Writer, hold_descriptors, to_descriptor, to_file
+from .writers import Journal, Writer, to_descriptor, to_file
 
-MODE = 0o660                # of the sockets
 REOPEN_MOST = 30.0          # seconds between two tries to open the trunk
 ALIVE = 0.5                 # seconds between two signs of life
 GRACE = 1.0                 # seconds for a program to end
@@ -52,9 +48,7 @@ NOTHING = -1, 0             # no descriptor, no events
 
 def parser() -> argparse.ArgumentParser:
     """The options."""
-    about, _, rest = (__doc__ or '').partition('\n\n')
-    words = Parser(prog='e1gw-carry', description=f'{about}\n\n{rest}',
-                   formatter_class=argparse.RawDescriptionHelpFormatter)
+    words = Parser('e1gw-carry', description=__doc__, formatter_class=argparse.RawDescriptionHelpFormatter)
     words.add_argument('--listen', metavar='PATH', required=True, help='the Unix socket at which a program connects')
     words.add_argument('--config', metavar='FILE', help='the configuration, e1gw.toml(5); --clear wants its law')
     words.add_argument('--program', metavar='E1GW', help='the program [default: that of this repository, or e1gw]')
@@ -74,13 +68,6 @@ class FollowerConnection(Connection):
         pass
 
 
-def _listener(loop: Loop, option: str, path: str, came: Callable[[socket.socket, object], None]) -> Listener:
-    try:
-        return Listener(loop, listen_unix(path, MODE, None), came, path)
-    except OSError as fault:
-        raise named(fault, f'{option} {path}') from None
-
-
 class Carriage:
     """A carrier in service."""
 
@@ -95,9 +82,9 @@ class Carriage:
         self._program_events, self._says_more = 0, False
         self._due: float | None = None      # when the trunk is read next, if that is not when octets come
         self._json = self._open_json(asked.json)
-        self._listener = _listener(loop, '--listen', asked.listen, self._came)
-        self._status_listener = asked.status and _listener(loop, '--status', asked.status, self._asked)
-        self._tell_listener = asked.tell and _listener(loop, '--tell', asked.tell, self._follow)
+        self._listener = listen(loop, '--listen', asked.listen, self._came)
+        self._status_listener = asked.status and listen(loop, '--status', asked.status, self._asked)
+        self._tell_listener = asked.tell and listen(loop, '--tell', asked.tell, self._follow)
         self._followers: set[Connection] = set()
         self._notify.ready(f'listens at {asked.listen}')
 
@@ -322,11 +309,17 @@ def _end_input(program: Stream) -> None:
             pass                # it is gone, or stands still
 
 
-def _serve(asked: argparse.Namespace, journal: Journal) -> int:
+def options_of(words: list[str]) -> argparse.Namespace:
+    """The options of a command line; ValueError where they are none."""
+    asked = parser().parse_args(words)
     if asked.clear and asked.config:
         law_of(read_config(asked.config))
-    opening = opening_of(asked)
-    opens, crc4 = opening(program_of(asked.program) if asked.satop or asked.align or asked.crc4 else '')
+    opening_of(asked)
+    return asked
+
+
+def _serve(asked: argparse.Namespace, journal: Journal) -> int:
+    opens, crc4 = opening_of(asked)(program_of(asked.program) if asked.satop or asked.align or asked.crc4 else '')
     loop, found = Loop(), deque[Carriage]()
 
     def caught(number: int) -> None:
@@ -344,18 +337,4 @@ def _serve(asked: argparse.Namespace, journal: Journal) -> int:
 
 
 def main(words: list[str] | None = None) -> NoReturn:
-    hold_descriptors()
-    sys.setswitchinterval(0.001)
-    journal = Journal(name='e1gw-carry')
-    status = 2
-    try:
-        status = _serve(parser().parse_args(words), journal)
-    except (Usage, ValueError) as fault:
-        journal.line(Journal.ERROR, f'{fault}; see e1gw-carry --help{options_words()}')
-    except SocketTaken as fault:
-        journal.line(Journal.ERROR, f'cannot listen: {fault}')
-    except (OSError, subprocess.CalledProcessError) as fault:
-        journal.line(Journal.ERROR, words_of_fault(fault))
-    journal.close()
-    # A thread may still wait for a device or a disk; nothing waits for it.
-    os._exit(status)
+    run('e1gw-carry', words, options_of, _serve)

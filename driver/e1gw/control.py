@@ -16,11 +16,9 @@ A line is answered by one or more lines and an empty one:
 from __future__ import annotations
 
 import functools
-import grp
 import os
 import select
 import socket
-import stat
 import time
 from collections import deque
 from typing import TYPE_CHECKING, Callable
@@ -42,10 +40,6 @@ SILENT = 1.0                # the same for one that has never said a line
 COMMANDS = {command.word: command for command in Command}
 CODECS = {'pcma': Codec.G711, 'pcmu': Codec.G711} | {codec.word('A'): codec for codec in Codec}
 Reply = Callable[[str], None]
-
-
-class SocketTaken(Exception):
-    """A path is not free for a socket; the words say why."""
 
 
 class ClientShare:
@@ -307,34 +301,3 @@ def _obey_circuit(trunk: Managed, name: str, words: list[str], reply: Reply) -> 
             return reply(front + fault)
         record = command_record(circuit, COMMANDS[name])
     trunk.command(record, circuit, ' '.join([name, *words[1:]]), lambda text: reply(front + text))
-
-
-def free_path(path: str) -> None:
-    """Takes away a socket at which nobody listens. DoorTaken where somebody does, or where something else is there."""
-    try:
-        if not stat.S_ISSOCK(os.lstat(path).st_mode):
-            raise SocketTaken(f'{path} is there and no socket')
-    except FileNotFoundError:
-        return
-    with socket.socket(socket.AF_UNIX) as line:
-        try:
-            line.connect(path)
-        except ConnectionRefusedError:
-            os.unlink(path)
-            return
-    raise SocketTaken(f'at {path} another one listens')
-
-
-def listen_unix(path: str, mode: int, group: str | None) -> socket.socket:
-    """A Unix stream socket that listens, with its mode and group from the first moment on."""
-    free_path(path)
-    line = socket.socket(socket.AF_UNIX)
-    before = os.umask(0o777 & ~mode)
-    try:
-        line.bind(path)
-    finally:
-        os.umask(before)
-    if group:
-        os.chown(path, -1, int(group) if group.isdecimal() else grp.getgrnam(group).gr_gid)
-    line.listen(MOST_CLIENTS)
-    return line

@@ -16,6 +16,7 @@ import sys
 from dataclasses import dataclass, replace
 from typing import Any
 
+from .command import Usage
 from .explain import CODECS, ConfigFault, check, config_words, read_octets
 from .faults import number, words_of_fault
 from .session import CIRCUITS
@@ -24,10 +25,6 @@ FIRST, APART, TRUNKS = 24_002, 100, 64      # ports of a trunk: for each circuit
 SAME_HOST = 10_000                          # ports between the two ends of a tie on one machine
 METRICS = 9100
 ROLES = ('outgoing', 'incoming', 'odd', 'even')
-
-
-class Usage(Exception):
-    """Wrong values."""
 
 
 @dataclass(frozen=True)

@@ -11,8 +11,8 @@ from collections import Counter, deque
 from typing import Any, Callable
 
 from .calls import CallLog, to_calls
-from .connections import Connection, Listener
-from .control import Console, ControlConnection, Reply, SocketTaken, listen_unix, seat
+from .connections import Connection, Listener, SocketTaken, listen
+from .control import Console, ControlConnection, Reply, seat
 from .counts import DatagramCounts
 from .disconnects import DisconnectWatch
 from .events import NOTICED, WARNED, words_of
@@ -90,11 +90,8 @@ class Managed:
         """Opens what others connect to, and the terminal."""
         options = self.options
         if options.control:
-            try:
-                line = listen_unix(options.control, options.control_mode, options.control_group)
-            except OSError as fault:
-                raise named(fault, f'--control {options.control}') from None
-            self._listeners.append(Listener(self.loop, line, lambda line, _: seat(self, line), options.control))
+            self._listeners.append(listen(self.loop, '--control', options.control, lambda line, _: seat(self, line),
+                                          options.control_mode, options.control_group))
         web = None
         if options.http:
             family = socket.AF_INET6 if ':' in options.http[0] else socket.AF_INET

@@ -23,7 +23,6 @@ from .world import LAUNCHER, SECONDS, World, config_of, descendant
 from e1gw import crc4, filtered, metrics
 from e1gw.crc4 import Crc4, counts_of, with_crc4
 from e1gw.events import words_of
-from e1gw.options import Usage
 from e1gw.trunk import options_of
 from e1gw.trunks import Stream
 
@@ -461,7 +460,7 @@ class Crc4CountTests(unittest.TestCase):
             'e1gw_crc4_alignment_losses_total 0', 'e1gw_crc4_given_up_total 0'])
 
     def test_what_it_is_not_for(self) -> None:
-        with self.assertRaisesRegex(Usage, '--crc4'):
+        with self.assertRaisesRegex(ValueError, '--crc4'):
             options_of(['--config', 'trunk.toml', '--crc4', '--unix', 'card', '--clear'])
 
     def test_no_program(self) -> None:

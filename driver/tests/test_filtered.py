@@ -19,7 +19,6 @@ from .world import LAUNCHER, SECONDS, World, aligner_of, config_of, descendant
 from e1gw import session
 from e1gw.filtered import Received, align
 from e1gw.filters import MOST_INSIDE
-from e1gw.options import Usage
 from e1gw.trunk import options_of
 from e1gw.trunks import Stream, Trunk, open_files
 
@@ -193,7 +192,7 @@ class FilterTests(unittest.TestCase):
 
     def test_what_it_is_not_for(self) -> None:
         for words in (['--satop', '127.0.0.1:2142,127.0.0.1:2143'], ['--unix', 'card', '--clear']):
-            with self.assertRaisesRegex(Usage, '--align'):
+            with self.assertRaisesRegex(ValueError, '--align'):
                 options_of(['--config', 'trunk.toml', '--align', *words])
 
 
