@@ -31,7 +31,6 @@ class Kind(IntEnum):
 
 EVERY_KIND = frozenset(Kind)
 KINDS_READ = frozenset((Kind.TRUNK, Kind.DATAGRAM, Kind.COMMAND, Kind.CODEC))       # by replay and check
-KINDS_SERVED = frozenset((Kind.TRUNK, Kind.COMMAND, Kind.CODEC))                    # by serve
 KINDS_WRITTEN = frozenset((Kind.TRUNK, Kind.DATAGRAM, Kind.ANSWER))                 # by replay
 
 

@@ -77,26 +77,24 @@ class LineTableTests(unittest.TestCase):
         row = trunk.lines.status()['circuits'][15]
         self.assertEqual((row['seizures'], row['answers'], row['faults'], row['codec']), (2, 1, 1, 'pcmu'))
 
-    def test_a_seizure_is_released_after_200_ms(self) -> None:
-        trunk = FollowedExchange()
+    def released_after(self, trunk: FollowedExchange, multiframes: int) -> None:
         trunk.send(1, IDLE)
         trunk.lines.command(1, Command.SEIZE)
-        trunk.go(99)
+        trunk.go(multiframes)
         self.assertEqual(trunk.state(1), 'seized')
         trunk.go(2)
         self.assertEqual(trunk.state(1), 'idle')
+
+    def test_a_seizure_is_released_after_200_ms(self) -> None:
+        trunk = FollowedExchange()
+        self.released_after(trunk, 99)
         self.assertEqual(trunk.lines.status()['circuits'][0]['unacknowledged'], 1)
         states = [event['state'] for event in trunk.events if event['event'] == 'state' and event['circuit'] == 1]
         self.assertEqual(states, ['idle', 'seized', 'releasing', 'idle'])
 
     def test_a_seizure_waits_as_long_as_is_asked_for(self) -> None:
         trunk = FollowedExchange(with_wait({'law': 'A'}, 2000))
-        trunk.send(1, IDLE)
-        trunk.lines.command(1, Command.SEIZE)
-        trunk.go(999)
-        self.assertEqual(trunk.state(1), 'seized')
-        trunk.go(2)
-        self.assertEqual(trunk.state(1), 'idle')
+        self.released_after(trunk, 999)
 
     def test_a_pair_is_recognised_at_its_tenth(self) -> None:
         trunk = FollowedExchange()
@@ -117,6 +115,17 @@ class LineTableTests(unittest.TestCase):
                                             'place': 0})
 
 
+def in_alarm() -> FollowedExchange:
+    """An exchange that is aligned, and sends both alarms."""
+    trunk = FollowedExchange()
+    trunk.go(3)
+    piece = bytearray(trunk.exchange.multiframe())
+    piece[32::64] = bytes([0xFF]) * 8
+    piece[16] = 0x0F
+    trunk.lines.trunk(bytes(piece), bytes(512))
+    return trunk
+
+
 class AlarmTests(unittest.TestCase):
     def test_alignment_is_found_and_lost(self) -> None:
         trunk = FollowedExchange()
@@ -129,23 +138,13 @@ class AlarmTests(unittest.TestCase):
         self.assertEqual(trunk.lines.status()['losses'], {'frame': 1, 'multiframe': 1})
 
     def test_remote_alarms(self) -> None:
-        trunk = FollowedExchange()
-        trunk.go(3)
-        piece = bytearray(trunk.exchange.multiframe())
-        piece[32::64] = bytes([0xFF]) * 8
-        piece[16] = 0x0F
-        trunk.lines.trunk(bytes(piece), bytes(512))
+        trunk = in_alarm()
         self.assertEqual(trunk.lines.status()['remote_alarm'], {'frame': True, 'multiframe': True})
         trunk.go(1)
         self.assertEqual(trunk.lines.status()['remote_alarm'], {'frame': False, 'multiframe': False})
 
     def test_remote_alarms_end_with_the_alignment(self) -> None:
-        trunk = FollowedExchange()
-        trunk.go(3)
-        piece = bytearray(trunk.exchange.multiframe())
-        piece[32::64] = bytes([0xFF]) * 8
-        piece[16] = 0x0F
-        trunk.lines.trunk(bytes(piece), bytes(512))
+        trunk = in_alarm()
         trunk.lines.trunk(b'\xD5' * 512, bytes(512))
         self.assertEqual(trunk.lines.status()['remote_alarm'], {'frame': False, 'multiframe': False})
         told = [(event['what'], event['on']) for event in trunk.events if event['event'] == 'remote alarm']

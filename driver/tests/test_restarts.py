@@ -2,7 +2,8 @@
 from __future__ import annotations
 
 import unittest
-from typing import Any
+from itertools import product
+from typing import Any, Callable
 
 from . import support
 from .simulated import SimulatedCall, stalls
@@ -133,30 +134,24 @@ class RestartSimulationTests(unittest.TestCase):
                     self.assertLessEqual(len(call.restarts), 1)
                     self.assertLessEqual(call.lost(), early + LESS)
 
+    def again_and_again(self, happens: Callable[[SimulatedCall, float], None], seed: int, prefill: int) -> None:
+        with self.subTest(prefill=prefill, seed=seed), SimulatedCall(prefill) as call:
+            call.speak()
+            still = 0.0
+            for length, between in stalls(seed, 40):
+                happens(call, length)
+                call.flow(between)
+                still += length
+            self.assertLessEqual(call.lost(), still)
+            self.assertLessEqual(len(call.restarts), 1 + call.now // 10)
+
     def test_a_machine_that_stands_still_again_and_again(self) -> None:
-        for prefill in (160, 320):
-            for seed in range(2):
-                with self.subTest(prefill=prefill, seed=seed), SimulatedCall(prefill) as call:
-                    call.speak()
-                    still = 0.0
-                    for length, between in stalls(seed, 40):
-                        call.stand_still(length)
-                        call.flow(between)
-                        still += length
-                    self.assertLessEqual(call.lost(), still)
-                    self.assertLessEqual(len(call.restarts), 1 + call.now // 10)
+        for prefill, seed in product((160, 320), range(2)):
+            self.again_and_again(SimulatedCall.stand_still, seed, prefill)
 
     def test_octets_that_come_late_again_and_again(self) -> None:
         for prefill in (160, 320):
-            with self.subTest(prefill=prefill), SimulatedCall(prefill) as call:
-                call.speak()
-                still = 0.0
-                for length, between in stalls(5, 40):
-                    call.hold(length)
-                    call.flow(between)
-                    still += length
-                self.assertLessEqual(call.lost(), still)
-                self.assertLessEqual(len(call.restarts), 1 + call.now // 10)
+            self.again_and_again(SimulatedCall.hold, 5, prefill)
 
     def test_a_call_that_begins_in_a_stall(self) -> None:
         """Its first packet comes with octets that had waited: all later ones are late."""

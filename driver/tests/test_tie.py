@@ -383,6 +383,11 @@ class TieCase(unittest.IsolatedAsyncioTestCase):
             self.west.recognise()
             self.east.recognise()
 
+    async def sends(self, driver: StandInDriver, n: int, pair: int, west: State, east: State | None = None) -> None:
+        """An exchange sends these bits, and both ends come into these states."""
+        driver.send(n, pair)
+        await self.until(self.at(n, west, east or west))
+
     def at(self, n: int, west: State, east: State) -> Callable[[], bool]:
         return lambda: (self.west.states[n], self.east.states[n]) == (west, east)
 
@@ -393,26 +398,19 @@ class TieCallTests(TieCase):
     async def test_call(self) -> None:
         """Seized, answered, hung up, answered again, cleared: each is passed on."""
         await self.both()
-        self.west.send(3, SEIZED)
-        await self.until(self.at(3, State.ACKED, State.ACKED))
-        self.east.send(3, ANSWER)
-        await self.until(self.at(3, State.ANSWERED, State.ANSWERED))
-        self.east.send(3, HELD)
-        await self.until(self.at(3, State.CLEAREDBACK, State.CLEAREDBACK))
-        self.east.send(3, ANSWER)
-        await self.until(self.at(3, State.ANSWERED, State.ANSWERED))
-        self.west.send(3, IDLE)
-        await self.until(self.at(3, State.IDLE, State.IDLE))
+        await self.sends(self.west, 3, SEIZED, State.ACKED)
+        await self.sends(self.east, 3, ANSWER, State.ANSWERED)
+        await self.sends(self.east, 3, HELD, State.CLEAREDBACK)
+        await self.sends(self.east, 3, ANSWER, State.ANSWERED)
+        await self.sends(self.west, 3, IDLE, State.IDLE)
         self.assertIn('on-loss block 3', self.west.asked)
         self.assertNotIn('seize 3', self.west.asked)
 
     async def test_blocked(self) -> None:
         """What the exchange blocks is blocked at the other end, and no longer than it does."""
         await self.both()
-        self.east.send(5, HELD)
-        await self.until(self.at(5, State.BLOCKED, State.BLOCKED))
-        self.east.send(5, IDLE)
-        await self.until(self.at(5, State.IDLE, State.IDLE))
+        await self.sends(self.east, 5, HELD, State.BLOCKED)
+        await self.sends(self.east, 5, IDLE, State.IDLE)
 
     async def test_congestion(self) -> None:
         """A seizure that is refused is told to the caller by an answer and a clear-back, and not tried again."""
@@ -425,8 +423,7 @@ class TieCallTests(TieCase):
         await asyncio.sleep(0.3)
         self.assertEqual(self.east.asked.count('seize 1'), 1)
         self.assertEqual([each for each in self.west.asked if each.endswith(' 1')], ['answer 1', 'clear-back 1'])
-        self.west.send(1, IDLE)
-        await self.until(self.at(1, State.IDLE, State.IDLE))
+        await self.sends(self.west, 1, IDLE, State.IDLE)
 
     async def test_caller_waits(self) -> None:
         """Where no answer may be feigned the caller gets none."""
@@ -454,21 +451,18 @@ class TieCallTests(TieCase):
     async def test_operator_is_second(self) -> None:
         """A circuit that a tie has blocked already stays blocked where the operator wants that, too."""
         await self.both()
-        self.east.send(5, HELD)
-        await self.until(self.at(5, State.BLOCKED, State.BLOCKED))
+        await self.sends(self.east, 5, HELD, State.BLOCKED)
         await self.until(lambda: 5 not in self.sites[0][0]._busy)       # its own block has been answered
         self.assertIn('not idle', self.west.obey(['block', '5']))
         self.east.send(5, IDLE)
-        self.east.send(7, HELD)
-        await self.until(self.at(7, State.BLOCKED, State.BLOCKED))
+        await self.sends(self.east, 7, HELD, State.BLOCKED)
         self.assertIs(self.west.states[5], State.BLOCKED)
 
     async def test_connection_broken(self) -> None:
         """A call lives through a short break, and what happened meanwhile is made good; a long one ends it."""
         await self.both()
         self.west.send(3, SEIZED)
-        self.west.send(5, SEIZED)
-        await self.until(self.at(5, State.ACKED, State.ACKED))
+        await self.sends(self.west, 5, SEIZED, State.ACKED)
         await self.kill(self.tasks[2:], self.sites[1][1])
         await self.until(lambda: bool(self.told('west', 'site gone')))
         self.assertIs(self.west.states[3], State.ACKED)
@@ -486,16 +480,14 @@ class TieCallTests(TieCase):
 
     async def test_outgoing_end_gives_up(self) -> None:
         await self.both()
-        self.west.send(3, SEIZED)
-        await self.until(self.at(3, State.ACKED, State.ACKED))
+        await self.sends(self.west, 3, SEIZED, State.ACKED)
         await self.kill(self.tasks[:2], self.sites[0][1])
         await self.until(lambda: self.east.states[3] not in CALLED)
 
     async def test_dark(self) -> None:
         """An alarm of one trunk blocks at once at the other end, and ends calls when it lasts."""
         await self.both()
-        self.west.send(3, SEIZED)
-        await self.until(self.at(3, State.ACKED, State.ACKED))
+        await self.sends(self.west, 3, SEIZED, State.ACKED)
         self.east.alarm = True
         self.east.tell(event='alarm', what='frame', on=True)
         await self.until(lambda: self.west.states[1] is State.BLOCKED)
@@ -544,8 +536,7 @@ class TieCallTests(TieCase):
                 await asyncio.wait_for(reader.read(), 1)
             writer.close()
         self.assertFalse(self.told('west', 'site gone'))
-        self.west.send(3, SEIZED)
-        await self.until(self.at(3, State.ACKED, State.ACKED))
+        await self.sends(self.west, 3, SEIZED, State.ACKED)
 
 
 class UntilAnswerTests(TieCase):
@@ -555,23 +546,19 @@ class UntilAnswerTests(TieCase):
         return lambda: self.west.codecs[n] == self.east.codecs[n] == coding
 
     async def answered(self, n: int) -> None:
-        self.west.send(n, SEIZED)
-        await self.until(self.at(n, State.ACKED, State.ACKED))
-        self.east.send(n, ANSWER)
-        await self.until(self.at(n, State.ANSWERED, State.ANSWERED))
+        await self.sends(self.west, n, SEIZED, State.ACKED)
+        await self.sends(self.east, n, ANSWER, State.ANSWERED)
 
     async def test_call(self) -> None:
         """A call from its seizure to its end; an idle circuit is ready for the next one, and no other is touched."""
         await self.both(until='pcma')
         await self.until(lambda: all(self.have(n, PCMA)() for n in CIRCUITS))
-        self.west.send(3, SEIZED)
-        await self.until(self.at(3, State.ACKED, State.ACKED))
+        await self.sends(self.west, 3, SEIZED, State.ACKED)
         self.assertTrue(self.have(3, PCMA)())
         self.east.send(3, ANSWER)
         await self.until(self.have(3, G726))
         self.assertEqual({state[3] for state in (self.west.states, self.east.states)}, {State.ANSWERED})
-        self.east.send(3, HELD)
-        await self.until(self.at(3, State.CLEAREDBACK, State.CLEAREDBACK))
+        await self.sends(self.east, 3, HELD, State.CLEAREDBACK)
         self.assertTrue(self.have(3, G726)())
         self.west.send(3, IDLE)
         await self.until(self.have(3, PCMA))
@@ -608,8 +595,7 @@ class UntilAnswerTests(TieCase):
         await self.both(until='pcma')
         await self.until(lambda: all(self.have(n, PCMA)() for n in CIRCUITS))
         for n in (3, 5):
-            self.west.send(n, SEIZED)
-            await self.until(self.at(n, State.ACKED, State.ACKED))
+            await self.sends(self.west, n, SEIZED, State.ACKED)
         self.east.send(3, ANSWER)
         await self.until(self.have(3, G726))
         await self.kill(self.tasks[2:], self.sites[1][1])
@@ -647,8 +633,7 @@ class UntilAnswerTests(TieCase):
     async def test_left(self) -> None:
         """At its end a tie gives circuits without a call what is configured."""
         await self.both(until='pcma')
-        self.west.send(3, SEIZED)
-        await self.until(self.at(3, State.ACKED, State.ACKED))
+        await self.sends(self.west, 3, SEIZED, State.ACKED)
         await self.until(lambda: all(self.have(n, PCMA)() for n in CIRCUITS))
         await self.sites[0][0].leave()
         self.assertEqual([n for n in CIRCUITS if self.west.codecs[n] == PCMA], [3])

@@ -312,8 +312,7 @@ class TrunkClientTests(ServedTrunkCase):
                 with trunk.client() as bad:
                     bad.sendall(blocks([9])[:3])
                 self.assertEqual(len(trunk.passes(bytes(512))), 512)
-            good.sendall(blocks([3]))
-            self.assertEqual(answers_of(good, 1), self.refused([3]))
+            self.blocked(good, 3)
 
     def test_commands_right_before_a_hang_up(self) -> None:
         trunk = self.trunk('--record', self.recording)
@@ -335,29 +334,31 @@ class TrunkClientTests(ServedTrunkCase):
             with self.assertRaises(OSError):
                 for _ in range(100_000):
                     bad.sendall(blocks([9]))
-            good.sendall(blocks([3]))
-            self.assertEqual(answers_of(good, 1), self.refused([3]))
+            self.blocked(good, 3)
             self.assertEqual(len(trunk.passes(bytes(512))), 512)
 
-    def test_more_clients_than_there_are_places(self) -> None:
+    def blocked(self, client: socket.socket, circuit: int) -> None:
+        """A client asks for a block, and gets the answer."""
+        client.sendall(blocks([circuit]))
+        self.assertEqual(answers_of(client, 1), self.refused([circuit]))
+
+    def full(self) -> tuple[TrunkProcess, list[socket.socket]]:
+        """A trunk and as many clients as it has places, each of which has been answered."""
         trunk = self.trunk()
         clients = [trunk.client() for _ in range(8)]
         for circuit, client in enumerate(clients, 1):
             self.addCleanup(client.close)
-            client.sendall(blocks([circuit]))
-            self.assertEqual(answers_of(client, 1), self.refused([circuit]))
+            self.blocked(client, circuit)
+        return trunk, clients
+
+    def test_more_clients_than_there_are_places(self) -> None:
+        trunk, clients = self.full()
         with trunk.client() as ninth:
             self.assertEqual(self.closed(ninth), b'')
-        clients[0].sendall(blocks([11]))
-        self.assertEqual(answers_of(clients[0], 1), self.refused([11]))
+        self.blocked(clients[0], 11)
 
     def test_places_of_clients_that_have_left(self) -> None:
-        trunk = self.trunk()
-        clients = [trunk.client() for _ in range(8)]
-        for circuit, client in enumerate(clients, 1):
-            self.addCleanup(client.close)
-            client.sendall(blocks([circuit]))
-            self.assertEqual(answers_of(client, 1), self.refused([circuit]))
+        trunk, clients = self.full()
         trunk.serving.send_signal(signal.SIGSTOP)
         os.waitid(os.P_PID, trunk.serving.pid, os.WSTOPPED)
         for client in clients[2:4]:
@@ -365,8 +366,7 @@ class TrunkClientTests(ServedTrunkCase):
         with trunk.client() as ninth, trunk.client() as tenth:
             trunk.serving.send_signal(signal.SIGCONT)
             for circuit, client in ((9, ninth), (10, tenth), (1, clients[0]), (8, clients[7])):
-                client.sendall(blocks([circuit]))
-                self.assertEqual(answers_of(client, 1), self.refused([circuit]))
+                self.blocked(client, circuit)
             with trunk.client() as eleventh:
                 self.assertEqual(self.closed(eleventh), b'')
 
@@ -374,8 +374,7 @@ class TrunkClientTests(ServedTrunkCase):
         trunk = self.trunk(waits=True)
         with trunk.client() as client:
             for circuit in (3, 4):
-                client.sendall(blocks([circuit]))
-                self.assertEqual(answers_of(client, 1), self.refused([circuit]))
+                self.blocked(client, circuit)
             self.assertEqual(len(trunk.passes(bytes(5000))), 5000)
             client.sendall(END)
             self.assertEqual(trunk.ended(), (0, ''))

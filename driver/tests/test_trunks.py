@@ -88,12 +88,6 @@ class TrunkKindTests(support.Folder):
                 host_and_port(text)
 
 
-def port_of(world: World) -> int:
-    """That of the first circuit."""
-    with open(world.config, encoding='utf-8') as file:
-        return int(file.read().split('local_port = ')[1].split()[0])
-
-
 class TrunkKindServiceTests(unittest.TestCase):
     def setUp(self) -> None:
         support.program()
