@@ -11,10 +11,10 @@ from collections import Counter, deque
 from typing import Any, Callable
 
 from .calls import CallLog, to_calls
+from .clearing import DisconnectWatch, OutageWatch
 from .connections import Connection, Listener, SocketTaken, listen
 from .control import Console, ControlConnection, Reply, seat
 from .counts import DatagramCounts
-from .disconnects import DisconnectWatch
 from .events import NOTICED, WARNED, words_of
 from .faults import named, words_of_fault, words_of_refusal
 from .lines import OPEN, Event, Role, State, TrunkState
@@ -46,13 +46,12 @@ class Managed:
         self.snapshots = Snapshots(loop, lambda: Snapshot(self.status(), self._sockets))
         self.began, self.resyncs = time.monotonic(), 0
         self.disconnects = DisconnectWatch(options.on_loss, self.clear_all)
+        self._outages = OutageWatch(options.dark, self.clear_all)
         self.status_code: int | None = None         # once it is there this ends
         self.ended: dict[str, str | None] = dict.fromkeys(BESIDE)
         self.done: Counter[tuple[str, str]] = Counter()     # commands, by name and answer
         self.connections: set[Connection] = set()
         self._listeners: list[Listener] = []
-        self._dark_since: float | None = None
-        self._dark_cleared = False
         self._notes: deque[tuple[str, str]] = deque()   # from other threads: what has ended, and why
         self._out = to_descriptor('standard output', 1)
         self._json = self._open_json()
@@ -182,20 +181,9 @@ class Managed:
     def _look_at_calls(self, now: float) -> None:
         """A few times a second: what is to become of calls."""
         self.disconnects.look(now)
-        self._look_at_dark(now)
+        self._outages.look(now, self.outage())
         if self.calls:
             self.calls.look()
-
-    def _look_at_dark(self, now: float) -> None:
-        if self.outage() is None:
-            self._dark_since, self._dark_cleared = None, False
-            return
-        if self._dark_since is None:
-            self._dark_since = now
-        dark = self.options.dark
-        if dark is not None and not self._dark_cleared and now - self._dark_since >= dark:
-            self._dark_cleared = True
-            self.clear_all(f'the trunk has been dark for {dark:g} s')
 
     # ---- what is told ----
 

@@ -6,7 +6,7 @@ import os
 from dataclasses import dataclass, field
 from typing import Any
 
-from .disconnects import DisconnectPolicy, on_loss_of
+from .clearing import DisconnectPolicy, on_loss_of
 from .faults import number
 from .trunks import host_and_port
 

@@ -1,4 +1,4 @@
-"""What is done when those who steer the trunk are gone."""
+"""What clears calls by itself: control clients that are gone (--on-loss), and a trunk out of service (--dark)."""
 from __future__ import annotations
 
 from dataclasses import dataclass
@@ -60,3 +60,22 @@ class DisconnectWatch:
         if self._due is not None and now >= self._due:
             self._due = None
             self._clear('the last control client is gone', self._blocks)
+
+
+class OutageWatch:
+    """Clears the calls of a trunk that has been out of service for so many seconds; never if that is None."""
+
+    def __init__(self, seconds: float | None, clear: Callable[[str], None]) -> None:
+        self._seconds, self._clear = seconds, clear
+        self._since: float | None = None
+        self._has_cleared = False
+
+    def look(self, now: float, outage: str | None) -> None:
+        """To be called now and then, with why the trunk is out of service, or None."""
+        if outage is None:
+            self._since, self._has_cleared = None, False
+            return
+        self._since = now if self._since is None else self._since
+        if self._seconds is not None and not self._has_cleared and now - self._since >= self._seconds:
+            self._has_cleared = True
+            self._clear(f'the trunk has been dark for {self._seconds:g} s')
