@@ -41,7 +41,7 @@ class SatopCircuit:
         return [*sizes, *rtp, '--fill', self.fill, '--clock', self.clock]
 
 
-def _spelled(address: str, port: int) -> str:
+def _text_of(address: str, port: int) -> str:
     return f'[{address}]:{port}' if ':' in address else f'{address}:{port}'
 
 
@@ -49,7 +49,7 @@ def addresses_of(local: tuple[str, int], peer: tuple[str, int]) -> list[str]:
     """Both ends as addresses. OSError for a host that has none."""
     family, _, _, _, far = socket.getaddrinfo(*peer, type=socket.SOCK_DGRAM)[0]
     near = socket.getaddrinfo(*local, family=family, type=socket.SOCK_DGRAM)[0][4]
-    return [_spelled(str(near[0]), int(near[1])), _spelled(str(far[0]), int(far[1]))]
+    return [_text_of(str(near[0]), int(near[1])), _text_of(str(far[0]), int(far[1]))]
 
 
 def ends_of(text: str) -> tuple[tuple[str, int], tuple[str, int]]:

@@ -14,7 +14,7 @@ from dataclasses import dataclass, field
 from .support import Exchange, run
 
 from e1gw.g711 import TONES, VALUES
-from e1gw.session import Command, Kind, command_record, datagram_record, records_in, spell, trunk_record
+from e1gw.session import Command, Kind, command_record, datagram_record, encode_record, records_in, trunk_record
 
 IDLE, SEIZED, ACKNOWLEDGED, ANSWERED = 0b10, 0b00, 0b11, 0b01        # the pairs ab of ITU-T Q.421
 MULTIFRAME, SECOND = 512, 256_000
@@ -175,7 +175,7 @@ def answered(records: list[bytes], codes: list[int]) -> bytes:
             out.append(trunk_record((exchange.multiframe() * 2)[:len(record) - 4]))
         else:
             code = next(rest) if kind == Kind.DATAGRAM else 0
-            out.append(spell(Kind.ANSWER, circuit, bytes([kind, code])))
+            out.append(encode_record(Kind.ANSWER, circuit, bytes([kind, code])))
     return b''.join(out)
 
 
@@ -442,7 +442,7 @@ def both_ways(config: str, given: bytes) -> tuple[bytes, Packets, Packets]:
         if record.kind is Kind.DATAGRAM:
             came.append((BEGIN + place / SECOND, of_peer(record.body)))
         else:
-            bare.append(record.spelled())
+            bare.append(record.encode())
             place += len(record.body) * (record.kind is Kind.TRUNK)
     with tempfile.TemporaryDirectory() as folder:
         path = os.path.join(folder, 'trunk.toml')

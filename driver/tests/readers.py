@@ -104,7 +104,7 @@ def all_answered(world: World) -> None:
     """Thirty calls."""
     world.until(lambda: world.exchange.aligned and not world.exchange.remote_alarms)
     world.step(15)
-    world.settle()
+    world.wait_for_watcher()
     with _connect(world.path('ctl')) as line:
         for n in range(1, 31):
             line.sendall(f'seize {n}\n'.encode())

@@ -158,7 +158,7 @@ class SimulatedCall:
         packets = b''
         while self._speaks and self._began + self.sent * PACKET <= self.now:
             packet = Packet(8, self.sent & 0xFFFF, 160 * self.sent, 7, bytes([SPOKEN]) * 160)
-            packets += datagram_record(1, packet.spelled())
+            packets += datagram_record(1, packet.encode())
             self.sent += 1
         self.clock.took(MULTIFRAME, self.now, unread)
         answered = self._ask(packets + trunk_record(given), Kind.TRUNK)

@@ -13,7 +13,7 @@ from typing import Any, Callable
 from . import support
 from .world import SECONDS, ServedProgram
 from e1gw.running import HELLO
-from e1gw.session import CodecRefusal, Kind, Reader, Record, spell
+from e1gw.session import CodecRefusal, Kind, Reader, Record, encode_record
 
 LAUNCHER = os.path.join(support.TOP, 'driver', 'e1gw-watch')
 IDLE = ['{0:2} outgoing idle        10 10          0          0          0 pcma      8'.format(n) for n in range(1, 31)]
@@ -119,13 +119,13 @@ class StandInProgram(StandInListener):
                     self._act(line, record)
 
     def _act(self, line: socket.socket, record: Record) -> None:
-        hello = record.spelled() == HELLO
+        hello = record.encode() == HELLO
         if not hello:
             self.taken.append(record)
         code = CodecRefusal.PAYLOAD_TYPE if hello else self.answers(record)
         if code is None:
             return
-        line.sendall(spell(Kind.ANSWER, record.circuit, bytes([record.kind, code])))
+        line.sendall(encode_record(Kind.ANSWER, record.circuit, bytes([record.kind, code])))
         if self.shadow:
             name = 'command' if record.kind is Kind.COMMAND else 'codec'
             self.shadow.tell(' '.join([name, str(record.circuit), *map(str, record.body), str(int(code))]))

@@ -23,7 +23,7 @@ from e1gw.picture.page import MOST as MOST_OCTETS
 from e1gw.picture.page import draw, numbers
 from e1gw.picture.reading import read
 from e1gw.picture.svg import Scale, apart, clock, duration, runs
-from e1gw.session import OCTETS_A_SECOND, Codec, DatagramRefusal, Kind, codec_record, records_in, spell
+from e1gw.session import OCTETS_A_SECOND, Codec, DatagramRefusal, Kind, codec_record, encode_record, records_in
 
 # The columns of `e1gw check`: number, role, state, pairs sent and recognised, sent, admitted, refused, codec, type.
 NUMBER, STATE, SENT, ADMITTED, REFUSED = 0, 2, 5, 6, 7
@@ -325,7 +325,7 @@ class PicturePageTests(unittest.TestCase):
                    ((Codec.G711, 8), (Codec.G726_32, 96), (Codec.G726_32, 96))]
         whole = b''.join([*session.given(), *records])
         text = page(whole, answered(list(session.given()), []) + b''.join(
-            spell(Kind.ANSWER, 3, bytes([Kind.CODEC, 0])) for _ in records), config_of(session))
+            encode_record(Kind.ANSWER, 3, bytes([Kind.CODEC, 0])) for _ in records), config_of(session))
         self.assertEqual(text.count('jitter buffer resynchronised</td>'), 1)
         self.assertIn('codec g726-32 96', text)
         # two again, one change; each is one mark, and one more of each is in the key

@@ -330,7 +330,7 @@ class PictureCaptureTests(PictureCommandCase):
         """Records of half a millisecond, as a device gives them: few octets of answers for as many pieces."""
         path = program()
         config, _, bare, capture = self.split('hold')
-        short = b''.join(trunk_record(record.body[at:at + 128]) if record.kind is Kind.TRUNK else record.spelled()
+        short = b''.join(trunk_record(record.body[at:at + 128]) if record.kind is Kind.TRUNK else record.encode()
                          for record in records_in(bare) for at in range(0, len(record.body), 128))
         packed = self.write('call.pcap', capture)
         pages = [self.drawn('--program', path, '--config', config, '--capture', packed, '-', given=given)[0]

@@ -57,7 +57,7 @@ class RecordReaderTests(unittest.TestCase):
         self.assertEqual(read, [Record(Kind.COMMAND, 1, b'\1'), Record(Kind.DATAGRAM, 1, b'\0'),
                                 Record(Kind.CODEC, 1, b'\4\10'), Record(Kind.TRUNK, 0, b''),
                                 Record(Kind.ANSWER, 1, b'\x43\2')])
-        self.assertEqual(b''.join(record.spelled() for record in read), given)
+        self.assertEqual(b''.join(record.encode() for record in read), given)
         self.assertEqual((read[0].command, read[2].codec, read[2].payload_type, read[4].refusal),
                          (Command.SEIZE, Codec.G726_32, 8, CommandRefusal.NOT_IDLE))
 
@@ -103,7 +103,7 @@ class RtpPacketTests(unittest.TestCase):
         octets = bytes.fromhex('80 E0 12 34 00 00 00 A0 DE AD BE EF') + b'speech'
         packet = session.packet_of(octets)
         self.assertEqual(packet, Packet(0x60, 0x1234, 160, 0xDEADBEEF, b'speech', True))
-        self.assertEqual(packet.spelled(), octets)
+        self.assertEqual(packet.encode(), octets)
 
     def test_sources_extension_and_padding(self) -> None:
         octets = datagram(0xB1, b'\0\0\0\7' + b'\xBE\xDE\0\1' + bytes(4) + b'speech' + b'\0\0\3')

@@ -15,7 +15,8 @@ from e1gw.session import Codec, Command
 
 CODECS = ('', 'g726-16', 'g726-24', 'g726-32', 'g726-40')
 SEIZED, ANSWERED, IDLE, ACKNOWLEDGED = 0b00, 0b01, 0b10, 0b11
-ADMITTED = session.spell(session.Kind.ANSWER, 7, bytes((session.Kind.DATAGRAM, 0)))      # a datagram of circuit 7
+# a datagram of circuit 7
+ADMITTED = session.encode_record(session.Kind.ANSWER, 7, bytes((session.Kind.DATAGRAM, 0)))
 
 
 class PlayedCoding(NamedTuple):

@@ -21,7 +21,7 @@ from e1gw.tie.coding import Coding, Codings
 from e1gw.tie.kept import KeptBlocks, read
 from e1gw.tie.main import ANYBODY, is_loopback, parser
 from e1gw.tie.messages import (BadMessage, CircuitChange, Greeting, KeepAlive, Message, OutOfService, SiteState,
-                               message_of, spell)
+                               encode_message, message_of)
 from e1gw.tie.pairs import BadPairs, agreed, pairs_of
 from e1gw.tie.site import Site, context_of, has_name
 from e1gw.tie.strangers import Stranger, StrangerStage, Strangers, address_of
@@ -58,7 +58,7 @@ class TieMessageTests(unittest.TestCase):
             CircuitChange(1, end), OutOfService(False), KeepAlive(),
             CircuitChange(2, CircuitEnd(Role.OUTGOING, State.FAULT, None))]
         for message in sent:
-            self.assertEqual(message_of(spell(message)), message)
+            self.assertEqual(message_of(encode_message(message)), message)
 
     def test_no_message(self) -> None:
         for line in (b'', b'\xff\n', b'[]', b'{}', b'{"tie": 2, "run": "a", "pairs": null}', b'{"dark": 1}',

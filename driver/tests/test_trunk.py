@@ -38,7 +38,7 @@ def aligned(world: W) -> W:
     """Steps until the lines are idle."""
     world.until(lambda: world.exchange.aligned and not world.exchange.remote_alarms)
     world.step(15)
-    world.settle()
+    world.wait_for_watcher()
     return world
 
 

@@ -19,14 +19,14 @@ from typing import Iterator, Sequence
 
 from . import support
 from e1gw.exchange import ACKNOWLEDGED, ANSWERED, IDLE, SEIZED
-from e1gw.session import Codec, Command, CommandRefusal, Kind, codec_record, command_record, records_in, spell
+from e1gw.session import Codec, Command, CommandRefusal, Kind, codec_record, command_record, encode_record, records_in
 from e1gw.session import trunk_record
 
 CONFIG = 'law = "A"\n' + ''.join(f'[[circuit]]\nnumber = {c}\nrole = "incoming"\n' for c in range(1, 31))
 SLOW = 'output slow: discarding whole multiframes'
 MULTIFRAME = 512
 PIPE = 65_536               # the octets that a pipe of Linux holds
-END = spell(0x45, 0, b'')   # asks for the end of the session
+END = encode_record(0x45, 0, b'')   # asks for the end of the session
 ANSWER_LENGTH = 6
 SECONDS = 20
 

@@ -115,7 +115,7 @@ class WatcherServiceTests(WatcherCase):
                               ('codec 1 g726-32 96', codec_record(1, Codec.G726_32, 96))):
             front = ' '.join(words.split()[:2])
             self.assertEqual(world.ask(words), f'{front}: done')
-            self.assertEqual(world.program.taken[-1].spelled(), record)
+            self.assertEqual(world.program.taken[-1].encode(), record)
 
     def test_an_answer_comes_behind_what_follows_from_it(self) -> None:
         """As with e1gw-trunk: a change, then the answer to the command that made it, and a status that has it."""
@@ -363,7 +363,7 @@ class WatcherCallTests(WatcherCase):
         world.shadow.tell('alarms 1 1 0 0')
         self.assertEqual(self.next(events, 'cleared', 'circuits'), [[1, 2]])
         world.until(lambda: len(world.program.taken) == 2)
-        self.assertEqual([record.spelled() for record in world.program.taken],
+        self.assertEqual([record.encode() for record in world.program.taken],
                          [command_record(1, Command.CLEAR), command_record(2, Command.CLEAR_BACK)])
 
     def test_the_last_client_is_gone(self) -> None:
@@ -378,7 +378,7 @@ class WatcherCallTests(WatcherCase):
             self.assertEqual(line.recv(100), b'on-loss: done\n\n')
         self.assertEqual(self.next(events, 'cleared', 'circuits'), [[1]])
         world.until(lambda: len(world.program.taken) == 2)
-        self.assertEqual(world.program.taken[1].spelled(), command_record(2, Command.BLOCK))
+        self.assertEqual(world.program.taken[1].encode(), command_record(2, Command.BLOCK))
 
     def test_a_playout_is_restarted(self) -> None:
         """Half a second of datagrams that are refused for their time."""
@@ -391,7 +391,7 @@ class WatcherCallTests(WatcherCase):
                 world.shadow.tell(f'datagram 1 16 {number} {160 * number} 9')
         self.assertEqual(self.next(events, 'renewed', 'circuits'), [[1]])
         world.until(lambda: world.program.taken)
-        self.assertEqual(world.program.taken[0].spelled(), codec_record(1, Codec.G711, 8))
+        self.assertEqual(world.program.taken[0].encode(), codec_record(1, Codec.G711, 8))
 
 
 if __name__ == '__main__':

@@ -166,8 +166,8 @@ class ServedProgram:
         return self.process.wait(SECONDS), said.decode()
 
 
-SETTLES = 'codec 30 g726-16 95'     # a command that is refused and changes nothing
-SETTLED = 'codec 30: no payload type of the codec'
+NO_EFFECT = 'codec 30 g726-16 95'     # a command that is refused and changes nothing
+NO_EFFECT_ANSWER = 'codec 30: no payload type of the codec'
 
 
 class World(ServedProgram):
@@ -207,7 +207,7 @@ class World(ServedProgram):
         until = time.monotonic() + SECONDS
         while time.monotonic() < until and self.process.poll() is None:
             try:
-                if self.ask_at_once(SETTLES) == SETTLED and self.known()['shadow']:
+                if self.ask_at_once(NO_EFFECT) == NO_EFFECT_ANSWER and self.known()['shadow']:
                     return
             except (FileNotFoundError, ConnectionRefusedError, EOFError):
                 time.sleep(0.01)
@@ -216,7 +216,7 @@ class World(ServedProgram):
         raise AssertionError('the watcher does not come to know the trunk')
 
     def ask(self, command: str | bytes) -> str:
-        self.settle()
+        self.wait_for_watcher()
         return self.ask_at_once(command)
 
     def ask_at_once(self, command: str | bytes) -> str:
@@ -228,9 +228,9 @@ class World(ServedProgram):
         found: dict[str, Any] = json.loads(self.ask_at_once('status json'))
         return found
 
-    def settle(self) -> None:
+    def wait_for_watcher(self) -> None:
         """Returns once the watcher knows what was given."""
-        assert self.ask_at_once(SETTLES) == SETTLED
+        assert self.ask_at_once(NO_EFFECT) == NO_EFFECT_ANSWER
 
     def new_listener(self) -> socket.socket:
         """The socket anew, for a driver that opens its trunk again."""

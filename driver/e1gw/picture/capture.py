@@ -12,7 +12,7 @@ from typing import Any
 from ..kept import InputError, Source
 from ..lines import law_of
 from ..repetitions import mark_of
-from ..session import OCTETS_A_SECOND, BadPacket, Kind, packet_of, spell
+from ..session import OCTETS_A_SECOND, BadPacket, Kind, encode_record, packet_of
 from .facts import BITS, FRAME, HEADER, MOST, WINDOW, CallStream, Facts, Row, Wire
 from .listening import SpeechListener
 from .packets import Datagram, datagrams
@@ -143,18 +143,18 @@ def _merged(source: Source, came: Iterable[tuple[int, int, bytes]]) -> Iterator[
         if kind == Kind.DATAGRAM:
             continue
         if kind != Kind.TRUNK:
-            yield spell(kind, circuit, body)
+            yield encode_record(kind, circuit, body)
             continue
         at = 0
         while following and following[0] < place + len(body):
             cut = max(at, following[0] - place)
             if cut > at:
-                yield spell(Kind.TRUNK, 0, body[at:cut])
+                yield encode_record(Kind.TRUNK, 0, body[at:cut])
             if len(following[2]) <= 65_535:
-                yield spell(Kind.DATAGRAM, following[1], following[2])
+                yield encode_record(Kind.DATAGRAM, following[1], following[2])
             at, following = cut, next(waiting, None)
         if at < len(body):
-            yield spell(Kind.TRUNK, 0, body[at:])
+            yield encode_record(Kind.TRUNK, 0, body[at:])
         place += len(body)
 
 

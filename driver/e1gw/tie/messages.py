@@ -34,7 +34,7 @@ class Greeting:
 class SiteState:
     """The state of a site."""
 
-    dark: bool
+    out_of_service: bool
     ends: dict[int, CircuitEnd]
     until_answer: str | None = None     # the codec that it can give its circuits until the answer
 
@@ -51,7 +51,7 @@ class CircuitChange:
 class OutOfService:
     """Whether the trunk of that site is out of service."""
 
-    dark: bool
+    out_of_service: bool
 
 
 @dataclass(frozen=True)
@@ -66,14 +66,14 @@ def _plain(message: Message) -> dict[str, Any]:
     if isinstance(message, Greeting):
         return {'tie': VERSION, 'run': message.run, 'pairs': message.pairs}
     if isinstance(message, SiteState):
-        return {'all': {n: asdict(end) for n, end in message.ends.items()}, 'dark': message.dark,
+        return {'all': {n: asdict(end) for n, end in message.ends.items()}, 'dark': message.out_of_service,
                 'until_answer': message.until_answer}
     if isinstance(message, CircuitChange):
         return {'circuit': message.circuit, 'end': asdict(message.end)}
-    return {'dark': message.dark} if isinstance(message, OutOfService) else {'alive': True}
+    return {'dark': message.out_of_service} if isinstance(message, OutOfService) else {'alive': True}
 
 
-def spell(message: Message) -> bytes:
+def encode_message(message: Message) -> bytes:
     """The line of a message."""
     return json.dumps(_plain(message)).encode() + b'\n'
 

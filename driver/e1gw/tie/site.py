@@ -10,7 +10,7 @@ import ssl
 from contextlib import ExitStack, suppress
 from typing import Any, Protocol
 
-from .messages import MOST, BadMessage, Greeting, KeepAlive, Message, message_of, spell
+from .messages import MOST, BadMessage, Greeting, KeepAlive, Message, encode_message, message_of
 from .strangers import Stranger, StrangerStage, Strangers, address_of
 
 ALIVE = 0.5                 # seconds between two keepalives
@@ -143,7 +143,7 @@ class Site:
             if writer.transport.get_write_buffer_size() > MOST_WAITING:
                 writer.transport.abort()
             else:
-                writer.write(spell(message))
+                writer.write(encode_message(message))
 
     def close(self) -> None:
         """Closes the present connection."""
@@ -250,7 +250,7 @@ class Site:
         """Exchanges greetings."""
         if self.listens and self.context and self.name and not has_name(writer.get_extra_info('peercert'), self.name):
             raise SiteRefused(f'its certificate is not that of {self.name}')
-        writer.write(spell(self.hooks.greeting()))
+        writer.write(encode_message(self.hooks.greeting()))
         greeting = await read_one(reader)
         if not isinstance(greeting, Greeting):
             raise SiteRefused('it sends no greeting' if greeting else 'it closed the connection')

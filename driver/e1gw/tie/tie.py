@@ -92,7 +92,7 @@ class Releases:
             self._stuck(n)
 
 
-def is_dark(status: dict[str, Any]) -> bool:
+def is_out_of_service(status: dict[str, Any]) -> bool:
     """Whether a trunk whose octets come carries no calls: it is stalled, or there is an alarm."""
     clock = status.get('clock') or {}
     return (not status.get('trunk_up', True) or bool(clock.get('stalled'))
@@ -116,14 +116,14 @@ class Tie:
         self.refusals = RefusalReports(tell)
         self.calls = CallNames()
         self._octets = -1
-        self._dark = self._far_dark = True
+        self._out_of_service = self._far_out_of_service = True
         self._far: dict[int, CircuitEnd] | None = None         # the other site's states, by its numbers; None: unknown
         self._busy: dict[int, Command] = {}
 
     # ---- the trunk here ----
 
     def lost(self) -> None:
-        self._set_dark(True)
+        self._set_out_of_service(True)
 
     def begin(self, status: dict[str, Any], life: str) -> None:
         """Takes all circuits from the driver, with what is remembered of their calls."""
@@ -149,7 +149,7 @@ class Tie:
         # (a watcher knows by its shadow whether octets come)
         lives = bool(status['shadow']) if 'shadow' in status else octets != self._octets
         self._octets = octets
-        self._set_dark(not lives or is_dark(status))
+        self._set_out_of_service(not lives or is_out_of_service(status))
         for row in status['circuits']:
             n = int(row['circuit'])
             circuit = self.circuits[n]
@@ -167,7 +167,7 @@ class Tie:
         if name == 'state':
             self._state(int(event['circuit']), State(event['was']), State(event['state']))
         elif name in ('alarm', 'remote alarm') and event.get('on') or name in ('trunk lost', 'stalled'):
-            self._set_dark(True)
+            self._set_out_of_service(True)
         elif name == 'command' and event['command'] == Command.BLOCK.word:
             n = int(event['circuit'])
             if self._busy.get(n) is not Command.BLOCK:
@@ -265,22 +265,22 @@ class Tie:
 
     # ---- the link ----
 
-    def _set_dark(self, dark: bool) -> None:
+    def _set_out_of_service(self, on: bool) -> None:
         """Notes whether the trunk here can carry calls."""
-        if dark != self._dark:
-            self._dark = dark
-            self.tell('dark' if dark else 'light')
+        if on != self._out_of_service:
+            self._out_of_service = on
+            self.tell('dark' if on else 'light')
             if self.site:
-                self.site.send(OutOfService(dark))
+                self.site.send(OutOfService(on))
             self._look_at_link()
 
     def _look_at_link(self) -> None:
         """Follows the state of the connection to the other end."""
         known = self.control.client is not None and self._far is not None
-        if not self.link.look(known and not self._dark and not self._far_dark):
+        if not self.link.look(known and not self._out_of_service and not self._far_out_of_service):
             return
-        self.tell('link', state=self.link.state.value, site=self._far is not None, dark=self._dark,
-                  far_dark=self._far_dark)
+        self.tell('link', state=self.link.state.value, site=self._far is not None, dark=self._out_of_service,
+                  far_dark=self._far_out_of_service)
         self._look_at_all()
 
     # ---- the other site ----
@@ -297,7 +297,7 @@ class Tie:
 
     def heard(self, message: Message) -> None:
         if isinstance(message, SiteState):
-            self._far, self._far_dark = dict(message.ends), message.dark
+            self._far, self._far_out_of_service = dict(message.ends), message.out_of_service
             self.codecs.heard(message.until_answer)
             self._join()
             self._look_at_link()
@@ -308,7 +308,7 @@ class Tie:
                 if there == message.circuit and here in self.circuits:
                     self._put(here, self.circuits[here].heard(message.end))
         elif isinstance(message, OutOfService):
-            self._far_dark = message.dark
+            self._far_out_of_service = message.out_of_service
             self._look_at_link()
 
     def gone(self, why: str) -> None:
@@ -342,7 +342,7 @@ class Tie:
         """Sends the state of all circuits, once it is known."""
         if self.site and self.circuits:
             ends = {n: self.circuits[n].end() for n in self.there if n in self.circuits}
-            self.site.send(SiteState(self._dark, ends, self.codecs.codings.own))
+            self.site.send(SiteState(self._out_of_service, ends, self.codecs.codings.own))
         if self._far is not None:
             self._join()
             self._look_at_link()

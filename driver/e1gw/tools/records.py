@@ -103,7 +103,7 @@ def write_records(source: Readable, begin: int, end: int | None, sink: BinaryIO)
     place = 0
     for record in records(source):
         if begin <= place and (end is None or place < end):
-            sink.write(record.spelled())
+            sink.write(record.encode())
         place += len(record.body) if record.kind is Kind.TRUNK else 0
 
 
