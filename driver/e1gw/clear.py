@@ -159,9 +159,6 @@ class Clear(Trunk):
     def waiting(self) -> int:
         return self._device.waiting()
 
-    def unread(self) -> int:
-        return len(self._ready) + self._device.unread() * FRAME // (FRAME - 1)
-
     def flush(self) -> None:
         self._device.flush()
 

@@ -2,8 +2,7 @@
 
 An octet is behind by the time since the first one less its place at 256,000 octets a second. What it is behind by more
 than is usual is the displacement. It is measured where octets flow steadily; a slow change of it is the rate of a
-clock. Octets that have come and wait to be read count as those that were read: where this machine stood still they are
-late, and none is lost.
+clock. Octets that waited because this machine stood still are late, and none is lost: all of them are read at once.
 """
 from __future__ import annotations
 
@@ -52,16 +51,12 @@ class Clock:
         self._steps = 0.0                   # of that, what gaps have added
         self._rates: deque[tuple[float, float]] = deque()
 
-    def took(self, count: int, now: float, unread: int = 0) -> None:
-        """So many octets were read, behind which so many others had come."""
+    def took(self, count: int, now: float) -> None:
+        """So many octets were read."""
         self.octets += count
-        behind = now - self._began - (self.octets + unread) / OCTETS_A_SECOND
+        behind = now - self._began - self.octets / OCTETS_A_SECOND
         self._last = now
         self._low = behind if self._low is None else min(behind, self._low)
-
-    def held(self, now: float) -> None:
-        """Until now nothing was read, whether octets came or not."""
-        self._last = now
 
     def steady(self) -> bool:
         """Whether octets flow at their rate."""
@@ -70,7 +65,7 @@ class Clock:
     def look(self, now: float) -> list[ClockFinding]:
         """To be called each TICK: what has become of the flow since."""
         if now - self._looked >= self.gap:
-            self.held(now)      # this process stood still
+            self._last = now    # this process stood still
         self._looked = now
         found = self._look_at_flow(now)
         if not self.steady():

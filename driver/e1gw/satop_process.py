@@ -74,8 +74,6 @@ class SatopProcess(Stream):
     """The trunk. `tell` is called with {'event': 'satop', 'what': 'packets missing', 'on': true or false} if it is set.
     OSError if the program cannot be started, and where it has ended."""
 
-    may_wait = False
-
     def __init__(self, program: str, words: list[str]) -> None:
         ours, its = socket.socketpair()
         try:

@@ -3,12 +3,9 @@ from __future__ import annotations
 
 import argparse
 import errno
-import fcntl
 import os
 import socket
 import stat
-import sys
-import termios
 import tty
 from abc import ABC, abstractmethod
 from typing import Any, Callable
@@ -53,10 +50,6 @@ class Trunk(ABC):
 
     def waiting(self) -> int:
         """How many octets wait to be sent. Nothing more is read from the trunk before they are."""
-        return 0
-
-    def unread(self) -> int:
-        """How many octets have come that `read` has not given yet, as far as that is known."""
         return 0
 
     def flush(self) -> None:
@@ -109,12 +102,6 @@ class Stream(Trunk):
 
     def waiting(self) -> int:
         return len(self._waiting)
-
-    def unread(self) -> int:
-        try:
-            return int.from_bytes(fcntl.ioctl(self.reads, termios.FIONREAD, bytes(4)), sys.byteorder)
-        except OSError:
-            return 0            # a device that does not tell
 
     def flush(self) -> None:
         try:

@@ -131,7 +131,7 @@ class SimulatedCall:
         while waiting > 0:
             self._wait(STEP / 4)
             waiting += STEP / 4 - STEP
-            self._read(max(0, round(waiting * 256_000)))
+            self._read()
 
     # ---- the driver ----
 
@@ -152,7 +152,7 @@ class SimulatedCall:
         self.restarts.append(self.now)
         self._command(codec_record(1, Codec.G711, 8))
 
-    def _read(self, unread: int = 0) -> None:
+    def _read(self) -> None:
         """A multiframe is given to the gateway behind the packets that have come."""
         given = self.exchange.multiframe()
         packets = b''
@@ -160,7 +160,7 @@ class SimulatedCall:
             packet = Packet(8, self.sent & 0xFFFF, 160 * self.sent, 7, bytes([SPOKEN]) * 160)
             packets += datagram_record(1, packet.encode())
             self.sent += 1
-        self.clock.took(MULTIFRAME, self.now, unread)
+        self.clock.took(MULTIFRAME, self.now)
         answered = self._ask(packets + trunk_record(given), Kind.TRUNK)
         first = (1 - self.lines.place) % FRAME
         self.lines.trunk(given, answered)

@@ -1,6 +1,7 @@
 """A carrier in lock step: its trunk and its program are the ends of socket pairs, or what the tests put there."""
 from __future__ import annotations
 
+import fcntl
 import json
 import os
 import random
@@ -8,6 +9,7 @@ import select
 import socket
 import subprocess
 import sys
+import termios
 import time
 import unittest
 from typing import Any
@@ -21,7 +23,7 @@ from e1gw.carrier import ONES, Carrier
 from e1gw.clear import Clear, Place
 from e1gw.crc4 import Crc4
 from e1gw.session import FRAME, MULTIFRAME
-from e1gw.trunks import Stream
+from e1gw.trunks import Stream, Trunk
 
 LAUNCHER = os.path.join(support.TOP, 'driver', 'e1gw-carry')
 AIS = ONES * MULTIFRAME
@@ -30,6 +32,11 @@ AIS = ONES * MULTIFRAME
 def stream_of(line: socket.socket) -> Stream:
     file = line.detach()
     return Stream(file, file, 'pair')
+
+
+def unread(stream: Trunk) -> int:
+    """How many octets have come that were not read."""
+    return int.from_bytes(fcntl.ioctl(stream.fileno(), termios.FIONREAD, bytes(4)), sys.byteorder)
 
 
 def all_of(line: socket.socket) -> bytes:
@@ -70,14 +77,14 @@ class CarrierTests(unittest.TestCase):
     def give(self, octets: bytes) -> bytes:
         """The far end gives octets; what it gets."""
         self.far.sendall(octets)
-        while self.carrier.trunk and self.carrier.trunk.unread():
+        while self.carrier.trunk and unread(self.carrier.trunk):
             self.carrier.carry()
         return all_of(self.far)
 
     def answer(self, program: socket.socket, octets: bytes) -> bytes:
         """A program answers; what the far end gets."""
         program.sendall(octets)
-        while self.carrier.program and self.carrier.owed and self.carrier.program.unread():
+        while self.carrier.program and self.carrier.owed and unread(self.carrier.program):
             self.carrier.hear()
         return all_of(self.far)
 
@@ -237,7 +244,7 @@ class CarrierCardTests(unittest.TestCase):
                         one.carry()
                     count = len(all_of(theirs))     # whole multiframes: it begins with slot 0
                     theirs.sendall((frame * (count // FRAME))[:count])
-                    if one.owed and program.unread():
+                    if one.owed and unread(program):
                         one.hear()
                 device.left += bytes(31 * 16)
                 one.carry()

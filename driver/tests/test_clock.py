@@ -31,14 +31,6 @@ class ClockedTrunk:
         self.now += seconds
         self._look = self.now + TICK
 
-    def catch_up(self, seconds: float, rate: float) -> None:
-        """Octets of this time have come and are read at this rate, while others come at theirs."""
-        waiting = seconds
-        while waiting > 0:
-            self._wait(RECORD / rate)
-            waiting += RECORD / rate - RECORD
-            self.clock.took(256, self.now, max(0, round(waiting * 256_000)))
-
     def at_once(self, seconds: float) -> None:
         """Octets of this time come at one moment."""
         for _ in range(round(seconds / RECORD)):
@@ -83,32 +75,6 @@ class ClockTests(unittest.TestCase):
         trunk.at_once(0.5)
         trunk.go(1)
         self.assertEqual(trunk.words(), ['stalled', 'flows'])
-
-    def test_octets_that_wait_for_a_slow_reader_are_none(self) -> None:
-        for rate in (1.1, 1.2, 1.5, 2, 5):
-            trunk = ClockedTrunk()
-            trunk.go(2)
-            trunk.stand_still(0.5)
-            trunk.catch_up(0.5, rate)
-            trunk.go(1)
-            self.assertEqual((trunk.words(), trunk.clock.gaps), ([], 0), rate)
-
-    def test_octets_that_are_lost_while_others_wait(self) -> None:
-        trunk = ClockedTrunk()
-        trunk.go(2)
-        trunk.stand_still(0.8)
-        trunk.catch_up(0.5, 1.2)
-        trunk.go(1)
-        self.assertEqual(trunk.words(), ['gap'])
-        self.assertAlmostEqual(trunk.found[0].value, 0.3, delta=0.02)
-
-    def test_nothing_is_read_while_it_is_held(self) -> None:
-        trunk = ClockedTrunk()
-        trunk.go(2)
-        for _ in range(24):
-            trunk._wait(TICK)
-            trunk.clock.held(trunk.now)
-        self.assertEqual(trunk.words(), [])
 
     def test_a_look_that_is_late_says_nothing_of_octets(self) -> None:
         trunk = ClockedTrunk()

@@ -71,7 +71,6 @@ class SatopProcessTests(unittest.TestCase):
 
     def test_octets_go_both_ways(self) -> None:
         trunk = self.trunk()
-        self.assertFalse(trunk.may_wait)
         trunk.write(bytes(range(256)))
         self.assertEqual(self.octets(trunk, 256), bytes(range(255, -1, -1)))
         self.assertEqual(trunk.read(256), b'')

@@ -18,13 +18,11 @@ class TrunkKindTests(support.Folder):
 
     def both_ways(self, trunk: Trunk, reads: int, writes: int) -> None:
         """The other end writes and reads by these descriptors, which it then closes."""
-        self.assertEqual((trunk.read(100), trunk.unread()), (b'', 0))
+        self.assertEqual(trunk.read(100), b'')
         os.write(writes, OCTETS)
         read = b''
         while len(read) < len(OCTETS):
             read += trunk.read(100)
-            if read:
-                self.assertEqual(trunk.unread(), len(OCTETS) - len(read))
         trunk.write(OCTETS)
         back = b''
         while len(back) < len(OCTETS):
