@@ -54,7 +54,6 @@ class Line:
     role: Role = Role.OUTGOING
     codec: str = 'pcma'
     payload: int = 8
-    ptime: int = 20
     prefill: int = 0
     port: int | None = None
     state: State = State.FAULT
@@ -137,7 +136,6 @@ def lines_of(config: Mapping[str, Any], kind: type[ALine]) -> dict[int, ALine]:
         line.role = Role(table.get('role', line.role))
         line.codec = table.get('codec', line.codec)
         line.payload = table.get('payload', line.payload)
-        line.ptime = table.get('ptime', line.ptime)
         line.prefill = table.get('prefill', line.prefill)
         line.port = table.get('local_port')
     for line in lines.values():

@@ -3,17 +3,21 @@ from __future__ import annotations
 
 import bisect
 import functools
+import io
 import math
 import os
 import random
 import struct
 import tempfile
-from collections.abc import Callable, Iterator
+from collections.abc import Callable, Iterator, Mapping
 from dataclasses import dataclass, field
+from typing import Any
 
 from .support import Exchange, run
 
 from e1gw.g711 import TONES, VALUES
+from e1gw.picture.facts import Facts
+from e1gw.picture.reading import SessionReading, rows_of
 from e1gw.session import Command, Kind, command_record, datagram_record, encode_record, records_in, trunk_record
 
 IDLE, SEIZED, ACKNOWLEDGED, ANSWERED = 0b10, 0b00, 0b11, 0b01        # the pairs ab of ITU-T Q.421
@@ -27,6 +31,14 @@ Event = tuple[float, str, int, int]
 def rtp(sequence: int, stamp: int, ssrc: int, kind: int = 8, payload: bytes = TONE * 20) -> bytes:
     """A datagram (RFC 3550, 5.1)."""
     return struct.pack('>BBHII', 0x80, kind, sequence & 0xFFFF, stamp & 0xFFFFFFFF, ssrc) + payload
+
+
+def read_session(given: bytes, answers: bytes, config: Mapping[str, Any], last: int | None = None,
+                 program: str | None = None) -> Facts:
+    """The facts of a gateway's input and its answers. The program finds the order of words of G.726."""
+    facts = Facts(rows_of(config), last)
+    SessionReading(facts, config, io.BytesIO(given), io.BytesIO(answers), program).read()
+    return facts
 
 
 # ---- what sounds like speech ----

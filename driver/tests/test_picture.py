@@ -3,25 +3,23 @@ from __future__ import annotations
 
 import functools
 import html.parser
-import io
 import os
 import random
 import re
 import unittest
+from typing import Any, Mapping
 
 from .support import program, run
 
-from .picture_made import TROUBLES, MadeSession, PictureSender, answered, recorded, rtp
+from .picture_made import TROUBLES, MadeSession, PictureSender, answered, read_session, recorded, rtp
 
 from e1gw.followed import FollowedTrunk
 from e1gw.lines import read_config
-from e1gw.picture import page
 from e1gw.picture.facts import MOST, RANK, Facts, Row, Spans
 from e1gw.picture.findings import findings
 from e1gw.picture.following import PictureFollower
 from e1gw.picture.page import MOST as MOST_OCTETS
 from e1gw.picture.page import draw, numbers
-from e1gw.picture.reading import read
 from e1gw.picture.svg import Scale, apart, clock, duration, runs
 from e1gw.session import OCTETS_A_SECOND, Codec, DatagramRefusal, Kind, codec_record, encode_record, records_in
 
@@ -44,7 +42,12 @@ def config_of(session: MadeSession) -> dict[str, object]:
 def facts_of(session: MadeSession, codes: list[int], last: int | None = None) -> Facts:
     """What is gathered of a session whose datagrams are answered by these codes."""
     records = list(session.given())
-    return read(io.BytesIO(b''.join(records)), io.BytesIO(answered(records, codes)), config_of(session), last)
+    return read_session(b''.join(records), answered(records, codes), config_of(session), last)
+
+
+def page_of(given: bytes, answers: bytes, config: Mapping[str, Any]) -> str:
+    """The page of a session and its answers."""
+    return draw(read_session(given, answers, config), 'e1gw')
 
 
 @functools.cache
@@ -90,7 +93,7 @@ class FactsTests(unittest.TestCase):
         records = list(session.given())
         stamps = iter((0, 160, 320))
         records = [record[:4] + rtp(0, next(stamps), 7) if record[0] == Kind.DATAGRAM else record for record in records]
-        facts = read(io.BytesIO(b''.join(records)), io.BytesIO(answered(records, [0, 0, 0])), config_of(session))
+        facts = read_session(b''.join(records), answered(records, [0, 0, 0]), config_of(session))
         cell = facts.rows[3].count()
         self.assertEqual((cell.low, cell.high), (240, 320))
 
@@ -198,7 +201,7 @@ class FactsBesideCheckTests(unittest.TestCase):
         for name in TROUBLES:
             with self.subTest(name):
                 given, answers, path = played(name)
-                facts = read(io.BytesIO(given), io.BytesIO(answers), read_config(path), program=program())
+                facts = read_session(given, answers, read_config(path), program=program())
                 listing = [line.split() for line in run('check', '--config', path, given=given).decode().splitlines()]
                 for line in listing:
                     row = facts.rows[int(line[NUMBER])]
@@ -225,7 +228,7 @@ class FactsBesideCheckTests(unittest.TestCase):
         for name in TROUBLES:
             with self.subTest(name):
                 given, answers, path = played(name)
-                facts = read(io.BytesIO(given), io.BytesIO(answers), read_config(path), program=program())
+                facts = read_session(given, answers, read_config(path), program=program())
                 kinds = [each.kind for each in findings(facts)]
                 if name == 'sound':
                     self.assertEqual(kinds, [])
@@ -234,13 +237,13 @@ class FactsBesideCheckTests(unittest.TestCase):
 
     def test_clock_is_measured(self) -> None:
         given, answers, path = played('slow-clock')
-        found = findings(read(io.BytesIO(given), io.BytesIO(answers), read_config(path), program=program()))
+        found = findings(read_session(given, answers, read_config(path), program=program()))
         words = next(each.seen for each in found if each.kind == 'clock slower')
         self.assertAlmostEqual(int(words.split(' ppm')[0].split()[-1]), 500, delta=10)
 
     def test_gap_is_measured(self) -> None:
         given, answers, path = played('gap')
-        found = findings(read(io.BytesIO(given), io.BytesIO(answers), read_config(path), program=program()))
+        found = findings(read_session(given, answers, read_config(path), program=program()))
         self.assertIn('come 380 ms earlier', next(each.seen for each in found if each.kind == 'gap'))
 
 
@@ -304,7 +307,7 @@ class PicturePageTests(unittest.TestCase):
         session.call(3, 0.05, 9.0)
         session.senders.append(PictureSender(3, 0.2, 1.0 - 0.001, kind=13))
         records = list(session.given())
-        words = self.checked(page(b''.join(records), answered(records, [11] * 40), config_of(session)))
+        words = self.checked(page_of(b''.join(records), answered(records, [11] * 40), config_of(session)))
         self.assertIn('40 of 40 packets were discarded as PayloadType: type 13 came, the circuit has 8', words)
         self.assertIn('0 sent, 0 received, 40 discarded', words)
         self.assertIn('127.0.0.1:24106', words)
@@ -314,7 +317,7 @@ class PicturePageTests(unittest.TestCase):
                                   ('other-codec', 'other length', 'unlike')):
             with self.subTest(name):
                 made = TROUBLES[name]()
-                text = page(b''.join(made.given()), answered(list(made.given()), [0] * 273), config_of(made))
+                text = page_of(b''.join(made.given()), answered(list(made.given()), [0] * 273), config_of(made))
                 self.checked(text)
                 self.assertIn(f'<title>circuit 3: {words}</title>', text)
                 self.assertEqual(len(re.findall(f'<path [^>]*class="{kind}"', text)), 2)
@@ -324,7 +327,7 @@ class PicturePageTests(unittest.TestCase):
         records = [codec_record(3, codec, payload) for codec, payload in
                    ((Codec.G711, 8), (Codec.G726_32, 96), (Codec.G726_32, 96))]
         whole = b''.join([*session.given(), *records])
-        text = page(whole, answered(list(session.given()), []) + b''.join(
+        text = page_of(whole, answered(list(session.given()), []) + b''.join(
             encode_record(Kind.ANSWER, 3, bytes([Kind.CODEC, 0])) for _ in records), config_of(session))
         self.assertEqual(text.count('jitter buffer resynchronised</td>'), 1)
         self.assertIn('codec g726-32 96', text)
@@ -348,7 +351,7 @@ class PicturePageTests(unittest.TestCase):
         self.checked(text)
 
     def test_nothing_at_all(self) -> None:
-        words = self.checked(page(b'', b'', {}))
+        words = self.checked(page_of(b'', b'', {}))
         self.assertIn('No datagrams came', words)
 
     def test_times_of_the_day(self) -> None:

@@ -1,7 +1,6 @@
 """What the picture hears: levels, the other law, the other order of words, and what tells nothing."""
 from __future__ import annotations
 
-import io
 import math
 import os
 import random
@@ -10,13 +9,12 @@ import unittest
 
 from .support import program, run
 
-from .picture_made import BITS, TROUBLES, coded, g726, of_aal2, of_codec, packets
+from .picture_made import BITS, TROUBLES, coded, g726, of_aal2, of_codec, packets, read_session
 
 from e1gw.g711 import OTHER, TONES, VALUES, level, power
 from e1gw.picture.facts import Facts
 from e1gw.picture.findings import findings
 from e1gw.picture.orders import Orders, reordered
-from e1gw.picture.reading import read
 from e1gw.picture.sound import EACH, HeardSamples, ListeningTimes, heard
 from e1gw.session import Kind, packet_of, records_in
 
@@ -54,7 +52,7 @@ def of_records(config: str, given: bytes) -> tuple[Facts, bytes]:
         with open(path, 'w', encoding='utf-8') as file:
             file.write(config)
         answers = run('replay', '--config', path, given=given)
-    return read(io.BytesIO(given), io.BytesIO(answers), tomllib.loads(config), program=program()), answers
+    return read_session(given, answers, tomllib.loads(config), program=program()), answers
 
 
 class LevelTests(unittest.TestCase):

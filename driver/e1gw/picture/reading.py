@@ -275,11 +275,3 @@ class SessionReading:
         if event['place'] >= self.facts.place:
             self.facts.turn(event['place'])
         self.tell(event)
-
-
-def read(given: Readable, answered: Readable, config: Mapping[str, Any], last: int | None = None,
-         program: str | None = None) -> Facts:
-    """The facts of a gateway's input and its answers. The program finds the order of words of G.726."""
-    facts = Facts(rows_of(config), last)
-    SessionReading(facts, config, given, answered, program).read()
-    return facts
