@@ -25,7 +25,7 @@ def octets_in(records: list[bytes]) -> int:
     return sum(len(record) - 4 for record in records if record[0] == Kind.TRUNK)
 
 
-class RingCase(support.Folder):
+class RingCase(support.FolderCase):
     """A session that is kept in four pieces."""
 
     def setUp(self) -> None:

@@ -257,7 +257,7 @@ class CarrierCardTests(unittest.TestCase):
             device.taken = device.taken[len(device.taken) // 31 * 31:]
 
 
-class CarrierCase(support.Folder):
+class CarrierCase(support.FolderCase):
     """The command itself, with a Unix socket as its trunk."""
 
     def setUp(self) -> None:

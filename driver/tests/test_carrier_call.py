@@ -97,7 +97,7 @@ class CarrierEnd:
         self.program.wait(SECONDS)
 
 
-class CarrierCallTests(support.Folder):
+class CarrierCallTests(support.FolderCase):
     def setUp(self) -> None:
         support.program()
         super().setUp()
@@ -184,7 +184,7 @@ class CarrierKeeperTests(CarrierCase):
         self.assertEqual((exchange.remote_alarms, exchange.signals[1]), (False, ACKNOWLEDGED))
 
 
-class EmulatedCircuitTests(support.Folder):
+class EmulatedCircuitTests(support.FolderCase):
     """Two carriers as processes at one another over SAToP with CRC-4, in real time, and what plays a program at each:
     it answers with multiframes of an exchange."""
 

@@ -221,7 +221,7 @@ class ClearSlipTests(unittest.TestCase):
         self.assertEqual(self.events, [{'event': 'slots', 'what': 'moved', 'by': 5}])
 
 
-class ClearGatewayTests(support.Folder):
+class ClearGatewayTests(support.FolderCase):
     """The same with the gateway between: what each circuit's peer hears, and how the lines stand."""
 
     def setUp(self) -> None:

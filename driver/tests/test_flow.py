@@ -58,7 +58,7 @@ class FlowNotes:
         self.flow = Flow(self.path)
 
 
-class FlowTests(support.Folder):
+class FlowTests(support.FolderCase):
     def setUp(self) -> None:
         super().setUp()
         self.notes = FlowNotes(self.path('flow'))

@@ -26,7 +26,7 @@ class ThreadAtOnce:
         self.start = lambda: target(*args)
 
 
-class RingTests(support.Folder):
+class RingTests(support.FolderCase):
     def setUp(self) -> None:
         super().setUp()
         self.ring, self.config = self.path('ring'), self.write('trunk.toml', 'law = "A"\n')

@@ -108,7 +108,7 @@ class RtpPeers:
             self.packets[self.circuits[port]].append(datagram)
 
 
-class KeeperCase(support.Folder):
+class KeeperCase(support.FolderCase):
     """A keeper with a device, thirty calls, and what was given and heard."""
 
     def setUp(self) -> None:
@@ -480,7 +480,7 @@ class KeeperHandoverTests(KeeperCase):
         self.assertIn('WATCHDOG=1', told)
 
 
-class KeeperFifoTests(support.Folder):
+class KeeperFifoTests(support.FolderCase):
     """A trunk that is a pair of FIFOs, without a control socket."""
 
     def read(self, name: str) -> str:

@@ -14,7 +14,7 @@ from e1gw.making import options_text, parser, plan_of, text_of
 LAUNCHER = os.path.join(support.TOP, 'driver', 'e1gw-config')
 
 
-class ConfigTests(support.Folder):
+class ConfigTests(support.FolderCase):
     def made(self, *words: str) -> tuple[int, str, str]:
         done = subprocess.run([sys.executable, '-B', LAUNCHER, *words], capture_output=True, text=True, check=False,
                               cwd=self.folder)

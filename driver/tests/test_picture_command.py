@@ -10,7 +10,7 @@ import struct
 import subprocess
 import unittest
 
-from .support import TOP, Folder, program, run
+from .support import TOP, FolderCase, program, run
 
 from .picture_made import (BEGIN, CAPTURED, PEER, TROUBLES, MadeSession, PictureSender, answered, beside, captured,
                            icmp, pcap, recorded, udp)
@@ -40,7 +40,7 @@ def pcapng(packets: list[tuple[float, bytes]]) -> bytes:
     return b''.join(out)
 
 
-class PictureCommandCase(Folder):
+class PictureCommandCase(FolderCase):
     """Runs the command on files."""
 
     def drawn(self, *words: str, status: int = 0, given: bytes = b'') -> tuple[str, str]:

@@ -118,7 +118,7 @@ def of_others(answers: bytes, circuit: int) -> tuple[bytes, list[session.Record]
     return support.without(sent, circuit), [record for record in found if record.circuit not in (0, circuit)]
 
 
-class StateCase(support.Folder):
+class StateCase(support.FolderCase):
     """Sessions in pieces, each of which begins with the state that the one before saved."""
 
     def answers(self, config: str, pieces: list[bytes]) -> bytes:
@@ -242,7 +242,7 @@ class ReconfiguredStateTests(StateCase):
         self.assertEqual(first + rest, whole)
 
 
-class RefusedStateTests(support.Folder):
+class RefusedStateTests(support.FolderCase):
     """States that are not loaded, and states that can't be saved."""
 
     def setUp(self) -> None:

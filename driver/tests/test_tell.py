@@ -87,7 +87,7 @@ class TellClient:
         return self.socket.recv(1) == b''
 
 
-class TellTests(support.Folder):
+class TellTests(support.FolderCase):
     """A session whose clients are told."""
 
     def setUp(self) -> None:

@@ -410,7 +410,7 @@ def cut(options: Sequence[str]) -> list[list[str]]:
     return found
 
 
-class RefusedOptionsTests(support.Folder):
+class RefusedOptionsTests(support.FolderCase):
     """Command lines that are refused with status 2, before anything is emptied."""
 
     def setUp(self) -> None:
@@ -563,7 +563,7 @@ class RefusedOptionsTests(support.Folder):
             self.assertEqual(file.read(), answered[0].body)
 
 
-class UnitTests(support.Folder):
+class UnitTests(support.FolderCase):
     """What systemd is told."""
 
     def setUp(self) -> None:

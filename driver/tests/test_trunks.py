@@ -13,7 +13,7 @@ from e1gw.trunks import Stream, Trunk, host_and_port, open_files
 OCTETS = bytes(range(256)) * 2
 
 
-class TrunkKindTests(support.Folder):
+class TrunkKindTests(support.FolderCase):
     """Each kind gives the octets that come and sends those that go, and ends with an EOFError."""
 
     def both_ways(self, trunk: Trunk, reads: int, writes: int) -> None:

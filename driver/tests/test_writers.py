@@ -14,7 +14,7 @@ from .world import SECONDS, World, config_of
 from e1gw.writers import Journal, Writer, open_to_append, to_file
 
 
-class WriterOpeningTests(support.Folder):
+class WriterOpeningTests(support.FolderCase):
     def setUp(self) -> None:
         super().setUp()
         self.fifo = self.path('fifo')
