@@ -21,7 +21,7 @@ class Begun:
 
 
 def standing_of(line: str) -> CircuitState:
-    """A circuit by a line of the listing, or Trouble."""
+    """A circuit by a line of the listing, or InputError."""
     words = line.split()
     try:
         if len(words) != COLUMNS:
@@ -33,8 +33,8 @@ def standing_of(line: str) -> CircuitState:
 
 
 def listed(state: str, program: str, config: str) -> list[CircuitState]:
-    """The circuits of a state, as `e1gw check` lists them. Trouble if it refuses the state, or begins a circuit as new
-    since it was configured otherwise."""
+    """The circuits of a state, as `e1gw check` lists them. InputError if it refuses the state, or begins a circuit as
+    new since it was configured otherwise."""
     words = [program, 'check', '--config', config, '--load', state]
     try:
         done = subprocess.run(words, stdin=subprocess.DEVNULL, stdout=subprocess.PIPE, stderr=subprocess.PIPE,

@@ -26,7 +26,7 @@ class OpenR2Event(NamedTuple):
 
 
 def build(folder: str) -> str:
-    """Builds the exchange in a folder, and returns its path. Missing if a package is not installed."""
+    """Builds the exchange in a folder, and returns its path. NoOpenR2 if a package is not installed."""
     path = os.path.join(folder, 'exchange')
     done = subprocess.run([os.path.join(HERE, 'build'), path], stderr=subprocess.PIPE, text=True, check=False)
     if done.returncode == 2:
