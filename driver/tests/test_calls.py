@@ -8,7 +8,6 @@ import time
 import unittest
 from typing import Any
 
-from . import support
 from .test_trunk import FOUR, aligned, call
 from .world import SECONDS, World, config_of
 from e1gw.calls import FIELDS, KEPT, CallLog, RotatedFile
@@ -88,9 +87,6 @@ class CallFileTests(unittest.TestCase):
 
 
 class CallServiceTests(unittest.TestCase):
-    def setUp(self) -> None:
-        support.program()
-
     def rows(self, path: str, count: int) -> list[dict[str, Any]]:
         until, found = time.monotonic() + SECONDS, list[dict[str, Any]]()
         while len(found) < count and time.monotonic() < until:

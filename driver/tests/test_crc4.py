@@ -160,9 +160,6 @@ class Crc4ExchangeTests(unittest.TestCase):
 
 
 class Crc4ServiceTests(unittest.TestCase):
-    def setUp(self) -> None:
-        support.program()
-
     def world(self, *options: str) -> Crc4World:
         world = Crc4World(config_of(FOUR), *options)
         self.addCleanup(world.__exit__)

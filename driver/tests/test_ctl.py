@@ -40,7 +40,6 @@ class CtlMachineTests(unittest.TestCase):
     """Two trunks, west in service and east that does not answer, and a unit that is not in service."""
 
     def setUp(self) -> None:
-        support.program()
         self.world = World(config_of(FOUR))
         self.addCleanup(self.world.__exit__)
         aligned(self.world)

@@ -67,7 +67,6 @@ class LineSignalTests(unittest.TestCase):
     """Those of Q.421, as both sides have them: circuits 1 to 15 are called by the exchange, the others by us."""
 
     def setUp(self) -> None:
-        support.program()
         self.world = dialled(config_of(range(1, 31), incoming=tuple(range(1, 16))))
         self.addCleanup(self.world.__exit__)
 

@@ -42,9 +42,6 @@ class BrokenStream(Stream):
 
 
 class FilterTests(unittest.TestCase):
-    def setUp(self) -> None:
-        support.program()
-
     def opened(self, kind: type[Stream] = Stream, program: str = '') -> tuple[Received, socket.socket]:
         """A trunk, and its far end."""
         ours, theirs = socket.socketpair()
@@ -207,9 +204,6 @@ class LateWorld(World):
 
 
 class FilterServiceTests(unittest.TestCase):
-    def setUp(self) -> None:
-        support.program()
-
     def test_a_call(self) -> None:
         with LateWorld(config_of(FOUR), '--align') as world:
             aligned(world)

@@ -12,7 +12,6 @@ import urllib.request
 from typing import Any
 from unittest import mock
 
-from . import support
 from .readers import EVENTS
 from .test_trunk import FOUR, aligned, call
 from .test_web import free_port
@@ -159,7 +158,6 @@ class ClientShareTests(unittest.TestCase):
 
 class ControlConnectionTests(unittest.TestCase):
     def setUp(self) -> None:
-        support.program()
         self.world = World(config_of(FOUR))
         self.addCleanup(self.world.__exit__)
 
@@ -300,7 +298,6 @@ STATUS = {'octets': 0, 'time': 0.0, 'name': 'west', 'version': '0', 'uptime': 0.
 
 class TrunkPagesTests(unittest.TestCase):
     def setUp(self) -> None:
-        support.program()
         self.port = free_port()
         self.world = World(config_of(FOUR), '--http', f'127.0.0.1:{self.port}', '--metrics', '@/prom')
         self.addCleanup(self.world.__exit__)

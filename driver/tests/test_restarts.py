@@ -5,7 +5,6 @@ import unittest
 from itertools import product
 from typing import Any, Callable
 
-from . import support
 from .simulated import SimulatedCall, stalls
 from e1gw.events import words_of
 from e1gw.restarts import REFUSED, Restarts
@@ -118,9 +117,6 @@ class RestartRuleTests(unittest.TestCase):
 
 class RestartSimulationTests(unittest.TestCase):
     """Speech that is lost, by the playout of the program."""
-
-    def setUp(self) -> None:
-        support.program()
 
     def test_octets_that_come_early_from_a_moment_on(self) -> None:
         """Those of J ms come at once: each later packet is later by J, for the call."""

@@ -3,9 +3,7 @@ from __future__ import annotations
 
 import os
 import socket
-import tempfile
 import time
-import unittest
 from typing import Callable
 
 from . import support
@@ -37,17 +35,15 @@ class SatopEnd(support.Service):
         return int(self.status()['transport'].get(name, 0))
 
 
-class SatopCallTests(unittest.TestCase):
+class SatopCallTests(support.FolderCase):
     def setUp(self) -> None:
-        support.program()
-        folder = tempfile.TemporaryDirectory()
-        self.addCleanup(folder.cleanup)
+        super().setUp()
         west, east = (f'127.0.0.1:{port}' for port in free_ports(2))
         # 60 ms of buffer for what the other driver stands still; with 200 ms an acknowledgement would be too late.
-        self.west = SatopEnd(folder.name, 'west', 'outgoing', f'{west},{east}', '--satop-clock', 'own',
+        self.west = SatopEnd(self.folder, 'west', 'outgoing', f'{west},{east}', '--satop-clock', 'own',
                              '--satop-jitter', '30', '--satop-rtp', '97', '--satop-size', '512')
         self.addCleanup(self.end, self.west)
-        self.east = SatopEnd(folder.name, 'east', 'incoming', f'{east},{west}', '--satop-rtp', '97', '--satop-size',
+        self.east = SatopEnd(self.folder, 'east', 'incoming', f'{east},{west}', '--satop-rtp', '97', '--satop-size',
                              '512')
         self.addCleanup(self.end, self.east)
 

@@ -3,10 +3,10 @@ import os
 import select
 import stat
 import sys
-import tempfile
 import unittest
 from typing import Any
 
+from .support import FolderCase
 from e1gw.satop_process import MissingPackets, SatopProcess, counts_of
 
 PATIENCE = 10.0
@@ -43,21 +43,14 @@ class SatopCountLineTests(unittest.TestCase):
         self.assertEqual(told, [(9, True), (1040, False)])
 
 
-class SatopProcessTests(unittest.TestCase):
-    def setUp(self) -> None:
-        folder = tempfile.TemporaryDirectory()
-        self.addCleanup(folder.cleanup)
-        self.folder = folder.name
-
+class SatopProcessTests(FolderCase):
     def trunk(self, script: str = SCRIPT) -> SatopProcess:
         trunk = self.opened(script)
         self.addCleanup(trunk.close)
         return trunk
 
     def opened(self, script: str) -> SatopProcess:
-        path = os.path.join(self.folder, 'e1gw')
-        with open(path, 'w', encoding='utf-8') as file:
-            file.write(f'#!{sys.executable}{script}')
+        path = self.write('e1gw', f'#!{sys.executable}{script}')
         os.chmod(path, stat.S_IRWXU)
         return SatopProcess(path, WORDS)
 
@@ -128,7 +121,7 @@ class SatopProcessTests(unittest.TestCase):
 
     def test_no_program(self) -> None:
         with self.assertRaises(FileNotFoundError):
-            SatopProcess(os.path.join(self.folder, 'none'), WORDS)
+            SatopProcess(self.path('none'), WORDS)
 
 
 if __name__ == '__main__':

@@ -67,7 +67,6 @@ class TrunkCommandTests(unittest.TestCase):
     """Each command's each answer, by the tables of e1gw-session(5)."""
 
     def setUp(self) -> None:
-        support.program()
         self.world = World(config_of(FOUR, incoming=(2,)))
         self.addCleanup(self.world.__exit__)
 
@@ -152,9 +151,6 @@ class TrunkCommandTests(unittest.TestCase):
 
 
 class TrunkSessionTests(unittest.TestCase):
-    def setUp(self) -> None:
-        support.program()
-
     def test_a_session_replays_alike(self) -> None:
         with World(config_of(range(1, 31), prefill=320), '--session', '@/kept') as world:
             aligned(world)
@@ -208,9 +204,6 @@ class TrunkSessionTests(unittest.TestCase):
 
 class BesideCallsTests(unittest.TestCase):
     """What ends beside the calls; the calls go on."""
-
-    def setUp(self) -> None:
-        support.program()
 
     def goes_on(self, world: World, what: str | None = None) -> None:
         """A call comes up, and what has ended is told. The trunk goes on in lock step until then: what ends does so in
@@ -612,9 +605,6 @@ class UnitTests(support.FolderCase):
 
 
 class OnLossTests(unittest.TestCase):
-    def setUp(self) -> None:
-        support.program()
-
     def guard(self, world: World, words: str) -> socket.socket:
         line = socket.socket(socket.AF_UNIX)
         line.connect(world.path('ctl'))
@@ -659,9 +649,6 @@ class OnLossTests(unittest.TestCase):
 
 
 class DarkTrunkTests(unittest.TestCase):
-    def setUp(self) -> None:
-        support.program()
-
     def test_calls_of_a_dark_trunk_are_cleared(self) -> None:
         with World(config_of(FOUR), '--dark', '1') as world:
             aligned(world)

@@ -53,16 +53,12 @@ def read_all(end: socket.socket, length: int) -> bytes:
     return got
 
 
-class ServedTrunkCase(unittest.TestCase):
+class ServedTrunkCase(support.FolderCase):
     """A configuration of thirty circuits without ports."""
 
     def setUp(self) -> None:
-        folder = tempfile.TemporaryDirectory()
-        self.addCleanup(folder.cleanup)
-        self.recording = os.path.join(folder.name, 'trunk.rec')
-        self.config = os.path.join(folder.name, 'trunk.toml')
-        with open(self.config, 'w', encoding='ascii') as file:
-            file.write(CONFIG)
+        super().setUp()
+        self.recording, self.config = self.path('trunk.rec'), self.write('trunk.toml', CONFIG)
 
     def serves(self, *words: str) -> list[str]:
         """The words of a trunk in service."""

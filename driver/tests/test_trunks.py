@@ -87,9 +87,6 @@ class TrunkKindTests(support.FolderCase):
 
 
 class TrunkKindServiceTests(unittest.TestCase):
-    def setUp(self) -> None:
-        support.program()
-
     def test_a_seizure_while_no_octets_come(self) -> None:
         with World(config_of(FOUR)) as world:
             aligned(world)

@@ -8,12 +8,12 @@ import signal
 import socket
 import subprocess
 import sys
-import tempfile
 import time
 import unittest
 import urllib.request
 from typing import Any
 
+from .support import FolderCase
 from .telling import IDLE, LAUNCHER, StandInProgram, StandInShadow, WatchedTrunk, row
 from .test_web import free_port, samples
 from .world import SECONDS
@@ -51,13 +51,12 @@ class WatcherCase(unittest.TestCase):
         return lines
 
 
-class CommandAnswerTests(unittest.TestCase):
+class CommandAnswerTests(FolderCase):
     """An answer of the program waits until the shadow has told of the command, and no longer than a moment."""
 
     def setUp(self) -> None:
-        folder = tempfile.TemporaryDirectory()
-        self.addCleanup(folder.cleanup)
-        listener = StandInProgram(os.path.join(folder.name, 'program'))
+        super().setUp()
+        listener = StandInProgram(self.path('program'))
         self.addCleanup(listener.close)
         self.loop, self.said = Loop(1.0), list[str]()
         self.program = Program(self.loop, listener.path, lambda what, on, why: None)

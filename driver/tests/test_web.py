@@ -69,7 +69,6 @@ class PictureRequestTests(unittest.TestCase):
 
 class WebTests(unittest.TestCase):
     def setUp(self) -> None:
-        support.program()
         self.port = free_port()
         self.world = World(config_of(FOUR), '--http', f'127.0.0.1:{self.port}', '--name', 'west', '--metrics', '@/prom')
         self.addCleanup(self.world.__exit__)
