@@ -26,6 +26,7 @@ from e1gw.lines import read_config
 from e1gw.session import FRAME, MULTIFRAME, Command, Kind, command_record, records_in
 from e1gw.trunks import Stream
 
+
 class TappedStream(Stream):
     """A program's connection that keeps what goes there and back."""
 

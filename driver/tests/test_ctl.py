@@ -24,7 +24,6 @@ class CtlWordTests(unittest.TestCase):
                               ('seize', ['seize']), ('status', ['status']), ('on-loss clear 3', ['on-loss clear 3'])):
             self.assertEqual(ctl.each_circuit(command), each)
 
-
     def test_a_trunk_that_is_not_in_service(self) -> None:
         said, here = io.StringIO(), '/run/e1gw/no-such-trunk/control: No such file or directory'
         with mock.patch.object(sys, 'argv', ['e1gw-ctl', 'no-such-trunk', 'status']), \

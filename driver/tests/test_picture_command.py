@@ -21,6 +21,8 @@ from e1gw.picture.packets import BadCapture, datagrams
 from e1gw.session import Kind, records_in, trunk_record
 
 COMMAND = os.path.join(TOP, 'driver', 'e1gw-picture')
+
+
 def udp6(source: int, target: int, body: bytes) -> bytes:
     """The same over IPv6 (RFC 8200)."""
     return (struct.pack('>IHBB', 6 << 28, 8 + len(body), 17, 64) + bytes(32)
@@ -258,7 +260,6 @@ class PictureAnswersTests(PictureCommandCase):
                 entries = [re.sub('<.*?>', '', entry) for entry in re.findall('<li.*?</li>', page, re.S)]
                 wanted = who + words.replace("'", '&#x27;')
                 self.assertTrue(any(entry.startswith(wanted) for entry in entries), (wanted, entries))
-
 
     def test_no_two_pictures_of_the_documents_are_the_same(self) -> None:
         folder = os.path.join(TOP, 'docs', 'pictures')

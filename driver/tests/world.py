@@ -14,6 +14,7 @@ import time
 from typing import Any, Callable, Self
 
 from . import support
+from e1gw.testing.service import ask
 
 IDLE, SEIZED, ACKNOWLEDGED, ANSWERED = 2, 0, 3, 1
 LAUNCHER = os.path.join(support.TOP, 'driver', 'e1gw-trunk')
@@ -117,18 +118,7 @@ class ServedProgram:
 
     def ask(self, command: str | bytes) -> str:
         """The answer to a command."""
-        with socket.socket(socket.AF_UNIX) as line:
-            line.connect(self.path('ctl'))      # waits for a place; with a time limit it would be refused
-            line.settimeout(SECONDS)
-            with contextlib.suppress(BrokenPipeError):      # who has no seat is told so at once
-                line.sendall((command.encode() if isinstance(command, str) else command) + b'\n')
-            answer = b''
-            while not answer.endswith(b'\n\n'):
-                piece = line.recv(65536)
-                if not piece:
-                    raise EOFError(answer)
-                answer += piece
-        return answer.decode().rstrip('\n')
+        return ask(self.path('ctl'), command.encode() if isinstance(command, str) else command)
 
     def told(self) -> dict[str, Any]:
         """The status, which may be a moment old; every change that was told is in it."""
