@@ -26,7 +26,7 @@ from .carrier import MOST_READ, Carrier
 from .command import run
 from .connections import Connection, listen
 from .crc4 import Crc4
-from .events import WARNED, words_of
+from .events import WARNED, json_line, words_of
 from .faults import Parser, words_of_fault
 from .lines import Event, law_of, read_config
 from .loop import GONE, READ, WRITE, Loop
@@ -36,7 +36,7 @@ from .session import MULTIFRAME, OCTETS_A_SECOND
 from .systemd import Notify
 from .trunk_options import add_trunk, opening_of
 from .trunks import Stream, Trunk
-from .writers import Journal, Writer, to_descriptor, to_file
+from .writers import Journal, to_json
 
 REOPEN_MOST = 30.0          # seconds between two tries to open the trunk
 ALIVE = 0.5                 # seconds between two signs of life
@@ -81,19 +81,13 @@ class Carriage:
         self._trunk_watched = NOTHING
         self._program_events, self._says_more = 0, False
         self._due: float | None = None      # when the trunk is read next, if that is not when octets come
-        self._json = self._open_json(asked.json)
+        self._json = to_json(asked.json, lambda _, why: journal.line(
+            Journal.WARNING, f'json ended, the octets go on: {why}'))
         self._listener = listen(loop, '--listen', asked.listen, self._came)
         self._status_listener = asked.status and listen(loop, '--status', asked.status, self._asked)
         self._tell_listener = asked.tell and listen(loop, '--tell', asked.tell, self._follow)
         self._followers: set[Connection] = set()
         self._notify.ready(f'listens at {asked.listen}')
-
-    def _open_json(self, path: str | None) -> Writer | None:
-        def ended(_: str, why: str) -> None:
-            self.journal.line(Journal.WARNING, f'json ended, the octets go on: {why}')
-        if not path:
-            return None
-        return to_descriptor('json', 1, ended) if path == '-' else to_file('json', path, ended)
 
     # ---- the trunk ----
 
@@ -230,7 +224,7 @@ class Carriage:
         level = Journal.WARNING if name in WARNED or event.get('on') else Journal.NOTICE
         self.journal.line(level, words_of(event), name)
         if self._json:
-            self._json.put((json.dumps({'time': round(time.time(), 6), **event}) + '\n').encode())
+            self._json.put(json_line(event))
         self._pass_on(event)
 
     def _pass_on(self, what: Event) -> None:

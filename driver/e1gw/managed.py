@@ -2,7 +2,6 @@
 and what is done with calls by itself."""
 from __future__ import annotations
 
-import json
 import os
 import socket
 import threading
@@ -15,7 +14,7 @@ from .clearing import DisconnectWatch, OutageWatch
 from .connections import Connection, Listener, SocketTaken, listen
 from .control import Console, ControlConnection, Reply, seat
 from .counts import DatagramCounts
-from .events import NOTICED, WARNED, words_of
+from .events import NOTICED, WARNED, json_line, words_of
 from .faults import named, words_of_fault, words_of_refusal
 from .lines import OPEN, Event, Role, State, TrunkState
 from .loop import READ, Loop
@@ -27,7 +26,7 @@ from .session import Codec, Command, Record, codec_record, command_record
 from .snapshots import Snapshot, Snapshots
 from .sockets import SocketTables
 from .systemd import Notify
-from .writers import Journal, Writer, to_descriptor, to_file
+from .writers import Journal, to_descriptor, to_json
 
 BESIDE = ('json', 'calls', 'metrics', 'pages')      # what may end without the calls
 Answered = Callable[[Record], None]
@@ -54,7 +53,7 @@ class Managed:
         self._listeners: list[Listener] = []
         self._notes: deque[tuple[str, str]] = deque()   # from other threads: what has ended, and why
         self._out = to_descriptor('standard output', 1)
-        self._json = self._open_json()
+        self._json = to_json(options.json, self.note)
         self._calls_out = to_calls(options.calls, self.note) if options.calls else None
         self.calls = CallLog(options.name, lines.lines, counts, self._calls_out.put) if self._calls_out else None
         self.pages: Pages | None = None
@@ -78,12 +77,6 @@ class Managed:
         """From any thread: something beside the calls has ended."""
         self._notes.append((what, why))
         self.loop.wake()
-
-    def _open_json(self) -> Writer | None:
-        path = self.options.json
-        if path == '-':
-            return to_descriptor('json', 1, self.note)
-        return to_file('json', path, self.note) if path else None
 
     def open_listeners(self) -> None:
         """Opens what others connect to, and the terminal."""
@@ -210,7 +203,7 @@ class Managed:
         self.snapshots.changed()
         followers = [each for each in self.connections if isinstance(each, ControlConnection) and each.follows]
         if followers or self._json:
-            text = (json.dumps({'time': round(time.time(), 6), **event}) + '\n').encode()
+            text = json_line(event)
             for connection in followers:
                 connection.queue(text)
             if self._json:

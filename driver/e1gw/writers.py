@@ -124,6 +124,13 @@ def to_file(name: str, path: str, ended: Callable[[str, str], None]) -> Writer:
     return Writer(name, file.write, ended, file.close, file.open, path)
 
 
+def to_json(path: str | None, ended: Callable[[str, str], None]) -> Writer | None:
+    """A writer of lines of JSON; - is standard output. None without a path."""
+    if not path:
+        return None
+    return to_descriptor('json', 1, ended) if path == '-' else to_file('json', path, ended)
+
+
 @dataclass
 class _Kind:
     """What the journal was told of one kind in this minute."""
@@ -142,7 +149,7 @@ class Journal:
     MOST, MINUTE = 20, 60.0
 
     def __init__(self, file: int = 2, clock: Callable[[], float] = time.monotonic, name: str = 'e1gw-trunk') -> None:
-        self._outlet, self._clock, self._name = to_descriptor('standard error', file), clock, name
+        self._writer, self._clock, self._name = to_descriptor('standard error', file), clock, name
         self._levels = _is_journal(file)
         self._kinds: dict[str, _Kind] = {}
 
@@ -169,11 +176,11 @@ class Journal:
 
     def _put(self, level: int, text: str) -> None:
         front = f'<{level}>' if self._levels else f'{self._name}: '
-        self._outlet.put(f'{front}{text}\n'.encode(errors='replace'))
+        self._writer.put(f'{front}{text}\n'.encode(errors='replace'))
 
     def close(self) -> None:
         self.look(True)
-        self._outlet.close()
+        self._writer.close()
 
 
 def _is_journal(file: int) -> bool:

@@ -4,22 +4,20 @@ from __future__ import annotations
 import argparse
 import asyncio
 import ipaddress
-import json
 import math
 import os
 import secrets
 import signal
 import ssl
 import sys
-import time
 from contextlib import suppress
 from typing import Any
 
+from ..events import json_line
 from ..faults import Parser, named, words_of_fault
 from ..trunks import host_and_port
 from ..writers import hold_descriptors, to_descriptor
 from .coding import SIGNALLING
-from .control import Tell
 from .kept import KeptBlocks
 from .pairs import BadPairs, Pairs, pairs_of
 from .site import Site, context_of
@@ -137,13 +135,6 @@ def refuse(why: object) -> None:
     sys.exit(2)
 
 
-def told_on(writer: Any) -> Tell:
-    """Prints each event as a line of JSON; a reader that stops ends nothing."""
-    def tell(event: str, **fields: Any) -> None:
-        writer.put(json.dumps({'time': round(time.time(), 6), 'event': event, **fields}).encode() + b'\n')
-    return tell
-
-
 def main() -> None:
     hold_descriptors()
     options = parser().parse_args()
@@ -153,7 +144,9 @@ def main() -> None:
         return refuse(f'{options.listen[0]} is not a loopback address, and without --tls whoever connects can seize '
                       'and clear circuits: give --tls, or --insecure within a tunnel')
     writer = to_descriptor('standard output', 1)
-    tell = told_on(writer)
+
+    def tell(event: str, **fields: Any) -> None:
+        writer.put(json_line({'event': event, **fields}))
     kept = KeptBlocks(options.state)
     try:
         pairs = read_map(options.map) if options.map else None
