@@ -155,11 +155,6 @@ class FollowedTrunk(TrunkState):
         self._multi = _Multiframes()
         self._fresh: dict[int, int] = {}        # pairs that came, by circuit, and wait for the line's turn
 
-    def aligned(self, what: Alignment = Alignment.MULTIFRAME) -> bool:
-        """Whether the gateway has this alignment."""
-        start = self._frames.start if what is Alignment.FRAME else self._multi.start
-        return start is not None
-
     def frame_start(self) -> int | None:
         """The place, modulo 64, of a frame alignment signal; None where there is no alignment."""
         return self._frames.start
