@@ -11,7 +11,7 @@ from collections import deque
 from dataclasses import dataclass, field
 from typing import Any
 
-from .behind import RECORDS, STATE, UNFINISHED, FinishedPieces, forget
+from .archive import RECORDS, STATE, UNFINISHED, FinishedPieces, forget
 from .lines import SEIZURE_WAIT, WAIT
 from .writers import write_all
 

@@ -23,12 +23,12 @@ from .command import NoTrunk, Usage, run
 from .faults import Parser, words_of_fault
 from .keep import seconds_of
 from .keeper import KEPT, MOST_REOPEN, REOPEN, TRUNK_NAMES, Asked, Keeper
-from .left import end_left_overs, end_others, left_in, state_of
+from .keeper_files import folder_of, is_taken
 from .lines import wait_words
 from .parent import parent
-from .places import folder_of, is_taken
 from .programs import SENDERS, add_program, add_session, check_config, program_of, senders_of
 from .recorder import Recording
+from .recovery import end_left_overs, end_others, left_in, state_of
 from .systemd import Notify, given
 from .trunks import Stream, add_device, device_of
 from .writers import Journal

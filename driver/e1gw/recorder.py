@@ -18,7 +18,7 @@ from dataclasses import asdict, dataclass
 from math import inf
 from typing import Mapping
 
-from .behind import FinishedPieces
+from .archive import FinishedPieces
 from .clock import TICK, Clock, ClockFinding
 from .faults import words_of_fault
 from .flow import Flow

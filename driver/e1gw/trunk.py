@@ -21,10 +21,10 @@ from . import satop
 from .command import run
 from .faults import Parser, number
 from .keep import seconds_of
-from .left import forget_folders, own_prefix
+from .keeper_files import folder_of
 from .options import add_calls, add_control, add_options, fields_of
-from .places import folder_of
 from .programs import add_program, add_session, check_config, program_of
+from .recovery import forget_folders, own_prefix
 from .supervisor import Part, Parts, Supervisor
 from .systemd import Notify
 from .trunk_options import add_trunk, opening_of

@@ -11,7 +11,7 @@ from typing import Iterator
 
 from . import support
 from .picture_made import MadeSession, PictureSender, coded, packets
-from .test_behind import RingCase, octets_in
+from .test_archive import RingCase, octets_in
 from .world import SECONDS
 from e1gw.followed import CircuitState, FollowedTrunk
 from e1gw.kept import KeptSession, kept

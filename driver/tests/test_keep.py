@@ -11,7 +11,7 @@ from typing import Callable
 from unittest import mock
 
 from . import support
-from e1gw import behind, keep
+from e1gw import archive, keep
 
 assert support.TOP
 KEPT = 60           # seconds, in files of five
@@ -34,14 +34,14 @@ class RingTests(support.FolderCase):
         clock = types.SimpleNamespace(monotonic=lambda: self.passed, time=lambda: self.day, strftime=time.strftime,
                                       gmtime=lambda: time.gmtime(self.day))
         threads = types.SimpleNamespace(Thread=ThreadAtOnce)
-        for each in (mock.patch.object(keep, 'time', clock), mock.patch.object(behind, 'threading', threads)):
+        for each in (mock.patch.object(keep, 'time', clock), mock.patch.object(archive, 'threading', threads)):
             each.start()
             self.addCleanup(each.stop)
         self.zstd = ''
 
     def play(self, seconds: int, steps: dict[int, float] | None = None, first: int = 0) -> None:
         """A session of so many seconds, a line for each, while the clock of the day is set by these steps."""
-        ring = keep.Ring(self.ring, 'we.st', self.config, KEPT, behind.FinishedPieces(zstd=self.zstd or None))
+        ring = keep.Ring(self.ring, 'we.st', self.config, KEPT, archive.FinishedPieces(zstd=self.zstd or None))
         ring.open()
         for second in range(first, first + seconds):
             ring.places.append(second)
@@ -108,7 +108,7 @@ class RingTests(support.FolderCase):
         self.assertEqual(self.kept(), list(range(99 - keep.MOST_EARLIER, 100)))
 
     def test_slips_are_noted_beside_their_file(self) -> None:
-        ring = keep.Ring(self.ring, 'west', self.config, KEPT, behind.FinishedPieces(zstd=None))
+        ring = keep.Ring(self.ring, 'west', self.config, KEPT, archive.FinishedPieces(zstd=None))
         ring.open()
         for second in range(3 * EACH):
             if second in (1, 2, 7):

@@ -23,10 +23,10 @@ import unittest
 
 from . import support
 from .world import free_ports
-from e1gw.beside import DEATHS, MOST_PAUSE, WITHIN, Deaths
 from e1gw.exchange import ACKNOWLEDGED, ANSWERED, SEIZED
 from e1gw.running import HELLO
 from e1gw.session import MULTIFRAME, Command, Kind, command_record, packet_of, records_in, trunk_record
+from e1gw.standby import DEATHS, MOST_PAUSE, WITHIN, Deaths
 
 LAUNCHER = os.path.join(support.TOP, 'driver', 'e1gw-keep')
 SECONDS = 60

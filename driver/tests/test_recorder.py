@@ -19,7 +19,7 @@ from unittest import mock
 from . import support
 from .test_keeper import LAUNCHER, SECONDS, KeeperCase
 from e1gw import recorder
-from e1gw.behind import run_last
+from e1gw.archive import run_last
 from e1gw.kept import beside, kept, octets_of
 from e1gw.session import MULTIFRAME, Kind, records_in
 

@@ -18,7 +18,7 @@ from . import support
 from .flowing import is_seized
 from .world import ANSWERED, IDLE, LAUNCHER, SECONDS, SEIZED, World, config_of, descendant, free_ports
 from e1gw import session
-from e1gw.left import forget_folders, own_prefix
+from e1gw.recovery import forget_folders, own_prefix
 from e1gw.trunk import options_of, parts_of
 
 FOUR = range(1, 5)
