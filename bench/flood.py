@@ -17,7 +17,7 @@ import time
 from typing import Iterator
 
 import paths    # noqa: F401 (makes e1gw known)
-from e1gw.exchange import ACKNOWLEDGED, Exchange, Serve
+from e1gw.exchange import ACKNOWLEDGED, Exchange, ServeProcess
 
 RATE, SECONDS = 10000, 5
 FASTER = 50000                          # from ELSEWHERE, where only the peer is let in
@@ -117,7 +117,7 @@ def call(program: str, path: str, flooded: int | None, what: str,
     peer = socket.socket(socket.AF_INET, socket.SOCK_DGRAM)
     peer.bind(('127.0.0.1', PEER))
     peer.setblocking(False)
-    serve, exchange, packets = Serve(program, path, *options), Exchange(), list[bytes]()
+    serve, exchange, packets = ServeProcess(program, path, *options), Exchange(), list[bytes]()
     speech = random.Random(1)
     spoken = random.Random(3)
     due, late, dropped, strangers_at_work = time.monotonic(), 0.0, 0, None

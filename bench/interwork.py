@@ -10,7 +10,7 @@ import sys
 import time
 
 import paths    # noqa: F401 (makes e1gw known)
-from e1gw.exchange import ACKNOWLEDGED, SEIZED, Exchange, Serve, decibels, delay, samples
+from e1gw.exchange import ACKNOWLEDGED, SEIZED, Exchange, ServeProcess, decibels, delay, samples
 
 BAR = 20                    # decibels, in G726-32
 STEP = 0.002                # seconds of a multiframe
@@ -94,7 +94,7 @@ class Trunk:
     """A gateway and its exchange, a multiframe every 2 ms."""
 
     def __init__(self, program: str, config: str, law: str) -> None:
-        self.serve = Serve(program, config)
+        self.serve = ServeProcess(program, config)
         self.exchange = Exchange(law)
         self.due = time.monotonic()
 

@@ -32,13 +32,13 @@ class Player:
         self._runs: dict[int, tuple[int, int]] = {}     # the pair that is seen, and the multiframe that began it
         if os.path.exists(path):
             os.unlink(path)
-        self.door = socket.socket(socket.AF_UNIX)
-        self.door.bind(path)
-        self.door.listen(1)
+        self.listener = socket.socket(socket.AF_UNIX)
+        self.listener.bind(path)
+        self.listener.listen(1)
 
     def accept(self) -> None:
-        self.door.settimeout(20)
-        self.line = self.door.accept()[0]
+        self.listener.settimeout(20)
+        self.line = self.listener.accept()[0]
         self.line.setsockopt(socket.SOL_SOCKET, socket.SO_SNDBUF, 1 << 20)
         self.line.setblocking(False)
 

@@ -16,10 +16,10 @@ from typing import Any, Callable
 
 from paths import TOP
 from e1gw.clear import Clear
-from e1gw.exchange import ACKNOWLEDGED, ANSWERED, SEIZED, Serve
-from e1gw.followed import Followed
+from e1gw.exchange import ACKNOWLEDGED, ANSWERED, SEIZED, ServeProcess
+from e1gw.followed import FollowedTrunk
 from e1gw.lines import Alignment
-from e1gw.satop import Circuit
+from e1gw.satop import SatopCircuit
 from e1gw.satop_process import SatopProcess
 from e1gw.session import Command
 from e1gw.trunks import Trunk
@@ -89,9 +89,9 @@ class Lock:
             file.write(CONFIG)
         self.network = Network(random.Random(7))
         self.far = Multiplexer(FAR, NEAR, self.network, trial.bits, trial.rtp)
-        circuit = Circuit(jitter=trial.jitter, rtp=trial.rtp, fill=trial.fill)
+        circuit = SatopCircuit(jitter=trial.jitter, rtp=trial.rtp, fill=trial.fill)
         self.near = SatopProcess(program, [*(f'{host}:{port}' for host, port in (NEAR, FAR)), *circuit.words()])
-        self.serve, self.lines = Serve(program, config), Followed(config)
+        self.serve, self.lines = ServeProcess(program, config), FollowedTrunk(config)
         self.exchange = self.far.exchange
         self.alarms = 0             # multiframes in which the exchange was told of an alarm
 

@@ -428,17 +428,17 @@ def on_purpose(world: World, driver: int) -> list[Row]:
 def real_time(program: str, folder: str, seconds: float, nice: int, look: Look) -> bool:
     """Starts the trunk, sets up the calls, and measures. False where the far end itself stood still for so long that
     the carrier has to take it for silence."""
-    path, door, events = (os.path.join(folder, f'real.{name}') for name in ('toml', 'control', 'json'))
+    path, address, events = (os.path.join(folder, f'real.{name}') for name in ('toml', 'control', 'json'))
     with open(path, 'w', encoding='utf-8') as file:
         file.write(config())
     world = World()
     words = [sys.executable, '-B', os.path.join(TOP, 'driver', 'e1gw-trunk'), '--config', path, '--program', program,
-             '--satop', f'{NEAR[0]}:{NEAR[1]},{FAR[0]}:{FAR[1]}', '--control', door, '--json', events]
+             '--satop', f'{NEAR[0]}:{NEAR[1]},{FAR[0]}:{FAR[1]}', '--control', address, '--json', events]
     driver = subprocess.Popen(words, stdin=subprocess.DEVNULL)
     os.setpriority(os.PRIO_PROCESS, driver.pid, nice)
     hurry()
     try:
-        control = Control(door, world)
+        control = Control(address, world)
         set_up(world, control)
         # Nothing is printed before the end: a file that is slow would hold the far end.
         rows = on_purpose(world, driver.pid)

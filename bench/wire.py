@@ -12,14 +12,14 @@ class Wire:
     """Pairs of sockets; what comes in at one goes out at the other."""
 
     def __init__(self, listens: int, connects: int) -> None:
-        self.door = socket.create_server(('127.0.0.1', listens))
+        self.listener = socket.create_server(('127.0.0.1', listens))
         self.connects, self.others, self.open = connects, dict[socket.socket, socket.socket](), True
         self.selector = selectors.DefaultSelector()
-        self.selector.register(self.door, selectors.EVENT_READ)
+        self.selector.register(self.listener, selectors.EVENT_READ)
         self.selector.register(sys.stdin, selectors.EVENT_READ)
 
     def accept(self) -> None:
-        near = self.door.accept()[0]
+        near = self.listener.accept()[0]
         try:
             far = socket.create_connection(('127.0.0.1', self.connects), timeout=1)
         except OSError:
@@ -60,7 +60,7 @@ class Wire:
                     if not line:
                         return
                     self.obey(line.strip())
-                elif key.fileobj is self.door:
+                elif key.fileobj is self.listener:
                     self.accept()
                 elif isinstance(key.fileobj, socket.socket) and key.fileobj in self.others:
                     self.pass_on(key.fileobj)

@@ -9,9 +9,9 @@ import time
 from dataclasses import dataclass
 from typing import Callable, Iterable, Mapping
 
-from .counts import Counts
+from .counts import DatagramCounts
 from .lines import IN_CALL, Event, Line, Role, State
-from .outlets import Outlet, open_to_append, write_all
+from .writers import Writer, open_to_append, write_all
 
 FIELDS = ('trunk', 'circuit', 'direction', 'seized', 'answered', 'ended', 'by', 'codec', 'sent', 'received', 'lost',
           'late')
@@ -34,7 +34,7 @@ def moment(seconds: float | None) -> str:
 
 
 @dataclass
-class Call:
+class CallRecord:
     """One call: when it was seized, answered and ended, and who ended it."""
 
     circuit: int
@@ -46,14 +46,14 @@ class Call:
     codec: str = ''
 
 
-class Calls:
+class CallLog:
     """Follows the calls of a trunk. `put` is given a line for each; `clock` is that of the day."""
 
-    def __init__(self, trunk: str, lines: Mapping[int, Line], counts: Counts, put: Callable[[bytes], None],
+    def __init__(self, trunk: str, lines: Mapping[int, Line], counts: DatagramCounts, put: Callable[[bytes], None],
                  clock: Callable[[], float] = time.time) -> None:
         self._trunk, self._lines, self._counts, self._put, self._clock = trunk, lines, counts, put, clock
-        self._calls: dict[int, Call] = {}
-        self._ended: list[Call] = []                # whose packets are not all counted yet
+        self._calls: dict[int, CallRecord] = {}
+        self._ended: list[CallRecord] = []                # whose packets are not all counted yet
         self._before: dict[int, dict[str, int]] = {}   # the counts at the end of the last call of each circuit
 
     def took(self, event: Event) -> None:
@@ -69,7 +69,7 @@ class Calls:
             self._end(call, 'unwatched' if unwatched else self._who(call, was, state))
 
     def _begin(self, circuit: int, seized: float | None) -> None:
-        self._calls[circuit] = Call(circuit, seized, self._lines[circuit].unacknowledged)
+        self._calls[circuit] = CallRecord(circuit, seized, self._lines[circuit].unacknowledged)
 
     def begun(self) -> None:
         """How all lines stand is known again: there may be calls that nobody has told, and counts that began anew."""
@@ -80,7 +80,7 @@ class Calls:
             now = self._now(n)
             self._before[n] = {word: min(self._before.get(n, now).get(word, 0), count) for word, count in now.items()}
 
-    def _who(self, call: Call, was: State, state: State) -> str:
+    def _who(self, call: CallRecord, was: State, state: State) -> str:
         """Who ended a call: the one that hung up first."""
         line = self._lines[call.circuit]
         if state is State.FAULT:
@@ -90,7 +90,7 @@ class Calls:
         is_ours = (line.role is Role.OUTGOING) != (was is State.CLEAREDBACK)
         return 'gateway' if is_ours else 'exchange'
 
-    def _end(self, call: Call, by: str) -> None:
+    def _end(self, call: CallRecord, by: str) -> None:
         call.ended, call.by, call.codec = self._clock(), by, self._lines[call.circuit].codec
         self._ended.append(self._calls.pop(call.circuit))
 
@@ -111,7 +111,7 @@ class Calls:
         counts = self._counts.circuits[circuit]
         return {**counts.counts(), 'lost': counts.stream.lost}
 
-    def _write(self, call: Call) -> None:
+    def _write(self, call: CallRecord) -> None:
         now = self._now(call.circuit)
         before = self._before.get(call.circuit, {})
         self._before[call.circuit] = now
@@ -124,9 +124,9 @@ class Calls:
                             moment(call.answered), moment(call.ended), call.by, call.codec, *told]))
 
 
-class Rotated:
+class RotatedFile:
     """A file of lines with a head, written behind what it has. A file that is full is moved away, and the oldest of
-    those is forgotten. All of it is in the thread of an outlet."""
+    those is forgotten. All of it is in the thread of a writer."""
 
     def __init__(self, path: str, head: bytes, most: int = MOST_OCTETS) -> None:
         self._path, self._head, self._most, self._file = path, head, most, -1
@@ -155,7 +155,7 @@ class Rotated:
         os.close(self._file)
 
 
-def to_calls(path: str, ended: Callable[[str, str], None]) -> Outlet:
-    """An outlet for the lines of calls."""
-    file = Rotated(path, csv_line(FIELDS))
-    return Outlet('calls', file.write, ended, file.close, file.open, path)
+def to_calls(path: str, ended: Callable[[str, str], None]) -> Writer:
+    """A writer for the lines of calls."""
+    file = RotatedFile(path, csv_line(FIELDS))
+    return Writer('calls', file.write, ended, file.close, file.open, path)

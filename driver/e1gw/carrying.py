@@ -16,8 +16,6 @@ import os
 import select
 import signal
 import socket
-import subprocess
-import sys
 import threading
 import time
 from collections import deque
@@ -25,23 +23,21 @@ from typing import Callable, NoReturn
 
 from . import satop
 from .carrier import MOST_READ, Carrier
-from .control import DoorTaken, listen_unix
+from .command import run
+from .connections import Connection, listen
 from .crc4 import Crc4
-from .events import WARNED, words_of
-from .faults import Parser, named, options_words, words_of_fault
+from .events import WARNED, json_line, words_of
+from .faults import Parser, words_of_fault
 from .lines import Event, law_of, read_config
 from .loop import GONE, READ, WRITE, Loop
-from .options import Usage
-from .outlets import Journal, Outlet, hold_descriptors, to_descriptor, to_file
 from .parent import parent
-from .peers import Door, Peer
 from .programs import program_of
 from .session import MULTIFRAME, OCTETS_A_SECOND
 from .systemd import Notify
 from .trunk_options import add_trunk, opening_of
 from .trunks import Stream, Trunk
+from .writers import Journal, to_json
 
-MODE = 0o660                # of the sockets
 REOPEN_MOST = 30.0          # seconds between two tries to open the trunk
 ALIVE = 0.5                 # seconds between two signs of life
 GRACE = 1.0                 # seconds for a program to end
@@ -52,9 +48,7 @@ NOTHING = -1, 0             # no descriptor, no events
 
 def parser() -> argparse.ArgumentParser:
     """The options."""
-    about, _, rest = (__doc__ or '').partition('\n\n')
-    words = Parser(prog='e1gw-carry', description=f'{about}\n\n{rest}',
-                   formatter_class=argparse.RawDescriptionHelpFormatter)
+    words = Parser('e1gw-carry', description=__doc__, formatter_class=argparse.RawDescriptionHelpFormatter)
     words.add_argument('--listen', metavar='PATH', required=True, help='the Unix socket at which a program connects')
     words.add_argument('--config', metavar='FILE', help='the configuration, e1gw.toml(5); --clear wants its law')
     words.add_argument('--program', metavar='E1GW', help='the program [default: that of this repository, or e1gw]')
@@ -67,18 +61,11 @@ def parser() -> argparse.ArgumentParser:
     return words
 
 
-class Follower(Peer):
+class FollowerConnection(Connection):
     """One who is told what changes, and says nothing."""
 
     def took(self, octets: bytes) -> None:
         pass
-
-
-def _listening(option: str, path: str) -> socket.socket:
-    try:
-        return listen_unix(path, MODE, None)
-    except OSError as fault:
-        raise named(fault, f'{option} {path}') from None
 
 
 class Carriage:
@@ -94,19 +81,13 @@ class Carriage:
         self._trunk_watched = NOTHING
         self._program_events, self._says_more = 0, False
         self._due: float | None = None      # when the trunk is read next, if that is not when octets come
-        self._json = self._open_json(asked.json)
-        self._door = Door(loop, _listening('--listen', asked.listen), self._came, asked.listen)
-        self._status_door = asked.status and Door(loop, _listening('--status', asked.status), self._asked, asked.status)
-        self._tell_door = asked.tell and Door(loop, _listening('--tell', asked.tell), self._follow, asked.tell)
-        self._followers: set[Peer] = set()
+        self._json = to_json(asked.json, lambda _, why: journal.line(
+            Journal.WARNING, f'json ended, the octets go on: {why}'))
+        self._listener = listen(loop, '--listen', asked.listen, self._came)
+        self._status_listener = asked.status and listen(loop, '--status', asked.status, self._asked)
+        self._tell_listener = asked.tell and listen(loop, '--tell', asked.tell, self._follow)
+        self._followers: set[Connection] = set()
         self._notify.ready(f'listens at {asked.listen}')
-
-    def _open_json(self, path: str | None) -> Outlet | None:
-        def ended(_: str, why: str) -> None:
-            self.journal.line(Journal.WARNING, f'json ended, the octets go on: {why}')
-        if not path:
-            return None
-        return to_descriptor('json', 1, ended) if path == '-' else to_file('json', path, ended)
 
     # ---- the trunk ----
 
@@ -212,7 +193,7 @@ class Carriage:
 
     def _came(self, line: socket.socket, _: object) -> None:
         file = line.detach()
-        self.loop.change(self._door.door.fileno(), 0)
+        self.loop.change(self._listener.line.fileno(), 0)
         self.loop.watch(file, READ, self._program_ready)
         self._program_events, self._says_more = READ, False
         self.carrier.join(Stream(file, file, 'program'))
@@ -221,7 +202,7 @@ class Carriage:
     def _gone(self, program: Stream) -> None:
         self.loop.forget(program.fileno())
         program.close()
-        self.loop.change(self._door.door.fileno(), READ)
+        self.loop.change(self._listener.line.fileno(), READ)
 
     def _program_ready(self, events: int) -> None:
         if events & WRITE:
@@ -243,7 +224,7 @@ class Carriage:
         level = Journal.WARNING if name in WARNED or event.get('on') else Journal.NOTICE
         self.journal.line(level, words_of(event), name)
         if self._json:
-            self._json.put((json.dumps({'time': round(time.time(), 6), **event}) + '\n').encode())
+            self._json.put(json_line(event))
         self._pass_on(event)
 
     def _pass_on(self, what: Event) -> None:
@@ -254,7 +235,7 @@ class Carriage:
 
     def _follow(self, line: socket.socket, _: object) -> None:
         if len(self._followers) < MOST_FOLLOWERS:
-            self._followers.add(Follower(self.loop, line, self._followers.discard))
+            self._followers.add(FollowerConnection(self.loop, line, self._followers.discard))
             self._pass_on(self._status())
         else:
             line.close()
@@ -298,9 +279,9 @@ class Carriage:
             elif deadline is not None and time.monotonic() >= deadline:
                 self._do(self._carry)
         self._notify.tell('STOPPING=1')
-        for door in (self._door, self._status_door, self._tell_door):
-            if door:
-                door.close()
+        for listener in (self._listener, self._status_listener, self._tell_listener):
+            if listener:
+                listener.close()
         if self.carrier.program:
             _end_input(self.carrier.program)
         self.carrier.close()
@@ -322,11 +303,17 @@ def _end_input(program: Stream) -> None:
             pass                # it is gone, or stands still
 
 
-def _serve(asked: argparse.Namespace, journal: Journal) -> int:
+def options_of(words: list[str]) -> argparse.Namespace:
+    """The options of a command line; ValueError where they are none."""
+    asked = parser().parse_args(words)
     if asked.clear and asked.config:
         law_of(read_config(asked.config))
-    opening = opening_of(asked)
-    opens, crc4 = opening(program_of(asked.program) if asked.satop or asked.align or asked.crc4 else '')
+    opening_of(asked)
+    return asked
+
+
+def _serve(asked: argparse.Namespace, journal: Journal) -> int:
+    opens, crc4 = opening_of(asked)(program_of(asked.program) if asked.satop or asked.align or asked.crc4 else '')
     loop, found = Loop(), deque[Carriage]()
 
     def caught(number: int) -> None:
@@ -344,18 +331,4 @@ def _serve(asked: argparse.Namespace, journal: Journal) -> int:
 
 
 def main(words: list[str] | None = None) -> NoReturn:
-    hold_descriptors()
-    sys.setswitchinterval(0.001)
-    journal = Journal(name='e1gw-carry')
-    status = 2
-    try:
-        status = _serve(parser().parse_args(words), journal)
-    except (Usage, ValueError) as fault:
-        journal.line(Journal.ERROR, f'{fault}; see e1gw-carry --help{options_words()}')
-    except DoorTaken as fault:
-        journal.line(Journal.ERROR, f'cannot listen: {fault}')
-    except (OSError, subprocess.CalledProcessError) as fault:
-        journal.line(Journal.ERROR, words_of_fault(fault))
-    journal.close()
-    # A thread may still wait for a device or a disk; nothing waits for it.
-    os._exit(status)
+    run('e1gw-carry', words, options_of, _serve)

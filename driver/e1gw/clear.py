@@ -12,7 +12,7 @@ from dataclasses import dataclass
 from typing import Any
 
 from .session import FRAME
-from .slots import PLACE, SLOTS, Slots
+from .slots import PLACE, SLOTS, Slot16
 from .trunks import Trunk
 
 _SIGNAL, _NO_SIGNAL = b'\x9B', b'\xDF'      # slot 0 of even and odd frames, with all spare bits one (ITU-T G.704, 2.3)
@@ -37,7 +37,7 @@ class Clear(Trunk):
         self._place = place or Place()
         self._idle = bytes([IDLE[self._place.law or 'A']])
         self._silence = self._idle * 16 + b'\xFF' + self._idle * 15     # a frame without a signal in slot 16
-        self._slots = Slots(self._place.found)
+        self._slots = Slot16(self._place.found)
         self._taken = self._place.given % FRAME     # the slot of the next octet that is sent
         self._missing = -self._taken % FRAME        # an earlier device ended inside a frame: what is missing of it
         self._ways: deque[list[int]] = deque()      # of octets that were given: how many, and what becomes of answers
@@ -158,9 +158,6 @@ class Clear(Trunk):
 
     def waiting(self) -> int:
         return self._device.waiting()
-
-    def unread(self) -> int:
-        return len(self._ready) + self._device.unread() * FRAME // (FRAME - 1)
 
     def flush(self) -> None:
         self._device.flush()

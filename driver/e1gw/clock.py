@@ -2,8 +2,7 @@
 
 An octet is behind by the time since the first one less its place at 256,000 octets a second. What it is behind by more
 than is usual is the displacement. It is measured where octets flow steadily; a slow change of it is the rate of a
-clock. Octets that have come and wait to be read count as those that were read: where this machine stood still they are
-late, and none is lost.
+clock. Octets that waited because this machine stood still are late, and none is lost: all of them are read at once.
 """
 from __future__ import annotations
 
@@ -22,7 +21,7 @@ RATE_LIMIT = 200            # parts in a million
 
 
 @dataclass(frozen=True)
-class Finding:
+class ClockFinding:
     """What was found: `stalled` and `flows` (with the seconds without octets), `gap` and `ahead` (with those that
     octets were displaced by) or `rate` (with parts in a million)."""
 
@@ -52,25 +51,21 @@ class Clock:
         self._steps = 0.0                   # of that, what gaps have added
         self._rates: deque[tuple[float, float]] = deque()
 
-    def took(self, count: int, now: float, unread: int = 0) -> None:
-        """So many octets were read, behind which so many others had come."""
+    def took(self, count: int, now: float) -> None:
+        """So many octets were read."""
         self.octets += count
-        behind = now - self._began - (self.octets + unread) / OCTETS_A_SECOND
+        behind = now - self._began - self.octets / OCTETS_A_SECOND
         self._last = now
         self._low = behind if self._low is None else min(behind, self._low)
-
-    def held(self, now: float) -> None:
-        """Until now nothing was read, whether octets came or not."""
-        self._last = now
 
     def steady(self) -> bool:
         """Whether octets flow at their rate."""
         return not self.stalled and len(self._lows) == WINDOW and _spread(self._lows) < STEADY
 
-    def look(self, now: float) -> list[Finding]:
+    def look(self, now: float) -> list[ClockFinding]:
         """To be called each TICK: what has become of the flow since."""
         if now - self._looked >= self.gap:
-            self.held(now)      # this process stood still
+            self._last = now    # this process stood still
         self._looked = now
         found = self._look_at_flow(now)
         if not self.steady():
@@ -85,7 +80,7 @@ class Clock:
             self._base += max(-DRIFT * TICK, min(DRIFT * TICK, displaced))
         return found + self._look_at_rate(now, behind - self._steps)
 
-    def _look_at_flow(self, now: float) -> list[Finding]:
+    def _look_at_flow(self, now: float) -> list[ClockFinding]:
         if self._low is None:
             quiet = now - self._last
             if quiet <= self.gap or self.stalled or not self.octets:
@@ -93,24 +88,24 @@ class Clock:
             self.stalled, self._stood = True, self._last
             self.stalls += 1
             self._lows.clear()
-            return [Finding('stalled', quiet)]
+            return [ClockFinding('stalled', quiet)]
         self._lows.append(self._low)
         self._low = None
         if not self.stalled:
             return []
         self.stalled = False
-        return [Finding('flows', self._last - self._stood)]
+        return [ClockFinding('flows', self._last - self._stood)]
 
-    def _step(self, displaced: float) -> Finding:
+    def _step(self, displaced: float) -> ClockFinding:
         self._base = (self._base or 0.0) + displaced
         self._steps += displaced
         if displaced < 0:
-            return Finding('ahead', -displaced)
+            return ClockFinding('ahead', -displaced)
         self.gaps += 1
         self.lost_seconds += displaced
-        return Finding('gap', displaced)
+        return ClockFinding('gap', displaced)
 
-    def _look_at_rate(self, now: float, behind: float) -> list[Finding]:
+    def _look_at_rate(self, now: float, behind: float) -> list[ClockFinding]:
         """The rate over the last minute, from one sample each second."""
         rates = self._rates
         if rates and now - rates[-1][0] < 1:
@@ -125,7 +120,7 @@ class Clock:
         if off == self.off_rate:
             return []
         self.off_rate = off
-        return [Finding('rate', self.ppm)]
+        return [ClockFinding('rate', self.ppm)]
 
     def status(self) -> dict[str, Any]:
         """All of it, as plain values."""

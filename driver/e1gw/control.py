@@ -16,18 +16,16 @@ A line is answered by one or more lines and an empty one:
 from __future__ import annotations
 
 import functools
-import grp
 import os
 import select
 import socket
-import stat
 import time
 from collections import deque
 from typing import TYPE_CHECKING, Callable
 
+from .connections import Connection
 from .loop import READ, Loop
 from .metrics import circuit_table
-from .peers import Peer
 from .session import CIRCUITS, Codec, Command, codec_record, command_record
 
 if TYPE_CHECKING:
@@ -41,14 +39,10 @@ SILENT = 1.0                # the same for one that has never said a line
 
 COMMANDS = {command.word: command for command in Command}
 CODECS = {'pcma': Codec.G711, 'pcmu': Codec.G711} | {codec.word('A'): codec for codec in Codec}
-Say = Callable[[str], None]
+Reply = Callable[[str], None]
 
 
-class DoorTaken(Exception):
-    """A path is not free for a socket; the words say why."""
-
-
-class Share:
+class ClientShare:
     """What one client may take: lines, and octets of answers, each so many a second, with some saved up."""
 
     LINES, SAVED_LINES = 100.0, 200.0
@@ -71,13 +65,13 @@ class Share:
         self._octets -= octets
 
 
-class Typed:
+class CommandQueue:
     """Splits octets into lines, and gives one at a time to be answered, each when octets of the trunk do not wait and
     the share of the one who asks is not used up. `emptied` is called when none waits any more."""
 
-    def __init__(self, loop: Loop, obey: Callable[[str, Say], None], say: Say, share: Share | None = None,
+    def __init__(self, loop: Loop, obey: Callable[[str, Reply], None], reply: Reply, share: ClientShare | None = None,
                  emptied: Callable[[], None] = lambda: None) -> None:
-        self._loop, self._obey, self._say, self._share, self._emptied = loop, obey, say, share, emptied
+        self._loop, self._obey, self._reply, self._share, self._emptied = loop, obey, reply, share, emptied
         self._rest, self._lines, self._busy = b'', deque[str](), False
 
     def took(self, octets: bytes) -> bool:
@@ -121,13 +115,13 @@ class Typed:
         self._busy = False
         if self._share:
             self._share.take_answer(len(text))
-        self._say(text)
+        self._reply(text)
         self._next()
         if not self.waits():
             self._emptied()
 
 
-class Client(Peer):
+class ControlConnection(Connection):
     """One who is connected to the control socket. While lines of a client wait to be answered, no more are received."""
 
     TAKES = MOST_LINE
@@ -137,37 +131,37 @@ class Client(Peer):
         self.follows = False
         self.last = time.monotonic()    # when it came, or said the last line
         self.silent = True
-        self._typed = Typed(trunk.loop, self._obey, lambda text: self.send(f'{text}\n\n'.encode()),
-                            Share(self.last), lambda: self.reads(True))
-        Peer.__init__(self, trunk.loop, line, lambda _: self._left())
+        self._commands = CommandQueue(trunk.loop, self._obey, lambda text: self.send(f'{text}\n\n'.encode()),
+                                      ClientShare(self.last), lambda: self.reads(True))
+        Connection.__init__(self, trunk.loop, line, lambda _: self._left())
 
     def _left(self) -> None:
-        self._typed.drop()
+        self._commands.drop()
         self.trunk.left(self)
 
     def took(self, octets: bytes) -> None:
-        if not self._typed.took(octets):
+        if not self._commands.took(octets):
             return self.close()
-        self.reads(not self._typed.waits())
+        self.reads(not self._commands.waits())
 
     def idle(self, now: float) -> bool:
         """Whether it wants nothing, and has not for a while."""
-        if self.follows or self._typed.waits() or self.trunk.guards.has_asked(self):
+        if self.follows or self._commands.waits() or self.trunk.disconnects.has_asked(self):
             return False
         return now - self.last > (SILENT if self.silent else IDLE)
 
-    def _obey(self, line: str, say: Say) -> None:
+    def _obey(self, line: str, reply: Reply) -> None:
         self.last, self.silent = time.monotonic(), False
         if line == 'events':
-            say('following')
+            reply('following')
             self.follows = True
         elif line.split()[0] == 'on-loss':
-            say(self.trunk.guards.asked(self, line.split()[1:]))
+            reply(self.trunk.disconnects.asked(self, line.split()[1:]))
         else:
-            obey(self.trunk, line, say)
+            obey(self.trunk, line, reply)
 
 
-def who_goes(clients: list[Client], now: float) -> Client | None:
+def who_goes(clients: list[ControlConnection], now: float) -> ControlConnection | None:
     """The client that goes for one more: of the idle ones that which has been for the longest. If none is, and the last
     seat is taken too, of those that have said nothing."""
     found = [client for client in clients if client.idle(now)]
@@ -176,7 +170,7 @@ def who_goes(clients: list[Client], now: float) -> Client | None:
     return min(found, key=lambda client: client.last) if found else None
 
 
-def _close_gone(clients: list[Client]) -> None:
+def _close_gone(clients: list[ControlConnection]) -> None:
     """Closes those at whose other end nobody is any more."""
     poll = select.poll()
     for client in clients:
@@ -190,7 +184,7 @@ def _close_gone(clients: list[Client]) -> None:
 def seat(trunk: Managed, line: socket.socket) -> None:
     """Takes one who has connected: there are MOST_CLIENTS seats, and one more that is kept for who comes when they are
     all in use."""
-    clients = [peer for peer in trunk.peers if isinstance(peer, Client)]
+    clients = [connection for connection in trunk.connections if isinstance(connection, ControlConnection)]
     if len(clients) >= MOST_CLIENTS:
         _close_gone(clients)
         clients = [client for client in clients if client.open]
@@ -199,7 +193,7 @@ def seat(trunk: Managed, line: socket.socket) -> None:
         goes.close()
     elif len(clients) > MOST_CLIENTS:
         return _refuse(line)
-    trunk.peers.add(Client(trunk, line))
+    trunk.connections.add(ControlConnection(trunk, line))
 
 
 def _refuse(line: socket.socket) -> None:
@@ -214,17 +208,17 @@ def _refuse(line: socket.socket) -> None:
 class Console:
     """The terminal: lines of standard input, answered on standard output."""
 
-    def __init__(self, trunk: Managed, say: Say) -> None:
+    def __init__(self, trunk: Managed, reply: Reply) -> None:
         self.trunk = trunk
-        self._typed = Typed(trunk.loop, self._obey, say)
+        self._commands = CommandQueue(trunk.loop, self._obey, reply)
         trunk.loop.watch(0, READ, lambda _: self._ready(), beside=True)
 
-    def _obey(self, line: str, say: Say) -> None:
+    def _obey(self, line: str, reply: Reply) -> None:
         if line == 'events':
-            say('following')
+            reply('following')
             self.trunk.options.watch = True
         else:
-            obey(self.trunk, line, say)
+            obey(self.trunk, line, reply)
 
     def _ready(self) -> None:
         try:
@@ -235,9 +229,9 @@ class Console:
             octets = b''
         if not octets:
             self.trunk.loop.forget(0)
-            self._typed.end()
-        elif not self._typed.took(octets):
-            self._typed.drop()
+            self._commands.end()
+        elif not self._commands.took(octets):
+            self._commands.drop()
 
 
 def circuit_of(word: str) -> int | None:
@@ -257,84 +251,53 @@ def _codec_fault(words: list[str], law: str) -> str | None:
     return None
 
 
-def obey(trunk: Managed, line: str, say: Say) -> None:
-    """Does what a line says; `say` is called once, now or later."""
+def obey(trunk: Managed, line: str, reply: Reply) -> None:
+    """Does what a line says; `reply` is called once, now or later."""
     name, *words = line.split()
     if name == 'status' and words in ([], ['json']):
-        trunk.snapshots.ask(lambda now: say(now.json if words else now.table.rstrip('\n')))
+        trunk.snapshots.ask(lambda now: reply(now.json if words else now.table.rstrip('\n')))
     elif name == 'status' and len(words) == 1:
-        _say_circuit(trunk, words[0], say)
+        _reply_circuit(trunk, words[0], reply)
     elif name == 'help' and not words:
-        say((__doc__ or '').partition('\n\n')[2].rstrip('\n'))
+        reply((__doc__ or '').partition('\n\n')[2].rstrip('\n'))
     elif name == 'quit' and not words:
-        say(trunk.quit_words)
+        reply(trunk.quit_words)
         trunk.stop('quit', trunk.quit_status)
     elif name in COMMANDS or name == 'codec':
-        _obey_circuit(trunk, name, words, say)
+        _obey_circuit(trunk, name, words, reply)
     else:
-        say(f'{name[:40]}: no such command; there are {", ".join(COMMANDS)}, codec, status, events, on-loss, quit and '
-            'help')
+        reply(f'{name[:40]}: no such command; there are {", ".join(COMMANDS)}, codec, status, events, on-loss, quit '
+              'and help')
 
 
-def _say_circuit(trunk: Managed, word: str, say: Say) -> None:
+def _reply_circuit(trunk: Managed, word: str, reply: Reply) -> None:
     """The row of one circuit."""
     circuit = circuit_of(word)
     if circuit is None:
-        return say(f'status {word[:40]}: circuits are 1 to 30')
-    trunk.snapshots.ask(functools.partial(_say_row, circuit, say))
+        return reply(f'status {word[:40]}: circuits are 1 to 30')
+    trunk.snapshots.ask(functools.partial(_reply_row, circuit, reply))
 
 
-def _say_row(circuit: int, say: Say, now: Snapshot) -> None:
-    say(circuit_table(now.status, circuit))
+def _reply_row(circuit: int, reply: Reply, now: Snapshot) -> None:
+    reply(circuit_table(now.status, circuit))
 
 
-def _obey_circuit(trunk: Managed, name: str, words: list[str], say: Say) -> None:
+def _obey_circuit(trunk: Managed, name: str, words: list[str], reply: Reply) -> None:
     if len(words) != (3 if name == 'codec' else 1):
-        return say(f'{name}: wants ' + ('a circuit, a codec and a payload type' if name == 'codec' else 'a circuit'))
+        return reply(f'{name}: wants ' + ('a circuit, a codec and a payload type' if name == 'codec' else 'a circuit'))
     circuit = circuit_of(words[0])
     if circuit is None:
-        return say(f'{name} {words[0][:40]}: circuits are 1 to 30')
+        return reply(f'{name} {words[0][:40]}: circuits are 1 to 30')
     front = f'{name} {circuit}: '
     if name == 'codec':
         fault = _codec_fault(words[1:], trunk.lines.law)
         if fault:
-            return say(front + fault)
+            return reply(front + fault)
         record = codec_record(circuit, CODECS[words[1]], int(words[2]))
     else:
-        if COMMANDS[name] is Command.SEIZE and (fault := trunk.dark_words()):
+        if COMMANDS[name] is Command.SEIZE and (fault := trunk.outage()):
             # The gateway would do it; no exchange could see it, and 200 ms later it would be released.
             trunk.count(circuit, name, fault)
-            return say(front + fault)
+            return reply(front + fault)
         record = command_record(circuit, COMMANDS[name])
-    trunk.command(record, circuit, ' '.join([name, *words[1:]]), lambda text: say(front + text))
-
-
-def free_path(path: str) -> None:
-    """Takes away a socket at which nobody listens. DoorTaken where somebody does, or where something else is there."""
-    try:
-        if not stat.S_ISSOCK(os.lstat(path).st_mode):
-            raise DoorTaken(f'{path} is there and no socket')
-    except FileNotFoundError:
-        return
-    with socket.socket(socket.AF_UNIX) as line:
-        try:
-            line.connect(path)
-        except ConnectionRefusedError:
-            os.unlink(path)
-            return
-    raise DoorTaken(f'at {path} another one listens')
-
-
-def listen_unix(path: str, mode: int, group: str | None) -> socket.socket:
-    """A Unix stream socket that listens, with its mode and group from the first moment on."""
-    free_path(path)
-    door = socket.socket(socket.AF_UNIX)
-    before = os.umask(0o777 & ~mode)
-    try:
-        door.bind(path)
-    finally:
-        os.umask(before)
-    if group:
-        os.chown(path, -1, int(group) if group.isdecimal() else grp.getgrnam(group).gr_gid)
-    door.listen(MOST_CLIENTS)
-    return door
+    trunk.command(record, circuit, ' '.join([name, *words[1:]]), lambda text: reply(front + text))

@@ -11,7 +11,7 @@ _WORDS = {int(refusal): refusal.label for refusal in DatagramRefusal}
 
 
 @dataclass(slots=True)
-class Stream:
+class ReceiverStatistics:
     """What the receiver of a stream can tell of it (RFC 3550): lost packets by sequence number, jitter in samples."""
 
     ssrc: int = -1
@@ -38,24 +38,24 @@ class Stream:
 
 
 @dataclass(slots=True)
-class Circuit:
+class CircuitCounts:
     """The datagrams of a circuit."""
 
     sent: int = 0
     admitted: int = 0
     refused: dict[str, int] = field(default_factory=dict)   # by the reason
-    stream: Stream = field(default_factory=Stream)
+    stream: ReceiverStatistics = field(default_factory=ReceiverStatistics)
 
     def counts(self) -> dict[str, int]:
         """How many were sent, admitted and refused, by what is told of them."""
         return {'sent': self.sent, 'admitted': self.admitted, **self.refused}
 
 
-class Counts:
+class DatagramCounts:
     """Counts datagrams. `counted(circuit, code, place)` is called with what became of each, and where on the trunk."""
 
     def __init__(self, counted: Callable[[int, int, int], None] | None = None) -> None:
-        self.circuits = {n: Circuit() for n in CIRCUITS}
+        self.circuits = {n: CircuitCounts() for n in CIRCUITS}
         self.ended: str | None = None       # why the counts go on no more
         self._counted = counted or (lambda circuit, code, place: None)
 

@@ -39,7 +39,7 @@ def counts_of(lines: list[str]) -> dict[str, int] | None:
     return _counts_in([word for pair in pairs for word in pair])
 
 
-class Errors:
+class ErroredSubmultiframes:
     """Errored submultiframes of one end: told when they begin, and with their number once QUIET counts have none."""
 
     def __init__(self) -> None:
@@ -68,7 +68,7 @@ class Crc4:
         self.checked = 0                        # octets that came and whose counts are known
         self.counts = dict.fromkeys(COUNTS, 0)
         self.aligned: bool | None = None        # whether alignment stood at the last count of this device
-        self._errors = {'errored': Errors(), 'far_end_errored': Errors()}
+        self._errors = {'errored': ErroredSubmultiframes(), 'far_end_errored': ErroredSubmultiframes()}
         self._last, self._last_octets = dict.fromkeys(COUNTS, 0), 0     # of this device, at the last count
 
     def take(self, counts: dict[str, int], octets: int) -> list[Event]:

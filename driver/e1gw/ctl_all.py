@@ -8,8 +8,8 @@ import struct
 import time
 from typing import Any, BinaryIO, Mapping
 
-from .faults import words_of_fault
 from .events import REMOTE
+from .faults import words_of_fault
 from .metrics import state_of
 
 SOCKETS, UNITS = '/run/e1gw', '/etc/e1gw'

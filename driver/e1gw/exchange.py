@@ -17,7 +17,7 @@ SEIZED, ANSWERED, IDLE, ACKNOWLEDGED = 0b00, 0b01, 0b10, 0b11
 COMMANDS = {command.word: command for command in Command}
 
 
-class Serve:
+class ServeProcess:
     """A running `e1gw serve`. What it was given and what it answered is kept, record by record."""
 
     def __init__(self, program: str, config: str, *options: str, **streams: Any) -> None:

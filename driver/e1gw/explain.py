@@ -239,8 +239,8 @@ def socket_fault(host: str, circuit: dict[str, Any]) -> str | None:
     try:
         family, where = address(host, port, 'host')
         peer, _ = address(circuit.get('peer_host', '127.0.0.1'), circuit['peer_port'], 'peer_host')
-        with socket.socket(family, socket.SOCK_DGRAM) as door:
-            door.bind(where)
+        with socket.socket(family, socket.SOCK_DGRAM) as line:
+            line.bind(where)
     except ValueError as error:
         return str(error)
     except OSError as error:

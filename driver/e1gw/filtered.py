@@ -78,9 +78,6 @@ class Filtered(Trunk):
     def waiting(self) -> int:
         return self._device.waiting()
 
-    def unread(self) -> int:
-        return self._device.unread()
-
     def flush(self) -> None:
         self._device.flush()
 
@@ -145,9 +142,6 @@ class Received(Filtered):
         if self._end and self._filter.ended() == 0:
             raise self._end
         raise OSError(self._filter.end_words())
-
-    def unread(self) -> int:
-        return self._filter.inside + self._device.unread()
 
 
 class Sent(Filtered):

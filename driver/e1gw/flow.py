@@ -8,7 +8,7 @@ from __future__ import annotations
 import os
 from typing import NamedTuple
 
-from .clock import Clock, Finding
+from .clock import Clock, ClockFinding
 from .session import OCTETS_A_SECOND
 
 LINE, LOOKS = 96, 1024      # octets of a line; lines, 20 s
@@ -73,9 +73,9 @@ class Flowing:
         self.clock: Clock | None = None
         self._place = 0
 
-    def look(self) -> list[Finding]:
+    def look(self) -> list[ClockFinding]:
         """What was found since this was last called: gaps, octets ahead, another rate."""
-        found: list[Finding] = []
+        found: list[ClockFinding] = []
         for look in self._new():
             found += self._take(look)
         return [finding for finding in found if finding.what in MEASURED]
@@ -107,7 +107,7 @@ class Flowing:
             number += 1
         return found
 
-    def _take(self, look: Look) -> list[Finding]:
+    def _take(self, look: Look) -> list[ClockFinding]:
         if look.came and (self.clock is None or look.came[1] < self._place):
             self._begin(look.now, look.came[1])
         if self.clock is None:

@@ -10,8 +10,8 @@ from __future__ import annotations
 from dataclasses import dataclass, field
 from typing import Any, Iterable, Mapping
 
-from .lines import (LEADS, OPEN, SEIZURE_WAIT, WAIT, Alignment, Line, Lines, Role, State, Tell, both, law_of, lines_of,
-                    read_config)
+from .lines import (LEADS, OPEN, SEIZURE_WAIT, WAIT, Alignment, Line, Role, State, Tell, TrunkState, both, law_of,
+                    lines_of, read_config)
 from .session import FRAME, MULTIFRAME, OCTETS_A_SECOND, Codec, Command
 
 RECOGNISED = 10             # equal pairs in a row
@@ -22,7 +22,6 @@ SIGNAL = 0x1B               # the frame alignment signal, without its first bit
 SECOND = 0x40               # the bit of the octet between two signals
 REMOTE = 0x20               # bit A of that octet
 REMOTE_MULTIFRAME = 0x04    # bit y of slot 16 in frame 0
-MOST_QUIET = 64             # records that are known to change nothing
 
 Row = dict[int, State]
 Table = dict[State, Row]
@@ -81,14 +80,9 @@ class FollowedLine(Line):
                 self.state = State.RELEASING
                 self.unacknowledged += 1
 
-    def settled(self) -> bool:
-        """More of the same pair changes nothing."""
-        return (self.state is not State.SEIZED and self.recognised is not None and self.last == self.recognised
-                and TABLES[self.role][self.state][self.recognised] is self.state)
-
 
 @dataclass(frozen=True)
-class Standing:
+class CircuitState:
     """What a circuit is at a moment."""
 
     circuit: int
@@ -146,7 +140,7 @@ class _Multiframes:
     before: int | None = None           # the octet of slot 16 before this one, while there is no alignment
 
 
-class Followed(Lines):
+class FollowedTrunk(TrunkState):
     """Follows a trunk. Its clock is the trunk's."""
 
     lines: dict[int, FollowedLine]
@@ -160,13 +154,6 @@ class Followed(Lines):
         self._frames = _Frames()
         self._multi = _Multiframes()
         self._fresh: dict[int, int] = {}        # pairs that came, by circuit, and wait for the line's turn
-        self._quiet: dict[tuple[int, int], tuple[bytes, bytes]] = {}    # by place and length: what changes nothing
-        self._disturbed = False
-
-    def aligned(self, what: Alignment = Alignment.MULTIFRAME) -> bool:
-        """Whether the gateway has this alignment."""
-        start = self._frames.start if what is Alignment.FRAME else self._multi.start
-        return start is not None
 
     def frame_start(self) -> int | None:
         """The place, modulo 64, of a frame alignment signal; None where there is no alignment."""
@@ -175,7 +162,7 @@ class Followed(Lines):
     def when(self, place: int) -> float:
         return place / OCTETS_A_SECOND
 
-    def begin(self, place: int, circuits: Iterable[Standing]) -> None:
+    def begin(self, place: int, circuits: Iterable[CircuitState]) -> None:
         """Follows from this place of the trunk on, with circuits that are this. What is sent tells the alarms."""
         self.place, self.alarms = place, both(False)
         for each in circuits:
@@ -189,28 +176,8 @@ class Followed(Lines):
 
     def trunk(self, given: bytes, answered: bytes) -> None:
         """Octets of the trunk, and as many that the gateway answered."""
-        start = self._frames.start
-        key, seen = (self.place % MULTIFRAME, len(given)), (b'', b'')
-        if start is not None:
-            # Slots 0 and 16 as they were a while ago, when they changed nothing, need no closer look.
-            seen = given[(start - self.place) % 16::16], answered[-self.place % 16::16]
-            if self._quiet.get(key) == seen:
-                self.place += len(given)
-                return
-        self._disturbed = False
         self._look_at(given, answered)
         self.place += len(given)
-        if start is None or not self._is_quiet() or len(self._quiet) >= MOST_QUIET:
-            self._quiet.clear()
-        else:
-            self._quiet[key] = seen
-
-    def _is_quiet(self) -> bool:
-        """Whether more of the same changes nothing."""
-        lines = self.lines
-        return (not self._disturbed and self._multi.start is not None and not self._multi.errors
-                and self._frames.errors == [0, 0] and all(line.settled() for line in lines.values())
-                and all(lines[n].last == pair for n, pair in self._fresh.items()))
 
     def _look_at(self, given: bytes, answered: bytes) -> None:
         at = 0
@@ -267,7 +234,6 @@ class Followed(Lines):
         odd = behind % 64 != 0
         if frames.wrong(octet, odd):
             self.wrong_signals += 1
-            self._disturbed = True
         if odd:
             self._remote(Alignment.FRAME, bool(octet & REMOTE))
         if not frames.is_lost(odd):
@@ -295,7 +261,6 @@ class Followed(Lines):
             return
         self._remote(Alignment.MULTIFRAME, bool(octet & REMOTE_MULTIFRAME))
         multi.errors = multi.errors + 1 if octet >> 4 else 0
-        self._disturbed |= multi.errors > 0
         if multi.errors >= WRONG_MULTIFRAMES:
             self._lose_multiframes(True)
             multi.before = octet
@@ -336,7 +301,6 @@ class Followed(Lines):
     def command(self, circuit: int, command: Command) -> None:
         """A command that was done."""
         line = self.lines[circuit]
-        self._quiet.clear()
         before, line.state = line.state, LEADS[command]
         if command is Command.SEIZE:
             line.waits = 0
@@ -346,10 +310,6 @@ class Followed(Lines):
     def codec(self, circuit: int, codec: Codec, payload_type: int) -> None:
         """A change of codec that was done."""
         self._codec(self.lines[circuit], codec.word(self.law), payload_type)
-
-    def _event(self, event: str, **fields: Any) -> None:
-        self._disturbed = True
-        super()._event(event, **fields)
 
     def status(self) -> dict[str, Any]:
         return {**super().status(), 'wrong_signals': self.wrong_signals}

@@ -11,9 +11,9 @@ from collections import deque
 from dataclasses import dataclass, field
 from typing import Any
 
-from .behind import RECORDS, STATE, UNFINISHED, Behind, forget
+from .archive import RECORDS, STATE, UNFINISHED, FinishedPieces, forget
 from .lines import SEIZURE_WAIT, WAIT
-from .outlets import write_all
+from .writers import write_all
 
 UNITS = {'s': 1, 'm': 60, 'h': 3600, 'd': 86400}
 FILES = 12                  # into so many files the time that is kept is cut
@@ -55,7 +55,7 @@ class Ring:
     name: str
     config: str
     keep: int
-    behind: Behind = field(default_factory=Behind)
+    behind: FinishedPieces = field(default_factory=FinishedPieces)
     wait: int = SEIZURE_WAIT        # of a seizure, in milliseconds
     state: bytes = b''              # the gateway when the first file begins; none for a new one
     named: str = ''

@@ -15,17 +15,17 @@ from enum import Enum, auto
 from math import inf
 from typing import Any, Callable, Iterable
 
-from .beside import DEATHS, GRACE, Deaths, Retired, Standby, Trial
 from .faults import words_of_fault
-from .left import note
+from .keeper_files import point, store
 from .naming import note_of
-from .outlets import Journal
 from .parent import parent
-from .places import point, store
 from .recorder import FLUSH, Recording
+from .recovery import note
 from .running import Process, Run, Version, lines_in, open_version, spawn, started, unlink
+from .standby import DEATHS, GRACE, Deaths, Retired, Standby, Trial
 from .systemd import Notify
 from .trunks import Stream
+from .writers import Journal
 
 KEPT = 'E1GW_KEPT'          # the variable that leads through an exec
 TRUNK_NAMES = 'trunk-in', 'trunk-out'       # of what systemd keeps

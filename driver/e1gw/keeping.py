@@ -15,83 +15,57 @@ import json
 import os
 import select
 import shutil
-import subprocess
-import sys
 import threading
 import time
 from typing import Any, Callable, NoReturn
 
-from .faults import Parser, number, options_words, words_of_fault
+from .command import NoTrunk, Usage, run
+from .faults import Parser, words_of_fault
 from .keep import seconds_of
 from .keeper import KEPT, MOST_REOPEN, REOPEN, TRUNK_NAMES, Asked, Keeper
-from .left import end_left_overs, end_others, left_in, state_of
-from .lines import SEIZURE_WAIT, wait_words
-from .outlets import Journal, hold_descriptors
+from .keeper_files import folder_of, is_taken
+from .lines import wait_words
 from .parent import parent
-from .places import folder_of, is_taken
-from .programs import SENDERS, ConfigRefused, check_config, program_of, senders_of
+from .programs import SENDERS, add_program, add_session, check_config, program_of, senders_of
 from .recorder import Recording
+from .recovery import end_left_overs, end_others, left_in, state_of
 from .systemd import Notify, given
-from .trunks import Stream, host_and_port, open_files, open_tcp, open_unix
-
+from .trunks import Stream, add_device, device_of
+from .writers import Journal
 
 RUN_NAMES = 'tape', 'hello', 'program'          # of the descriptors of a run
 
 
-class Usage(Exception):
-    """What is wrong with the command line."""
-
-
-class NoTrunk(Exception):
-    """Why the trunk can't be opened."""
-
-
 def parser() -> argparse.ArgumentParser:
     """The options."""
-    about, _, rest = (__doc__ or '').partition('\n\n')
-    words = Parser(prog='e1gw-keep', description=f'{about}\n\n{rest}',
-                   formatter_class=argparse.RawDescriptionHelpFormatter)
+    words = Parser('e1gw-keep', description=__doc__, formatter_class=argparse.RawDescriptionHelpFormatter)
     words.add_argument('--config', metavar='FILE', required=True, help='the configuration, e1gw.toml(5)')
-    words.add_argument('--program', metavar='E1GW', help='the program [default: that of this repository, or e1gw]')
-    words.add_argument('--in', dest='input', metavar='FILE', help='a device, file or FIFO to read the trunk from')
-    words.add_argument('--out', metavar='FILE', help='one to write the trunk to, opened after --in; may be the same')
-    words.add_argument('--unix', metavar='PATH', help='a Unix stream socket to connect to, in place of the two')
-    words.add_argument('--tcp', metavar='HOST:PORT', help='a TCP socket to connect to, in place of the two')
+    add_program(words)
+    add_device(words)
     words.add_argument('--control', metavar='SOCKET', help='a Unix socket for commands, e1gw(1)')
     words.add_argument('--tell', metavar='SOCKET', help='a Unix socket at which clients are told how the trunk '
                        'stands, e1gw-tell(5)')
-    words.add_argument('--state', metavar='FILE', help='the state is saved there at the end, and loaded at the start '
-                       'if it is there')
     words.add_argument('--folder', metavar='DIR', help='where tapes and states are, in memory [default: '
                        'RUNTIME_DIRECTORY, or /dev/shm]')
-    words.add_argument('--senders', choices=('any', 'host', 'peer'), help='whose datagrams are received, e1gw(1) '
-                       '[default: host if each peer_host is an address, else any]')
-    words.add_argument('--session', metavar='FILE', help='keeps all that the program takes, for e1gw replay and check')
-    words.add_argument('--keep', metavar='TIME', help='--session is a folder for the last 30m, 1h, 2d, in twelve files')
+    add_session(words)
     words.add_argument('--flow', metavar='FILE', help='notes how octets flow, for e1gw-watch --flow; in memory')
     words.add_argument('--name', metavar='NAME', help='of the trunk, in the names of those files [default: that of '
                        'the configuration\'s file]')
-    words.add_argument('--repeat', type=number(0, 8), default=0, metavar='N',
-                       help='sends each datagram again behind the N-th after it, 0 to 8 [default: 0, never]')
-    words.add_argument('--seizure-wait', type=number(200, 8000), default=SEIZURE_WAIT, metavar='MS',
-                       help='a seizure that is not acknowledged is released after so many milliseconds, 200 to 8000 '
-                       '[default: 200]')
-    words.add_argument('--reopen', action='store_true', help='opens a trunk that ends or fails again, within 30 s')
-    words.add_argument('--totals', action='store_true', help='tells at the end what the programs have counted')
     return words
+
+
+def options_of(words: list[str]) -> argparse.Namespace:
+    """The options of a command line; ValueError where they are none."""
+    asked = parser().parse_args(words)
+    trunk_of(asked), recording_of(asked)
+    return asked
 
 
 def trunk_of(asked: argparse.Namespace) -> Callable[[], Stream]:
     """What opens the trunk that was asked for."""
-    if bool(asked.input) + bool(asked.out) == 1 or sum(map(bool, (asked.unix, asked.tcp, asked.input))) != 1:
-        raise Usage('a trunk is --in and --out, or --unix, or --tcp')
-    if asked.tcp:
-        try:
-            host, port = host_and_port(asked.tcp)
-        except ValueError as fault:
-            raise Usage(str(fault)) from None
-        return lambda: open_tcp(host, port)
-    return (lambda: open_unix(asked.unix)) if asked.unix else (lambda: open_files(asked.input, asked.out))
+    opens = device_of(asked)
+    assert opens
+    return opens
 
 
 def program_words(asked: argparse.Namespace, config: str) -> list[str]:
@@ -108,13 +82,10 @@ def opens_of(asked: argparse.Namespace) -> list[str | None]:
 def recording_of(asked: argparse.Namespace) -> Recording | None:
     """What is kept of the trunk, and whether it is noted how its octets flow; None if neither is."""
     if asked.keep and not asked.session:
-        raise Usage('--keep wants --session')
+        raise ValueError('--keep wants --session')
     if not asked.session and not asked.flow:
         return None
-    try:
-        keep = seconds_of(asked.keep) if asked.keep else None
-    except ValueError as fault:
-        raise Usage(str(fault)) from None
+    keep = seconds_of(asked.keep) if asked.keep else None
     name = asked.name or os.path.splitext(os.path.basename(asked.config))[0]
     session, flow = (path and os.path.abspath(path) for path in (asked.session, asked.flow))
     return Recording(session, keep, name, os.path.abspath(asked.config), asked.seizure_wait, flow)
@@ -224,9 +195,8 @@ def _forget(files: dict[str, int]) -> Notify:
     return notify
 
 
-def _keep(words: list[str], journal: Journal) -> int:
+def _keep(asked: argparse.Namespace, journal: Journal) -> int:
     kept, files = os.environ.pop(KEPT, None), given()
-    asked = parser().parse_args(words)
     if kept:
         keeper = _take_up(asked, journal, kept)
     elif left := _left(asked):
@@ -241,24 +211,4 @@ def _keep(words: list[str], journal: Journal) -> int:
 
 
 def main(words: list[str] | None = None) -> NoReturn:
-    hold_descriptors()
-    sys.setswitchinterval(0.001)
-    journal = Journal(name='e1gw-keep')
-    status = 2
-    try:
-        status = _keep(sys.argv[1:] if words is None else words, journal)
-    except Usage as fault:
-        journal.line(Journal.ERROR, f'{fault}; see e1gw-keep --help{options_words()}')
-    except NoTrunk as fault:
-        journal.line(Journal.ERROR, str(fault))
-        status = 1
-    except ConfigRefused as fault:
-        from .explain import config_words
-        journal.line(Journal.ERROR, str(fault))
-        if why := config_words(parser().parse_args(words).config):
-            journal.line(Journal.ERROR, why)
-    except (OSError, subprocess.CalledProcessError) as fault:
-        journal.line(Journal.ERROR, words_of_fault(fault))
-    journal.close()
-    # A thread may still wait for who reads standard error; nothing waits for it.
-    os._exit(status)
+    run('e1gw-keep', words, options_of, _keep)

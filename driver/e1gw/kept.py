@@ -15,12 +15,12 @@ PIECE = 1 << 16
 ENDINGS = ('.e1gw', '.e1gw.zst', '.rec', '.rec.zst')
 
 
-class Trouble(Exception):
+class InputError(Exception):
     """Why something can't be read or drawn, in words."""
 
 
 @dataclass
-class Kept:
+class KeptSession:
     """The files of a session, and what stands beside the first of them."""
     files: list[str]
     config: str | None = None
@@ -32,23 +32,23 @@ class Kept:
     state: str = ''                     # the file of what the gateway was then; none for a new one
 
 
-def kept(path: str, last: int | None = None) -> Kept:
+def kept(path: str, last: int | None = None) -> KeptSession:
     """A session in one file, or what was kept in a folder. Of a folder the last so many octets of the trunk
     are enough, if it was kept what the gateway was before them."""
     if not os.path.isdir(path):
-        return _told(Kept([path]))
+        return _told(KeptSession([path]))
     every = {name for name in os.listdir(path) if name.endswith(ENDINGS)}
     # While one is packed both are there, and the packed one is not whole.
     names = sorted(name for name in every if not name.endswith('.zst') or name.removesuffix('.zst') not in every)
     trunks = {name.rpartition('-')[0] for name in names}
     if not names:
-        raise Trouble(f'{path} holds no session (files of NAME.e1gw)')
+        raise InputError(f'{path} holds no session (files of NAME.e1gw)')
     if len(trunks) > 1:
-        raise Trouble(f'{path} holds sessions of several trunks: {", ".join(sorted(trunks))}')
+        raise InputError(f'{path} holds sessions of several trunks: {", ".join(sorted(trunks))}')
     files = [os.path.join(path, name) for name in names]
     begun = _begun([beside(file) for file in files])
     files = files[begun[-1] if begun else 0:]
-    return _told(Kept(files[_enough(files, last):] if last else files))
+    return _told(KeptSession(files[_enough(files, last):] if last else files))
 
 
 def _begun(abouts: list[dict[str, Any]]) -> list[int]:
@@ -86,7 +86,7 @@ def beside(path: str) -> dict[str, Any]:
         return {}
 
 
-def _told(session: Kept) -> Kept:
+def _told(session: KeptSession) -> KeptSession:
     about = beside(session.files[0])
     session.config = about.get('config')
     session.wait = about.get(WAIT, SEIZURE_WAIT)
@@ -115,7 +115,7 @@ def octets_of(path: str) -> Iterator[bytes]:
             yield from pieces(file)
         return
     if not shutil.which('zstd'):
-        raise Trouble(f'{path} is packed, and zstd is not installed')
+        raise InputError(f'{path} is packed, and zstd is not installed')
     with open(path, 'rb') as packed, subprocess.Popen(
             ['zstd', '-dcq'], stdin=packed, stdout=subprocess.PIPE, stderr=subprocess.DEVNULL) as process:
         assert process.stdout

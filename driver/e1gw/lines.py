@@ -54,7 +54,6 @@ class Line:
     role: Role = Role.OUTGOING
     codec: str = 'pcma'
     payload: int = 8
-    ptime: int = 20
     prefill: int = 0
     port: int | None = None
     state: State = State.FAULT
@@ -137,7 +136,6 @@ def lines_of(config: Mapping[str, Any], kind: type[ALine]) -> dict[int, ALine]:
         line.role = Role(table.get('role', line.role))
         line.codec = table.get('codec', line.codec)
         line.payload = table.get('payload', line.payload)
-        line.ptime = table.get('ptime', line.ptime)
         line.prefill = table.get('prefill', line.prefill)
         line.port = table.get('local_port')
     for line in lines.values():
@@ -149,7 +147,7 @@ def both(value: bool) -> dict[Alignment, bool]:
     return dict.fromkeys(Alignment, value)
 
 
-class Lines:
+class TrunkState:
     """The lines and the alarms of a trunk. `tell(event)` is called with a dictionary at each change."""
 
     def __init__(self, law: str, lines: Mapping[int, Line], tell: Tell | None = None) -> None:
@@ -168,7 +166,7 @@ class Lines:
         """Whether the gateway sends an alarm."""
         return any(self.alarms.values())
 
-    def dark_words(self) -> str | None:
+    def outage(self) -> str | None:
         """Why no seizure can reach the other end, or None."""
         if self.alarm():
             return 'no alignment'

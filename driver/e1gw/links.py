@@ -5,17 +5,17 @@ import socket
 import struct
 from typing import Callable
 
+from .connections import Connection
 from .faults import words_of_fault
 from .loop import READ, Loop
-from .peers import Peer
 
 
-class End(Peer):
+class LinkConnection(Connection):
     """This end of a connection."""
 
     def __init__(self, link: Link, line: socket.socket) -> None:
         self._link, self.why = link, 'it has closed the connection'
-        Peer.__init__(self, link.loop, line, lambda _: link.lost(self.why))
+        Connection.__init__(self, link.loop, line, lambda _: link.lost(self.why))
 
     def took(self, octets: bytes) -> None:
         self._link.took(octets)
@@ -37,7 +37,7 @@ class Link:
                  gone: Callable[[str], None], rest: float = 0.0) -> None:
         self.loop, self.path, self.took, self.rest = loop, path, took, rest
         self._came, self._gone = came, gone
-        self._end: End | None = None
+        self._end: LinkConnection | None = None
 
     def look(self) -> None:
         """To be called now and then: connects. `came` is called with the number of the other end's process."""
@@ -50,7 +50,7 @@ class Link:
         except OSError as fault:
             line.close()
             return self._gone(words_of_fault(fault, self.path))
-        self._end = End(self, line)
+        self._end = LinkConnection(self, line)
         self._came(int(struct.unpack('iii', line.getsockopt(socket.SOL_SOCKET, socket.SO_PEERCRED, 12))[0]))
 
     def lost(self, why: str) -> None:

@@ -16,6 +16,7 @@ import sys
 from dataclasses import dataclass, replace
 from typing import Any
 
+from .command import Usage
 from .explain import CODECS, ConfigFault, check, config_words, read_octets
 from .faults import number, words_of_fault
 from .session import CIRCUITS
@@ -24,10 +25,6 @@ FIRST, APART, TRUNKS = 24_002, 100, 64      # ports of a trunk: for each circuit
 SAME_HOST = 10_000                          # ports between the two ends of a tie on one machine
 METRICS = 9100
 ROLES = ('outgoing', 'incoming', 'odd', 'even')
-
-
-class Usage(Exception):
-    """Wrong values."""
 
 
 @dataclass(frozen=True)
@@ -131,7 +128,7 @@ def write_all(asked: argparse.Namespace, plan: Plan) -> None:
 EXAMPLE = 'example.toml'
 
 
-def doors_of(table: dict[str, Any]) -> dict[tuple[str, int], int]:
+def addresses_of(table: dict[str, Any]) -> dict[tuple[str, int], int]:
     """The address and port of each circuit that has them."""
     host = table.get('host', '127.0.0.1')
     return {(host, circuit['local_port']): circuit['number'] for circuit in table.get('circuit', [])
@@ -140,10 +137,10 @@ def doors_of(table: dict[str, Any]) -> dict[tuple[str, int], int]:
 
 def clash_words(path: str, other: str, clashes: list[tuple[int, str, int]]) -> str:
     """The words for circuits of a file whose address and port another file has."""
-    circuit, door, far = clashes[0]
+    circuit, address, far = clashes[0]
     if len(clashes) == 1:
-        return f'{path}, circuit {circuit}: {door} is also the port of {other}, circuit {far}'
-    return (f'{path}: the ports of {len(clashes)} circuits, of circuit {circuit} {door}, are also those of {other}; '
+        return f'{path}, circuit {circuit}: {address} is also the port of {other}, circuit {far}'
+    return (f'{path}: the ports of {len(clashes)} circuits, of circuit {circuit} {address}, are also those of {other}; '
             f'e1gw-config --trunk N gives each trunk its own')
 
 
@@ -159,7 +156,7 @@ def check_files(paths: list[str]) -> bool:
         if os.path.basename(path) == EXAMPLE and len(paths) > 1:
             continue
         clashes: dict[str, list[tuple[int, str, int]]] = {}
-        for (host, port), circuit in doors_of(check(read_octets(path))).items():
+        for (host, port), circuit in addresses_of(check(read_octets(path))).items():
             other, far = taken.setdefault((host, port), (path, circuit))
             if other != path:
                 clashes.setdefault(other, []).append((circuit, f'{host}:{port}', far))

@@ -2,7 +2,6 @@
 and what is done with calls by itself."""
 from __future__ import annotations
 
-import json
 import os
 import socket
 import threading
@@ -10,24 +9,24 @@ import time
 from collections import Counter, deque
 from typing import Any, Callable
 
-from .calls import Calls, to_calls
-from .control import Client, Console, DoorTaken, Say, listen_unix, seat
-from .counts import Counts
-from .events import NOTICED, WARNED, words_of
+from .calls import CallLog, to_calls
+from .clearing import DisconnectWatch, OutageWatch
+from .connections import Connection, Listener, SocketTaken, listen
+from .control import Console, ControlConnection, Reply, seat
+from .counts import DatagramCounts
+from .events import NOTICED, WARNED, json_line, words_of
 from .faults import named, words_of_fault, words_of_refusal
-from .guards import Guards
-from .lines import OPEN, Event, Lines, Role, State
+from .lines import OPEN, Event, Role, State, TrunkState
 from .loop import READ, Loop
 from .options import Options
-from .outlets import Journal, Outlet, to_descriptor, to_file
 from .pages import Pages
 from .parent import parent
-from .peers import Door, Peer
 from .restarts import Restarts
 from .session import Codec, Command, Record, codec_record, command_record
 from .snapshots import Snapshot, Snapshots
-from .sockets import Tables
+from .sockets import SocketTables
 from .systemd import Notify
+from .writers import Journal, to_descriptor, to_json
 
 BESIDE = ('json', 'calls', 'metrics', 'pages')      # what may end without the calls
 Answered = Callable[[Record], None]
@@ -38,35 +37,34 @@ class Managed:
 
     quit_words, quit_status = 'quit: done', 0
 
-    def __init__(self, loop: Loop, options: Options, journal: Journal, version: str, lines: Lines, counts: Counts,
-                 restarts: Restarts) -> None:
+    def __init__(self, loop: Loop, options: Options, journal: Journal, version: str, lines: TrunkState,
+                 counts: DatagramCounts, restarts: Restarts) -> None:
         self.loop, self.options, self.journal, self._version = loop, options, journal, version
         self.lines, self.counts, self.restarts = lines, counts, restarts
-        self._sockets = Tables(lines.lines.values())
+        self._sockets = SocketTables(lines.lines.values())
         self.snapshots = Snapshots(loop, lambda: Snapshot(self.status(), self._sockets))
-        self.began, self.renewed = time.monotonic(), 0
-        self.guards = Guards(options.on_loss, self.clear_all)
+        self.began, self.resyncs = time.monotonic(), 0
+        self.disconnects = DisconnectWatch(options.on_loss, self.clear_all)
+        self._outages = OutageWatch(options.dark, self.clear_all)
         self.status_code: int | None = None         # once it is there this ends
         self.ended: dict[str, str | None] = dict.fromkeys(BESIDE)
         self.done: Counter[tuple[str, str]] = Counter()     # commands, by name and answer
-        self.peers: set[Peer] = set()
-        self._doors: list[Door] = []
-        self._dark_since: float | None = None
-        self._dark_cleared = False
+        self.connections: set[Connection] = set()
+        self._listeners: list[Listener] = []
         self._notes: deque[tuple[str, str]] = deque()   # from other threads: what has ended, and why
         self._out = to_descriptor('standard output', 1)
-        self._json = self._open_json()
+        self._json = to_json(options.json, self.note)
         self._calls_out = to_calls(options.calls, self.note) if options.calls else None
-        self.calls = Calls(options.name, lines.lines, counts, self._calls_out.put) if self._calls_out else None
+        self.calls = CallLog(options.name, lines.lines, counts, self._calls_out.put) if self._calls_out else None
         self.pages: Pages | None = None
 
     # ---- what carries the trunk has to have ----
 
-    def dark_words(self) -> str | None:
+    def outage(self) -> str | None:
         """Why no seizure can reach the other end, or None."""
         raise NotImplementedError
 
-    def _give(self, record: bytes, answered: Answered, failed: Say) -> None:
+    def _give(self, record: bytes, answered: Answered, failed: Reply) -> None:
         """Gives the gateway a C or K record. `answered` is called with its answer, or `failed` with why it has none."""
         raise NotImplementedError
 
@@ -80,21 +78,12 @@ class Managed:
         self._notes.append((what, why))
         self.loop.wake()
 
-    def _open_json(self) -> Outlet | None:
-        path = self.options.json
-        if path == '-':
-            return to_descriptor('json', 1, self.note)
-        return to_file('json', path, self.note) if path else None
-
-    def open_doors(self) -> None:
+    def open_listeners(self) -> None:
         """Opens what others connect to, and the terminal."""
         options = self.options
         if options.control:
-            try:
-                door = listen_unix(options.control, options.control_mode, options.control_group)
-            except OSError as fault:
-                raise named(fault, f'--control {options.control}') from None
-            self._doors.append(Door(self.loop, door, lambda line, _: seat(self, line), options.control))
+            self._listeners.append(listen(self.loop, '--control', options.control, lambda line, _: seat(self, line),
+                                          options.control_mode, options.control_group))
         web = None
         if options.http:
             family = socket.AF_INET6 if ':' in options.http[0] else socket.AF_INET
@@ -106,12 +95,12 @@ class Managed:
             self._open_pages(web)
         Console(self, lambda text: self._out.put(f'{text}\n'.encode()))
 
-    def _open_pages(self, door: socket.socket | None) -> None:
+    def _open_pages(self, line: socket.socket | None) -> None:
         options = self.options
         words = {'config': options.config, 'name': options.name, 'top': options.top, 'metrics': options.metrics,
                  **options.drawn}
         try:
-            self.pages = Pages(self.loop, words, door, self._snapshot_wanted, self.end_beside)
+            self.pages = Pages(self.loop, words, line, self._snapshot_wanted, self.end_beside)
         except OSError as fault:
             self.end_beside('pages', fault.strerror or str(fault))
 
@@ -119,10 +108,10 @@ class Managed:
         if self.pages:
             self.snapshots.ask(self.pages.give)
 
-    def left(self, peer: Peer) -> None:
-        """A client or a visitor is gone."""
-        self.peers.discard(peer)
-        self.guards.left(peer, time.monotonic())
+    def left(self, connection: Connection) -> None:
+        """A connection has closed."""
+        self.connections.discard(connection)
+        self.disconnects.left(connection, time.monotonic())
 
     def end_beside(self, what: str, why: str) -> None:
         """Something beside the calls has ended; they go on."""
@@ -136,19 +125,19 @@ class Managed:
 
     # ---- calls ----
 
-    def command(self, record: bytes, circuit: int, words: str, say: Say) -> None:
-        """Gives the gateway a command or a change of codec; `say` is called with the answer in words."""
+    def command(self, record: bytes, circuit: int, words: str, reply: Reply) -> None:
+        """Gives the gateway a command or a change of codec; `reply` is called with the answer in words."""
         def answered(answer: Record) -> None:
             refusal = answer.refusal
             if refusal is None:
                 self._obeyed(circuit, record)
             text = refusal.words if refusal else 'done'
             self.count(circuit, words, text)
-            say(words_of_refusal(refusal, circuit, self.lines.lines[circuit].role) if refusal else text)
+            reply(words_of_refusal(refusal, circuit, self.lines.lines[circuit].role) if refusal else text)
 
         def failed(text: str) -> None:
             self.count(circuit, words, text)
-            say(text)
+            reply(text)
         self._give(record, answered, failed)
 
     def count(self, circuit: int, words: str, text: str) -> None:
@@ -180,25 +169,14 @@ class Managed:
             line = self.lines.lines[n]
             codec = next(each for each in Codec if each.word(self.lines.law) == line.codec)
             self._give(codec_record(n, codec, line.payload), lambda answer: None, lambda why: None)
-        self.renewed += len(circuits)
+        self.resyncs += len(circuits)
 
     def _look_at_calls(self, now: float) -> None:
         """A few times a second: what is to become of calls."""
-        self.guards.look(now)
-        self._look_at_dark(now)
+        self.disconnects.look(now)
+        self._outages.look(now, self.outage())
         if self.calls:
             self.calls.look()
-
-    def _look_at_dark(self, now: float) -> None:
-        if self.dark_words() is None:
-            self._dark_since, self._dark_cleared = None, False
-            return
-        if self._dark_since is None:
-            self._dark_since = now
-        dark = self.options.dark
-        if dark is not None and not self._dark_cleared and now - self._dark_since >= dark:
-            self._dark_cleared = True
-            self.clear_all(f'the trunk has been dark for {dark:g} s')
 
     # ---- what is told ----
 
@@ -223,11 +201,11 @@ class Managed:
     def pass_on(self, event: Event) -> None:
         """Tells a change to all who follow."""
         self.snapshots.changed()
-        followers = [peer for peer in self.peers if isinstance(peer, Client) and peer.follows]
+        followers = [each for each in self.connections if isinstance(each, ControlConnection) and each.follows]
         if followers or self._json:
-            text = (json.dumps({'time': round(time.time(), 6), **event}) + '\n').encode()
-            for peer in followers:
-                peer.queue(text)
+            text = json_line(event)
+            for connection in followers:
+                connection.queue(text)
             if self._json:
                 self._json.put(text)
         if self.options.watch:
@@ -238,7 +216,7 @@ class Managed:
         status: dict[str, Any] = self.lines.status() | {
             'name': self.options.name, 'version': self._version,
             'time': round(time.time(), 3), 'uptime': round(time.monotonic() - self.began, 3),
-            'stale': self.counts.stale(), 'ended': dict(self.ended), 'renewed': self.renewed,
+            'stale': self.counts.stale(), 'ended': dict(self.ended), 'renewed': self.resyncs,
             'commands': [{'command': name, 'answer': answer, 'count': n}
                          for (name, answer), n in sorted(self.done.items())]}
         for row in status['circuits']:
@@ -262,22 +240,22 @@ class Managed:
             self.status_code = status
             self.loop.wake()
 
-    def _close_doors(self) -> None:
-        for door in self._doors:
-            door.close()
+    def _close_listeners(self) -> None:
+        for line in self._listeners:
+            line.close()
 
     def _close(self) -> None:
         """Ends what is open beside the calls."""
         if self.pages:
             self.pages.finish()
-        for peer in list(self.peers):
-            peer.flush()
-            peer.close()
+        for connection in list(self.connections):
+            connection.flush()
+            connection.close()
         if self.calls:
             self.calls.finish()
-        for outlet in (self._json, self._calls_out, self._out):
-            if outlet:
-                outlet.close()
+        for writer in (self._json, self._calls_out, self._out):
+            if writer:
+                writer.close()
         self._take_metrics_away()
 
     def _take_metrics_away(self) -> None:
@@ -312,8 +290,8 @@ def serve(loop: Loop, journal: Journal, made: Callable[[Loop], Managed]) -> int:
     if (file := parent()) >= 0:
         loop.watch(file, READ, lambda _: trunk[0].stop('e1gw-trunk has ended'))
     try:
-        trunk[0].open_doors()
-    except (OSError, DoorTaken, KeyError, ValueError) as fault:
+        trunk[0].open_listeners()
+    except (OSError, SocketTaken, KeyError, ValueError) as fault:
         journal.line(Journal.ERROR, f'cannot listen: {words_of_fault(fault)}')
         trunk[0].end(2)
     else:

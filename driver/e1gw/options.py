@@ -3,21 +3,12 @@ from __future__ import annotations
 
 import argparse
 import os
-import subprocess
-import sys
 from dataclasses import dataclass, field
-from typing import Any, Callable, NoReturn
+from typing import Any
 
-from .explain import config_words
-from .faults import number, options_words, words_of_fault
-from .guards import OnLoss, on_loss_of
-from .outlets import Journal, hold_descriptors
-from .programs import ConfigRefused
+from .clearing import DisconnectPolicy, on_loss_of
+from .faults import number
 from .trunks import host_and_port
-
-
-class Usage(Exception):
-    """What is wrong with the command line."""
 
 
 @dataclass(kw_only=True)
@@ -36,7 +27,7 @@ class Options:
     json: str | None = None
     calls: str | None = None
     dark: float | None = None
-    on_loss: OnLoss = OnLoss()
+    on_loss: DisconnectPolicy = DisconnectPolicy()
     drawn: dict[str, Any] = field(default_factory=dict)
 
 
@@ -80,23 +71,3 @@ def fields_of(asked: argparse.Namespace) -> dict[str, Any]:
         'metrics': asked.metrics, 'json': asked.json, 'calls': asked.calls, 'dark': asked.dark,
         'on_loss': on_loss_of(asked.on_loss)}
 
-
-def run(name: str, words: list[str] | None, serve: Callable[[list[str], Journal], int]) -> NoReturn:
-    """Serves by a command line until the end, and tells what is wrong with it."""
-    hold_descriptors()
-    sys.setswitchinterval(0.001)
-    journal = Journal(name=name)
-    status = 2
-    try:
-        status = serve(sys.argv[1:] if words is None else words, journal)
-    except Usage as fault:
-        journal.line(Journal.ERROR, f'{fault}; see {name} --help{options_words()}')
-    except ConfigRefused as fault:
-        journal.line(Journal.ERROR, str(fault))
-        if why := config_words(fault.config):
-            journal.line(Journal.ERROR, why)
-    except (OSError, subprocess.CalledProcessError) as fault:
-        journal.line(Journal.ERROR, words_of_fault(fault))
-    journal.close()
-    # A thread may still wait for a disk or a reader; nothing waits for it.
-    os._exit(status)

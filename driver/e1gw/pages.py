@@ -16,11 +16,11 @@ from .keep import put_file
 from .lines import Line, lines_of, read_config
 from .loop import READ, Loop
 from .metrics import exposition, table
-from .outlets import Outlet, to_descriptor
 from .pipes import put_behind
 from .snapshots import EVERY, Snapshot
 from .sockets import sockets_of, with_sockets
 from .web import NOT_FOUND, NOT_YET, Got, Page, Web
+from .writers import Writer, to_descriptor
 
 WANTED, ENDED = b'?', b'!'          # of what comes from there: a snapshot is wanted; the file of metrics has ended
 PATIENCE = 1.0                      # seconds that a snapshot is waited for before the last one does
@@ -35,11 +35,11 @@ class Pages:
     """The process that makes pages, as the watcher sees it. `wanted` is called when it wants a snapshot, `ended` with
     what is no more, and why."""
 
-    def __init__(self, loop: Loop, words: dict[str, Any], door: socket.socket | None, wanted: Callable[[], None],
+    def __init__(self, loop: Loop, words: dict[str, Any], listener: socket.socket | None, wanted: Callable[[], None],
                  ended: Callable[[str, str], None]) -> None:
         self.loop, self._wanted, self._ended, self.has_ended = loop, wanted, ended, False
         self._line, theirs = socket.socketpair(socket.AF_UNIX, socket.SOCK_SEQPACKET)
-        given = {'line': theirs, 'door': door}
+        given = {'line': theirs, 'listener': listener}
         files = {name: end.fileno() for name, end in given.items() if end}
         try:
             self.process = subprocess.Popen(
@@ -95,7 +95,7 @@ class Pages:
 
 # ---- in the process ----
 
-class Seen:
+class SnapshotPages:
     """A snapshot, and the pages made of it, each once."""
 
     def __init__(self, status: dict[str, Any], lines: list[Line], name: str) -> None:
@@ -126,10 +126,10 @@ class Seen:
 PATHS = frozenset((b'/', b'/table', b'/metrics', b'/status'))
 
 
-class Drawn:
+class DrawnPicture:
     """The picture of the last seconds of what the keeper has kept, drawn by a process for those who ask."""
 
-    def __init__(self, loop: Loop, words: Words) -> None:
+    def __init__(self, loop: Loop, words: PageRequest) -> None:
         self.loop, self._words = loop, ['--last', f'{words.picture}s', '--title', words.name, '--refresh', '10',
                                         *(['--program', words.program] if words.program else []), words.session or '']
         self._page, self._until = bytearray(), 0.0
@@ -171,7 +171,7 @@ class Drawn:
 
 
 @dataclass
-class Words:
+class PageRequest:
     """What the process is asked for, and the descriptors that it is given."""
 
     line: int
@@ -179,27 +179,27 @@ class Words:
     name: str
     top: bool
     metrics: str | None = None
-    door: int | None = None
+    listener: int | None = None
     picture: float | None = None        # seconds that are drawn, of the folder `session`
     session: str | None = None
     program: str | None = None
 
 
-class Making:
+class PageMaker:
     """The process: takes snapshots, and makes of them what is asked for."""
 
-    def __init__(self, words: Words) -> None:
+    def __init__(self, words: PageRequest) -> None:
         self.words, self.loop = words, Loop(1.0)
         self._lines = list(lines_of(read_config(words.config), Line).values())
         self._line = socket.socket(fileno=words.line)
         self._line.setblocking(False)
-        self._seen: Seen | None = None
+        self._seen: SnapshotPages | None = None
         self._until = self._asked_at = 0.0
-        self._waiting: list[Callable[[Seen | None], None]] = []
+        self._waiting: list[Callable[[SnapshotPages | None], None]] = []
         self.loop.watch(self._line.fileno(), READ, lambda _: self._read())
-        self._drawn = Drawn(self.loop, words) if words.picture else None
-        if words.door:
-            Web(self.loop, socket.socket(fileno=words.door), self.find)
+        self._drawn = DrawnPicture(self.loop, words) if words.picture else None
+        if words.listener:
+            Web(self.loop, socket.socket(fileno=words.listener), self.find)
         if words.metrics:
             self._put_metrics(words.metrics)
         if words.top:
@@ -209,7 +209,7 @@ class Making:
         while True:
             self.loop.turn()
 
-    def ask(self, got: Callable[[Seen | None], None]) -> None:
+    def ask(self, got: Callable[[SnapshotPages | None], None]) -> None:
         """`got` is called with a snapshot: a fresh one, or after PATIENCE the last one, if there is one."""
         now = time.monotonic()
         if self._seen and now < self._until:
@@ -235,7 +235,7 @@ class Making:
             return
         if not octets:
             os._exit(0)         # the watcher is gone
-        self._seen = Seen(marshal.loads(octets), self._lines, self.words.name)
+        self._seen = SnapshotPages(marshal.loads(octets), self._lines, self.words.name)
         self._until = time.monotonic() + EVERY
         self._answer()
 
@@ -266,20 +266,20 @@ class Making:
             put_file(path, text)
 
         def ask() -> None:
-            if not outlet.waiting():
-                self.ask(lambda seen: outlet.put(seen.metrics() if seen else b''))
-        outlet = Outlet('metrics', put, lambda _, why: self._tell(ENDED + why.encode()))
+            if not writer.waiting():
+                self.ask(lambda seen: writer.put(seen.metrics() if seen else b''))
+        writer = Writer('metrics', put, lambda _, why: self._tell(ENDED + why.encode()))
         self.loop.every(METRICS_EVERY, ask)
         ask()
 
     def _show_top(self) -> None:
         def ask() -> None:
-            if not outlet.waiting():
-                self.ask(lambda seen: outlet.put(b'\x1b[H\x1b[2J' + seen.table() if seen else b''))
-        outlet = to_descriptor('standard output', 1)
+            if not writer.waiting():
+                self.ask(lambda seen: writer.put(b'\x1b[H\x1b[2J' + seen.table() if seen else b''))
+        writer = to_descriptor('standard output', 1)
         self.loop.every(SHOWN_EVERY, ask)
         ask()
 
 
 if __name__ == '__main__':
-    Making(Words(**json.loads(sys.argv[1]))).run()
+    PageMaker(PageRequest(**json.loads(sys.argv[1]))).run()

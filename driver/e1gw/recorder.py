@@ -18,15 +18,15 @@ from dataclasses import asdict, dataclass
 from math import inf
 from typing import Mapping
 
-from .behind import Behind
-from .clock import TICK, Clock, Finding
+from .archive import FinishedPieces
+from .clock import TICK, Clock, ClockFinding
 from .faults import words_of_fault
 from .flow import Flow
 from .keep import Ring
 from .lines import SEIZURE_WAIT
-from .outlets import Journal, OneFile, Outlet, write_all
 from .pipes import put_behind
 from .session import HEAD, Kind
+from .writers import AppendedFile, Journal, Writer, write_all
 
 PIECE = 1 << 16
 REST = 8                    # milliseconds in which octets gather
@@ -101,30 +101,30 @@ class Kept:
     def __init__(self, recording: Recording, part: Part, journal: Journal) -> None:
         self._journal, self._place, self.is_over = journal, part.place, False
         self._ring: Ring | None = None
-        self._outlet: Outlet | None = None
+        self._outlet: Writer | None = None
         self._held: list[bytes] = []
         self._slips = [(part.place, part.lost)] if part.lost else []
         if recording.session:
             self._outlet = (self._open_ring if recording.keep else self._open_file)(recording.session, recording, part)
 
-    def _open_file(self, path: str, recording: Recording, part: Part) -> Outlet:
-        file = OneFile(path)
+    def _open_file(self, path: str, recording: Recording, part: Part) -> Writer:
+        file = AppendedFile(path)
 
         def opened() -> None:
             _begin_writing(part)
             file.open()
-        return Outlet('session', file.write, self._ended, file.close, opened, path)
+        return Writer('session', file.write, self._ended, file.close, opened, path)
 
-    def _open_ring(self, folder: str, recording: Recording, part: Part) -> Outlet:
+    def _open_ring(self, folder: str, recording: Recording, part: Part) -> Writer:
         assert recording.keep
-        behind = Behind(part.program, wait=recording.wait, failed=functools.partial(self._ended, 'states'))
+        behind = FinishedPieces(part.program, wait=recording.wait, failed=functools.partial(self._ended, 'states'))
         ring = self._ring = Ring(folder, recording.name, f'/dev/fd/{CONFIG_FILE}', recording.keep, behind,
                                  recording.wait, _read_state(), recording.config)
 
         def opened() -> None:
             _begin_writing(part)
             ring.open()
-        return Outlet('session', ring.write, self._ended, ring.close, opened, folder)
+        return Writer('session', ring.write, self._ended, ring.close, opened, folder)
 
     def _ended(self, what: str, why: str) -> None:
         self.is_over = True
@@ -191,7 +191,7 @@ class Flows:
             if self._flow:
                 self._flow.came(now, place)
 
-    def look(self, now: float) -> list[Finding]:
+    def look(self, now: float) -> list[ClockFinding]:
         """To be called each TICK: what was found."""
         if self._flow:
             self._flow.look(now)
@@ -218,7 +218,7 @@ def has_room(folder: str) -> bool:
     return True
 
 
-class Again:
+class RingRetry:
     """Of a ring that has ended: once a minute looks whether it can be written again. If so a file asks the keeper for
     another program and recorder, which begin with the state of now."""
 
@@ -248,7 +248,7 @@ class Recorder:
         self._records, self._kept = Records(part.place), Kept(recording, part, journal)
         self._flows = Flows(recording, part, journal)
         ring = recording.session if recording.keep else None
-        self._again = Again(ring, os.path.join(os.path.dirname(part.passed), ROOM)) if ring else None
+        self._again = RingRetry(ring, os.path.join(os.path.dirname(part.passed), ROOM)) if ring else None
         self._has_shadow = True
         self._due = time.monotonic() + TICK
 

@@ -25,7 +25,7 @@ _OF_TIME = {0: False, int(DatagramRefusal.LATE): True, int(DatagramRefusal.FULL)
 
 
 @dataclass(slots=True)
-class Call:
+class OpenCall:
     """An open call."""
 
     seen: deque[tuple[int, bool]] = field(default_factory=deque)    # datagrams: the place, whether it was refused
@@ -74,7 +74,7 @@ class Restarts:
 
     def __init__(self, restart: Callable[[list[int]], None], tell: Callable[[Event], None]) -> None:
         self._restart, self._tell = restart, tell
-        self._calls: dict[int, Call] = {}
+        self._calls: dict[int, OpenCall] = {}
         self._told: dict[int, float] = {}       # when a restart of a circuit was last told
         self._untold: dict[int, int] = {}       # restarts since then
 
@@ -90,8 +90,8 @@ class Restarts:
         for n in circuits:
             self._call(n).why = why
 
-    def _call(self, circuit: int) -> Call:
-        return self._calls.setdefault(circuit, Call())
+    def _call(self, circuit: int) -> OpenCall:
+        return self._calls.setdefault(circuit, OpenCall())
 
     def look(self, now: float, place: int, opened: list[int], counts: bool) -> None:
         """To be called each tick, with the trunk's place, the open circuits, and whether the counts are of now."""

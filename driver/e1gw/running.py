@@ -16,13 +16,13 @@ from dataclasses import asdict, dataclass, field
 from typing import Any, Mapping, Sequence
 
 from .recorder import AROUND, BEFORE_FILE, CONFIG_FILE, ROOM, STATE_FROM, Part, Recording, words_of
-from .session import Kind, spell
+from .session import Kind, encode_record
 
 TAPE_ROOM = 1 << 20         # octets: two seconds of thirty calls
 STATE_ROOM = 1 << 18        # of a pipe that gives a state, which has some 220,000 at most
-END = spell(0x45, 0, b'')   # asks for the end of the session
+END = encode_record(0x45, 0, b'')   # asks for the end of the session
 # Another codec whose payload type none may have: it is refused, changes nothing, and its answer says that all runs.
-HELLO = spell(Kind.CODEC, 1, b'\1\1')
+HELLO = encode_record(Kind.CODEC, 1, b'\1\1')
 TOTALS = ('records', 'octets', 'datagrams', 'dropped', 'port_faults')
 NONE = 'discarded_multiframes 0'
 RENEWED = ' begins as new'  # so ends what is said of a circuit that was configured otherwise: nothing failed

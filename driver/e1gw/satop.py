@@ -17,7 +17,7 @@ FILLS, CLOCKS = ('again', 'ones'), ('packets', 'own')
 
 
 @dataclass(frozen=True)
-class Circuit:
+class SatopCircuit:
     """The settings of an emulated circuit; both ends agree on all except jitter, fill and clock."""
 
     size: int = 256                 # octets of the trunk in a packet
@@ -41,7 +41,7 @@ class Circuit:
         return [*sizes, *rtp, '--fill', self.fill, '--clock', self.clock]
 
 
-def _spelled(address: str, port: int) -> str:
+def _text_of(address: str, port: int) -> str:
     return f'[{address}]:{port}' if ':' in address else f'{address}:{port}'
 
 
@@ -49,7 +49,7 @@ def addresses_of(local: tuple[str, int], peer: tuple[str, int]) -> list[str]:
     """Both ends as addresses. OSError for a host that has none."""
     family, _, _, _, far = socket.getaddrinfo(*peer, type=socket.SOCK_DGRAM)[0]
     near = socket.getaddrinfo(*local, family=family, type=socket.SOCK_DGRAM)[0][4]
-    return [_spelled(str(near[0]), int(near[1])), _spelled(str(far[0]), int(far[1]))]
+    return [_text_of(str(near[0]), int(near[1])), _text_of(str(far[0]), int(far[1]))]
 
 
 def ends_of(text: str) -> tuple[tuple[str, int], tuple[str, int]]:
@@ -60,7 +60,7 @@ def ends_of(text: str) -> tuple[tuple[str, int], tuple[str, int]]:
     return host_and_port(local), host_and_port(peer)
 
 
-def open_satop(local_and_peer: str, circuit: Circuit, program: str) -> SatopProcess:
+def open_satop(local_and_peer: str, circuit: SatopCircuit, program: str) -> SatopProcess:
     """The trunk at LOCAL:PORT,PEER:PORT, by this program. ValueError for other text, OSError for a host without address
     or a program that cannot be started."""
     try:
@@ -84,7 +84,7 @@ def add_arguments(parser: argparse.ArgumentParser) -> None:
                        help='the clock: the received packets, or this machine [default: packets]')
 
 
-def circuit_of(options: argparse.Namespace) -> Circuit:
+def circuit_of(options: argparse.Namespace) -> SatopCircuit:
     """The circuit of these options, or ValueError."""
-    return Circuit(options.satop_size, options.satop_jitter, options.satop_rtp, options.satop_fill,
-                   options.satop_clock)
+    return SatopCircuit(options.satop_size, options.satop_jitter, options.satop_rtp, options.satop_fill,
+                        options.satop_clock)

@@ -37,7 +37,7 @@ def counts_of(line: str) -> dict[str, int] | None:
     return counts
 
 
-class Said:
+class SatopMessages:
     """What the program says on standard error, line by line."""
 
     def __init__(self, pipe: int) -> None:
@@ -57,7 +57,7 @@ class Said:
         return [line.decode(errors='replace') for line in whole]
 
 
-class Condition:
+class SatopCondition:
     """Whether something holds that a count tells of: from when the count grows, until packets come and it does not."""
 
     def __init__(self, count: str) -> None:
@@ -78,8 +78,6 @@ class SatopProcess(Stream):
     """The trunk. `tell` is called with {'event': 'satop', 'what': 'packets missing', 'on': true or false} if it is set,
     and alike for the other conditions. OSError if the program cannot be started, and where it has ended."""
 
-    may_wait = False
-
     def __init__(self, program: str, words: list[str]) -> None:
         ours, its = socket.socketpair()
         try:
@@ -91,8 +89,8 @@ class SatopProcess(Stream):
         finally:
             its.close()
         assert self._process.stderr
-        self._said = Said(self._process.stderr.fileno())
-        self._conditions = [(name, Condition(count), words) for name, count, words in CONDITIONS]
+        self._said = SatopMessages(self._process.stderr.fileno())
+        self._conditions = [(name, SatopCondition(count), words) for name, count, words in CONDITIONS]
         self.counts: dict[str, int] = {}
         self._looks_at = 0.0
         file = ours.detach()

@@ -31,7 +31,6 @@ class Kind(IntEnum):
 
 EVERY_KIND = frozenset(Kind)
 KINDS_READ = frozenset((Kind.TRUNK, Kind.DATAGRAM, Kind.COMMAND, Kind.CODEC))       # by replay and check
-KINDS_SERVED = frozenset((Kind.TRUNK, Kind.COMMAND, Kind.CODEC))                    # by serve
 KINDS_WRITTEN = frozenset((Kind.TRUNK, Kind.DATAGRAM, Kind.ANSWER))                 # by replay
 
 
@@ -158,8 +157,8 @@ class Record(NamedTuple):
     circuit: int
     body: bytes
 
-    def spelled(self) -> bytes:
-        return spell(self.kind, self.circuit, self.body)
+    def encode(self) -> bytes:
+        return encode_record(self.kind, self.circuit, self.body)
 
     @property
     def command(self) -> Command:
@@ -182,7 +181,7 @@ class Record(NamedTuple):
         return refusal_of(self.body[0], self.body[1])
 
 
-def spell(kind: int, circuit: int, body: bytes) -> bytes:
+def encode_record(kind: int, circuit: int, body: bytes) -> bytes:
     """The octets of a record. ValueError where its body is longer than a record can say."""
     if len(body) > 65_535:
         raise ValueError('a record has at most 65,535 octets')
@@ -190,19 +189,19 @@ def spell(kind: int, circuit: int, body: bytes) -> bytes:
 
 
 def trunk_record(octets: bytes) -> bytes:
-    return spell(Kind.TRUNK, 0, octets)
+    return encode_record(Kind.TRUNK, 0, octets)
 
 
 def datagram_record(circuit: int, datagram: bytes) -> bytes:
-    return spell(Kind.DATAGRAM, circuit, datagram)
+    return encode_record(Kind.DATAGRAM, circuit, datagram)
 
 
 def command_record(circuit: int, command: Command) -> bytes:
-    return spell(Kind.COMMAND, circuit, bytes([command]))
+    return encode_record(Kind.COMMAND, circuit, bytes([command]))
 
 
 def codec_record(circuit: int, codec: Codec, payload_type: int) -> bytes:
-    return spell(Kind.CODEC, circuit, bytes([codec, payload_type]))
+    return encode_record(Kind.CODEC, circuit, bytes([codec, payload_type]))
 
 
 _KIND_OF = {int(kind): kind for kind in Kind}
@@ -336,7 +335,7 @@ class Packet:
     extended: bool = False
     padding: int = 0
 
-    def spelled(self) -> bytes:
+    def encode(self) -> bytes:
         """A datagram of this packet, without padding and extension."""
         first = 0x80 | len(self.sources)
         head = _RTP.pack(first, self.marker << 7 | self.payload_type, self.sequence, self.timestamp, self.ssrc)

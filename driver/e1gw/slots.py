@@ -49,7 +49,7 @@ class Search:
         return found.pop(), next(ago for ago, places in enumerate(reversed(self._seen)) if places)
 
 
-class Slots:
+class Slot16:
     """Follows slot 16. `silent` is whether what is heard may be of other slots than it seems."""
 
     def __init__(self, silent: bool) -> None:

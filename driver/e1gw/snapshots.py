@@ -9,7 +9,7 @@ from typing import Any, Callable
 
 from .loop import Loop
 from .metrics import table
-from .sockets import Tables, with_sockets
+from .sockets import SocketTables, with_sockets
 
 EVERY = 0.25                # seconds between two snapshots
 
@@ -17,7 +17,7 @@ EVERY = 0.25                # seconds between two snapshots
 class Snapshot:
     """A status of plain values, and the texts made of it, each once."""
 
-    def __init__(self, status: dict[str, Any], sockets: Tables) -> None:
+    def __init__(self, status: dict[str, Any], sockets: SocketTables) -> None:
         self.status, self._sockets = status, sockets
 
     @functools.cached_property

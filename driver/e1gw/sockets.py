@@ -43,7 +43,7 @@ def with_sockets(status: Mapping[str, Any], sockets: Sockets) -> dict[str, Any]:
     return {**status, 'circuits': rows}
 
 
-class Tables:
+class SocketTables:
     """The tables of the kernel, which are as long as this machine has sockets: read in a thread, and waited for no
     longer than a moment."""
 

@@ -12,11 +12,11 @@ import time
 from dataclasses import dataclass
 from math import inf
 
-from .outlets import Journal
 from .parent import PARENT
 from .running import Process
 from .systemd import Notify, Store
 from .watcher import QUIT
+from .writers import Journal
 
 SIGNALS = (signal.SIGTERM, signal.SIGINT, signal.SIGHUP, signal.SIGUSR2, signal.SIGCHLD)
 PAUSE, MOST_PAUSE = 0.2, 10.0       # seconds before a program that has ended is begun again

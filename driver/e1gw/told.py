@@ -4,8 +4,8 @@ from __future__ import annotations
 import time
 from typing import Any, Callable, Mapping
 
-from .counts import Counts
-from .lines import LEADS, PAIRS, Alignment, Line, Lines, Role, State, Tell, both, law_of, lines_of
+from .counts import DatagramCounts
+from .lines import LEADS, PAIRS, Alignment, Line, Role, State, Tell, TrunkState, both, law_of, lines_of
 from .session import Codec, Command, codec_record, command_record
 
 VERSION = '1'
@@ -18,10 +18,10 @@ class BadTelling(Exception):
     """What is told is not understood; the words say what it is."""
 
 
-class Told(Lines):
+class Told(TrunkState):
     """Follows what a shadow tells. Its clock is this machine's. `began` is called with each whole state."""
 
-    def __init__(self, config: Mapping[str, Any], tell: Tell, counts: Counts,
+    def __init__(self, config: Mapping[str, Any], tell: Tell, counts: DatagramCounts,
                  clock: Callable[[], float] = time.monotonic, began: Callable[[], None] = lambda: None) -> None:
         super().__init__(law_of(config), lines_of(config, Line), tell)
         self.counts, self.began, self._clock = counts, began, clock

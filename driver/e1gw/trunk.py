@@ -18,17 +18,17 @@ import shutil
 from typing import Any, Iterable, NoReturn
 
 from . import satop
+from .command import run
 from .faults import Parser, number
 from .keep import seconds_of
-from .lines import SEIZURE_WAIT
-from .options import Usage, add_calls, add_control, add_options, fields_of, run
-from .outlets import Journal
-from .left import forget_folders, own_prefix
-from .places import folder_of
-from .programs import check_config, program_of
+from .keeper_files import folder_of
+from .options import add_calls, add_control, add_options, fields_of
+from .programs import add_program, add_session, check_config, program_of
+from .recovery import forget_folders, own_prefix
 from .supervisor import Part, Parts, Supervisor
 from .systemd import Notify
 from .trunk_options import add_trunk, opening_of
+from .writers import Journal
 
 NO_MORE = 'without effect, as the program reads the trunk when octets come'
 # What the keeper is given, the carrier, and the watcher, as these options are asked for.
@@ -41,21 +41,9 @@ WATCHED = ('name', 'control', 'control_mode', 'control_group', 'on_loss', 'http'
 
 def parser() -> argparse.ArgumentParser:
     """The options."""
-    about, _, rest = (__doc__ or '').partition('\n\n')
-    words = Parser(prog='e1gw-trunk', description=f'{about}\n\n{rest}',
-                   formatter_class=argparse.RawDescriptionHelpFormatter)
+    words = Parser('e1gw-trunk', description=__doc__, formatter_class=argparse.RawDescriptionHelpFormatter)
     add_options(words)
-    words.add_argument('--program', metavar='E1GW', help='the program [default: that of this repository, or e1gw]')
-    words.add_argument('--senders', choices=('any', 'host', 'peer'), help='whose datagrams are received, e1gw(1) '
-                       '[default: host if each peer_host is an address, else any]')
-    words.add_argument('--repeat', type=number(0, 8), default=0, metavar='N',
-                       help='sends each datagram again behind the N-th after it, 0 to 8 [default: 0, never]')
-    words.add_argument('--seizure-wait', type=number(200, 8000), default=SEIZURE_WAIT, metavar='MS',
-                       help='a seizure that is not acknowledged is released after so many milliseconds, 200 to 8000 '
-                       '[default: 200]')
-    words.add_argument('--totals', action='store_true', help='tells at the end what the gateway has counted')
-    words.add_argument('--state', metavar='FILE', help='the state is saved there at the end, and loaded at the start '
-                       'if it is there')
+    add_program(words)
     _add_trunk(words.add_argument_group('the trunk'))
     satop.add_arguments(words)
     told = words.add_argument_group('control and what is told')
@@ -74,26 +62,22 @@ def _add_trunk(words: argparse._ArgumentGroup) -> None:
 
 
 def _add_sessions(words: argparse._ArgumentGroup) -> None:
-    words.add_argument('--session', metavar='FILE', help='keeps all that the gateway takes, for e1gw replay and check')
-    words.add_argument('--keep', metavar='TIME', help='--session is a folder for the last 30m, 1h, 2d, in twelve files')
+    add_session(words)
     words.add_argument('--gap', type=number(20, 10_000), default=100, metavar='MS',
                        help='lost octets of so many milliseconds restart the playout of open calls [default: 100]')
     add_calls(words)
 
 
 def options_of(words: list[str]) -> argparse.Namespace:
-    """The options of a command line; Usage where they are none."""
+    """The options of a command line; ValueError where they are none."""
     asked = parser().parse_args(words)
-    try:
-        opening_of(asked), fields_of(asked)
-        if asked.keep:
-            seconds_of(asked.keep)
-    except ValueError as fault:
-        raise Usage(str(fault)) from None
+    opening_of(asked), fields_of(asked)
+    if asked.keep:
+        seconds_of(asked.keep)
     if asked.keep and not asked.session:
-        raise Usage('--keep wants --session')
+        raise ValueError('--keep wants --session')
     if asked.picture and not (asked.http and asked.keep):
-        raise Usage('--picture wants --http, and --session with --keep')
+        raise ValueError('--picture wants --http, and --session with --keep')
     return asked
 
 
@@ -137,8 +121,7 @@ def parts_of(asked: argparse.Namespace, program: str, folder: str) -> Parts:
                  Part('e1gw-carry', carry, folder) if carried else None, asked.reopen)
 
 
-def _serve(words: list[str], journal: Journal) -> int:
-    asked = options_of(words)
+def _serve(asked: argparse.Namespace, journal: Journal) -> int:
     program = program_of(asked.program)
     check_config(program, asked.config)
     folder = folder_of(None, own_prefix('trunk-'))
@@ -150,4 +133,4 @@ def _serve(words: list[str], journal: Journal) -> int:
 
 
 def main(words: list[str] | None = None) -> NoReturn:
-    run('e1gw-trunk', words, _serve)
+    run('e1gw-trunk', words, options_of, _serve)

@@ -10,26 +10,21 @@ from .clear import Clear, Place
 from .crc4 import Crc4, with_crc4
 from .filtered import align
 from .lines import law_of, read_config
-from .options import Usage
-from .trunks import Trunk, host_and_port, open_files, open_tcp, open_unix
+from .trunks import Trunk, add_device, device_of
 
 
 def add_trunk(words: argparse._ArgumentGroup) -> None:
-    words.add_argument('--in', dest='input', metavar='FILE', help='a device, file or FIFO to read the trunk from')
-    words.add_argument('--out', metavar='FILE', help='one to write the trunk to, opened after --in; may be the same')
-    words.add_argument('--unix', metavar='PATH', help='a Unix stream socket to connect to, in place of the two')
-    words.add_argument('--tcp', metavar='HOST:PORT', help='a TCP socket to connect to, in place of the two')
+    add_device(words)
     words.add_argument('--satop', metavar='LOCAL,PEER', help='SAToP (RFC 4553) over UDP, each as HOST:PORT')
     words.add_argument('--clear', action='store_true', help='the device gives time slots 1 to 31 alone')
     words.add_argument('--align', action='store_true',
                        help='octets of the trunk may begin at any bit; e1gw align runs between it and the gateway')
     words.add_argument('--crc4', action='store_true',
                        help='CRC-4: e1gw crc4 sends it and e1gw crc4 --check counts it, between trunk and gateway')
-    words.add_argument('--reopen', action='store_true', help='opens a trunk that ends or fails again, within 30 s')
 
 
 def opening_of(asked: argparse.Namespace) -> Callable[[str], tuple[Callable[[], Trunk], Crc4 | None]]:
-    """Returns a function of the program which returns what opens the trunk that was asked for, and its CRC-4. Usage or
+    """Returns a function of the program which returns what opens the trunk that was asked for, and its CRC-4.
     ValueError if no such trunk can be opened."""
     device = _device_of(asked)
 
@@ -48,31 +43,20 @@ def opening_of(asked: argparse.Namespace) -> Callable[[str], tuple[Callable[[], 
 
 def _device_of(asked: argparse.Namespace) -> Callable[..., Trunk]:
     """What opens the device or the socket; that of --satop is given the program."""
-    files = bool(asked.input) + bool(asked.out)
-    ways = [asked.unix, asked.tcp, asked.satop, asked.input and asked.out]
-    if files == 1 or sum(map(bool, ways)) != 1:
-        raise Usage('a trunk is --in and --out, or --unix, or --tcp, or --satop')
+    opens = device_of(asked, 'satop')
     if asked.align and (asked.satop or asked.clear):
-        raise Usage('--align is for all 32 slots of a device or a socket; --satop aligns in any case')
+        raise ValueError('--align is for all 32 slots of a device or a socket; --satop aligns in any case')
     if asked.crc4 and asked.clear:
-        raise Usage('--crc4 is for all 32 slots; the device of --clear sends slot 0 itself, and CRC-4 in it')
-    if asked.satop:
+        raise ValueError('--crc4 is for all 32 slots; the device of --clear sends slot 0 itself, and CRC-4 in it')
+    if opens is None:
         return _satop_of(asked)
-    if asked.unix:
-        path: str = asked.unix
-        opens: Callable[[], Trunk] = lambda: open_unix(path)       # noqa: E731
-    elif asked.tcp:
-        host, port = host_and_port(asked.tcp)
-        opens = lambda: open_tcp(host, port)                        # noqa: E731
-    else:
-        opens = lambda: open_files(asked.input, asked.out)          # noqa: E731
     return _clear_of(opens, asked.config) if asked.clear else opens
 
 
 def _clear_of(opens: Callable[[], Trunk], config: str | None) -> Callable[[], Trunk]:
     """Opens devices that have slots 1 to 31, one after another beside one gateway."""
     if not config:
-        raise Usage('--clear wants --config, whose law has the idle code')
+        raise ValueError('--clear wants --config, whose law has the idle code')
     path, place = config, Place()
 
     def opened() -> Trunk:
@@ -82,9 +66,6 @@ def _clear_of(opens: Callable[[], Trunk], config: str | None) -> Callable[[], Tr
 
 
 def _satop_of(asked: argparse.Namespace) -> Callable[[str], Trunk]:
-    local, comma, peer = asked.satop.partition(',')
-    if not comma:
-        raise Usage('--satop wants LOCAL:PORT,PEER:PORT')
-    host_and_port(local), host_and_port(peer)
+    satop.ends_of(asked.satop)
     circuit = satop.circuit_of(asked)
     return functools.partial(satop.open_satop, asked.satop, circuit)

@@ -1,13 +1,11 @@
 """Trunks: what gives 2048 kbit/s as octets and takes as many. A device, a file, a FIFO, a pseudo-terminal, a socket."""
 from __future__ import annotations
 
+import argparse
 import errno
-import fcntl
 import os
 import socket
 import stat
-import sys
-import termios
 import tty
 from abc import ABC, abstractmethod
 from typing import Any, Callable
@@ -52,10 +50,6 @@ class Trunk(ABC):
 
     def waiting(self) -> int:
         """How many octets wait to be sent. Nothing more is read from the trunk before they are."""
-        return 0
-
-    def unread(self) -> int:
-        """How many octets have come that `read` has not given yet, as far as that is known."""
         return 0
 
     def flush(self) -> None:
@@ -108,12 +102,6 @@ class Stream(Trunk):
 
     def waiting(self) -> int:
         return len(self._waiting)
-
-    def unread(self) -> int:
-        try:
-            return int.from_bytes(fcntl.ioctl(self.reads, termios.FIONREAD, bytes(4)), sys.byteorder)
-        except OSError:
-            return 0            # a device that does not tell
 
     def flush(self) -> None:
         try:
@@ -177,3 +165,27 @@ def host_and_port(text: str) -> tuple[str, int]:
     if not host or len(host) > 253 or any(not label for label in host.removesuffix('.').split('.')):
         raise ValueError(f'{text} is no HOST:PORT')
     return host, int(digits)
+
+
+def add_device(words: argparse._ActionsContainer) -> None:
+    """The options of a trunk that is a device, files or a socket."""
+    words.add_argument('--in', dest='input', metavar='FILE', help='a device, file or FIFO to read the trunk from')
+    words.add_argument('--out', metavar='FILE', help='one to write the trunk to, opened after --in; may be the same')
+    words.add_argument('--unix', metavar='PATH', help='a Unix stream socket to connect to, in place of the two')
+    words.add_argument('--tcp', metavar='HOST:PORT', help='a TCP socket to connect to, in place of the two')
+    words.add_argument('--reopen', action='store_true', help='opens a trunk that ends or fails again, within 30 s')
+
+
+def device_of(asked: argparse.Namespace, *others: str) -> Callable[[], Stream] | None:
+    """What opens the trunk of these options; None if it is another kind, whose option is one of `others`. ValueError if
+    not just one is asked for."""
+    kinds = [asked.unix, asked.tcp, asked.input and asked.out, *(getattr(asked, other) for other in others)]
+    if bool(asked.input) != bool(asked.out) or sum(map(bool, kinds)) != 1:
+        more = ''.join(f', or --{other}' for other in others)
+        raise ValueError(f'a trunk is --in and --out, or --unix, or --tcp{more}')
+    if asked.unix:
+        return lambda: open_unix(asked.unix)
+    if asked.tcp:
+        host, port = host_and_port(asked.tcp)
+        return lambda: open_tcp(host, port)
+    return (lambda: open_files(asked.input, asked.out)) if asked.input else None

@@ -10,8 +10,8 @@ from collections import deque
 from dataclasses import dataclass
 from typing import Any, Callable
 
-from .control import Say
-from .counts import Counts
+from .control import Reply
+from .counts import DatagramCounts
 from .flow import Flowing
 from .lines import Event, read_config
 from .links import Link
@@ -19,12 +19,12 @@ from .loop import Loop
 from .managed import Answered, Managed
 from .naming import Naming, note_of
 from .options import Options
-from .outlets import Journal
 from .programs import version_of
 from .restarts import Restarts
 from .running import HELLO
 from .session import BadSession, Kind, Reader, Record
 from .told import BadTelling, Told
+from .writers import Journal
 
 TICK = 0.1                  # seconds between two looks, and two tries to connect
 REST = 0.01                 # seconds between two reads of what the shadow tells
@@ -52,7 +52,7 @@ class Asked:
 
     record: bytes
     answered: Answered
-    failed: Say
+    failed: Reply
     answer: Record | None = None
     until: float = 0.0          # when that is passed on though the shadow has not told of it
     is_told: bool = False
@@ -82,7 +82,7 @@ class Program:
         for each in asked:
             each.failed('no answer, the connection to the program is lost')
 
-    def give(self, record: bytes, answered: Answered, failed: Say) -> None:
+    def give(self, record: bytes, answered: Answered, failed: Reply) -> None:
         if not self.link.is_there():
             return failed('no connection to the program')
         self._asked.append(Asked(record, answered, failed))
@@ -180,7 +180,7 @@ class Watcher(Managed):
 
     def __init__(self, loop: Loop, options: WatchOptions, journal: Journal) -> None:
         restarts = Restarts(self.restart, self.tell)
-        counts = Counts(restarts.counted)
+        counts = DatagramCounts(restarts.counted)
         lines = Told(read_config(options.config), self.tell, counts, began=self._told_all)
         super().__init__(loop, options, journal, '', lines, counts, restarts)
         if options.quit_all:
@@ -268,14 +268,14 @@ class Watcher(Managed):
         self.lines.lost()
         self._stands('shadow', False, why)
 
-    def _give(self, record: bytes, answered: Answered, failed: Say) -> None:
+    def _give(self, record: bytes, answered: Answered, failed: Reply) -> None:
         self._program.give(record, answered, failed)
         self._shadow.rests(0.0)
 
-    def dark_words(self) -> str | None:
+    def outage(self) -> str | None:
         if self._carried and not self._carried.is_open():
             return 'no trunk'
-        return 'the trunk is stalled' if self._stood else self.lines.dark_words()
+        return 'the trunk is stalled' if self._stood else self.lines.outage()
 
     # ---- the whole ----
 
@@ -317,6 +317,6 @@ class Watcher(Managed):
         self.tick()
         while self.status_code is None:
             self.loop.turn()
-        self._close_doors()
+        self._close_listeners()
         self._close()
         return self.status_code

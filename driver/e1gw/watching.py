@@ -13,21 +13,20 @@ from __future__ import annotations
 import argparse
 from typing import NoReturn
 
+from .command import run
 from .explain import config_words
 from .faults import Parser, number
 from .loop import Loop
 from .managed import serve
-from .options import Usage, add_calls, add_control, add_options, fields_of, run
-from .outlets import Journal
+from .options import add_calls, add_control, add_options, fields_of
 from .programs import ConfigRefused
-from .watcher import Watcher, WatchOptions
+from .watcher import WatchOptions, Watcher
+from .writers import Journal
 
 
 def parser() -> argparse.ArgumentParser:
     """The options."""
-    about, _, rest = (__doc__ or '').partition('\n\n')
-    words = Parser(prog='e1gw-watch', description=f'{about}\n\n{rest}',
-                   formatter_class=argparse.RawDescriptionHelpFormatter)
+    words = Parser('e1gw-watch', description=__doc__, formatter_class=argparse.RawDescriptionHelpFormatter)
     add_options(words)
     words.add_argument('--tell', metavar='SOCKET', required=True,
                        help='where the shadow tells how the trunk stands, that of e1gw-keep --tell')
@@ -53,24 +52,20 @@ def parser() -> argparse.ArgumentParser:
 
 
 def options_of(words: list[str]) -> WatchOptions:
-    """The options of a command line; Usage where they are none."""
+    """The options of a command line; ValueError where they are none."""
     asked = parser().parse_args(words)
     if asked.picture and not (asked.http and asked.session):
-        raise Usage('--picture wants --http and --session')
+        raise ValueError('--picture wants --http and --session')
     drawn = {'picture': asked.picture, 'session': asked.session, 'program': asked.program} if asked.picture else {}
-    try:
-        return WatchOptions(**fields_of(asked), drawn=drawn, tell=asked.tell, program_control=asked.program_control,
-                            carrier=asked.carrier, quit_all=asked.quit_all, flow=asked.flow, gap=asked.gap / 1000)
-    except ValueError as fault:
-        raise Usage(str(fault)) from None
+    return WatchOptions(**fields_of(asked), drawn=drawn, tell=asked.tell, program_control=asked.program_control,
+                        carrier=asked.carrier, quit_all=asked.quit_all, flow=asked.flow, gap=asked.gap / 1000)
 
 
-def _serve(words: list[str], journal: Journal) -> int:
-    options = options_of(words)
+def _serve(options: WatchOptions, journal: Journal) -> int:
     if config_words(options.config):
         raise ConfigRefused('the configuration is refused', options.config)
     return serve(Loop(1.0), journal, lambda loop: Watcher(loop, options, journal))
 
 
 def main(words: list[str] | None = None) -> NoReturn:
-    run('e1gw-watch', words, _serve)
+    run('e1gw-watch', words, options_of, _serve)

@@ -7,12 +7,12 @@ import time
 from dataclasses import dataclass
 from typing import Any, Callable
 
+from .connections import Connection, Listener
 from .loop import Loop
-from .peers import Door, Peer
 
 MOST_REQUEST = 8192
 SECONDS = 10                # that a request and its answer may take
-MOST_VISITORS = 64
+MOST_CONNECTIONS = 64
 MOST_OF_ADDRESS = 32
 
 HEAD = ('HTTP/1.0 {status}\r\nContent-Type: {kind}; charset=utf-8\r\nContent-Length: {length}\r\n'
@@ -36,14 +36,14 @@ Got = Callable[[Page], None]
 Find = Callable[[bytes, Got], None]
 
 
-class Visitor(Peer):
+class HttpConnection(Connection):
     """One who asks for a page."""
 
     def __init__(self, web: Web, line: socket.socket, address: str) -> None:
         self.web, self.address, self.since = web, address, time.monotonic()
         self.has_asked = False
         self._request = b''
-        Peer.__init__(self, web.loop, line, lambda _: web.visitors.remove(self))
+        Connection.__init__(self, web.loop, line, lambda _: web.connections.remove(self))
 
     def took(self, octets: bytes) -> None:
         if self.has_asked:
@@ -67,25 +67,25 @@ class Visitor(Peer):
 class Web:
     """Those who ask for pages; `find(path, got)` makes one."""
 
-    def __init__(self, loop: Loop, door: socket.socket, find: Find) -> None:
+    def __init__(self, loop: Loop, listener: socket.socket, find: Find) -> None:
         self.loop, self.find = loop, find
-        self.visitors: list[Visitor] = []       # in the order in which they came
-        Door(loop, door, self._come)
+        self.connections: list[HttpConnection] = []       # in the order in which they came
+        Listener(loop, listener, self._come)
         loop.every(1.0, self._look)
 
     def _come(self, line: socket.socket, address: Any) -> None:
         host = str(address[0])
-        near = [visitor for visitor in self.visitors if visitor.address == host]
-        for visitors, most in (near, MOST_OF_ADDRESS), (self.visitors, MOST_VISITORS):
-            if len(visitors) >= most:
-                self._let_go(visitors)
-        self.visitors.append(Visitor(self, line, host))
+        near = [connection for connection in self.connections if connection.address == host]
+        for connections, most in (near, MOST_OF_ADDRESS), (self.connections, MOST_CONNECTIONS):
+            if len(connections) >= most:
+                self._let_go(connections)
+        self.connections.append(HttpConnection(self, line, host))
 
-    def _let_go(self, visitors: list[Visitor]) -> None:
+    def _let_go(self, connections: list[HttpConnection]) -> None:
         """The oldest goes who has asked for nothing, and if each has, the oldest."""
-        next((visitor for visitor in visitors if not visitor.has_asked), visitors[0]).close()
+        next((connection for connection in connections if not connection.has_asked), connections[0]).close()
 
     def _look(self) -> None:
         now = time.monotonic()
-        for visitor in [visitor for visitor in self.visitors if now - visitor.since > SECONDS]:
-            visitor.close()
+        for connection in [connection for connection in self.connections if now - connection.since > SECONDS]:
+            connection.close()

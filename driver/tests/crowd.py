@@ -12,7 +12,7 @@ import sys
 import time
 
 
-class Crowd:
+class ConnectionCrowd:
     """All of them."""
 
     def __init__(self, place: tuple[str, int], source: str, given: bytes) -> None:
@@ -44,7 +44,7 @@ class Crowd:
 
 def main() -> None:
     host, port, source, count, given = sys.argv[1:]
-    crowd = Crowd((host, int(port)), source, bytes.fromhex(given))
+    crowd = ConnectionCrowd((host, int(port)), source, bytes.fromhex(given))
     crowd.waits.register(sys.stdin, selectors.EVENT_READ)
     for _ in range(min(int(count), 100)):
         crowd.come()

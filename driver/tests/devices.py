@@ -38,16 +38,16 @@ def pseudo_terminal() -> Device:
 
 def unix_socket(folder: str) -> Device:
     path = os.path.join(folder, 'card')
-    with socket.socket(socket.AF_UNIX) as door:
-        door.bind(path)
-        door.listen()
+    with socket.socket(socket.AF_UNIX) as listener:
+        listener.bind(path)
+        listener.listen()
         trunk = open_unix(path)
-        file = door.accept()[0].detach()
+        file = listener.accept()[0].detach()
     return trunk, file, file
 
 
 def tcp_socket() -> Device:
-    with socket.create_server(('127.0.0.1', 0)) as door:
-        trunk = open_tcp('127.0.0.1', door.getsockname()[1])
-        file = door.accept()[0].detach()
+    with socket.create_server(('127.0.0.1', 0)) as listener:
+        trunk = open_tcp('127.0.0.1', listener.getsockname()[1])
+        file = listener.accept()[0].detach()
     return trunk, file, file

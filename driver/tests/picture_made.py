@@ -3,18 +3,22 @@ from __future__ import annotations
 
 import bisect
 import functools
+import io
 import math
 import os
 import random
 import struct
 import tempfile
-from collections.abc import Callable, Iterator
+from collections.abc import Callable, Iterator, Mapping
 from dataclasses import dataclass, field
+from typing import Any
 
 from .support import Exchange, run
 
 from e1gw.g711 import TONES, VALUES
-from e1gw.session import Command, Kind, command_record, datagram_record, records_in, spell, trunk_record
+from e1gw.picture.facts import Facts
+from e1gw.picture.reading import SessionReading, rows_of
+from e1gw.session import Command, Kind, command_record, datagram_record, encode_record, records_in, trunk_record
 
 IDLE, SEIZED, ACKNOWLEDGED, ANSWERED = 0b10, 0b00, 0b11, 0b01        # the pairs ab of ITU-T Q.421
 MULTIFRAME, SECOND = 512, 256_000
@@ -27,6 +31,14 @@ Event = tuple[float, str, int, int]
 def rtp(sequence: int, stamp: int, ssrc: int, kind: int = 8, payload: bytes = TONE * 20) -> bytes:
     """A datagram (RFC 3550, 5.1)."""
     return struct.pack('>BBHII', 0x80, kind, sequence & 0xFFFF, stamp & 0xFFFFFFFF, ssrc) + payload
+
+
+def read_session(given: bytes, answers: bytes, config: Mapping[str, Any], last: int | None = None,
+                 program: str | None = None) -> Facts:
+    """The facts of a gateway's input and its answers. The program finds the order of words of G.726."""
+    facts = Facts(rows_of(config), last)
+    SessionReading(facts, config, io.BytesIO(given), io.BytesIO(answers), program).read()
+    return facts
 
 
 # ---- what sounds like speech ----
@@ -77,7 +89,7 @@ def of_aal2(payload: bytes, bits: int) -> bytes:
 # ---- sessions ----
 
 @dataclass
-class Sender:
+class PictureSender:
     """A peer that sends a datagram each 20 ms, from a time on up to another."""
     circuit: int
     begin: float
@@ -109,12 +121,12 @@ class Sender:
 
 
 @dataclass
-class Made:
+class MadeSession:
     """A trunk with calls. Circuits are outgoing where `tables` does not say otherwise."""
     seconds: float
     tables: dict[int, dict[str, object]] = field(default_factory=dict)
     events: list[Event] = field(default_factory=list)
-    senders: list[Sender] = field(default_factory=list)
+    senders: list[PictureSender] = field(default_factory=list)
     change: Callable[[float, bytearray], None] | None = None        # of a multiframe, at a time
     silent: bool = False
     speech: bytes = TONE * 2            # in each time slot, again and again
@@ -175,7 +187,7 @@ def answered(records: list[bytes], codes: list[int]) -> bytes:
             out.append(trunk_record((exchange.multiframe() * 2)[:len(record) - 4]))
         else:
             code = next(rest) if kind == Kind.DATAGRAM else 0
-            out.append(spell(Kind.ANSWER, circuit, bytes([kind, code])))
+            out.append(encode_record(Kind.ANSWER, circuit, bytes([kind, code])))
     return b''.join(out)
 
 
@@ -184,77 +196,78 @@ def answered(records: list[bytes], codes: list[int]) -> bytes:
 OUT: dict[str, object] = {'prefill': 320, 'local_port': 24006, 'peer_port': 24106}
 
 
-def one_call(seconds: float, table: dict[str, object] | None = None, **sender: object) -> Made:
+def one_call(seconds: float, table: dict[str, object] | None = None, **sender: object) -> MadeSession:
     """A call on circuit 3, and what its peer sends."""
-    made = Made(seconds, {3: {**OUT, **(table or {})}})
+    made = MadeSession(seconds, {3: {**OUT, **(table or {})}})
     made.call(3, 0.1, seconds - 0.3)
-    made.senders.append(Sender(3, 0.25, seconds - 0.3, **sender))     # type: ignore[arg-type]
+    made.senders.append(PictureSender(3, 0.25, seconds - 0.3, **sender))     # type: ignore[arg-type]
     return made
 
 
-def no_datagrams() -> Made:
+def no_datagrams() -> MadeSession:
     made = one_call(6)
     made.senders.clear()
     return made
 
 
-def other_type() -> Made:
+def other_type() -> MadeSession:
     return one_call(6, kind=0)
 
 
-def other_codec() -> Made:
+def other_codec() -> MadeSession:
     """G.726 at 32 kbit/s under the type of PCMA."""
     return one_call(6, payload=bytes(range(80)))
 
 
-def silent_peer() -> Made:
+def silent_peer() -> MadeSession:
     """The peer sends silence alone."""
     return one_call(6, payload=b'\xd5' * PACKET)
 
 
-def no_rtp() -> Made:
+def no_rtp() -> MadeSession:
     """STUN (RFC 5389) and keep-alives of one octet come beside the peer's datagrams."""
     made = one_call(6)
     stun = bytes.fromhex('000100002112a442') + bytes(range(12))
-    made.senders += [Sender(3, 0.3, 5.7, each=0.5, datagram=stun), Sender(3, 0.4, 5.7, each=0.5, datagram=b'\0')]
+    made.senders += [PictureSender(3, first, 5.7, each=0.5, datagram=octets)
+                     for first, octets in ((0.3, stun), (0.4, b'\0'))]
     return made
 
 
-def repeated() -> Made:
+def repeated() -> MadeSession:
     """The network doubles each datagram."""
     made = one_call(6)
     made.senders *= 2
     return made
 
 
-def too_long() -> Made:
+def too_long() -> MadeSession:
     """The peer's packets have 250 ms."""
     return one_call(6, each=0.25, payload=TONE * 250)
 
 
-def not_open() -> Made:
+def not_open() -> MadeSession:
     """The peer speaks two seconds before the call, and one second behind its end."""
-    made = Made(6, {3: dict(OUT)})
+    made = MadeSession(6, {3: dict(OUT)})
     made.call(3, 2.3, 4.7)
-    made.senders.append(Sender(3, 0.25, 5.7))
+    made.senders.append(PictureSender(3, 0.25, 5.7))
     return made
 
 
-def other_law() -> Made:
+def other_law() -> MadeSession:
     """The peer sends mu-law under the type of A-law."""
     made = one_call(6, payloads=packets(coded('mu')))
     made.speech = coded('A')
     return made
 
 
-def other_law_trunk() -> Made:
+def other_law_trunk() -> MadeSession:
     """The exchange has mu-law, and the configuration A-law."""
     made = one_call(6, payloads=packets(coded('A')))
     made.speech, made.law = coded('mu'), 'mu'
     return made
 
 
-def of_codec(codec: str, bits: int, aal2: bool) -> Made:
+def of_codec(codec: str, bits: int, aal2: bool) -> MadeSession:
     """A call in G.726, whose peer has this order of words."""
     payloads = g726(codec, coded('A'))
     made = one_call(6, {'codec': codec, 'payload': 96}, kind=96,
@@ -263,55 +276,55 @@ def of_codec(codec: str, bits: int, aal2: bool) -> Made:
     return made
 
 
-def other_order() -> Made:
+def other_order() -> MadeSession:
     return of_codec('g726-32', 4, True)
 
 
-def slow_clock() -> Made:
+def slow_clock() -> MadeSession:
     return one_call(60, {'prefill': 160}, ppm=-500)
 
 
-def fast_clock() -> Made:
+def fast_clock() -> MadeSession:
     return one_call(30, {'prefill': 1600}, ppm=8000)
 
 
-def hold() -> Made:
+def hold() -> MadeSession:
     """The peer puts the call on hold for a second: another source speaks, then the first one again."""
     made = one_call(6)
     made.senders[0].end = 2.5
-    made.senders += [Sender(3, 2.52, 5.7, ssrc=0x9999)]
+    made.senders += [PictureSender(3, 2.52, 5.7, ssrc=0x9999)]
     return made
 
 
-def jump() -> Made:
+def jump() -> MadeSession:
     return one_call(6, jump=(3.0, 8000))
 
 
-def jitter() -> Made:
+def jitter() -> MadeSession:
     return one_call(6, {'prefill': 0}, jitter=0.02)
 
 
-def stranger() -> Made:
+def stranger() -> MadeSession:
     """Somebody else's datagrams come before those of the peer."""
     made = one_call(6)
-    made.senders.append(Sender(3, 0.17, 0.22, ssrc=0xBAD))
+    made.senders.append(PictureSender(3, 0.17, 0.22, ssrc=0xBAD))
     return made
 
 
-def lost() -> Made:
+def lost() -> MadeSession:
     return one_call(6, lost=0.1)
 
 
-def burst() -> Made:
+def burst() -> MadeSession:
     return one_call(10, {'prefill': 160}, burst=0.256)
 
 
-def gap() -> Made:
+def gap() -> MadeSession:
     """The device loses 380 ms of the trunk."""
-    made = Made(8, {n: {'prefill': 320} for n in range(1, 7)})
+    made = MadeSession(8, {n: {'prefill': 320} for n in range(1, 7)})
     for n in range(1, 7):
         made.call(n, 0.1, 7.7)
-        made.senders.append(Sender(n, 0.25, 7.7, ssrc=n))
+        made.senders.append(PictureSender(n, 0.25, 7.7, ssrc=n))
 
     def lose(now: float, octets: bytearray) -> None:
         if 4.0 <= now < 4.38:
@@ -320,7 +333,7 @@ def gap() -> Made:
     return made
 
 
-def gaps() -> Made:
+def gaps() -> MadeSession:
     """The device loses 30 ms of the trunk each two seconds."""
     made = gap()
     made.seconds = 30
@@ -337,12 +350,12 @@ def gaps() -> Made:
     return made
 
 
-def double_rate() -> Made:
+def double_rate() -> MadeSession:
     """The trunk runs at double the rate: a second of the sender is two of the trunk."""
     return one_call(6, {'prefill': 160}, ppm=-500_000)
 
 
-def slips() -> Made:
+def slips() -> MadeSession:
     """The device loses an octet each half second."""
     made = one_call(6)
 
@@ -353,7 +366,7 @@ def slips() -> Made:
     return made
 
 
-def all_ones() -> Made:
+def all_ones() -> MadeSession:
     """The line is cut, and a seizure falls into that."""
     made = one_call(6)
     made.call(5, 3.2, 5.0)
@@ -366,25 +379,25 @@ def all_ones() -> Made:
     return made
 
 
-def silent_slot() -> Made:
+def silent_slot() -> MadeSession:
     made = one_call(6)
     made.silent = True
     return made
 
 
-def unacknowledged() -> Made:
-    made = Made(6, {3: dict(OUT), 4: {'role': 'incoming'}})
+def unacknowledged() -> MadeSession:
+    made = MadeSession(6, {3: dict(OUT), 4: {'role': 'incoming'}})
     made.call(3, 1.0, 3.0, acknowledged=False)
     made.events += [(4.0, 'command', 4, Command.SEIZE)]
     return made
 
 
-def sound() -> Made:
+def sound() -> MadeSession:
     """A call with nothing wrong."""
     return one_call(6)
 
 
-TROUBLES: dict[str, Callable[[], Made]] = {
+TROUBLES: dict[str, Callable[[], MadeSession]] = {
     'no-datagrams': no_datagrams, 'other-type': other_type, 'other-codec': other_codec, 'other-law': other_law,
     'silent-peer': silent_peer, 'no-rtp': no_rtp, 'repeated': repeated, 'too-long': too_long, 'not-open': not_open,
     'other-law-trunk': other_law_trunk, 'other-order': other_order, 'slow-clock': slow_clock,
@@ -441,7 +454,7 @@ def both_ways(config: str, given: bytes) -> tuple[bytes, Packets, Packets]:
         if record.kind is Kind.DATAGRAM:
             came.append((BEGIN + place / SECOND, of_peer(record.body)))
         else:
-            bare.append(record.spelled())
+            bare.append(record.encode())
             place += len(record.body) * (record.kind is Kind.TRUNK)
     with tempfile.TemporaryDirectory() as folder:
         path = os.path.join(folder, 'trunk.toml')

@@ -13,7 +13,7 @@ PATIENCE = 5
 EVENTS = 'codec 3 pcma 8'       # a command whose change is told
 
 Ask = Callable[[], None]
-DOORS: dict[str, str] = {
+WAYS: dict[str, str] = {
     '/metrics': 'pages for Prometheus', '/status': 'pages of JSON', '/table': 'tables',
     '/none': 'pages that are not there',
     'new': '`status json`, a connection each', 'one': '`status json` over one connection',
@@ -51,23 +51,23 @@ def _ask_once(path: str) -> None:
         _answer(line)
 
 
-def _asking(door: str, port: int, path: str) -> Ask:
-    """What a reader of this door does again and again."""
-    if door.startswith('/'):
-        return lambda: _get(port, door)
-    if door == 'new':
+def _asking(way: str, port: int, path: str) -> Ask:
+    """What a reader of this socket does again and again."""
+    if way.startswith('/'):
+        return lambda: _get(port, way)
+    if way == 'new':
         return lambda: _ask_once(path)
     line = _connect(path)
-    if door == 'one':
+    if way == 'one':
         return lambda: _answer(line)
     line.sendall(b'events\n')
     return lambda: time.sleep(0.1)
 
 
-def _read(door: str, port: int, path: str, count: Any, stop: Any) -> None:
+def _read(way: str, port: int, path: str, count: Any, stop: Any) -> None:
     os.sched_setscheduler(0, os.SCHED_OTHER, os.sched_param(0))
     os.setpriority(os.PRIO_PROCESS, 0, 19)
-    ask = _asking(door, port, path)
+    ask = _asking(way, port, path)
     while not stop.is_set():
         try:
             ask()
@@ -79,13 +79,13 @@ def _read(door: str, port: int, path: str, count: Any, stop: Any) -> None:
 
 
 class Readers:
-    """So many readers of a door, each a process of its own."""
+    """So many readers of a socket, each a process of its own."""
 
-    def __init__(self, number: int, door: str, port: int, path: str) -> None:
+    def __init__(self, number: int, way: str, port: int, path: str) -> None:
         kind = multiprocessing.get_context('fork')
         self.count: Any = kind.Value('i', 0)        # rounds, of all
         self._stop = kind.Event()
-        self._processes = [kind.Process(target=_read, args=(door, port, path, self.count, self._stop), daemon=True)
+        self._processes = [kind.Process(target=_read, args=(way, port, path, self.count, self._stop), daemon=True)
                            for _ in range(number)]
 
     def __enter__(self) -> Readers:
@@ -104,7 +104,7 @@ def all_answered(world: World) -> None:
     """Thirty calls."""
     world.until(lambda: world.exchange.aligned and not world.exchange.remote_alarms)
     world.step(15)
-    world.settle()
+    world.wait_for_watcher()
     with _connect(world.path('ctl')) as line:
         for n in range(1, 31):
             line.sendall(f'seize {n}\n'.encode())

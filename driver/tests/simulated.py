@@ -13,12 +13,12 @@ from typing import Callable
 
 from . import support
 from e1gw.clock import TICK, Clock
-from e1gw.counts import Counts
-from e1gw.followed import Followed
+from e1gw.counts import DatagramCounts
+from e1gw.followed import FollowedTrunk
 from e1gw.lines import Event
 from e1gw.restarts import Restarts
-from e1gw.session import (FRAME, MULTIFRAME, Codec, Command, Kind, Packet, Reader, Record, codec_record,
-                          command_record, datagram_record, packet_of, records_in, trunk_record)
+from e1gw.session import (FRAME, MULTIFRAME, Codec, Command, Kind, Packet, Reader, Record, codec_record, command_record,
+                          datagram_record, packet_of, records_in, trunk_record)
 
 STEP = 0.002                # a multiframe
 PACKET = 0.02
@@ -26,7 +26,7 @@ IDLE, SPOKEN = 0xD5, 0x55
 ACKNOWLEDGED, ANSWERED = 3, 1
 
 
-class Counted(Counts):
+class ReplayCounts(DatagramCounts):
     """Counts what becomes of datagrams, from the records that a replay is given and those that it answers."""
 
     def __init__(self, counted: Callable[[int, int, int], None]) -> None:
@@ -47,7 +47,7 @@ class Counted(Counts):
             self.count(circuit, record.body[1], *asked)
 
 
-class Call:
+class SimulatedCall:
     """Circuit 1 in a call, to which a packet is sent each 20 ms."""
 
     def __init__(self, prefill: int, gap: float = 0.1, counts: bool = True) -> None:
@@ -60,17 +60,17 @@ class Call:
                                         stdout=subprocess.PIPE)
         self.events: list[Event] = []
         self.restarts: list[float] = []         # when
-        self.exchange, self.lines = support.Exchange(), Followed(path, self.events.append)
+        self.exchange, self.lines = support.Exchange(), FollowedTrunk(path, self.events.append)
         self.clock = Clock(0.0, gap)
         self._restarts = Restarts(self._restart, self.events.append)
-        self.counts = Counted(self._restarts.counted)
+        self.counts = ReplayCounts(self._restarts.counted)
         self._reader = Reader((Kind.TRUNK, Kind.DATAGRAM, Kind.ANSWER))
         self.now, self._tick = 0.0, TICK
         self.sent, self.heard, self._speaks = 0, 0, False
         self._began = 0.0
         self._up()
 
-    def __enter__(self) -> Call:
+    def __enter__(self) -> SimulatedCall:
         return self
 
     def __exit__(self, *_: object) -> None:
@@ -131,7 +131,7 @@ class Call:
         while waiting > 0:
             self._wait(STEP / 4)
             waiting += STEP / 4 - STEP
-            self._read(max(0, round(waiting * 256_000)))
+            self._read()
 
     # ---- the driver ----
 
@@ -152,15 +152,15 @@ class Call:
         self.restarts.append(self.now)
         self._command(codec_record(1, Codec.G711, 8))
 
-    def _read(self, unread: int = 0) -> None:
+    def _read(self) -> None:
         """A multiframe is given to the gateway behind the packets that have come."""
         given = self.exchange.multiframe()
         packets = b''
         while self._speaks and self._began + self.sent * PACKET <= self.now:
             packet = Packet(8, self.sent & 0xFFFF, 160 * self.sent, 7, bytes([SPOKEN]) * 160)
-            packets += datagram_record(1, packet.spelled())
+            packets += datagram_record(1, packet.encode())
             self.sent += 1
-        self.clock.took(MULTIFRAME, self.now, unread)
+        self.clock.took(MULTIFRAME, self.now)
         answered = self._ask(packets + trunk_record(given), Kind.TRUNK)
         first = (1 - self.lines.place) % FRAME
         self.lines.trunk(given, answered)

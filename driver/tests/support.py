@@ -13,10 +13,10 @@ from e1gw.testing.service import Service
 TOP = os.path.dirname(os.path.dirname(os.path.dirname(os.path.abspath(__file__))))
 sys.dont_write_bytecode = True
 
-__all__ = ['Exchange', 'Folder', 'Service', 'TOP', 'program', 'run', 'without']
+__all__ = ['Exchange', 'FolderCase', 'Service', 'TOP', 'program', 'run', 'without']
 
 
-class Folder(unittest.TestCase):
+class FolderCase(unittest.TestCase):
     """Tests with a folder of their own."""
 
     def setUp(self) -> None:

@@ -11,15 +11,15 @@ from contextlib import suppress
 from typing import Any, Callable
 
 from . import support
-from .world import SECONDS, Served
+from .world import SECONDS, ServedProgram
 from e1gw.running import HELLO
-from e1gw.session import CodecRefusal, Kind, Reader, Record, spell
+from e1gw.session import CodecRefusal, Kind, Reader, Record, encode_record
 
 LAUNCHER = os.path.join(support.TOP, 'driver', 'e1gw-watch')
 IDLE = ['{0:2} outgoing idle        10 10          0          0          0 pcma      8'.format(n) for n in range(1, 31)]
 
 
-class Door(threading.Thread):
+class StandInListener(threading.Thread):
     """A Unix socket at which a stand-in listens."""
 
     def __init__(self, path: str) -> None:
@@ -57,7 +57,7 @@ class Door(threading.Thread):
         line.close()
 
 
-class Shadow(Door):
+class StandInShadow(StandInListener):
     """Tells what a test has it tell: lines of the manual."""
 
     def __init__(self, path: str, rows: list[str] | None = None, greeting: str = 'e1gw tell 1 A') -> None:
@@ -103,11 +103,11 @@ def row(circuit: int, state: str, bits: str = '10 10', counts: tuple[int, int, i
     return f'line {circuit:2} {role:8} {state:11} {bits} {sent:10} {admitted:10} {refused:10} {codec}'
 
 
-class Program(Door):
+class StandInProgram(StandInListener):
     """Answers C and K records: by `answers(record)`, with this code, or with nothing if that is None; then the shadow
     tells of them, if there is one."""
 
-    def __init__(self, path: str, shadow: Shadow | None = None) -> None:
+    def __init__(self, path: str, shadow: StandInShadow | None = None) -> None:
         self.taken: list[Record] = []
         self.answers: Callable[[Record], int | None] = lambda record: 0
         self.shadow = shadow
@@ -125,25 +125,25 @@ class Program(Door):
                     self._act(line, record)
 
     def _act(self, line: socket.socket, record: Record) -> None:
-        hello = record.spelled() == HELLO
+        hello = record.encode() == HELLO
         if not hello:
             self.taken.append(record)
         code = CodecRefusal.PAYLOAD_TYPE if hello else self.answers(record)
         if code is None:
             return
-        line.sendall(spell(Kind.ANSWER, record.circuit, bytes([record.kind, code])))
+        line.sendall(encode_record(Kind.ANSWER, record.circuit, bytes([record.kind, code])))
         if self.shadow:
             name = 'command' if record.kind is Kind.COMMAND else 'codec'
             self.shadow.tell(' '.join([name, str(record.circuit), *map(str, record.body), str(int(code))]))
 
 
-class Watched(Served):
+class WatchedTrunk(ServedProgram):
     """A watcher between the two."""
 
     def __init__(self, config: str, *options: str, rows: list[str] | None = None, **streams: Any) -> None:
         super().__init__(config)
-        self.shadow = Shadow(self.path('tell'), rows)
-        self.program = Program(self.path('program'), self.shadow)
+        self.shadow = StandInShadow(self.path('tell'), rows)
+        self.program = StandInProgram(self.path('program'), self.shadow)
         streams = {'stdin': subprocess.DEVNULL, 'stdout': subprocess.DEVNULL, 'stderr': subprocess.PIPE} | streams
         self.process = subprocess.Popen(
             [sys.executable, '-B', LAUNCHER, '--config', self.config, '--tell',
@@ -155,7 +155,7 @@ class Watched(Served):
             self.__exit__()
             raise
 
-    def __enter__(self) -> Watched:
+    def __enter__(self) -> WatchedTrunk:
         return self
 
     def close(self) -> None:

@@ -10,12 +10,12 @@ import unittest
 from typing import Iterator
 
 from . import support
-from .picture_made import Made, Sender, coded, packets
-from .test_behind import Ringed, octets_in
+from .picture_made import MadeSession, PictureSender, coded, packets
+from .test_archive import RingCase, octets_in
 from .world import SECONDS
-from e1gw.followed import Followed, Standing
+from e1gw.followed import CircuitState, FollowedTrunk
+from e1gw.kept import KeptSession, kept
 from e1gw.lines import State
-from e1gw.kept import Kept, kept
 from e1gw.picture.begun import begun
 from e1gw.picture.facts import Facts
 from e1gw.picture.main import gathered
@@ -35,16 +35,16 @@ def divided(records: Iterator[bytes], rng: random.Random) -> Iterator[bytes]:
             yield record
 
 
-class Drawn(Ringed):
+class MidCallPictureTests(RingCase):
     """What is drawn of a piece that begins in a call."""
 
     def setUp(self) -> None:
         super().setUp()
-        made = Made(4.0, {3: {'prefill': 320}, 4: {'prefill': 320, 'codec': 'g726-32', 'payload': 96}})
+        made = MadeSession(4.0, {3: {'prefill': 320}, 4: {'prefill': 320, 'codec': 'g726-32', 'payload': 96}})
         made.call(3, 0.1, 3.8)
         made.call(4, 3.2, 3.7, 0.1)
         made.speech = coded('A')
-        made.senders.append(Sender(3, 0.25, 3.8, payloads=packets(coded('A'))))
+        made.senders.append(PictureSender(3, 0.25, 3.8, payloads=packets(coded('A'))))
         self.text, self.rng = made.config(), random.Random(1)
         self.config = self.write('trunk.toml', self.text)
         self.records = list(divided(made.given(), self.rng))
@@ -53,7 +53,7 @@ class Drawn(Ringed):
         self.keep(pieces, self.config)
         self.places = [octets_in(self.records[:whole * n // 4]) for n in range(4)]
 
-    def facts(self, session: Kept) -> Facts:
+    def facts(self, session: KeptSession) -> Facts:
         """What is gathered of a session."""
         options = argparse.Namespace(capture=None, answers=None, program=self.program, begin=None, last=None,
                                      seizure_wait=None)
@@ -70,7 +70,7 @@ class Drawn(Ringed):
         return done.stdout.decode(), done.stderr.decode()
 
     def test_a_call_that_was_up(self) -> None:
-        whole = self.facts(Kept([self.write('whole.rec', b''.join(self.records))]))
+        whole = self.facts(KeptSession([self.write('whole.rec', b''.join(self.records))]))
         for number, path in enumerate(self.files('.e1gw')[1:], 1):
             place = self.places[number]
             part, before = self.facts(kept(path)), place - place % 512
@@ -151,12 +151,12 @@ class Drawn(Ringed):
         self.assertIn('1 connected before', page)
 
 
-class Lines(unittest.TestCase):
+class MidCallLineTests(unittest.TestCase):
     """Following from the middle."""
 
     def test_begins_in_the_middle(self) -> None:
-        followed = Followed({})
-        standing = Standing(3, State.ANSWERED, 0, 1, 'g726-32', 96)
+        followed = FollowedTrunk({})
+        standing = CircuitState(3, State.ANSWERED, 0, 1, 'g726-32', 96)
         followed.begin(5 * 512 + 7, [standing])
         status = followed.status()
         row = status['circuits'][2]

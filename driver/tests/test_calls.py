@@ -8,22 +8,21 @@ import time
 import unittest
 from typing import Any
 
-from . import support
 from .test_trunk import FOUR, aligned, call
 from .world import SECONDS, World, config_of
-from e1gw.calls import FIELDS, KEPT, Calls, Rotated
-from e1gw.counts import Counts
+from e1gw.calls import FIELDS, KEPT, CallLog, RotatedFile
+from e1gw.counts import DatagramCounts
 from e1gw.lines import Line, Role
 
 
-class Ends(unittest.TestCase):
+class CallEndTests(unittest.TestCase):
     """The states of a line as ITU-T Q.421 has them, one after another, a second each."""
 
     def setUp(self) -> None:
         self.now, self.rows = 1_000_000_000.0, list[list[str]]()
         self.lines = {1: Line(1), 2: Line(2, Role.INCOMING)}
-        self.counts = Counts()
-        self.calls = Calls('west', self.lines, self.counts, self.put, lambda: self.now)
+        self.counts = DatagramCounts()
+        self.calls = CallLog('west', self.lines, self.counts, self.put, lambda: self.now)
 
     def put(self, line: bytes) -> None:
         self.rows += csv.reader([line.decode()])
@@ -71,11 +70,11 @@ class Ends(unittest.TestCase):
         self.assertEqual([(row[4] != '', row[6], row[8:]) for row in self.rows], [(True, 'stop', [''] * 4)])
 
 
-class Files(unittest.TestCase):
+class CallFileTests(unittest.TestCase):
     def test_a_full_file_is_moved_away(self) -> None:
         with tempfile.TemporaryDirectory() as folder:
             path = os.path.join(folder, 'calls.csv')
-            file = Rotated(path, b'head\n', 30)
+            file = RotatedFile(path, b'head\n', 30)
             file.open()
             for number in range(10, 40):
                 file.write(b'line of %d\n' % number)
@@ -87,10 +86,7 @@ class Files(unittest.TestCase):
                     self.assertEqual((held.readline(), line in held.read()), (b'head\n', True), name)
 
 
-class Service(unittest.TestCase):
-    def setUp(self) -> None:
-        support.program()
-
+class CallServiceTests(unittest.TestCase):
     def rows(self, path: str, count: int) -> list[dict[str, Any]]:
         until, found = time.monotonic() + SECONDS, list[dict[str, Any]]()
         while len(found) < count and time.monotonic() < until:

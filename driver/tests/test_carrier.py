@@ -1,6 +1,7 @@
 """A carrier in lock step: its trunk and its program are the ends of socket pairs, or what the tests put there."""
 from __future__ import annotations
 
+import fcntl
 import json
 import os
 import random
@@ -8,20 +9,21 @@ import select
 import socket
 import subprocess
 import sys
+import termios
 import time
 import unittest
 from typing import Any
 from unittest import mock
 
 from . import support
-from .test_clear import Device
+from .test_clear import ClearDevice
 from .world import SECONDS
 from e1gw import carrier
 from e1gw.carrier import ONES, Carrier
 from e1gw.clear import Clear, Place
 from e1gw.crc4 import Crc4
 from e1gw.session import FRAME, MULTIFRAME
-from e1gw.trunks import Stream
+from e1gw.trunks import Stream, Trunk
 
 LAUNCHER = os.path.join(support.TOP, 'driver', 'e1gw-carry')
 AIS = ONES * MULTIFRAME
@@ -32,6 +34,11 @@ def stream_of(line: socket.socket) -> Stream:
     return Stream(file, file, 'pair')
 
 
+def unread(stream: Trunk) -> int:
+    """How many octets have come that were not read."""
+    return int.from_bytes(fcntl.ioctl(stream.fileno(), termios.FIONREAD, bytes(4)), sys.byteorder)
+
+
 def all_of(line: socket.socket) -> bytes:
     """What waits in a socket."""
     out = b''
@@ -40,7 +47,7 @@ def all_of(line: socket.socket) -> bytes:
     return out
 
 
-class Pairs(unittest.TestCase):
+class CarrierTests(unittest.TestCase):
     """A trunk and programs, each the other end of a socket pair."""
 
     def setUp(self) -> None:
@@ -70,14 +77,14 @@ class Pairs(unittest.TestCase):
     def give(self, octets: bytes) -> bytes:
         """The far end gives octets; what it gets."""
         self.far.sendall(octets)
-        while self.carrier.trunk and self.carrier.trunk.unread():
+        while self.carrier.trunk and unread(self.carrier.trunk):
             self.carrier.carry()
         return all_of(self.far)
 
     def answer(self, program: socket.socket, octets: bytes) -> bytes:
         """A program answers; what the far end gets."""
         program.sendall(octets)
-        while self.carrier.program and self.carrier.owed and self.carrier.program.unread():
+        while self.carrier.program and self.carrier.owed and unread(self.carrier.program):
             self.carrier.hear()
         return all_of(self.far)
 
@@ -208,7 +215,7 @@ class Pairs(unittest.TestCase):
         self.assertEqual(self.give(bytes(324)), ONES * 324)
 
 
-class Alarms(unittest.TestCase):
+class CarrierAlarmTests(unittest.TestCase):
     def test_ones_with_crc4_are_still_ais(self) -> None:
         """Fewer than three zeros in two frames (ITU-T O.162)."""
         octets = support.run('crc4', given=AIS * 200)
@@ -216,12 +223,12 @@ class Alarms(unittest.TestCase):
             self.assertLess(16 * FRAME - int.from_bytes(octets[at:at + 2 * FRAME], 'big').bit_count(), 3)
 
 
-class Cards(unittest.TestCase):
+class CarrierCardTests(unittest.TestCase):
     """A card that keeps slot 0 behind a carrier: its slots stay in their places whoever is connected."""
 
     def test_slots_of_programs_one_after_another(self) -> None:
         chance = random.Random(11)
-        device = Device(b'')
+        device = ClearDevice(b'')
         one = Carrier(lambda event: None)
         self.addCleanup(one.close)
         one.open(Clear(device, Place('A')))
@@ -237,7 +244,7 @@ class Cards(unittest.TestCase):
                         one.carry()
                     count = len(all_of(theirs))     # whole multiframes: it begins with slot 0
                     theirs.sendall((frame * (count // FRAME))[:count])
-                    if one.owed and program.unread():
+                    if one.owed and unread(program):
                         one.hear()
                 device.left += bytes(31 * 16)
                 one.carry()
@@ -250,16 +257,16 @@ class Cards(unittest.TestCase):
             device.taken = device.taken[len(device.taken) // 31 * 31:]
 
 
-class Started(support.Folder):
+class CarrierCase(support.FolderCase):
     """The command itself, with a Unix socket as its trunk."""
 
     def setUp(self) -> None:
         super().setUp()
-        self.door = socket.socket(socket.AF_UNIX)
-        self.addCleanup(self.door.close)
-        self.door.bind(self.path('card'))
-        self.door.listen(1)
-        self.door.settimeout(SECONDS)
+        self.listener = socket.socket(socket.AF_UNIX)
+        self.addCleanup(self.listener.close)
+        self.listener.bind(self.path('card'))
+        self.listener.listen(1)
+        self.listener.settimeout(SECONDS)
 
     def starts(self, *words: str) -> None:
         self.process = subprocess.Popen(
@@ -276,7 +283,7 @@ class Started(support.Folder):
         return self.process.returncode, said.decode() if said else ''
 
     def accept(self) -> None:
-        self.far = self.door.accept()[0]
+        self.far = self.listener.accept()[0]
         self.addCleanup(self.far.close)
         self.far.settimeout(SECONDS)
 
@@ -312,7 +319,7 @@ class Started(support.Folder):
         return out
 
 
-class Service(Started):
+class CarrierServiceTests(CarrierCase):
     def both_ways(self, program: socket.socket, seed: int) -> None:
         octets = random.Random(seed).randbytes(20 * MULTIFRAME)
         for at in range(0, len(octets), MULTIFRAME):

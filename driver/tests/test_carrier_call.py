@@ -14,19 +14,20 @@ import time
 from typing import Any, Callable
 
 from . import support
-from .test_carrier import LAUNCHER, Started
+from .test_carrier import LAUNCHER, CarrierCase
 from .test_keeper import LAUNCHER as KEEPER
 from .test_satop_call import free_ports
 from .world import SECONDS, child_of
 from e1gw.carrier import Carrier
 from e1gw.crc4 import Crc4, with_crc4
 from e1gw.exchange import ACKNOWLEDGED, SEIZED
-from e1gw.followed import Followed
+from e1gw.followed import FollowedTrunk
 from e1gw.lines import read_config
 from e1gw.session import FRAME, MULTIFRAME, Command, Kind, command_record, records_in
 from e1gw.trunks import Stream
 
-class Tapped(Stream):
+
+class TappedStream(Stream):
     """A program's connection that keeps what goes there and back."""
 
     given, answered = b'', b''
@@ -41,7 +42,7 @@ class Tapped(Stream):
         return octets
 
 
-class End:
+class CarrierEnd:
     """A carrier of a trunk, and the program behind it. Circuit 1 is the only one with a role of its own."""
 
     def __init__(self, folder: str, role: str, line: socket.socket) -> None:
@@ -57,9 +58,9 @@ class End:
             self.program = subprocess.Popen([support.program(), 'trunk', '--config', config, '--control', control],
                                             stdin=theirs.fileno(), stdout=theirs.fileno(), stderr=subprocess.DEVNULL)
         end = ours.detach()
-        self.tapped = Tapped(end, end, 'pair')
+        self.tapped = TappedStream(end, end, 'pair')
         self.carrier.join(self.tapped)
-        self.lines = Followed(read_config(config), lambda event: None)
+        self.lines = FollowedTrunk(read_config(config), lambda event: None)
         self.client = socket.socket(socket.AF_UNIX)
         until = time.monotonic() + SECONDS
         while self.client.connect_ex(control):
@@ -97,15 +98,15 @@ class End:
         self.program.wait(SECONDS)
 
 
-class Calls(support.Folder):
+class CarrierCallTests(support.FolderCase):
     def setUp(self) -> None:
         support.program()
         super().setUp()
         west, east = socket.socketpair()
         east.sendall(b'\xff' * MULTIFRAME)      # so many octets go round
-        self.west = End(self.folder, 'outgoing', west)
+        self.west = CarrierEnd(self.folder, 'outgoing', west)
         self.addCleanup(self.west.close)
-        self.east = End(self.folder, 'incoming', east)
+        self.east = CarrierEnd(self.folder, 'incoming', east)
         self.addCleanup(self.east.close)
 
     def until(self, holds: Callable[[], bool]) -> None:
@@ -119,7 +120,7 @@ class Calls(support.Folder):
     def states(self) -> tuple[str, str]:
         return self.west.state(), self.east.state()
 
-    def counts(self, end: End) -> dict[str, Any]:
+    def counts(self, end: CarrierEnd) -> dict[str, Any]:
         return {name: end.crc4.counts[name] for name in ('errored', 'multiframes_found', 'multiframes_lost')}
 
     def test_a_seizure_that_is_acknowledged(self) -> None:
@@ -137,7 +138,7 @@ class Calls(support.Folder):
             self.assertGreater(end.crc4.counts['submultiframes'], 50)
 
 
-class Kept(Started):
+class CarrierKeeperTests(CarrierCase):
     """A card that keeps slot 0, the carrier, and e1gw-keep behind it."""
 
     def keeps(self) -> subprocess.Popen[bytes]:
@@ -184,7 +185,7 @@ class Kept(Started):
         self.assertEqual((exchange.remote_alarms, exchange.signals[1]), (False, ACKNOWLEDGED))
 
 
-class Emulated(support.Folder):
+class EmulatedCircuitTests(support.FolderCase):
     """Two carriers as processes at one another over SAToP with CRC-4, in real time, and what plays a program at each:
     it answers with multiframes of an exchange."""
 

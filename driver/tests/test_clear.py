@@ -10,8 +10,8 @@ from . import support
 from .world import World, config_of
 from e1gw.clear import Clear, Place
 from e1gw.events import words_of
-from e1gw.exchange import ACKNOWLEDGED, Serve
-from e1gw.followed import Followed
+from e1gw.exchange import ACKNOWLEDGED, ServeProcess
+from e1gw.followed import FollowedTrunk
 from e1gw.session import Command
 from e1gw.testing import datagrams
 from e1gw.trunks import Trunk
@@ -22,7 +22,7 @@ FOUND = 100             # frames from there to a circuit's own octets: three mul
 LOSSES = (1, 2, 15, 16, 29, 30, -1, 31)         # octets that are lost; -1 is one too many
 
 
-class Device(Trunk):
+class ClearDevice(Trunk):
     """Gives octets, in pieces of random lengths where there is a chance, and keeps what it is given."""
 
     def __init__(self, octets: bytes, chance: random.Random | None = None) -> None:
@@ -51,10 +51,10 @@ def frames(slots: bytes) -> bytes:
     return b''.join((b'\xdf' if at // 31 % 2 else b'\x9b') + slots[at:at + 31] for at in range(0, len(slots), 31))
 
 
-class Slots(unittest.TestCase):
+class ClearSlotTests(unittest.TestCase):
     def test_two_frames(self) -> None:
         slots = bytes(range(1, 63))
-        device = Device(slots)
+        device = ClearDevice(slots)
         trunk = Clear(device)
         self.assertEqual(trunk.read(256), b'\x9b' + slots[:31] + b'\xdf' + slots[31:])
         self.assertEqual(device.asked, 186)     # eight frames, but for two while slot 16 is looked for
@@ -65,7 +65,7 @@ class Slots(unittest.TestCase):
         for seed in range(30):
             chance = random.Random(seed)
             slots = chance.randbytes(31 * 40)
-            device = Device(slots, chance)
+            device = ClearDevice(slots, chance)
             trunk = Clear(device)
             given = b''
             while device.left:
@@ -80,11 +80,11 @@ class Slots(unittest.TestCase):
             self.assertGreaterEqual(len(device.taken), len(slots) - 31)
 
     def test_the_end_is_the_devices(self) -> None:
-        trunk = Clear(Device(b''))
+        trunk = Clear(ClearDevice(b''))
         self.assertRaises(EOFError, trunk.read, 256)
 
 
-class Moves(unittest.TestCase):
+class ClearSlipTests(unittest.TestCase):
     """A device that loses octets. An octet of slot s is 32 + 7 s and 0 to 5 more, so each tells whose it is."""
 
     def setUp(self) -> None:
@@ -104,7 +104,7 @@ class Moves(unittest.TestCase):
             out += slots
         return out
 
-    def carry(self, trunk: Clear, device: Device, octets: bytes) -> bytes:
+    def carry(self, trunk: Clear, device: ClearDevice, octets: bytes) -> bytes:
         """The octets go through, and the gateway sends FF in slot 16 and 33 else. Returns what it was given."""
         device.left += octets
         given = b''
@@ -116,9 +116,9 @@ class Moves(unittest.TestCase):
         self.given += len(given)
         return given
 
-    def opened(self) -> tuple[Clear, Device]:
+    def opened(self) -> tuple[Clear, ClearDevice]:
         self.given, self.events = 0, []
-        device = Device(b'')
+        device = ClearDevice(b'')
         trunk = Clear(device, Place('A'))
         trunk.tell = self.events.append
         given = self.carry(trunk, device, self.frames(self.chance.randrange(80, 120)))
@@ -183,7 +183,7 @@ class Moves(unittest.TestCase):
         self.assertEqual(len(device.taken), 31 * 300)
 
     def test_the_idle_code_is_the_laws(self) -> None:
-        device = Device(self.frames(90) + bytes([0x35]) * 31 * 40)
+        device = ClearDevice(self.frames(90) + bytes([0x35]) * 31 * 40)
         trunk = Clear(device, Place('mu'))
         given = b''.join(iter(lambda: trunk.read(256) if device.left else b'', b''))
         self.assertEqual(given[-31:], b'\xFF' * 31)
@@ -191,7 +191,7 @@ class Moves(unittest.TestCase):
     def test_slots_that_are_moved_from_the_start(self) -> None:
         for first in range(31):
             self.setUp()
-            self.given, device = 0, Device(b'')
+            self.given, device = 0, ClearDevice(b'')
             trunk = Clear(device, Place('A'))
             trunk.tell = self.events.append
             given = self.carry(trunk, device, self.frames(200)[first:])
@@ -211,7 +211,7 @@ class Moves(unittest.TestCase):
         """Behind a device in whose frames slot 16 was found, silence goes before speech."""
         place = Place('A')
         for first in (0, 5):
-            self.given, device = place.given, Device(b'')
+            self.given, device = place.given, ClearDevice(b'')
             trunk = Clear(device, place)
             trunk.tell = self.events.append
             self.assertEqual(trunk.status()['silent'], first > 0)
@@ -221,7 +221,7 @@ class Moves(unittest.TestCase):
         self.assertEqual(self.events, [{'event': 'slots', 'what': 'moved', 'by': 5}])
 
 
-class Gateway(support.Folder):
+class ClearGatewayTests(support.FolderCase):
     """The same with the gateway between: what each circuit's peer hears, and how the lines stand."""
 
     def setUp(self) -> None:
@@ -246,7 +246,7 @@ class Gateway(support.Folder):
 
     def calls_through_a_loss(self, call: datagrams.UdpCalls, count: int) -> None:
         events: list[dict[str, Any]] = []
-        device, lines = Device(b''), Followed({'law': 'A'}, events.append)
+        device, lines = ClearDevice(b''), FollowedTrunk({'law': 'A'}, events.append)
         trunk = Clear(device, Place('A'))
         trunk.tell = events.append
 
@@ -286,9 +286,9 @@ class Gateway(support.Folder):
         with open(config, 'w', encoding='ascii') as file:
             file.write('law = "A"\n')
         for first in range(63):
-            serve, place = Serve(self.program, config), Place('A')
+            serve, place = ServeProcess(self.program, config), Place('A')
             for octets in (bytes([IDLE]) * first, bytes([IDLE]) * 31 * 64):
-                device = Device(octets)
+                device = ClearDevice(octets)
                 trunk = Clear(device, place)
                 while device.left:
                     trunk.write(serve.trunk(trunk.read(256)))
@@ -302,8 +302,8 @@ class Gateway(support.Folder):
         with World(config_of(range(1, 2)), '--clear', '--reopen') as world:
             self.assertEqual(len(self.through(world, 496)), 496)       # a multiframe of 31 slots
             world.line.close()
-            with world.new_door() as door:
-                world.take(door)
+            with world.new_listener() as listener:
+                world.take(listener)
             self.assertEqual(wrong_slots(self.through(world, 31 * 64)), [])
 
     def through(self, world: World, count: int) -> bytes:
@@ -324,8 +324,8 @@ def wrong_slots(octets: bytes) -> list[int]:
     return wrong if regular and IDLE not in octets[15::31] else [*wrong, 15]
 
 
-class Status(unittest.TestCase):
+class ClearStatusTests(unittest.TestCase):
     def test_the_rest_is_the_devices(self) -> None:
-        trunk = Clear(Device(b''))
+        trunk = Clear(ClearDevice(b''))
         self.assertEqual((trunk.fileno(), trunk.waiting(), trunk.paced, trunk.status()),
                          (7, 0, True, {'slots': 'clear', 'silent': False, 'slots_lost': 0, 'slots_moved': 0}))

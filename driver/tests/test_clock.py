@@ -4,20 +4,20 @@ from __future__ import annotations
 import unittest
 
 from . import support
-from e1gw.clock import TICK, Clock, Finding
-from e1gw.counts import Stream
+from e1gw.clock import TICK, Clock, ClockFinding
+from e1gw.counts import ReceiverStatistics
 
 assert support.TOP
 RECORD = 0.001
 
 
-class Trunk:
+class ClockedTrunk:
     """Octets in records of 256, a millisecond each, with a look each TICK."""
 
     def __init__(self, gap: float = 0.1) -> None:
         self.now = 1000.0
         self.clock = Clock(self.now, gap)
-        self.found: list[Finding] = []
+        self.found: list[ClockFinding] = []
         self._look = self.now + TICK
 
     def go(self, seconds: float, rate: float = 1.0) -> None:
@@ -30,14 +30,6 @@ class Trunk:
         """Nobody looks for so long."""
         self.now += seconds
         self._look = self.now + TICK
-
-    def catch_up(self, seconds: float, rate: float) -> None:
-        """Octets of this time have come and are read at this rate, while others come at theirs."""
-        waiting = seconds
-        while waiting > 0:
-            self._wait(RECORD / rate)
-            waiting += RECORD / rate - RECORD
-            self.clock.took(256, self.now, max(0, round(waiting * 256_000)))
 
     def at_once(self, seconds: float) -> None:
         """Octets of this time come at one moment."""
@@ -59,15 +51,15 @@ class Trunk:
         return [finding.what for finding in self.found]
 
 
-class Flow(unittest.TestCase):
+class ClockTests(unittest.TestCase):
     def test_a_steady_trunk(self) -> None:
-        trunk = Trunk()
+        trunk = ClockedTrunk()
         trunk.go(70)
         self.assertEqual(trunk.words(), [])
         self.assertAlmostEqual(trunk.clock.ppm or 0.0, 0.0, delta=5)
 
     def test_lost_octets_are_a_gap(self) -> None:
-        trunk = Trunk()
+        trunk = ClockedTrunk()
         trunk.go(2)
         trunk.quiet(0.5)
         trunk.go(1)
@@ -77,41 +69,15 @@ class Flow(unittest.TestCase):
         self.assertEqual((trunk.clock.stalls, trunk.clock.gaps), (1, 1))
 
     def test_octets_that_waited_are_none(self) -> None:
-        trunk = Trunk()
+        trunk = ClockedTrunk()
         trunk.go(2)
         trunk.quiet(0.5)
         trunk.at_once(0.5)
         trunk.go(1)
         self.assertEqual(trunk.words(), ['stalled', 'flows'])
 
-    def test_octets_that_wait_for_a_slow_reader_are_none(self) -> None:
-        for rate in (1.1, 1.2, 1.5, 2, 5):
-            trunk = Trunk()
-            trunk.go(2)
-            trunk.stand_still(0.5)
-            trunk.catch_up(0.5, rate)
-            trunk.go(1)
-            self.assertEqual((trunk.words(), trunk.clock.gaps), ([], 0), rate)
-
-    def test_octets_that_are_lost_while_others_wait(self) -> None:
-        trunk = Trunk()
-        trunk.go(2)
-        trunk.stand_still(0.8)
-        trunk.catch_up(0.5, 1.2)
-        trunk.go(1)
-        self.assertEqual(trunk.words(), ['gap'])
-        self.assertAlmostEqual(trunk.found[0].value, 0.3, delta=0.02)
-
-    def test_nothing_is_read_while_it_is_held(self) -> None:
-        trunk = Trunk()
-        trunk.go(2)
-        for _ in range(24):
-            trunk._wait(TICK)
-            trunk.clock.held(trunk.now)
-        self.assertEqual(trunk.words(), [])
-
     def test_a_look_that_is_late_says_nothing_of_octets(self) -> None:
-        trunk = Trunk()
+        trunk = ClockedTrunk()
         trunk.go(2)
         trunk.now += 0.5
         trunk.found += trunk.clock.look(trunk.now)
@@ -121,7 +87,7 @@ class Flow(unittest.TestCase):
         self.assertEqual(trunk.words(), ['stalled'])
 
     def test_small_gaps_add_up(self) -> None:
-        trunk = Trunk()
+        trunk = ClockedTrunk()
         trunk.go(2)
         for _ in range(6):
             trunk.quiet(0.02)
@@ -129,14 +95,14 @@ class Flow(unittest.TestCase):
         self.assertEqual(trunk.words(), ['gap'])
 
     def test_a_gap_of_ones_own(self) -> None:
-        trunk = Trunk(gap=0.3)
+        trunk = ClockedTrunk(gap=0.3)
         trunk.go(2)
         trunk.quiet(0.25)
         trunk.go(1)
         self.assertEqual(trunk.words(), [])
 
     def test_octets_that_are_too_many(self) -> None:
-        trunk = Trunk()
+        trunk = ClockedTrunk()
         trunk.go(2)
         trunk.at_once(0.3)
         trunk.go(1)
@@ -144,22 +110,22 @@ class Flow(unittest.TestCase):
 
     def test_clocks_of_networks_are_no_gaps(self) -> None:
         for ppm in (-50, 50):
-            trunk = Trunk()
+            trunk = ClockedTrunk()
             trunk.go(130, 1 + ppm / 1e6)
             self.assertEqual(trunk.words(), [])
             self.assertAlmostEqual(trunk.clock.ppm or 0.0, ppm, delta=5)
 
     def test_another_rate_is_told(self) -> None:
-        trunk = Trunk()
+        trunk = ClockedTrunk()
         trunk.go(70, 1 - 500e-6)
         self.assertEqual(trunk.words(), ['rate'])
         self.assertAlmostEqual(trunk.found[0].value, -500, delta=20)
 
 
-class Streams(unittest.TestCase):
+class ReceiverStatisticsTests(unittest.TestCase):
     def test_lost_ones_and_jitter(self) -> None:
         """RFC 3550, 6.4.1 and A.8: the difference of transit times, of which each has a sixteenth."""
-        stream = Stream()
+        stream = ReceiverStatistics()
         for n in (0, 1, 2, 5, 4, 6):
             stream.take(65_534 + n & 0xFFFF, 160 * n, 7, 160 * n)
         self.assertEqual((stream.lost, stream.jitter), (1, 0.0))

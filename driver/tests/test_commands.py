@@ -19,7 +19,7 @@ def ran(*words: str, **around: str) -> tuple[int, str, str]:
     return done.returncode, done.stdout, done.stderr
 
 
-class Commands(support.Folder):
+class CommandNameTests(support.FolderCase):
     def starters(self) -> dict[str, str]:
         """The programs in the clone that start a command, by its name."""
         paths = [os.path.join(support.TOP, folder, name) for folder in ('driver', 'tools', 'examples')

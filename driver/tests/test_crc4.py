@@ -23,7 +23,6 @@ from .world import LAUNCHER, SECONDS, World, config_of, descendant
 from e1gw import crc4, filtered, metrics
 from e1gw.crc4 import Crc4, counts_of, live_counts, with_crc4
 from e1gw.events import words_of
-from e1gw.options import Usage
 from e1gw.trunk import options_of
 from e1gw.trunks import Stream
 
@@ -47,7 +46,7 @@ def with_bit(octet: int, bit: int) -> int:
     return octet & 0x7F | bit << 7
 
 
-class Sender:
+class Crc4Sender:
     """What an exchange sends, with CRC-4 multiframes."""
 
     def __init__(self) -> None:
@@ -131,11 +130,11 @@ def of_carrier(world: World, *words: str) -> int:
     return of_children(descendant(world.process.pid, 'e1gw-carry'), *words)[0]
 
 
-class Demanding(World):
+class Crc4World(World):
     """A driver with --crc4, whose exchange sends CRC-4."""
 
     def __init__(self, config: str, *options: str) -> None:
-        self.sender = Sender()
+        self.sender = Crc4Sender()
         super().__init__(config, '--crc4', *options)
 
     def give(self, octets: bytes) -> bytes:
@@ -148,7 +147,7 @@ class Demanding(World):
         return found
 
 
-class Exchanges(unittest.TestCase):
+class Crc4ExchangeTests(unittest.TestCase):
     """The exchange's own CRC-4."""
 
     def test_long_division(self) -> None:
@@ -156,7 +155,7 @@ class Exchanges(unittest.TestCase):
         self.assertEqual([remainder(bytes([n])) for n in (1, 2, 3)], [0b0011, 0b0110, 0b0101])
 
     def test_what_it_sends_is_found_right(self) -> None:
-        sender, exchange = Sender(), support.Exchange()
+        sender, exchange = Crc4Sender(), support.Exchange()
         sent = b''.join(sender.multiframe(exchange.multiframe()) for _ in range(20))
         at = multiframe_in(sent, frame_alignment(sent, 7))
         assert at is not None
@@ -167,12 +166,9 @@ class Exchanges(unittest.TestCase):
         self.assertEqual(checked(bytes(turned), at).count(False), 1)
 
 
-class Service(unittest.TestCase):
-    def setUp(self) -> None:
-        support.program()
-
-    def world(self, *options: str) -> Demanding:
-        world = Demanding(config_of(FOUR), *options)
+class Crc4ServiceTests(unittest.TestCase):
+    def world(self, *options: str) -> Crc4World:
+        world = Crc4World(config_of(FOUR), *options)
         self.addCleanup(world.__exit__)
         return world
 
@@ -223,11 +219,11 @@ class Service(unittest.TestCase):
                      'CRC-4 errors reported by the other end (E bits): 1 of '):
             self.assertEqual(said.count(line), 1, said)
 
-    def ended(self, world: Demanding) -> dict[str, int]:
+    def ended(self, world: Crc4World) -> dict[str, int]:
         """The counts up to the end of a trunk; another one is opened then."""
-        with world.new_door() as door:
+        with world.new_listener() as listener:
             world.line.close()
-            world.take(door)
+            world.take(listener)
         until = time.monotonic() + SECONDS
         counts: dict[str, int] = {}
         while counts.get('checked') != len(world.sent) and time.monotonic() < until:
@@ -239,9 +235,9 @@ class Service(unittest.TestCase):
         world = aligned(self.world('--reopen'))
         world.line.sendall(b'\xD5' * 77)
         world.all_read()
-        with world.new_door() as door:
+        with world.new_listener() as listener:
             world.line.close()
-            world.take(door)
+            world.take(listener)
         world.exchange = support.Exchange()
         begun = len(world.heard) + 77
         world.give(b'\xD5' * (MULTIFRAME - 77))
@@ -260,7 +256,7 @@ class Service(unittest.TestCase):
             self.assertEqual(world.quit()[1].count('no CRC multiframe alignment'), 1)
 
     def test_behind_align(self) -> None:
-        with LateDemanding(config_of(FOUR), '--align') as world:
+        with LateCrc4World(config_of(FOUR), '--align') as world:
             aligned(world)
             call(world, 1)
             world.step(SECOND)
@@ -274,7 +270,7 @@ class Service(unittest.TestCase):
     def test_it_ends_with_each_filter(self) -> None:
         for words, said in ((('crc4',), 'cannot be read or written: e1gw crc4 ended by signal 9'),
                             (('crc4', '--check'), 'cannot be read or written: e1gw crc4 --check ended by signal 9')):
-            with self.subTest(words), Demanding(config_of(FOUR)) as world:
+            with self.subTest(words), Crc4World(config_of(FOUR)) as world:
                 aligned(world)
                 os.kill(of_carrier(world, *words), signal.SIGKILL)
                 try:
@@ -288,14 +284,14 @@ class Service(unittest.TestCase):
     def test_it_comes_again(self) -> None:
         world = aligned(self.world('--reopen'))
         call(world, 1)
-        with world.new_door() as door:
+        with world.new_listener() as listener:
             os.kill(of_carrier(world, 'crc4'), signal.SIGKILL)
             try:
                 world.step()
             except (EOFError, ConnectionError, BrokenPipeError):
                 pass
             world.line.close()
-            world.take(door)
+            world.take(listener)
         world.exchange = support.Exchange()
         world.exchange.pairs[1] = 1
         begun = len(world.heard)
@@ -325,7 +321,7 @@ class Service(unittest.TestCase):
             self.assertEqual(out[1], support.run('crc4', given=out[0]))
 
 
-class LateDemanding(Demanding):
+class LateCrc4World(Crc4World):
     """Its exchange is heard three bits late."""
 
     last = 0xFF
@@ -337,7 +333,7 @@ class LateDemanding(Demanding):
         return World.give(self, (bits & (1 << 8 * len(octets)) - 1).to_bytes(len(octets), 'big'))
 
 
-class Checks(unittest.TestCase):
+class Crc4CheckTests(unittest.TestCase):
     """What a check tells while it runs, and at its end."""
 
     def setUp(self) -> None:
@@ -371,7 +367,7 @@ class Checks(unittest.TestCase):
         self.assertEqual(self.told, ['no CRC multiframe alignment'])
 
     def test_errors_are_told_after_a_second(self) -> None:
-        sender, exchange = Sender(), support.Exchange()
+        sender, exchange = Crc4Sender(), support.Exchange()
         sender.errored_at = {60, 70, 1200}
         given = b''.join(sender.multiframe(exchange.multiframe()) for _ in range(550))
         self.assertEqual(self.through(given), given)
@@ -384,7 +380,7 @@ class Checks(unittest.TestCase):
         self.assertEqual(self.crc4.checked, len(given))
 
     def test_lost_for_good(self) -> None:
-        sender, exchange = Sender(), support.Exchange()
+        sender, exchange = Crc4Sender(), support.Exchange()
         self.through(b''.join(sender.multiframe(exchange.multiframe()) for _ in range(530)))
         self.through(b'\xD5' * 60_000)
         self.trunk.close()
@@ -409,7 +405,7 @@ class Checks(unittest.TestCase):
         self.assertEqual(len(out), 35_600)
 
 
-class Counts(unittest.TestCase):
+class Crc4CountTests(unittest.TestCase):
     def counts(self, *numbers: int) -> dict[str, int]:
         return dict(zip(crc4.COUNTS, numbers))
 
@@ -467,7 +463,7 @@ class Counts(unittest.TestCase):
             'e1gw_crc4_alignment_losses_total 0', 'e1gw_crc4_given_up_total 0'])
 
     def test_what_it_is_not_for(self) -> None:
-        with self.assertRaisesRegex(Usage, '--crc4'):
+        with self.assertRaisesRegex(ValueError, '--crc4'):
             options_of(['--config', 'trunk.toml', '--crc4', '--unix', 'card', '--clear'])
 
     def test_no_program(self) -> None:

@@ -16,14 +16,13 @@ from .world import World, config_of
 from e1gw import ctl, ctl_all
 
 
-class Words(unittest.TestCase):
+class CtlWordTests(unittest.TestCase):
     def test_several_circuits(self) -> None:
         for command, each in (('seize 1-3,7', ['seize 1', 'seize 2', 'seize 3', 'seize 7']),
                               ('codec 4-5 pcma 8', ['codec 4 pcma 8', 'codec 5 pcma 8']), ('seize 3', ['seize 3']),
                               ('seize x-3', ['seize x-3']), ('seize 1-999999', ['seize 1-999999']),
                               ('seize', ['seize']), ('status', ['status']), ('on-loss clear 3', ['on-loss clear 3'])):
             self.assertEqual(ctl.each_circuit(command), each)
-
 
     def test_a_trunk_that_is_not_in_service(self) -> None:
         said, here = io.StringIO(), '/run/e1gw/no-such-trunk/control: No such file or directory'
@@ -36,11 +35,10 @@ class Words(unittest.TestCase):
         self.assertEqual(ctl.unit_words('./west.control', FileNotFoundError()), '')
 
 
-class Machine(unittest.TestCase):
+class CtlMachineTests(unittest.TestCase):
     """Two trunks, west in service and east that does not answer, and a unit that is not in service."""
 
     def setUp(self) -> None:
-        support.program()
         self.world = World(config_of(FOUR))
         self.addCleanup(self.world.__exit__)
         aligned(self.world)

@@ -7,7 +7,7 @@ import unittest
 
 from . import support
 from .world import World, config_of
-from e1gw.testing.openr2 import Missing, OpenR2, build
+from e1gw.testing.openr2 import NoOpenR2, OpenR2, build
 
 FOLDER = tempfile.TemporaryDirectory()
 SECOND = 500            # multiframes
@@ -20,11 +20,11 @@ def exchange_program() -> str:
     """The exchange, built once. The test is skipped if its packages are not installed."""
     try:
         return build(FOLDER.name)
-    except Missing as missing:
+    except NoOpenR2 as missing:
         raise unittest.SkipTest(str(missing)) from None
 
 
-class Dialled(World):
+class DialledWorld(World):
     """A driver whose trunk leads to the exchange of libopenr2. Circuits 1 to 15 are incoming."""
 
     def __init__(self, config: str, *options: str) -> None:
@@ -55,19 +55,18 @@ class Dialled(World):
         return False
 
 
-def dialled(config: str, *options: str) -> Dialled:
+def dialled(config: str, *options: str) -> DialledWorld:
     """A driver in service: the exchange has found the multiframes, and each circuit idle."""
-    world = Dialled(config, *options)
+    world = DialledWorld(config, *options)
     world.until(lambda: all(world.openr2.found(n, 'idle') for n in range(1, 31)))
     world.step(15)
     return world
 
 
-class LineSignals(unittest.TestCase):
+class LineSignalTests(unittest.TestCase):
     """Those of Q.421, as both sides have them: circuits 1 to 15 are called by the exchange, the others by us."""
 
     def setUp(self) -> None:
-        support.program()
         self.world = dialled(config_of(range(1, 31), incoming=tuple(range(1, 16))))
         self.addCleanup(self.world.__exit__)
 
@@ -117,7 +116,7 @@ class LineSignals(unittest.TestCase):
         self.world.reports(7, 'idle', LATEST_MS // 2)
 
 
-class Call(unittest.TestCase):
+class DialledCallTests(unittest.TestCase):
     def test_dialled(self) -> None:
         """The exchange dials by MFC-R2 on circuit 3. Its tones go as RTP to circuit 4, on which it is called with the
         same numbers; it answers and hangs up. What a tie does between the two circuits is done here."""

@@ -14,7 +14,7 @@ from . import support
 IDLE, SEIZED = 2, 0
 
 
-class Typed(unittest.TestCase):
+class TypedCommandTests(unittest.TestCase):
     def test_lines_that_come_at_once(self) -> None:
         """Two lines and the half of a third one, then its rest: each circuit is seized. The multiframes that it sends
         have the pairs ab of circuits n and n + 15 in slot 16 of frame n (ITU-T G.704)."""

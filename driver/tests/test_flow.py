@@ -8,8 +8,8 @@ import time
 import unittest
 
 from . import support
-from .test_keeper import SECONDS, Kept
-from .test_watcher import Watches
+from .test_keeper import SECONDS, KeeperCase
+from .test_watcher import WatcherCase
 from e1gw.clock import TICK
 from e1gw.flow import LINE, LOOKS, Flow, Flowing, look_of
 from e1gw.session import MULTIFRAME
@@ -17,7 +17,7 @@ from e1gw.session import MULTIFRAME
 RECORD = 0.002          # a multiframe, in seconds
 
 
-class Notes:
+class FlowNotes:
     """A recorder and a trunk by a clock of their own."""
 
     def __init__(self, path: str) -> None:
@@ -58,10 +58,10 @@ class Notes:
         self.flow = Flow(self.path)
 
 
-class Measured(support.Folder):
+class FlowTests(support.FolderCase):
     def setUp(self) -> None:
         super().setUp()
-        self.notes = Notes(self.path('flow'))
+        self.notes = FlowNotes(self.path('flow'))
         self.flowing = Flowing(self.path('flow'), 0.1)
 
     def found(self) -> list[tuple[str, float]]:
@@ -142,7 +142,7 @@ class Measured(support.Folder):
         self.assertEqual(Flowing(self.path('none'), 0.1).look(), [])
 
 
-class Recorded(Kept):
+class RecordedFlowTests(KeeperCase):
     """A kept trunk, in lock step."""
 
     def place(self) -> int:
@@ -172,12 +172,12 @@ class Recorded(Kept):
         self.ends()
 
 
-class Watched(Watches):
+class WatchedFlowTests(WatcherCase):
     def test_status_and_events(self) -> None:
         """A gap is told, counted and shown."""
         with tempfile.TemporaryDirectory() as folder:
             path = os.path.join(folder, 'flow')
-            notes = Notes(path)
+            notes = FlowNotes(path)
             world = self.watched('--flow', path)
             events = self.events(world)
             notes.go(2)

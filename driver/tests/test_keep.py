@@ -11,14 +11,14 @@ from typing import Callable
 from unittest import mock
 
 from . import support
-from e1gw import behind, keep
+from e1gw import archive, keep
 
 assert support.TOP
 KEPT = 60           # seconds, in files of five
 EACH = 5
 
 
-class Now:
+class ThreadAtOnce:
     """A thread that does its work at once."""
 
     def __init__(self, target: Callable[..., None], args: tuple[str, ...], daemon: bool) -> None:
@@ -26,22 +26,22 @@ class Now:
         self.start = lambda: target(*args)
 
 
-class Rings(support.Folder):
+class RingTests(support.FolderCase):
     def setUp(self) -> None:
         super().setUp()
         self.ring, self.config = self.path('ring'), self.write('trunk.toml', 'law = "A"\n')
         self.passed, self.day = 1000.0, 1_800_000_000.0
         clock = types.SimpleNamespace(monotonic=lambda: self.passed, time=lambda: self.day, strftime=time.strftime,
                                       gmtime=lambda: time.gmtime(self.day))
-        threads = types.SimpleNamespace(Thread=Now)
-        for each in (mock.patch.object(keep, 'time', clock), mock.patch.object(behind, 'threading', threads)):
+        threads = types.SimpleNamespace(Thread=ThreadAtOnce)
+        for each in (mock.patch.object(keep, 'time', clock), mock.patch.object(archive, 'threading', threads)):
             each.start()
             self.addCleanup(each.stop)
         self.zstd = ''
 
     def play(self, seconds: int, steps: dict[int, float] | None = None, first: int = 0) -> None:
         """A session of so many seconds, a line for each, while the clock of the day is set by these steps."""
-        ring = keep.Ring(self.ring, 'we.st', self.config, KEPT, behind.Behind(zstd=self.zstd or None))
+        ring = keep.Ring(self.ring, 'we.st', self.config, KEPT, archive.FinishedPieces(zstd=self.zstd or None))
         ring.open()
         for second in range(first, first + seconds):
             ring.places.append(second)
@@ -108,7 +108,7 @@ class Rings(support.Folder):
         self.assertEqual(self.kept(), list(range(99 - keep.MOST_EARLIER, 100)))
 
     def test_slips_are_noted_beside_their_file(self) -> None:
-        ring = keep.Ring(self.ring, 'west', self.config, KEPT, behind.Behind(zstd=None))
+        ring = keep.Ring(self.ring, 'west', self.config, KEPT, archive.FinishedPieces(zstd=None))
         ring.open()
         for second in range(3 * EACH):
             if second in (1, 2, 7):

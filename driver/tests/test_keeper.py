@@ -23,10 +23,10 @@ import unittest
 
 from . import support
 from .world import free_ports
-from e1gw.beside import DEATHS, MOST_PAUSE, WITHIN, Deaths
 from e1gw.exchange import ACKNOWLEDGED, ANSWERED, SEIZED
 from e1gw.running import HELLO
 from e1gw.session import MULTIFRAME, Command, Kind, command_record, packet_of, records_in, trunk_record
+from e1gw.standby import DEATHS, MOST_PAUSE, WITHIN, Deaths
 
 LAUNCHER = os.path.join(support.TOP, 'driver', 'e1gw-keep')
 SECONDS = 60
@@ -34,21 +34,21 @@ CIRCUITS = range(1, 31)
 GOES_ON = re.compile(r'program (\d+) (?:goes on|carries)(.*?); shadow (\d+)')
 
 
-class Device:
+class KeeperDevice:
     """A Unix socket that the keeper opens as its trunk, and the exchange at the other end of it."""
 
     def __init__(self, folder: str) -> None:
         self.path = os.path.join(folder, 'card')
-        self.door = socket.socket(socket.AF_UNIX)
-        self.door.bind(self.path)
-        self.door.listen(1)
-        self.door.settimeout(SECONDS)
+        self.listener = socket.socket(socket.AF_UNIX)
+        self.listener.bind(self.path)
+        self.listener.listen(1)
+        self.listener.settimeout(SECONDS)
         self.exchange = support.Exchange()
         self.speech = random.Random(5)
-        self.line = self.door
+        self.line = self.listener
 
     def accept(self) -> None:
-        self.line = self.door.accept()[0]
+        self.line = self.listener.accept()[0]
         self.line.settimeout(SECONDS)
 
     def multiframe(self) -> bytes:
@@ -76,10 +76,10 @@ class Device:
 
     def close(self) -> None:
         self.line.close()
-        self.door.close()
+        self.listener.close()
 
 
-class Peers:
+class RtpPeers:
     """Where the packets of all circuits go: one socket, which knows a circuit by the port that it sends from."""
 
     def __init__(self) -> None:
@@ -108,14 +108,14 @@ class Peers:
             self.packets[self.circuits[port]].append(datagram)
 
 
-class Kept(support.Folder):
+class KeeperCase(support.FolderCase):
     """A keeper with a device, thirty calls, and what was given and heard."""
 
     def setUp(self) -> None:
         support.program()
         super().setUp()
         self.chance = random.Random(self.id())
-        self.device, self.peers = Device(self.folder), Peers()
+        self.device, self.peers = KeeperDevice(self.folder), RtpPeers()
         self.addCleanup(self.device.close)
         self.addCleanup(self.peers.socket.close)
         self.config = self.write('trunk.toml', self.peers.config())
@@ -267,7 +267,7 @@ class Kept(support.Folder):
         self.assertFalse(os.path.lexists(self.path('control')))
 
 
-class Failures(Kept):
+class KeeperFailureTests(KeeperCase):
     """What happens to the program and its shadow."""
 
     def killed(self, number: int) -> None:
@@ -377,7 +377,7 @@ class Failures(Kept):
         self.ends()
 
 
-class Handovers(Kept):
+class KeeperHandoverTests(KeeperCase):
     """What an operator asks for."""
 
     def test_reload(self) -> None:
@@ -481,7 +481,7 @@ class Handovers(Kept):
         self.assertIn('WATCHDOG=1', told)
 
 
-class Fifos(support.Folder):
+class KeeperFifoTests(support.FolderCase):
     """A trunk that is a pair of FIFOs, without a control socket."""
 
     def read(self, name: str) -> str:
@@ -518,7 +518,7 @@ class Fifos(support.Folder):
             self.assertEqual(keeper.wait(SECONDS), 0)
 
 
-class Ends(Kept):
+class KeeperEndTests(KeeperCase):
     """How a keeper ends."""
 
     def test_trunk_ends(self) -> None:

@@ -12,12 +12,12 @@ import unittest
 
 from . import support
 from .manager import Manager
-from .test_keeper import LAUNCHER, SECONDS, Kept
+from .test_keeper import LAUNCHER, SECONDS, KeeperCase
 from e1gw.running import Adopted, started
 from e1gw.session import MULTIFRAME, Kind, records_in
 
 
-class Restarted(Kept):
+class RestartedKeeperCase(KeeperCase):
     """A keeper that is started again."""
 
     def setUp(self) -> None:
@@ -64,7 +64,7 @@ class Restarted(Kept):
         self.keeper.wait()
 
 
-class Killed(Restarted):
+class KilledKeeperTests(RestartedKeeperCase):
     """It is killed, and started again as systemd does it."""
 
     def test_program_goes_on(self) -> None:
@@ -198,7 +198,7 @@ class Killed(Restarted):
             time.sleep(0.005)
 
 
-class Opened(Restarted):
+class ReopenedTrunkTests(RestartedKeeperCase):
     """Without systemd: the trunk is opened again."""
 
     def again(self) -> None:
@@ -260,7 +260,7 @@ class Opened(Restarted):
         self.ends()
 
 
-class Numbers(unittest.TestCase):
+class RunNumberTests(unittest.TestCase):
     def test_a_number_that_another_process_has(self) -> None:
         """A process is known by its number and when it was started."""
         with subprocess.Popen(['sleep', '60']) as process:

@@ -9,7 +9,7 @@ from typing import Any
 
 from . import support
 from e1gw import session
-from e1gw.followed import Followed
+from e1gw.followed import FollowedTrunk
 from e1gw.lines import SEIZURE_WAIT, read_config, with_wait
 from e1gw.session import Codec, Command, Kind
 
@@ -17,14 +17,14 @@ SESSIONS = int(os.environ.get('E1GW_SESSIONS', '8'))
 IDLE, SEIZED, ACKNOWLEDGED, ANSWERED = 2, 0, 3, 1
 
 
-class Trunk:
+class FollowedExchange:
     """An exchange whose octets are followed. The gateway's answers are those of an aligned one that sends 10."""
 
     def __init__(self, config: dict[str, Any] | None = None) -> None:
         self.events: list[dict[str, Any]] = []
         self.exchange = support.Exchange()
         self.answers = support.Exchange()
-        self.lines = Followed(config or {'law': 'A'}, self.events.append)
+        self.lines = FollowedTrunk(config or {'law': 'A'}, self.events.append)
 
     def go(self, multiframes: int, cut: int = 512) -> None:
         given = b''.join(self.exchange.multiframe() for _ in range(multiframes))
@@ -42,9 +42,9 @@ class Trunk:
         return self.state(circuit)
 
 
-class Tables(unittest.TestCase):
+class LineTableTests(unittest.TestCase):
     def test_an_outgoing_call(self) -> None:
-        trunk = Trunk()
+        trunk = FollowedExchange()
         self.assertEqual(trunk.state(3), 'fault')
         self.assertEqual(trunk.send(3, IDLE), 'idle')
         trunk.lines.command(3, Command.SEIZE)
@@ -61,7 +61,7 @@ class Tables(unittest.TestCase):
         self.assertAlmostEqual(row['open'], 0.077, delta=0.002)
 
     def test_an_incoming_call(self) -> None:
-        trunk = Trunk({'law': 'mu', 'circuit': [{'number': 16, 'role': 'incoming'}]})
+        trunk = FollowedExchange({'law': 'mu', 'circuit': [{'number': 16, 'role': 'incoming'}]})
         self.assertEqual(trunk.send(16, IDLE), 'idle')
         self.assertEqual(trunk.send(16, SEIZED), 'acked')
         trunk.lines.command(16, Command.ANSWER)
@@ -77,29 +77,27 @@ class Tables(unittest.TestCase):
         row = trunk.lines.status()['circuits'][15]
         self.assertEqual((row['seizures'], row['answers'], row['faults'], row['codec']), (2, 1, 1, 'pcmu'))
 
-    def test_a_seizure_is_released_after_200_ms(self) -> None:
-        trunk = Trunk()
+    def released_after(self, trunk: FollowedExchange, multiframes: int) -> None:
         trunk.send(1, IDLE)
         trunk.lines.command(1, Command.SEIZE)
-        trunk.go(99)
+        trunk.go(multiframes)
         self.assertEqual(trunk.state(1), 'seized')
         trunk.go(2)
         self.assertEqual(trunk.state(1), 'idle')
+
+    def test_a_seizure_is_released_after_200_ms(self) -> None:
+        trunk = FollowedExchange()
+        self.released_after(trunk, 99)
         self.assertEqual(trunk.lines.status()['circuits'][0]['unacknowledged'], 1)
         states = [event['state'] for event in trunk.events if event['event'] == 'state' and event['circuit'] == 1]
         self.assertEqual(states, ['idle', 'seized', 'releasing', 'idle'])
 
     def test_a_seizure_waits_as_long_as_is_asked_for(self) -> None:
-        trunk = Trunk(with_wait({'law': 'A'}, 2000))
-        trunk.send(1, IDLE)
-        trunk.lines.command(1, Command.SEIZE)
-        trunk.go(999)
-        self.assertEqual(trunk.state(1), 'seized')
-        trunk.go(2)
-        self.assertEqual(trunk.state(1), 'idle')
+        trunk = FollowedExchange(with_wait({'law': 'A'}, 2000))
+        self.released_after(trunk, 999)
 
     def test_a_pair_is_recognised_at_its_tenth(self) -> None:
-        trunk = Trunk()
+        trunk = FollowedExchange()
         trunk.go(12)
         trunk.exchange.pairs[1] = ACKNOWLEDGED
         trunk.go(9)
@@ -111,15 +109,26 @@ class Tables(unittest.TestCase):
         self.assertEqual(trunk.state(1), 'blocked')
 
     def test_a_codec(self) -> None:
-        trunk = Trunk()
+        trunk = FollowedExchange()
         trunk.lines.codec(4, Codec.G726_32, 96)
         self.assertEqual(trunk.events[-1], {'event': 'codec', 'circuit': 4, 'codec': 'g726-32', 'payload': 96,
                                             'place': 0})
 
 
-class Alarms(unittest.TestCase):
+def in_alarm() -> FollowedExchange:
+    """An exchange that is aligned, and sends both alarms."""
+    trunk = FollowedExchange()
+    trunk.go(3)
+    piece = bytearray(trunk.exchange.multiframe())
+    piece[32::64] = bytes([0xFF]) * 8
+    piece[16] = 0x0F
+    trunk.lines.trunk(bytes(piece), bytes(512))
+    return trunk
+
+
+class AlarmTests(unittest.TestCase):
     def test_alignment_is_found_and_lost(self) -> None:
-        trunk = Trunk()
+        trunk = FollowedExchange()
         trunk.go(3)
         trunk.lines.trunk(bytes(2048), bytes(2048))
         told = [(event['event'], event.get('what')) for event in trunk.events if 'ali' in event['event']
@@ -129,30 +138,20 @@ class Alarms(unittest.TestCase):
         self.assertEqual(trunk.lines.status()['losses'], {'frame': 1, 'multiframe': 1})
 
     def test_remote_alarms(self) -> None:
-        trunk = Trunk()
-        trunk.go(3)
-        piece = bytearray(trunk.exchange.multiframe())
-        piece[32::64] = bytes([0xFF]) * 8
-        piece[16] = 0x0F
-        trunk.lines.trunk(bytes(piece), bytes(512))
+        trunk = in_alarm()
         self.assertEqual(trunk.lines.status()['remote_alarm'], {'frame': True, 'multiframe': True})
         trunk.go(1)
         self.assertEqual(trunk.lines.status()['remote_alarm'], {'frame': False, 'multiframe': False})
 
     def test_remote_alarms_end_with_the_alignment(self) -> None:
-        trunk = Trunk()
-        trunk.go(3)
-        piece = bytearray(trunk.exchange.multiframe())
-        piece[32::64] = bytes([0xFF]) * 8
-        piece[16] = 0x0F
-        trunk.lines.trunk(bytes(piece), bytes(512))
+        trunk = in_alarm()
         trunk.lines.trunk(b'\xD5' * 512, bytes(512))
         self.assertEqual(trunk.lines.status()['remote_alarm'], {'frame': False, 'multiframe': False})
         told = [(event['what'], event['on']) for event in trunk.events if event['event'] == 'remote alarm']
         self.assertEqual(sorted(told), [('frame', False), ('frame', True), ('multiframe', False), ('multiframe', True)])
 
     def test_alarms_that_are_sent(self) -> None:
-        trunk = Trunk()
+        trunk = FollowedExchange()
         self.assertEqual(trunk.lines.status()['alarm'], {'frame': True, 'multiframe': True})
         trunk.go(1)
         self.assertEqual(trunk.lines.status()['alarm'], {'frame': False, 'multiframe': False})
@@ -210,7 +209,7 @@ def random_config(rng: random.Random) -> str:
 
 def followed(config: str, given: bytes, answered: bytes, wait: int = SEIZURE_WAIT) -> list[list[str]]:
     """Number, role, state and recognised pair of each line."""
-    lines = Followed(with_wait(read_config(config), wait))
+    lines = FollowedTrunk(with_wait(read_config(config), wait))
     answers = (record for record in session.records_in(answered) if record.kind is not Kind.DATAGRAM)
     for record in session.records_in(given):
         answer = next(answers)
@@ -222,7 +221,7 @@ def followed(config: str, given: bytes, answered: bytes, wait: int = SEIZURE_WAI
             for row in lines.status()['circuits']]
 
 
-class BesideCheck(unittest.TestCase):
+class LinesBesideCheckTests(unittest.TestCase):
     def test_random_sessions(self) -> None:
         for seed in range(SESSIONS):
             rng = random.Random(seed)

@@ -14,7 +14,7 @@ from e1gw.making import options_text, parser, plan_of, text_of
 LAUNCHER = os.path.join(support.TOP, 'driver', 'e1gw-config')
 
 
-class Made(support.Folder):
+class ConfigTests(support.FolderCase):
     def made(self, *words: str) -> tuple[int, str, str]:
         done = subprocess.run([sys.executable, '-B', LAUNCHER, *words], capture_output=True, text=True, check=False,
                               cwd=self.folder)
@@ -55,13 +55,13 @@ class Made(support.Folder):
         self.assertEqual([each['role'] for each in west['circuit'][:2]], ['outgoing', 'incoming'])
 
     def test_trunks_of_a_machine_never_clash(self) -> None:
-        ports, doors = set(), set()
+        ports, addresses = set(), set()
         for trunk in range(1, 65):
             plan = plan_of(parser().parse_args(['--trunk', str(trunk)]))
             ports |= {circuit['local_port'] + more for circuit in tomllib.loads(text_of(plan))['circuit']
                       for more in (0, 1)}
-            doors.add(options_text('rack', plan.trunk, '').partition('--http ')[2].split()[0])
-        self.assertEqual((len(ports), len(doors)), (64 * 30 * 2, 64))
+            addresses.add(options_text('rack', plan.trunk, '').partition('--http ')[2].split()[0])
+        self.assertEqual((len(ports), len(addresses)), (64 * 30 * 2, 64))
 
     def test_a_clash_is_found(self) -> None:
         self.made('--write', 'rack1')

@@ -22,7 +22,7 @@ def offered(command: str, *words: str) -> set[str]:
     return {line for line in done.stdout.splitlines() if line}
 
 
-class Pages(unittest.TestCase):
+class PagesTests(unittest.TestCase):
     def test_options(self) -> None:
         for command, parser in (('e1gw-trunk', trunk.parser()), ('e1gw-keep', keeping.parser()),
                                 ('e1gw-carry', carrying.parser()), ('e1gw-watch', watching.parser())):

@@ -3,27 +3,25 @@ from __future__ import annotations
 
 import functools
 import html.parser
-import io
 import os
 import random
 import re
 import unittest
+from typing import Any, Mapping
 
 from .support import program, run
 
-from .picture_made import TROUBLES, Made, Sender, answered, recorded, rtp
+from .picture_made import TROUBLES, MadeSession, PictureSender, answered, read_session, recorded, rtp
 
-from e1gw.followed import Followed
+from e1gw.followed import FollowedTrunk
 from e1gw.lines import read_config
-from e1gw.picture import page
-from e1gw.picture.facts import MOST, Facts, Row, Spans, RANK
+from e1gw.picture.facts import MOST, RANK, Facts, Row, Spans
 from e1gw.picture.findings import findings
-from e1gw.picture.following import Follower
+from e1gw.picture.following import PictureFollower
 from e1gw.picture.page import MOST as MOST_OCTETS
 from e1gw.picture.page import draw, numbers
-from e1gw.picture.reading import read
 from e1gw.picture.svg import Scale, apart, clock, duration, runs
-from e1gw.session import OCTETS_A_SECOND, Codec, DatagramRefusal, Kind, codec_record, records_in, spell
+from e1gw.session import OCTETS_A_SECOND, Codec, DatagramRefusal, Kind, codec_record, encode_record, records_in
 
 # The columns of `e1gw check`: number, role, state, pairs sent and recognised, sent, admitted, refused, codec, type.
 NUMBER, STATE, SENT, ADMITTED, REFUSED = 0, 2, 5, 6, 7
@@ -36,15 +34,20 @@ FOUND = {'no-datagrams': 'none', 'other-type': 'type', 'other-codec': 'words', '
          'not-open': 'not open', 'other-order': 'order other', 'unacknowledged': 'unacknowledged'}
 
 
-def config_of(session: Made) -> dict[str, object]:
+def config_of(session: MadeSession) -> dict[str, object]:
     import tomllib
     return tomllib.loads(session.config())
 
 
-def facts_of(session: Made, codes: list[int], last: int | None = None) -> Facts:
+def facts_of(session: MadeSession, codes: list[int], last: int | None = None) -> Facts:
     """What is gathered of a session whose datagrams are answered by these codes."""
     records = list(session.given())
-    return read(io.BytesIO(b''.join(records)), io.BytesIO(answered(records, codes)), config_of(session), last)
+    return read_session(b''.join(records), answered(records, codes), config_of(session), last)
+
+
+def page_of(given: bytes, answers: bytes, config: Mapping[str, Any]) -> str:
+    """The page of a session and its answers."""
+    return draw(read_session(given, answers, config), 'e1gw')
 
 
 @functools.cache
@@ -64,13 +67,13 @@ def made_folder() -> str:
     return folder.name
 
 
-class Gathered(unittest.TestCase):
+class FactsTests(unittest.TestCase):
     """What becomes of each datagram, by answers that are written by hand."""
 
-    def call(self, count: int = 40, **sender: object) -> Made:
-        session = Made(0.4 + 0.02 * count, {3: {'prefill': 320}})
+    def call(self, count: int = 40, **sender: object) -> MadeSession:
+        session = MadeSession(0.4 + 0.02 * count, {3: {'prefill': 320}})
         session.call(3, 0.05, 9.0)
-        session.senders.append(Sender(3, 0.2, 0.2 + 0.02 * count - 0.001, **sender))    # type: ignore[arg-type]
+        session.senders.append(PictureSender(3, 0.2, 0.2 + 0.02 * count - 0.001, **sender))    # type: ignore[arg-type]
         return session
 
     def test_counts(self) -> None:
@@ -86,11 +89,11 @@ class Gathered(unittest.TestCase):
     def test_later_datagrams_come_later_before_their_turn(self) -> None:
         # The second to the last come 10 ms, 80 samples, after their time.
         session = self.call(3)
-        session.senders = [Sender(3, 0.2, 0.21), Sender(3, 0.23, 0.24), Sender(3, 0.25, 0.26)]
+        session.senders = [PictureSender(3, 0.2, 0.21), PictureSender(3, 0.23, 0.24), PictureSender(3, 0.25, 0.26)]
         records = list(session.given())
         stamps = iter((0, 160, 320))
         records = [record[:4] + rtp(0, next(stamps), 7) if record[0] == Kind.DATAGRAM else record for record in records]
-        facts = read(io.BytesIO(b''.join(records)), io.BytesIO(answered(records, [0, 0, 0])), config_of(session))
+        facts = read_session(b''.join(records), answered(records, [0, 0, 0]), config_of(session))
         cell = facts.rows[3].count()
         self.assertEqual((cell.low, cell.high), (240, 320))
 
@@ -151,13 +154,13 @@ class Gathered(unittest.TestCase):
         self.assertEqual(places, sorted(set(places)))
 
 
-class Quick(unittest.TestCase):
+class PictureFollowerTests(unittest.TestCase):
     """Passing over multiframes that are alike changes nothing."""
 
     def test_like_each_octet(self) -> None:
         for seed in range(4):
             rng = random.Random(seed)
-            session = Made(1.6, {n: {'role': 'incoming'} for n in range(2, 31, 3)})
+            session = MadeSession(1.6, {n: {'role': 'incoming'} for n in range(2, 31, 3)})
             for n in range(1, 29, 4):
                 session.call(n, rng.uniform(0.05, 0.6), rng.uniform(0.7, 1.3), 0.1, rng.random() < 0.8)
             session.events += [(rng.uniform(0, 1.5), 'pair', n, rng.randrange(4)) for n in range(1, 31, 2)]
@@ -172,7 +175,7 @@ class Quick(unittest.TestCase):
 
     def alike(self, records: list[bytes], config: dict[str, object], seed: int) -> None:
         told: tuple[list[object], list[object]] = ([], [])
-        slow, quick = Followed(config, told[0].append), Follower(config, told[1].append)
+        slow, quick = FollowedTrunk(config, told[0].append), PictureFollower(config, told[1].append)
         answers = records_in(answered(records, []))
         waiting: list[tuple[bytes, bytes]] = []
         for record, answer in zip(records, answers):
@@ -190,7 +193,7 @@ class Quick(unittest.TestCase):
         self.assertEqual(slow.place, quick.place)
 
 
-class BesideTheProgram(unittest.TestCase):
+class FactsBesideCheckTests(unittest.TestCase):
     """The figures are those of `e1gw check` and of the answers of `e1gw replay`."""
 
     def test_figures(self) -> None:
@@ -198,7 +201,7 @@ class BesideTheProgram(unittest.TestCase):
         for name in TROUBLES:
             with self.subTest(name):
                 given, answers, path = played(name)
-                facts = read(io.BytesIO(given), io.BytesIO(answers), read_config(path), program=program())
+                facts = read_session(given, answers, read_config(path), program=program())
                 listing = [line.split() for line in run('check', '--config', path, given=given).decode().splitlines()]
                 for line in listing:
                     row = facts.rows[int(line[NUMBER])]
@@ -225,7 +228,7 @@ class BesideTheProgram(unittest.TestCase):
         for name in TROUBLES:
             with self.subTest(name):
                 given, answers, path = played(name)
-                facts = read(io.BytesIO(given), io.BytesIO(answers), read_config(path), program=program())
+                facts = read_session(given, answers, read_config(path), program=program())
                 kinds = [each.kind for each in findings(facts)]
                 if name == 'sound':
                     self.assertEqual(kinds, [])
@@ -234,17 +237,17 @@ class BesideTheProgram(unittest.TestCase):
 
     def test_clock_is_measured(self) -> None:
         given, answers, path = played('slow-clock')
-        found = findings(read(io.BytesIO(given), io.BytesIO(answers), read_config(path), program=program()))
+        found = findings(read_session(given, answers, read_config(path), program=program()))
         words = next(each.seen for each in found if each.kind == 'clock slower')
         self.assertAlmostEqual(int(words.split(' ppm')[0].split()[-1]), 500, delta=10)
 
     def test_gap_is_measured(self) -> None:
         given, answers, path = played('gap')
-        found = findings(read(io.BytesIO(given), io.BytesIO(answers), read_config(path), program=program()))
+        found = findings(read_session(given, answers, read_config(path), program=program()))
         self.assertIn('come 380 ms earlier', next(each.seen for each in found if each.kind == 'gap'))
 
 
-class Checker(html.parser.HTMLParser):
+class PageChecker(html.parser.HTMLParser):
     """Sees that what is opened is closed, and that nothing is fetched."""
     EMPTY = {'meta', 'br', 'rect', 'path', 'circle'}
 
@@ -267,7 +270,7 @@ class Checker(html.parser.HTMLParser):
         self.words.append(data)
 
 
-class Drawn(unittest.TestCase):
+class PicturePageTests(unittest.TestCase):
     """The page."""
 
     def busy(self) -> Facts:
@@ -288,7 +291,7 @@ class Drawn(unittest.TestCase):
         return facts
 
     def checked(self, text: str) -> str:
-        checker = Checker()
+        checker = PageChecker()
         checker.feed(text)
         self.assertEqual(checker.open, [])
         return ' '.join(checker.words)
@@ -300,11 +303,11 @@ class Drawn(unittest.TestCase):
         self.assertLess(MOST_OCTETS, 2_000_000)
 
     def test_says_what_was_counted(self) -> None:
-        session = Made(1.4, {3: {'prefill': 320, 'local_port': 24006, 'peer_port': 24106}})
+        session = MadeSession(1.4, {3: {'prefill': 320, 'local_port': 24006, 'peer_port': 24106}})
         session.call(3, 0.05, 9.0)
-        session.senders.append(Sender(3, 0.2, 1.0 - 0.001, kind=13))
+        session.senders.append(PictureSender(3, 0.2, 1.0 - 0.001, kind=13))
         records = list(session.given())
-        words = self.checked(page(b''.join(records), answered(records, [11] * 40), config_of(session)))
+        words = self.checked(page_of(b''.join(records), answered(records, [11] * 40), config_of(session)))
         self.assertIn('40 of 40 packets were discarded as PayloadType: type 13 came, the circuit has 8', words)
         self.assertIn('0 sent, 0 received, 40 discarded', words)
         self.assertIn('127.0.0.1:24106', words)
@@ -314,18 +317,18 @@ class Drawn(unittest.TestCase):
                                   ('other-codec', 'other length', 'unlike')):
             with self.subTest(name):
                 made = TROUBLES[name]()
-                text = page(b''.join(made.given()), answered(list(made.given()), [0] * 273), config_of(made))
+                text = page_of(b''.join(made.given()), answered(list(made.given()), [0] * 273), config_of(made))
                 self.checked(text)
                 self.assertIn(f'<title>circuit 3: {words}</title>', text)
                 self.assertEqual(len(re.findall(f'<path [^>]*class="{kind}"', text)), 2)
 
     def test_a_codec_given_again_is_no_other_command(self) -> None:
-        session = Made(1.0, {3: {'prefill': 320}})
+        session = MadeSession(1.0, {3: {'prefill': 320}})
         records = [codec_record(3, codec, payload) for codec, payload in
                    ((Codec.G711, 8), (Codec.G726_32, 96), (Codec.G726_32, 96))]
         whole = b''.join([*session.given(), *records])
-        text = page(whole, answered(list(session.given()), []) + b''.join(
-            spell(Kind.ANSWER, 3, bytes([Kind.CODEC, 0])) for _ in records), config_of(session))
+        text = page_of(whole, answered(list(session.given()), []) + b''.join(
+            encode_record(Kind.ANSWER, 3, bytes([Kind.CODEC, 0])) for _ in records), config_of(session))
         self.assertEqual(text.count('jitter buffer resynchronised</td>'), 1)
         self.assertIn('codec g726-32 96', text)
         # two again, one change; each is one mark, and one more of each is in the key
@@ -348,7 +351,7 @@ class Drawn(unittest.TestCase):
         self.checked(text)
 
     def test_nothing_at_all(self) -> None:
-        words = self.checked(page(b'', b'', {}))
+        words = self.checked(page_of(b'', b'', {}))
         self.assertIn('No datagrams came', words)
 
     def test_times_of_the_day(self) -> None:

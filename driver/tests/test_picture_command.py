@@ -10,10 +10,10 @@ import struct
 import subprocess
 import unittest
 
-from .support import TOP, Folder, program, run
+from .support import TOP, FolderCase, program, run
 
-from .picture_made import (
-    BEGIN, CAPTURED, PEER, TROUBLES, Made, Sender, answered, beside, captured, icmp, pcap, recorded, udp)
+from .picture_made import (BEGIN, CAPTURED, PEER, TROUBLES, MadeSession, PictureSender, answered, beside, captured,
+                           icmp, pcap, recorded, udp)
 
 from e1gw.picture.capture import reckoned
 from e1gw.picture.main import parser
@@ -21,6 +21,8 @@ from e1gw.picture.packets import BadCapture, datagrams
 from e1gw.session import Kind, records_in, trunk_record
 
 COMMAND = os.path.join(TOP, 'driver', 'e1gw-picture')
+
+
 def udp6(source: int, target: int, body: bytes) -> bytes:
     """The same over IPv6 (RFC 8200)."""
     return (struct.pack('>IHBB', 6 << 28, 8 + len(body), 17, 64) + bytes(32)
@@ -40,7 +42,7 @@ def pcapng(packets: list[tuple[float, bytes]]) -> bytes:
     return b''.join(out)
 
 
-class Drawn(Folder):
+class PictureCommandCase(FolderCase):
     """Runs the command on files."""
 
     def drawn(self, *words: str, status: int = 0, given: bytes = b'') -> tuple[str, str]:
@@ -52,15 +54,15 @@ class Drawn(Folder):
 
     def small(self, codes: int = 0) -> tuple[str, str, str]:
         """A session of a call whose twenty datagrams are all answered so: configuration, session, answers."""
-        made = Made(1.2, {3: {'prefill': 320}})
+        made = MadeSession(1.2, {3: {'prefill': 320}})
         made.call(3, 0.05, 1.0)
-        made.senders.append(Sender(3, 0.2, 0.5999))
+        made.senders.append(PictureSender(3, 0.2, 0.5999))
         records = list(made.given())
         return (self.write('trunk.toml', made.config()), self.write('given.rec', b''.join(records)),
                 self.write('answers.rec', answered(records, [codes] * 20)))
 
 
-class Run(Drawn):
+class PictureCommandTests(PictureCommandCase):
     """The command line."""
 
     def test_help_comes_first(self) -> None:
@@ -217,7 +219,7 @@ class Run(Drawn):
         self.assertIn('0 sent, 0 received, 0 discarded', page)
 
 
-class WithProgram(Drawn):
+class PictureAnswersTests(PictureCommandCase):
     """With `e1gw replay` for the answers."""
 
     def test_replayed(self) -> None:
@@ -259,7 +261,6 @@ class WithProgram(Drawn):
                 wanted = who + words.replace("'", '&#x27;')
                 self.assertTrue(any(entry.startswith(wanted) for entry in entries), (wanted, entries))
 
-
     def test_no_two_pictures_of_the_documents_are_the_same(self) -> None:
         folder = os.path.join(TOP, 'docs', 'pictures')
         drawn: dict[str, str] = {}
@@ -270,7 +271,7 @@ class WithProgram(Drawn):
         self.assertEqual(len(drawn), len(TROUBLES) - 1 + len(CAPTURED))
 
 
-class Captured(Drawn):
+class PictureCaptureTests(PictureCommandCase):
     """Datagrams of a capture."""
 
     def test_forms_of_captures(self) -> None:
@@ -330,7 +331,7 @@ class Captured(Drawn):
         """Records of half a millisecond, as a device gives them: few octets of answers for as many pieces."""
         path = program()
         config, _, bare, capture = self.split('hold')
-        short = b''.join(trunk_record(record.body[at:at + 128]) if record.kind is Kind.TRUNK else record.spelled()
+        short = b''.join(trunk_record(record.body[at:at + 128]) if record.kind is Kind.TRUNK else record.encode()
                          for record in records_in(bare) for at in range(0, len(record.body), 128))
         packed = self.write('call.pcap', capture)
         pages = [self.drawn('--program', path, '--config', config, '--capture', packed, '-', given=given)[0]

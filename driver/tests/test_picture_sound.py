@@ -1,7 +1,6 @@
 """What the picture hears: levels, the other law, the other order of words, and what tells nothing."""
 from __future__ import annotations
 
-import io
 import math
 import os
 import random
@@ -10,22 +9,21 @@ import unittest
 
 from .support import program, run
 
-from .picture_made import BITS, TROUBLES, coded, g726, of_aal2, of_codec, packets
+from .picture_made import BITS, TROUBLES, coded, g726, of_aal2, of_codec, packets, read_session
 
 from e1gw.g711 import OTHER, TONES, VALUES, level, power
 from e1gw.picture.facts import Facts
 from e1gw.picture.findings import findings
 from e1gw.picture.orders import Orders, reordered
-from e1gw.picture.reading import read
-from e1gw.picture.sound import EACH, Heard, Turns, heard
+from e1gw.picture.sound import EACH, HeardSamples, ListeningTimes, heard
 from e1gw.session import Kind, packet_of, records_in
 
 LAWS = ('A', 'mu')
 
 
-def listened(octets: bytes, law: str) -> Heard:
+def listened(octets: bytes, law: str) -> HeardSamples:
     """What is heard in packets of 20 ms that are to be of a law."""
-    seen = Heard()
+    seen = HeardSamples()
     for packet in packets(octets):
         seen.join(heard(packet, law))
     return seen
@@ -54,10 +52,10 @@ def of_records(config: str, given: bytes) -> tuple[Facts, bytes]:
         with open(path, 'w', encoding='utf-8') as file:
             file.write(config)
         answers = run('replay', '--config', path, given=given)
-    return read(io.BytesIO(given), io.BytesIO(answers), tomllib.loads(config), program=program()), answers
+    return read_session(given, answers, tomllib.loads(config), program=program()), answers
 
 
-class Levels(unittest.TestCase):
+class LevelTests(unittest.TestCase):
     """Values and levels of ITU-T G.711."""
 
     def test_worked_values(self) -> None:
@@ -82,7 +80,7 @@ class Levels(unittest.TestCase):
         self.assertEqual(level(power(b'\xff', 'mu'), 'mu'), -math.inf)
 
 
-class Laws(unittest.TestCase):
+class LawTests(unittest.TestCase):
     """Which law octets are of."""
 
     def test_speech_of_both(self) -> None:
@@ -110,9 +108,9 @@ class Laws(unittest.TestCase):
                     self.assertEqual(heard(tone(law, hertz, loud), law).other, 0, (law, hertz, loud))
 
     def test_few_looks_claim_nothing(self) -> None:
-        self.assertFalse(Heard(4, other=4).is_other())
-        self.assertTrue(Heard(9, other=9, own=1).is_other())
-        self.assertFalse(Heard(9, other=8, own=1).is_other())
+        self.assertFalse(HeardSamples(4, other=4).is_other())
+        self.assertTrue(HeardSamples(9, other=9, own=1).is_other())
+        self.assertFalse(HeardSamples(9, other=8, own=1).is_other())
 
     def test_levels_of_the_page_are_those_of_the_session(self) -> None:
         program()
@@ -135,7 +133,7 @@ class Laws(unittest.TestCase):
             self.assertGreater(heard_of['slot'].own, 4, codec)
 
 
-class WordOrders(unittest.TestCase):
+class WordOrderTests(unittest.TestCase):
     """The order of the code words of G.726."""
 
     def test_worked_rows(self) -> None:
@@ -150,8 +148,8 @@ class WordOrders(unittest.TestCase):
         for bits in BITS.values():
             self.assertEqual(reordered(of_aal2(octets, bits), bits), octets)
 
-    def told(self, payloads: list[bytes], codec: str, path: str | None) -> list[Heard]:
-        told: list[Heard] = []
+    def told(self, payloads: list[bytes], codec: str, path: str | None) -> list[HeardSamples]:
+        told: list[HeardSamples] = []
         orders = Orders(path, 'A', lambda circuit, place, seen: told.append(seen))
         for at in range(0, len(payloads), 10):
             orders.put(3, at, codec, payloads[at:at + 10])
@@ -163,7 +161,7 @@ class WordOrders(unittest.TestCase):
         for codec, bits in BITS.items():
             payloads = g726(codec, coded('A'))
             for other, sent in ((False, payloads), (True, [of_aal2(each, bits) for each in payloads])):
-                whole = Heard()
+                whole = HeardSamples()
                 for seen in self.told(sent, codec, path):
                     whole.join(seen)
                 self.assertEqual(whole.is_other(), other, (codec, whole))
@@ -173,7 +171,7 @@ class WordOrders(unittest.TestCase):
         path = program()
         for codec in BITS:
             for octets in (b'\xd5' * 16_000, TONES['A'] * 2000, random.Random(7).randbytes(16_000)):
-                whole = Heard()
+                whole = HeardSamples()
                 for seen in self.told(g726(codec, octets), codec, path):
                     whole.join(seen)
                 self.assertFalse(whole.is_other(), (codec, whole))
@@ -184,18 +182,18 @@ class WordOrders(unittest.TestCase):
             self.assertEqual(self.told(payloads, 'g726-32', path), [])
 
 
-class When(unittest.TestCase):
+class ListeningTimesTests(unittest.TestCase):
     """When it is looked."""
 
     def test_often_at_first(self) -> None:
-        turns = Turns()
+        turns = ListeningTimes()
         looks = [place for place in range(0, 90 * 256_000, 512) if turns.come(place, math.inf)]
         self.assertAlmostEqual((looks[1] - looks[0]) / EACH, 1, delta=0.01)
         self.assertAlmostEqual((looks[-1] - looks[-2]) / EACH, 32, delta=0.1)
         self.assertEqual(len(looks), 41)
 
     def test_never_too_far_apart(self) -> None:
-        turns = Turns()
+        turns = ListeningTimes()
         looks = [place for place in range(0, 60 * 256_000, 512) if turns.come(place, 256_000)]
         self.assertLessEqual(max(b - a for a, b in zip(looks, looks[1:])), 256_000)
 

@@ -12,7 +12,6 @@ import urllib.request
 from typing import Any
 from unittest import mock
 
-from . import support
 from .readers import EVENTS
 from .test_trunk import FOUR, aligned, call
 from .test_web import free_port
@@ -21,10 +20,10 @@ from e1gw import control, loop, snapshots
 from e1gw.loop import READ, SAVED, SHARE, Loop
 from e1gw.pages import Pages
 from e1gw.snapshots import Snapshot, Snapshots
-from e1gw.sockets import Tables
+from e1gw.sockets import SocketTables
 
 
-class Turns(unittest.TestCase):
+class LoopTests(unittest.TestCase):
     """The loop: octets first."""
 
     def setUp(self) -> None:
@@ -83,7 +82,7 @@ class Turns(unittest.TestCase):
         self.assertGreaterEqual(done[0], 0.05)
 
 
-class SnapshotsOfATrunk(unittest.TestCase):
+class SnapshotTests(unittest.TestCase):
     """By a clock of its own."""
 
     def setUp(self) -> None:
@@ -93,7 +92,7 @@ class SnapshotsOfATrunk(unittest.TestCase):
 
     def make(self) -> Snapshot:
         self.made += 1
-        return Snapshot({'number': self.made, 'circuits': []}, Tables([]))
+        return Snapshot({'number': self.made, 'circuits': []}, SocketTables([]))
 
     def test_four_a_second_at_most(self) -> None:
         for _ in range(10_000):         # ten seconds, each look followed by a change
@@ -128,10 +127,10 @@ class SnapshotsOfATrunk(unittest.TestCase):
         self.assertEqual(self.made, 0)
 
 
-class Shares(unittest.TestCase):
+class ClientShareTests(unittest.TestCase):
     def test_four_thousand_lines(self) -> None:
         now, lines = 100.0, 0
-        share = control.Share(now)
+        share = control.ClientShare(now)
         while lines < 4000:
             now += share.wait(now)
             share.take_line()
@@ -140,7 +139,7 @@ class Shares(unittest.TestCase):
 
     def test_long_answers(self) -> None:
         now, octets = 100.0, 0
-        share = control.Share(now)
+        share = control.ClientShare(now)
         while now < 110:
             now += share.wait(now)
             share.take_line()
@@ -149,7 +148,7 @@ class Shares(unittest.TestCase):
         self.assertLess(octets, 11 * 128_000 + 20_000)
 
     def test_after_a_rest(self) -> None:
-        share = control.Share(100.0)
+        share = control.ClientShare(100.0)
         for _ in range(200):
             self.assertEqual(share.wait(100.0), 0)
             share.take_line()
@@ -157,9 +156,8 @@ class Shares(unittest.TestCase):
         self.assertEqual(share.wait(101.0), 0)
 
 
-class Clients(unittest.TestCase):
+class ControlConnectionTests(unittest.TestCase):
     def setUp(self) -> None:
-        support.program()
         self.world = World(config_of(FOUR))
         self.addCleanup(self.world.__exit__)
 
@@ -227,7 +225,7 @@ class Clients(unittest.TestCase):
         self.assertIs(control.who_goes([*busy, silent], 100), silent)
 
 
-class ProcessOfPages(unittest.TestCase):
+class PageMakerTests(unittest.TestCase):
     """The process that makes pages, by itself."""
 
     def setUp(self) -> None:
@@ -244,7 +242,7 @@ class ProcessOfPages(unittest.TestCase):
     def want(self) -> None:
         self.wanted += 1
         if self.gives:
-            self.pages.give(Snapshot(STATUS, Tables([])))
+            self.pages.give(Snapshot(STATUS, SocketTables([])))
 
     def asks(self, count: int, path: str = '/table') -> list[bytes]:
         """The heads of so many answers, asked for at once."""
@@ -284,7 +282,7 @@ class ProcessOfPages(unittest.TestCase):
     def test_snapshots_that_nobody_takes_are_dropped(self) -> None:
         self.assertEqual(self.asks(1), [b'HTTP/1.0 200 OK'])
         os.kill(self.pages.process.pid, signal.SIGSTOP)
-        snapshot = Snapshot(STATUS | {'much': 'x' * 20_000}, Tables([]))
+        snapshot = Snapshot(STATUS | {'much': 'x' * 20_000}, SocketTables([]))
         for _ in range(1000):
             self.pages.give(snapshot)
         os.kill(self.pages.process.pid, signal.SIGCONT)
@@ -298,9 +296,8 @@ STATUS = {'octets': 0, 'time': 0.0, 'name': 'west', 'version': '0', 'uptime': 0.
           'stale': False, 'circuits': []}
 
 
-class PagesOfATrunk(unittest.TestCase):
+class TrunkPagesTests(unittest.TestCase):
     def setUp(self) -> None:
-        support.program()
         self.port = free_port()
         self.world = World(config_of(FOUR), '--http', f'127.0.0.1:{self.port}', '--metrics', '@/prom')
         self.addCleanup(self.world.__exit__)

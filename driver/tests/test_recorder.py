@@ -17,16 +17,16 @@ import unittest
 from unittest import mock
 
 from . import support
-from .test_keeper import LAUNCHER, SECONDS, Kept
+from .test_keeper import LAUNCHER, SECONDS, KeeperCase
 from e1gw import recorder
-from e1gw.behind import run_last
+from e1gw.archive import run_last
 from e1gw.kept import beside, kept, octets_of
 from e1gw.session import MULTIFRAME, Kind, records_in
 
 RECORDER = re.compile(r'recorder (\d+)')
 
 
-class Recorded(Kept):
+class RecorderCase(KeeperCase):
     """A kept trunk whose recordings are kept."""
 
     def recorder(self) -> int:
@@ -62,7 +62,7 @@ class Recorded(Kept):
         self.step(self.chance.randrange(1, 40))
 
 
-class OneFile(Recorded):
+class RecordedFileTests(RecorderCase):
     def test_whole_session(self) -> None:
         """Whatever ends beside the program, nothing that was heard is lost; what is kept begins as it was."""
         self.starts('--session', self.path('kept'))
@@ -120,7 +120,7 @@ class OneFile(Recorded):
         self.ends()
 
 
-class Ring(Recorded):
+class RecordedRingTests(RecorderCase):
     def files(self) -> list[str]:
         """The files of the ring without their endings, in their order."""
         names = os.listdir(self.path('ring')) if os.path.exists(self.path('ring')) else []
@@ -232,14 +232,14 @@ class Ring(Recorded):
             self.assertEqual(status, 0, said)
 
 
-class Room(unittest.TestCase):
+class RingRetryTests(unittest.TestCase):
     def test_room(self) -> None:
         """It asks when a minute has gone by and there is room, and not before."""
         with tempfile.TemporaryDirectory() as folder:
             ring, asks = os.path.join(folder, 'ring'), os.path.join(folder, 'asks')
             with open(ring, 'wb'):
                 pass                    # a file in the place of its folder
-            again = recorder.Again(ring, asks)
+            again = recorder.RingRetry(ring, asks)
 
             def look(now: float) -> bool:
                 again.look(now)
@@ -254,7 +254,7 @@ class Room(unittest.TestCase):
             self.assertEqual(os.listdir(ring), [])
 
 
-class Refusals(Recorded):
+class RecorderRefusalTests(RecorderCase):
     def test_options(self) -> None:
         words = ('--config', self.config, '--unix', self.device.path)
         for options, said in ((('--keep', '1h'), '--keep wants --session'),

@@ -2,10 +2,10 @@
 from __future__ import annotations
 
 import unittest
-from typing import Any
+from itertools import product
+from typing import Any, Callable
 
-from . import support
-from .simulated import Call, stalls
+from .simulated import SimulatedCall, stalls
 from e1gw.events import words_of
 from e1gw.restarts import REFUSED, Restarts
 from e1gw.session import DatagramRefusal
@@ -15,7 +15,7 @@ SECOND = 256_000
 LESS = 0.3          # seconds of speech in which a restart's cause is found: half of 0.5 s, and a look
 
 
-class Rule(unittest.TestCase):
+class RestartRuleTests(unittest.TestCase):
     def setUp(self) -> None:
         self.restarted: list[tuple[float, int]] = []
         self.told: list[dict[str, Any]] = []
@@ -115,17 +115,14 @@ class Rule(unittest.TestCase):
         self.assertEqual(self.told[1]['count'], 10)
 
 
-class Simulated(unittest.TestCase):
+class RestartSimulationTests(unittest.TestCase):
     """Speech that is lost, by the playout of the program."""
-
-    def setUp(self) -> None:
-        support.program()
 
     def test_octets_that_come_early_from_a_moment_on(self) -> None:
         """Those of J ms come at once: each later packet is later by J, for the call."""
         for prefill in (160, 320):
             for early in (0.026, 0.06, 0.09, 0.12):
-                with self.subTest(prefill=prefill, early=early), Call(prefill) as call:
+                with self.subTest(prefill=prefill, early=early), SimulatedCall(prefill) as call:
                     call.speak()
                     call.flow(2)
                     call.at_once(early)
@@ -133,35 +130,29 @@ class Simulated(unittest.TestCase):
                     self.assertLessEqual(len(call.restarts), 1)
                     self.assertLessEqual(call.lost(), early + LESS)
 
+    def again_and_again(self, happens: Callable[[SimulatedCall, float], None], seed: int, prefill: int) -> None:
+        with self.subTest(prefill=prefill, seed=seed), SimulatedCall(prefill) as call:
+            call.speak()
+            still = 0.0
+            for length, between in stalls(seed, 40):
+                happens(call, length)
+                call.flow(between)
+                still += length
+            self.assertLessEqual(call.lost(), still)
+            self.assertLessEqual(len(call.restarts), 1 + call.now // 10)
+
     def test_a_machine_that_stands_still_again_and_again(self) -> None:
-        for prefill in (160, 320):
-            for seed in range(2):
-                with self.subTest(prefill=prefill, seed=seed), Call(prefill) as call:
-                    call.speak()
-                    still = 0.0
-                    for length, between in stalls(seed, 40):
-                        call.stand_still(length)
-                        call.flow(between)
-                        still += length
-                    self.assertLessEqual(call.lost(), still)
-                    self.assertLessEqual(len(call.restarts), 1 + call.now // 10)
+        for prefill, seed in product((160, 320), range(2)):
+            self.again_and_again(SimulatedCall.stand_still, seed, prefill)
 
     def test_octets_that_come_late_again_and_again(self) -> None:
         for prefill in (160, 320):
-            with self.subTest(prefill=prefill), Call(prefill) as call:
-                call.speak()
-                still = 0.0
-                for length, between in stalls(5, 40):
-                    call.hold(length)
-                    call.flow(between)
-                    still += length
-                self.assertLessEqual(call.lost(), still)
-                self.assertLessEqual(len(call.restarts), 1 + call.now // 10)
+            self.again_and_again(SimulatedCall.hold, 5, prefill)
 
     def test_a_call_that_begins_in_a_stall(self) -> None:
         """Its first packet comes with octets that had waited: all later ones are late."""
         for prefill in (160, 320):
-            with self.subTest(prefill=prefill), Call(prefill) as call:
+            with self.subTest(prefill=prefill), SimulatedCall(prefill) as call:
                 call.flow(0.5)
                 call._wait(0.14)
                 call.speak()
@@ -174,7 +165,7 @@ class Simulated(unittest.TestCase):
     def test_lost_octets_that_are_no_gap(self) -> None:
         """After 0.5 s all datagrams are Full. Without the counts nobody knows, and the call stays deaf."""
         for counts in (True, False):
-            with Call(160, gap=10.0, counts=counts) as call:
+            with SimulatedCall(160, gap=10.0, counts=counts) as call:
                 call.speak()
                 call.flow(2)
                 call.lose(0.5)
@@ -184,7 +175,7 @@ class Simulated(unittest.TestCase):
 
     def test_octets_that_stay_late(self) -> None:
         """A loss that is no gap before the first packet: it is of the time that all later ones have."""
-        with Call(160) as call:
+        with SimulatedCall(160) as call:
             call.flow(1)
             call.lose(0.06)
             call.speak()
@@ -194,7 +185,7 @@ class Simulated(unittest.TestCase):
 
     def test_gaps_one_after_another(self) -> None:
         """The first one restarts the call; those behind it add up until all is Full."""
-        with Call(160) as call:
+        with SimulatedCall(160) as call:
             call.speak()
             call.flow(2)
             for _ in range(5):

@@ -10,7 +10,7 @@ import tempfile
 import unittest
 
 from e1gw import satop
-from e1gw.satop import Circuit
+from e1gw.satop import SatopCircuit
 
 SCRIPT = '''
 import sys
@@ -18,34 +18,34 @@ print(*sys.argv[1:], file=sys.stderr, flush=True)
 '''
 
 
-class Settings(unittest.TestCase):
+class SatopOptionTests(unittest.TestCase):
     def test_what_can_not_be(self) -> None:
         for bad in ({'size': 0}, {'size': 255}, {'size': 1312}, {'jitter': -1}, {'jitter': 501}, {'rtp': 128}):
             with self.assertRaises(ValueError):
-                Circuit(**bad)      # type: ignore[arg-type]
+                SatopCircuit(**bad)      # type: ignore[arg-type]
 
     def test_options(self) -> None:
         parser = argparse.ArgumentParser()
         satop.add_arguments(parser)
-        self.assertEqual(satop.circuit_of(parser.parse_args([])), Circuit())
+        self.assertEqual(satop.circuit_of(parser.parse_args([])), SatopCircuit())
         words = '--satop-size 512 --satop-jitter 8 --satop-rtp 97 --satop-fill ones --satop-clock own'.split()
-        self.assertEqual(satop.circuit_of(parser.parse_args(words)), Circuit(512, 8, 97, 'ones', 'own'))
+        self.assertEqual(satop.circuit_of(parser.parse_args(words)), SatopCircuit(512, 8, 97, 'ones', 'own'))
         with self.assertRaises(SystemExit), contextlib.redirect_stderr(io.StringIO()):
             parser.parse_args(['--satop-fill', 'noise'])
 
     def test_words_of_the_program(self) -> None:
-        self.assertEqual(' '.join(Circuit().words()), '--size 256 --jitter 4 --fill again --clock packets')
-        self.assertEqual(' '.join(Circuit(512, 8, 0, 'ones', 'own').words()),
+        self.assertEqual(' '.join(SatopCircuit().words()), '--size 256 --jitter 4 --fill again --clock packets')
+        self.assertEqual(' '.join(SatopCircuit(512, 8, 0, 'ones', 'own').words()),
                          '--size 512 --jitter 8 --rtp 0 --fill ones --clock own')
 
 
-class Opening(unittest.TestCase):
+class SatopOpeningTests(unittest.TestCase):
     def test_ends(self) -> None:
         self.assertEqual(satop.ends_of('127.0.0.1:5000,[::1]:5001'), (('127.0.0.1', 5000), ('::1', 5001)))
         for bad in ('', ',', '127.0.0.1:5000', '127.0.0.1:5000,', ':5000,127.0.0.1:1', 'a:0,b:1', 'a:65536,b:1',
                     'a:1,b:x', 'a:1,b:\u0661'):
             with self.assertRaises(ValueError):
-                satop.open_satop(bad, Circuit(), 'e1gw')
+                satop.open_satop(bad, SatopCircuit(), 'e1gw')
 
     def test_addresses(self) -> None:
         self.assertEqual(satop.addresses_of(('127.0.0.1', 5000), ('192.0.2.1', 5001)),
@@ -60,7 +60,8 @@ class Opening(unittest.TestCase):
             with open(path, 'w', encoding='utf-8') as file:
                 file.write(f'#!{sys.executable}{SCRIPT}')
             os.chmod(path, stat.S_IRWXU)
-            with contextlib.closing(satop.open_satop('localhost:5000,127.0.0.1:5001', Circuit(rtp=97), path)) as trunk:
+            circuit = SatopCircuit(rtp=97)
+            with contextlib.closing(satop.open_satop('localhost:5000,127.0.0.1:5001', circuit, path)) as trunk:
                 self.assertEqual(trunk.name, '127.0.0.1:5000 127.0.0.1:5001')
                 with self.assertRaises(OSError) as ended:
                     while True:

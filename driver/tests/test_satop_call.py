@@ -3,9 +3,7 @@ from __future__ import annotations
 
 import os
 import socket
-import tempfile
 import time
-import unittest
 from typing import Callable
 
 from . import support
@@ -24,7 +22,7 @@ def free_ports(count: int) -> list[int]:
     return ports
 
 
-class End(support.Service):
+class SatopEnd(support.Service):
     """A driver of which circuit 1 is the only one with a role of its own."""
 
     def __init__(self, folder: str, name: str, role: str, satop: str, *options: str) -> None:
@@ -37,20 +35,19 @@ class End(support.Service):
         return int(self.status()['transport'].get(name, 0))
 
 
-class Call(unittest.TestCase):
+class SatopCallTests(support.FolderCase):
     def setUp(self) -> None:
-        support.program()
-        folder = tempfile.TemporaryDirectory()
-        self.addCleanup(folder.cleanup)
+        super().setUp()
         west, east = (f'127.0.0.1:{port}' for port in free_ports(2))
         # 60 ms of buffer for what the other driver stands still; with 200 ms an acknowledgement would be too late.
-        self.west = End(folder.name, 'west', 'outgoing', f'{west},{east}', '--satop-clock', 'own',
-                        '--satop-jitter', '30', '--satop-rtp', '97', '--satop-size', '512')
+        self.west = SatopEnd(self.folder, 'west', 'outgoing', f'{west},{east}', '--satop-clock', 'own',
+                             '--satop-jitter', '30', '--satop-rtp', '97', '--satop-size', '512')
         self.addCleanup(self.end, self.west)
-        self.east = End(folder.name, 'east', 'incoming', f'{east},{west}', '--satop-rtp', '97', '--satop-size', '512')
+        self.east = SatopEnd(self.folder, 'east', 'incoming', f'{east},{west}', '--satop-rtp', '97', '--satop-size',
+                             '512')
         self.addCleanup(self.end, self.east)
 
-    def end(self, each: End) -> int:
+    def end(self, each: SatopEnd) -> int:
         status = each.end()
         each.log.close()
         return status

@@ -8,7 +8,7 @@ from . import support
 from .far_end import FarEnd
 
 
-class Counts(unittest.TestCase):
+class SatopCountTests(unittest.TestCase):
     def far_end(self, *options: str) -> FarEnd:
         """A far end whose program has its socket."""
         support.program()

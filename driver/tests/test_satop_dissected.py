@@ -30,7 +30,7 @@ def capture(packets: list[bytes]) -> bytes:
     return file
 
 
-class Dissected(support.Folder):
+class SatopDissectedTests(support.FolderCase):
     def setUp(self) -> None:
         super().setUp()
         if not shutil.which('tshark'):

@@ -3,11 +3,11 @@ import os
 import select
 import stat
 import sys
-import tempfile
 import unittest
 from typing import Any
 
-from e1gw.satop_process import Condition, SatopProcess, counts_of
+from .support import FolderCase
+from e1gw.satop_process import SatopCondition, SatopProcess, counts_of
 
 PATIENCE = 10.0
 WORDS = ['127.0.0.1:5000', '127.0.0.1:5001', '--size', '256']
@@ -27,7 +27,7 @@ sys.exit(3)
 '''
 
 
-class Lines(unittest.TestCase):
+class SatopCountLineTests(unittest.TestCase):
     def test_counts(self) -> None:
         self.assertEqual(counts_of('satop received=1000 sent=999 malformed_short=0'),
                          {'received': 1000, 'sent': 999, 'malformed_short': 0})
@@ -36,28 +36,21 @@ class Lines(unittest.TestCase):
 
     def test_missing_packets(self) -> None:
         """They are missing from the first tick on, until packets come and no tick."""
-        missing, told = Condition('ticks'), []
+        missing, told = SatopCondition('ticks'), []
         for received, ticks in ((5, 0), (9, 0), (9, 80), (9, 1080), (40, 1100), (1040, 1100), (2040, 1100)):
             if missing.changes({'received': received, 'ticks': ticks}):
                 told.append((received, missing.on))
         self.assertEqual(told, [(9, True), (1040, False)])
 
 
-class Process(unittest.TestCase):
-    def setUp(self) -> None:
-        folder = tempfile.TemporaryDirectory()
-        self.addCleanup(folder.cleanup)
-        self.folder = folder.name
-
+class SatopProcessTests(FolderCase):
     def trunk(self, script: str = SCRIPT) -> SatopProcess:
         trunk = self.opened(script)
         self.addCleanup(trunk.close)
         return trunk
 
     def opened(self, script: str) -> SatopProcess:
-        path = os.path.join(self.folder, 'e1gw')
-        with open(path, 'w', encoding='utf-8') as file:
-            file.write(f'#!{sys.executable}{script}')
+        path = self.write('e1gw', f'#!{sys.executable}{script}')
         os.chmod(path, stat.S_IRWXU)
         return SatopProcess(path, WORDS)
 
@@ -71,7 +64,6 @@ class Process(unittest.TestCase):
 
     def test_octets_go_both_ways(self) -> None:
         trunk = self.trunk()
-        self.assertFalse(trunk.may_wait)
         trunk.write(bytes(range(256)))
         self.assertEqual(self.octets(trunk, 256), bytes(range(255, -1, -1)))
         self.assertEqual(trunk.read(256), b'')
@@ -141,7 +133,7 @@ class Process(unittest.TestCase):
 
     def test_no_program(self) -> None:
         with self.assertRaises(FileNotFoundError):
-            SatopProcess(os.path.join(self.folder, 'none'), WORDS)
+            SatopProcess(self.path('none'), WORDS)
 
 
 if __name__ == '__main__':

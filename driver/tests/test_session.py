@@ -21,7 +21,7 @@ def manual() -> str:
         return file.read()
 
 
-class Words(unittest.TestCase):
+class SessionNameTests(unittest.TestCase):
     def test_kinds_are_the_manuals(self) -> None:
         rows = re.findall(r'^\.It ([TDCKR]) ([0-9A-F]{2}) Ta', manual(), re.M)
         self.assertEqual({(kind.letter, f'{kind:02X}') for kind in Kind}, set(rows))
@@ -50,14 +50,14 @@ class Words(unittest.TestCase):
         self.assertEqual(session.CodecRefusal.PAYLOAD_TYPE.words, 'no payload type of the codec')
 
 
-class Reading(unittest.TestCase):
+class RecordReaderTests(unittest.TestCase):
     def test_the_manuals_session(self) -> None:
         given = SEIZE + DATAGRAM + CODEC + EMPTY + ANSWER
         read = list(session.records(io.BytesIO(given)))
         self.assertEqual(read, [Record(Kind.COMMAND, 1, b'\1'), Record(Kind.DATAGRAM, 1, b'\0'),
                                 Record(Kind.CODEC, 1, b'\4\10'), Record(Kind.TRUNK, 0, b''),
                                 Record(Kind.ANSWER, 1, b'\x43\2')])
-        self.assertEqual(b''.join(record.spelled() for record in read), given)
+        self.assertEqual(b''.join(record.encode() for record in read), given)
         self.assertEqual((read[0].command, read[2].codec, read[2].payload_type, read[4].refusal),
                          (Command.SEIZE, Codec.G726_32, 8, CommandRefusal.NOT_IDLE))
 
@@ -98,12 +98,12 @@ def datagram(first: int, rest: bytes) -> bytes:
     return struct.pack('>BBHII', first, 8, 1, 2, 3) + rest
 
 
-class Packets(unittest.TestCase):
+class RtpPacketTests(unittest.TestCase):
     def test_a_packet(self) -> None:
         octets = bytes.fromhex('80 E0 12 34 00 00 00 A0 DE AD BE EF') + b'speech'
         packet = session.packet_of(octets)
         self.assertEqual(packet, Packet(0x60, 0x1234, 160, 0xDEADBEEF, b'speech', True))
-        self.assertEqual(packet.spelled(), octets)
+        self.assertEqual(packet.encode(), octets)
 
     def test_sources_extension_and_padding(self) -> None:
         octets = datagram(0xB1, b'\0\0\0\7' + b'\xBE\xDE\0\1' + bytes(4) + b'speech' + b'\0\0\3')

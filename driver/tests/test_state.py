@@ -15,10 +15,11 @@ from e1gw.session import Codec, Command
 
 CODECS = ('', 'g726-16', 'g726-24', 'g726-32', 'g726-40')
 SEIZED, ANSWERED, IDLE, ACKNOWLEDGED = 0b00, 0b01, 0b10, 0b11
-ADMITTED = session.spell(session.Kind.ANSWER, 7, bytes((session.Kind.DATAGRAM, 0)))      # a datagram of circuit 7
+# a datagram of circuit 7
+ADMITTED = session.encode_record(session.Kind.ANSWER, 7, bytes((session.Kind.DATAGRAM, 0)))
 
 
-class Coding(NamedTuple):
+class PlayedCoding(NamedTuple):
     """What a circuit sends and plays."""
 
     codec: str
@@ -26,12 +27,12 @@ class Coding(NamedTuple):
     octets: int         # of a datagram of 20 ms
 
 
-def coding(law: str, circuit: int) -> Coding:
+def coding(law: str, circuit: int) -> PlayedCoding:
     """One of the five codecs, in turn."""
     codec = CODECS[circuit % 5]
     if not codec:
-        return Coding('pcma' if law == 'A' else 'pcmu', 8 if law == 'A' else 0, 160)
-    return Coding(codec, 96 + circuit % 5, int(codec[-2:]) * 20 // 8)
+        return PlayedCoding('pcma' if law == 'A' else 'pcmu', 8 if law == 'A' else 0, 160)
+    return PlayedCoding(codec, 96 + circuit % 5, int(codec[-2:]) * 20 // 8)
 
 
 def config_of(law: str, **of_seven: object) -> str:
@@ -117,7 +118,7 @@ def of_others(answers: bytes, circuit: int) -> tuple[bytes, list[session.Record]
     return support.without(sent, circuit), [record for record in found if record.circuit not in (0, circuit)]
 
 
-class Pieces(support.Folder):
+class StateCase(support.FolderCase):
     """Sessions in pieces, each of which begins with the state that the one before saved."""
 
     def answers(self, config: str, pieces: list[bytes]) -> bytes:
@@ -129,7 +130,7 @@ class Pieces(support.Folder):
         return b''.join(out)
 
 
-class Cut(Pieces):
+class CutSessionTests(StateCase):
     """With one configuration the answers are those of the session that was not cut."""
 
     def test_at_every_record(self) -> None:
@@ -189,7 +190,7 @@ class Cut(Pieces):
         self.assertEqual(cut.stdout + rest, whole)
 
 
-class Reconfigured(Pieces):
+class ReconfiguredStateTests(StateCase):
     """A state that is loaded with another configuration of circuit 7."""
 
     def in_call(self, law: str, config: str) -> tuple[list[bytes], int, bytes]:
@@ -241,7 +242,7 @@ class Reconfigured(Pieces):
         self.assertEqual(first + rest, whole)
 
 
-class Refused(support.Folder):
+class RefusedStateTests(support.FolderCase):
     """States that are not loaded, and states that can't be saved."""
 
     def setUp(self) -> None:

@@ -30,7 +30,7 @@ time.sleep(60)
 """
 
 
-class Parts(support.Folder):
+class PartsTests(support.FolderCase):
     def ready(self, part: supervisor.Part) -> None:
         """Starts it, and waits until it is ready."""
         part.begin(time.monotonic())

@@ -24,7 +24,7 @@ def row(circuit: int, state: str, pairs: str, dropped: int = 0) -> str:
     return f'line {circuit:2} {"outgoing":8} {state:11} {pairs} {0:10} {0:10} {dropped:10} {"pcma":7} {8:3}'
 
 
-class Replay:
+class TellingReplay:
     """A replay that tells, record by record."""
 
     def __init__(self, config: str, path: str) -> None:
@@ -69,7 +69,7 @@ def seizures(**counts: int) -> str:
     return ' '.join(['seizures', *(str(counts.get(f'c{n}', 0)) for n in range(1, 31))])
 
 
-class Client:
+class TellClient:
     """One who is told."""
 
     def __init__(self, path: str) -> None:
@@ -92,7 +92,7 @@ class Client:
         return self.socket.recv(1) == b''
 
 
-class Told(support.Folder):
+class TellTests(support.FolderCase):
     """A session whose clients are told."""
 
     def setUp(self) -> None:
@@ -101,15 +101,15 @@ class Told(support.Folder):
         self.exchange = support.Exchange()
         self.replay = self.replays('tell')
 
-    def replays(self, name: str) -> Replay:
-        replay = Replay(self.config, self.path(name))
+    def replays(self, name: str) -> TellingReplay:
+        replay = TellingReplay(self.config, self.path(name))
         self.addCleanup(replay.close)
         self.assertEqual(len(replay.passes(trunk_record(bytes(32)))), 32)
         return replay
 
-    def client(self) -> Client:
+    def client(self) -> TellClient:
         """A client that is let in with the next record of the trunk."""
-        client = Client(self.replay.path)
+        client = TellClient(self.replay.path)
         self.addCleanup(client.socket.close)
         return client
 

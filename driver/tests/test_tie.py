@@ -20,11 +20,12 @@ from e1gw.tie.circuit import CircuitEnd
 from e1gw.tie.coding import Coding, Codings
 from e1gw.tie.kept import KeptBlocks, read
 from e1gw.tie.main import ANYBODY, is_loopback, parser
-from e1gw.tie.messages import All, Alive, BadMessage, Change, Dark, Greeting, Message, message_of, spell
+from e1gw.tie.messages import (BadMessage, CircuitChange, Greeting, KeepAlive, Message, OutOfService, SiteState,
+                               encode_message, message_of)
 from e1gw.tie.pairs import BadPairs, agreed, pairs_of
 from e1gw.tie.site import Site, context_of, has_name
-from e1gw.tie.strangers import Stage, Stranger, Strangers, address_of
-from e1gw.tie.tie import TieOptions, Tie
+from e1gw.tie.strangers import Stranger, StrangerStage, Strangers, address_of
+from e1gw.tie.tie import Tie, TieOptions
 from tests.test_tie_circuit import CALLED, COLUMN, DONE, INCOMING, OUTGOING
 
 HERE = os.path.dirname(os.path.dirname(os.path.abspath(__file__)))
@@ -33,7 +34,7 @@ IDLE, SEIZED, ANSWER, HELD = 0b10, 0b00, 0b01, 0b11         # bits a and b
 PCMA, G726 = Coding('pcma', 8), Coding('g726-16', 96)
 
 
-class Pairs(unittest.TestCase):
+class TiePairsTests(unittest.TestCase):
     def test_text(self) -> None:
         self.assertEqual(pairs_of('1 2 # here there\n\n3-5 7-9\n'), {1: 2, 3: 7, 4: 8, 5: 9})
 
@@ -49,14 +50,15 @@ class Pairs(unittest.TestCase):
         self.assertEqual(agreed({1: 2, 3: 4}, {2: 1, 4: 5}), {1: 2})
 
 
-class Messages(unittest.TestCase):
+class TieMessageTests(unittest.TestCase):
     def test_there_and_back(self) -> None:
         end = CircuitEnd(Role.INCOMING, State.ACKED, 'a.1', True, 'a.0')
         sent: list[Message] = [
-            Greeting('ab', None), Greeting('ab', {1: 30}), All(True, {30: end}), All(False, {}, 'pcma'),
-            Change(1, end), Dark(False), Alive(), Change(2, CircuitEnd(Role.OUTGOING, State.FAULT, None))]
+            Greeting('ab', None), Greeting('ab', {1: 30}), SiteState(True, {30: end}), SiteState(False, {}, 'pcma'),
+            CircuitChange(1, end), OutOfService(False), KeepAlive(),
+            CircuitChange(2, CircuitEnd(Role.OUTGOING, State.FAULT, None))]
         for message in sent:
-            self.assertEqual(message_of(spell(message)), message)
+            self.assertEqual(message_of(encode_message(message)), message)
 
     def test_no_message(self) -> None:
         for line in (b'', b'\xff\n', b'[]', b'{}', b'{"tie": 2, "run": "a", "pairs": null}', b'{"dark": 1}',
@@ -69,7 +71,7 @@ class Messages(unittest.TestCase):
                 message_of(line)
 
 
-class Help(unittest.TestCase):
+class TieHelpTests(unittest.TestCase):
     def test_help(self) -> None:
         said = subprocess.run([os.path.join(HERE, 'e1gw-tie'), '--help'], check=True, stdout=subprocess.PIPE).stdout
         for option in ('--control', '--listen', '--connect', '--map', '--tls', '--insecure', '--peer', '--hold',
@@ -87,7 +89,7 @@ class Help(unittest.TestCase):
             self.assertEqual(end.exception.code, 2)
 
 
-class Doors(unittest.TestCase):
+class TieAddressTests(unittest.TestCase):
     """Where a tie may listen."""
 
     def said(self, *words: str) -> tuple[int | None, str, list[dict[str, Any]]]:
@@ -126,13 +128,13 @@ class Doors(unittest.TestCase):
             parser().parse_args('--control a --listen 127.0.0.1:1 --insecure --tls a b c'.split())
 
 
-class Crowd(unittest.TestCase):
+class StrangersTests(unittest.TestCase):
     """Who is closed where too many connect, at a peer of 10.0.0.1."""
 
     def setUp(self) -> None:
         self.strangers = Strangers('10.0.0.1')
 
-    def add(self, address: str, stage: Stage = Stage.SILENT) -> Stranger:
+    def add(self, address: str, stage: StrangerStage = StrangerStage.SILENT) -> Stranger:
         made = Stranger(address, stage)
         self.strangers.add(made)
         return made
@@ -160,16 +162,16 @@ class Crowd(unittest.TestCase):
 
     def test_silent_ones_go_first(self) -> None:
         """Who has sent something, or shown a certificate, stays while there is one that has not."""
-        shown = self.add('10.0.0.1', Stage.CERTIFIED)
-        speaks = self.add('10.0.0.1', Stage.SPEAKS)
+        shown = self.add('10.0.0.1', StrangerStage.CERTIFIED)
+        speaks = self.add('10.0.0.1', StrangerStage.SPEAKS)
         added = [self.add('10.0.0.1') for _ in range(20)]
         self.assertEqual(self.found, [shown, speaks, *added[-6:]])
-        more = [self.add('10.0.0.1', Stage.SPEAKS) for _ in range(7)]
+        more = [self.add('10.0.0.1', StrangerStage.SPEAKS) for _ in range(7)]
         self.assertEqual(self.found, [shown, *more])
 
     def test_pace(self) -> None:
         """New ones wait where one that speaks is closed for them, but not where an address has one too many."""
-        silent, speaks = Stranger('10.0.0.2'), Stranger('10.0.0.2', Stage.SPEAKS)
+        silent, speaks = Stranger('10.0.0.2'), Stranger('10.0.0.2', StrangerStage.SPEAKS)
         same, other = Stranger('10.0.0.2'), Stranger('10.0.0.3')
         hard = [self.strangers.is_hard(*pair) for pair in ((silent, other), (speaks, same), (speaks, other))]
         self.assertEqual(hard, [False, False, True])
@@ -184,7 +186,7 @@ class Crowd(unittest.TestCase):
         self.assertEqual(address_of('fe80::1%eth0'), address_of('fe80::2'))
 
 
-class Reasons(unittest.TestCase):
+class RefusalReportTests(unittest.TestCase):
     def test_told(self) -> None:
         """Why nobody was let in is told once a minute for each reason, and for ten of them at most."""
         told: list[str] = []
@@ -200,7 +202,7 @@ class Reasons(unittest.TestCase):
             self.assertEqual(told[10:], ['reason 3'])
 
 
-class KeptFile(unittest.TestCase):
+class KeptBlocksTests(unittest.TestCase):
     def test_file(self) -> None:
         with tempfile.TemporaryDirectory() as folder:
             path = os.path.join(folder, 'kept')
@@ -215,7 +217,7 @@ class KeptFile(unittest.TestCase):
             KeptBlocks(os.path.join(folder, 'none', 'kept')).put((1,))        # is not written, and ends nothing
 
 
-class Played:
+class StandInDriver:
     """A driver at a control socket, whose lines go by the tables and whose exchange sends what the test sets."""
 
     def __init__(self, path: str, roles: dict[int, Role]) -> None:
@@ -306,7 +308,7 @@ class Played:
             self.move(n, table[self.states[n]][COLUMN[self.pairs[n]]])
 
 
-class Sites(unittest.IsolatedAsyncioTestCase):
+class TieCase(unittest.IsolatedAsyncioTestCase):
     """Two ties with played drivers: on odd circuits the west calls, on even ones the east."""
 
     async def asyncSetUp(self) -> None:
@@ -320,7 +322,7 @@ class Sites(unittest.IsolatedAsyncioTestCase):
                 change = mock.patch.object(patched, name, number)
                 change.start()
                 self.addCleanup(change.stop)
-        self.west, self.east = (Played(os.path.join(self.folder.name, name), {
+        self.west, self.east = (StandInDriver(os.path.join(self.folder.name, name), {
             n: Role.INCOMING if n % 2 == odd else Role.OUTGOING for n in CIRCUITS})
             for name, odd in (('west.ctl', 1), ('east.ctl', 0)))
         for driver in (self.west, self.east):
@@ -381,36 +383,34 @@ class Sites(unittest.IsolatedAsyncioTestCase):
             self.west.recognise()
             self.east.recognise()
 
+    async def sends(self, driver: StandInDriver, n: int, pair: int, west: State, east: State | None = None) -> None:
+        """An exchange sends these bits, and both ends come into these states."""
+        driver.send(n, pair)
+        await self.until(self.at(n, west, east or west))
+
     def at(self, n: int, west: State, east: State) -> Callable[[], bool]:
         return lambda: (self.west.states[n], self.east.states[n]) == (west, east)
 
 
-class Lines(Sites):
+class TieCallTests(TieCase):
     """Calls from end to end."""
 
     async def test_call(self) -> None:
         """Seized, answered, hung up, answered again, cleared: each is passed on."""
         await self.both()
-        self.west.send(3, SEIZED)
-        await self.until(self.at(3, State.ACKED, State.ACKED))
-        self.east.send(3, ANSWER)
-        await self.until(self.at(3, State.ANSWERED, State.ANSWERED))
-        self.east.send(3, HELD)
-        await self.until(self.at(3, State.CLEAREDBACK, State.CLEAREDBACK))
-        self.east.send(3, ANSWER)
-        await self.until(self.at(3, State.ANSWERED, State.ANSWERED))
-        self.west.send(3, IDLE)
-        await self.until(self.at(3, State.IDLE, State.IDLE))
+        await self.sends(self.west, 3, SEIZED, State.ACKED)
+        await self.sends(self.east, 3, ANSWER, State.ANSWERED)
+        await self.sends(self.east, 3, HELD, State.CLEAREDBACK)
+        await self.sends(self.east, 3, ANSWER, State.ANSWERED)
+        await self.sends(self.west, 3, IDLE, State.IDLE)
         self.assertIn('on-loss block 3', self.west.asked)
         self.assertNotIn('seize 3', self.west.asked)
 
     async def test_blocked(self) -> None:
         """What the exchange blocks is blocked at the other end, and no longer than it does."""
         await self.both()
-        self.east.send(5, HELD)
-        await self.until(self.at(5, State.BLOCKED, State.BLOCKED))
-        self.east.send(5, IDLE)
-        await self.until(self.at(5, State.IDLE, State.IDLE))
+        await self.sends(self.east, 5, HELD, State.BLOCKED)
+        await self.sends(self.east, 5, IDLE, State.IDLE)
 
     async def test_congestion(self) -> None:
         """A seizure that is refused is told to the caller by an answer and a clear-back, and not tried again."""
@@ -423,8 +423,7 @@ class Lines(Sites):
         await asyncio.sleep(0.3)
         self.assertEqual(self.east.asked.count('seize 1'), 1)
         self.assertEqual([each for each in self.west.asked if each.endswith(' 1')], ['answer 1', 'clear-back 1'])
-        self.west.send(1, IDLE)
-        await self.until(self.at(1, State.IDLE, State.IDLE))
+        await self.sends(self.west, 1, IDLE, State.IDLE)
 
     async def test_caller_waits(self) -> None:
         """Where no answer may be feigned the caller gets none."""
@@ -452,21 +451,18 @@ class Lines(Sites):
     async def test_operator_is_second(self) -> None:
         """A circuit that a tie has blocked already stays blocked where the operator wants that, too."""
         await self.both()
-        self.east.send(5, HELD)
-        await self.until(self.at(5, State.BLOCKED, State.BLOCKED))
+        await self.sends(self.east, 5, HELD, State.BLOCKED)
         await self.until(lambda: 5 not in self.sites[0][0]._busy)       # its own block has been answered
         self.assertIn('not idle', self.west.obey(['block', '5']))
         self.east.send(5, IDLE)
-        self.east.send(7, HELD)
-        await self.until(self.at(7, State.BLOCKED, State.BLOCKED))
+        await self.sends(self.east, 7, HELD, State.BLOCKED)
         self.assertIs(self.west.states[5], State.BLOCKED)
 
     async def test_connection_broken(self) -> None:
         """A call lives through a short break, and what happened meanwhile is made good; a long one ends it."""
         await self.both()
         self.west.send(3, SEIZED)
-        self.west.send(5, SEIZED)
-        await self.until(self.at(5, State.ACKED, State.ACKED))
+        await self.sends(self.west, 5, SEIZED, State.ACKED)
         await self.kill(self.tasks[2:], self.sites[1][1])
         await self.until(lambda: bool(self.told('west', 'site gone')))
         self.assertIs(self.west.states[3], State.ACKED)
@@ -484,16 +480,14 @@ class Lines(Sites):
 
     async def test_outgoing_end_gives_up(self) -> None:
         await self.both()
-        self.west.send(3, SEIZED)
-        await self.until(self.at(3, State.ACKED, State.ACKED))
+        await self.sends(self.west, 3, SEIZED, State.ACKED)
         await self.kill(self.tasks[:2], self.sites[0][1])
         await self.until(lambda: self.east.states[3] not in CALLED)
 
     async def test_dark(self) -> None:
         """An alarm of one trunk blocks at once at the other end, and ends calls when it lasts."""
         await self.both()
-        self.west.send(3, SEIZED)
-        await self.until(self.at(3, State.ACKED, State.ACKED))
+        await self.sends(self.west, 3, SEIZED, State.ACKED)
         self.east.alarm = True
         self.east.tell(event='alarm', what='frame', on=True)
         await self.until(lambda: self.west.states[1] is State.BLOCKED)
@@ -542,34 +536,29 @@ class Lines(Sites):
                 await asyncio.wait_for(reader.read(), 1)
             writer.close()
         self.assertFalse(self.told('west', 'site gone'))
-        self.west.send(3, SEIZED)
-        await self.until(self.at(3, State.ACKED, State.ACKED))
+        await self.sends(self.west, 3, SEIZED, State.ACKED)
 
 
-class UntilAnswer(Sites):
+class UntilAnswerTests(TieCase):
     """G.711 until the answer, and the configured codec from it on, at both ends."""
 
     def have(self, n: int, coding: Coding) -> Callable[[], bool]:
         return lambda: self.west.codecs[n] == self.east.codecs[n] == coding
 
     async def answered(self, n: int) -> None:
-        self.west.send(n, SEIZED)
-        await self.until(self.at(n, State.ACKED, State.ACKED))
-        self.east.send(n, ANSWER)
-        await self.until(self.at(n, State.ANSWERED, State.ANSWERED))
+        await self.sends(self.west, n, SEIZED, State.ACKED)
+        await self.sends(self.east, n, ANSWER, State.ANSWERED)
 
     async def test_call(self) -> None:
         """A call from its seizure to its end; an idle circuit is ready for the next one, and no other is touched."""
         await self.both(until='pcma')
         await self.until(lambda: all(self.have(n, PCMA)() for n in CIRCUITS))
-        self.west.send(3, SEIZED)
-        await self.until(self.at(3, State.ACKED, State.ACKED))
+        await self.sends(self.west, 3, SEIZED, State.ACKED)
         self.assertTrue(self.have(3, PCMA)())
         self.east.send(3, ANSWER)
         await self.until(self.have(3, G726))
         self.assertEqual({state[3] for state in (self.west.states, self.east.states)}, {State.ANSWERED})
-        self.east.send(3, HELD)
-        await self.until(self.at(3, State.CLEAREDBACK, State.CLEAREDBACK))
+        await self.sends(self.east, 3, HELD, State.CLEAREDBACK)
         self.assertTrue(self.have(3, G726)())
         self.west.send(3, IDLE)
         await self.until(self.have(3, PCMA))
@@ -606,8 +595,7 @@ class UntilAnswer(Sites):
         await self.both(until='pcma')
         await self.until(lambda: all(self.have(n, PCMA)() for n in CIRCUITS))
         for n in (3, 5):
-            self.west.send(n, SEIZED)
-            await self.until(self.at(n, State.ACKED, State.ACKED))
+            await self.sends(self.west, n, SEIZED, State.ACKED)
         self.east.send(3, ANSWER)
         await self.until(self.have(3, G726))
         await self.kill(self.tasks[2:], self.sites[1][1])
@@ -645,14 +633,13 @@ class UntilAnswer(Sites):
     async def test_left(self) -> None:
         """At its end a tie gives circuits without a call what is configured."""
         await self.both(until='pcma')
-        self.west.send(3, SEIZED)
-        await self.until(self.at(3, State.ACKED, State.ACKED))
+        await self.sends(self.west, 3, SEIZED, State.ACKED)
         await self.until(lambda: all(self.have(n, PCMA)() for n in CIRCUITS))
         await self.sites[0][0].leave()
         self.assertEqual([n for n in CIRCUITS if self.west.codecs[n] == PCMA], [3])
 
 
-class WantedCodec(unittest.TestCase):
+class WantedCodecTests(unittest.TestCase):
     """Which codec is wanted where, by hand."""
 
     def codings(self, law: str = 'A', payload: int = 96, codec: str = 'g726-16') -> tuple[Codings, str | None]:
@@ -699,10 +686,10 @@ def free_port() -> int:
 
 
 @unittest.skipUnless(shutil.which('openssl'), 'openssl makes the certificates')
-class Certificates(Sites):
+class CertificateTests(TieCase):
     """The same connection by TLS, and who is let in."""
 
-    test_call, test_strangers = Lines.test_call, Lines.test_strangers
+    test_call, test_strangers = TieCallTests.test_call, TieCallTests.test_strangers
 
     async def asyncSetUp(self) -> None:
         await super().asyncSetUp()
@@ -753,7 +740,7 @@ class Certificates(Sites):
         rows: list[tuple[list[str], list[str]]] = [([], [ANYBODY]), (['--peer', 'east'], [])]
         for more, told in rows:
             words = ('--listen', f'127.0.0.1:{free_port()}', '--tls', *files, *more)
-            events = Doors().said(*words)[2]
+            events = TieAddressTests().said(*words)[2]
             self.assertEqual([each['about'] for each in events if each['event'] == 'warning'], told)
 
     async def test_without_tls(self) -> None:

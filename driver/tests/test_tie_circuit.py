@@ -8,7 +8,7 @@ from typing import Any, Iterator, TypeVar
 
 from e1gw.lines import Role, State
 from e1gw.session import Command
-from e1gw.tie.circuit import NO_CALL, TieCircuit, CircuitEnd, LinkState
+from e1gw.tie.circuit import NO_CALL, CircuitEnd, LinkState, TieCircuit
 
 S, GOOD, LOST, GIVEN_UP = State, LinkState.GOOD, LinkState.LOST, LinkState.GIVEN_UP
 IDLE, SEIZED, ACKED, ANSWERED = S.IDLE, S.SEIZED, S.ACKED, S.ANSWERED
@@ -34,7 +34,7 @@ DONE = {Command.SEIZE: ((IDLE,), SEIZED), Command.CLEAR: (CALLED, RELEASING),
 
 
 @dataclass(frozen=True)
-class Exchange:
+class OutgoingExchange:
     """How the exchange at the outgoing end behaves once nothing else happens."""
 
     acknowledges: bool = True
@@ -50,7 +50,7 @@ class Exchange:
 
 
 @dataclass(frozen=True)
-class World:
+class TieCircuitWorld:
     """A circuit with both its ends, both exchanges and what is on the way."""
 
     near: TieCircuit                       # the incoming end
@@ -66,7 +66,7 @@ class World:
     def ends(self) -> tuple[TieCircuit, TieCircuit]:
         return self.near, self.far
 
-    def with_end(self, side: int, circuit: TieCircuit) -> 'World':
+    def with_end(self, side: int, circuit: TieCircuit) -> 'TieCircuitWorld':
         """With this end as it is now, which is on its way to the other one."""
         if circuit == self.ends()[side]:
             return self
@@ -76,7 +76,7 @@ class World:
 
     # ---- what can happen ----
 
-    def line(self, side: int) -> 'World':
+    def line(self, side: int) -> 'TieCircuitWorld':
         """The line recognises what the exchange sends."""
         circuit, table = self.ends()[side], (INCOMING, OUTGOING)[side]
         state = table[circuit.state][COLUMN[(self.forward, self.backward)[side]]]
@@ -86,9 +86,9 @@ class World:
         world = replace(self, calls=self.calls + begins)
         return world.with_end(side, circuit.moved(state, f'call {world.calls}' if begins else None))
 
-    def ask(self, side: int) -> 'World':
+    def ask(self, side: int) -> 'TieCircuitWorld':
         """An end that has no command on the way gives the one that it wants."""
-        circuit = self.ends()[side].settled(self.links[side])
+        circuit = self.ends()[side].marked_over(self.links[side])
         world = self.with_end(side, circuit)
         command = None if self.asked[side] else circuit.wants(self.links[side])
         if command is None:
@@ -96,7 +96,7 @@ class World:
         call = circuit.far.call if circuit.far and command is Command.SEIZE else None
         return replace(world, asked=put(world.asked, side, (command, call or NO_CALL)))
 
-    def do(self, side: int) -> 'World':
+    def do(self, side: int) -> 'TieCircuitWorld':
         """The gateway does a command or refuses it."""
         asked = self.asked[side]
         if asked is None:
@@ -109,7 +109,7 @@ class World:
             circuit = circuit.tried(call)
         return replace(self, asked=put(self.asked, side, None)).with_end(side, circuit)
 
-    def deliver(self, side: int) -> 'World':
+    def deliver(self, side: int) -> 'TieCircuitWorld':
         """What is on the way to an end comes there."""
         told = self.on_way[1 - side]
         if told is None:
@@ -117,19 +117,19 @@ class World:
         world = replace(self, on_way=put(self.on_way, 1 - side, None), links=put(self.links, side, GOOD))
         return world.with_end(side, self.ends()[side].heard(told))
 
-    def broken(self) -> 'World':
+    def broken(self) -> 'TieCircuitWorld':
         return replace(self, up=False, on_way=(None, None))
 
-    def connected(self) -> 'World':
+    def connected(self) -> 'TieCircuitWorld':
         return replace(self, up=True, on_way=(self.near.end(), self.far.end()))
 
-    def noticed(self, side: int) -> 'World':
+    def noticed(self, side: int) -> 'TieCircuitWorld':
         """An end gives the connection up, and later the call."""
         if self.up or self.links[side] is GIVEN_UP:
             return self
         return replace(self, links=put(self.links, side, LOST if self.links[side] is GOOD else GIVEN_UP))
 
-    def forgotten(self, side: int) -> 'World':
+    def forgotten(self, side: int) -> 'TieCircuitWorld':
         """The tie of one end is started anew. The driver knows the calls of its incoming circuits."""
         circuit = self.ends()[side]
         fresh = TieCircuit(circuit.role, circuit.state, circuit.call if side == 0 else None)
@@ -144,7 +144,7 @@ def put(pair: tuple[T, ...], side: int, value: T) -> tuple[T, T]:
     return (value, pair[1]) if side == 0 else (pair[0], value)
 
 
-def happenings(world: World, most: int) -> Iterator[World]:
+def happenings(world: TieCircuitWorld, most: int) -> Iterator[TieCircuitWorld]:
     """All that can happen next, a command being done at once."""
     for side in (0, 1):
         yield world.ask(side).do(side)
@@ -153,7 +153,7 @@ def happenings(world: World, most: int) -> Iterator[World]:
     yield from outside(world, most)
 
 
-def outside(world: World, most: int) -> Iterator[World]:
+def outside(world: TieCircuitWorld, most: int) -> Iterator[TieCircuitWorld]:
     """What the exchanges and the connection do, in at most so many calls."""
     yield world.broken() if world.up else world.connected()
     if world.far.state is SEIZED:
@@ -169,7 +169,7 @@ def outside(world: World, most: int) -> Iterator[World]:
             yield replace(world, backward=backward)
 
 
-def recognised(world: World) -> World:
+def recognised(world: TieCircuitWorld) -> TieCircuitWorld:
     """With all that the exchanges send recognised."""
     while True:
         after_both = world.line(0).line(1)
@@ -178,7 +178,7 @@ def recognised(world: World) -> World:
         world = after_both
 
 
-def onward(world: World, exchange: Exchange) -> World:
+def onward(world: TieCircuitWorld, exchange: OutgoingExchange) -> TieCircuitWorld:
     """One round in which nothing but the two ties acts: the connection is there and all is delivered."""
     before = world
     world = replace(world, backward=exchange.pair(world.far.state, world.backward)).line(1).line(0)
@@ -192,15 +192,15 @@ def onward(world: World, exchange: Exchange) -> World:
     return world.with_end(1, replace(world.far, stuck=True) if stuck else world.far.moved(RELEASING))
 
 
-class Rest:
+class FinalState:
     """What comes of a world in the end."""
 
-    def __init__(self, exchange: Exchange) -> None:
+    def __init__(self, exchange: OutgoingExchange) -> None:
         self.exchange = exchange
-        self.known: dict[World, World] = {}
+        self.known: dict[TieCircuitWorld, TieCircuitWorld] = {}
 
-    def of(self, world: World) -> World:
-        passed: list[World] = []
+    def of(self, world: TieCircuitWorld) -> TieCircuitWorld:
+        passed: list[TieCircuitWorld] = []
         world = world if world.up else world.connected()
         while world not in self.known:
             if len(passed) > 60:
@@ -215,7 +215,7 @@ class Rest:
         return self.known[world]
 
 
-def disagreement(world: World, strictly: bool = True) -> str | None:
+def disagreement(world: TieCircuitWorld, strictly: bool = True) -> str | None:
     """What is wrong between two ends at rest that hear one another."""
     near, far = world.near, world.far
     if far.state in CALLED:
@@ -237,7 +237,7 @@ def disagreement(world: World, strictly: bool = True) -> str | None:
     return None
 
 
-def anything() -> Iterator[World]:
+def anything() -> Iterator[TieCircuitWorld]:
     """Both ends in any states and with any memory, as they are when they are connected."""
     backward = {ACKED: 0b11, ANSWERED: 0b01, CLEAREDBACK: 0b11, BLOCKED: 0b11}
     for near, over, passed in product(INCOMING, (False, True), (NO_CALL, 'call 1', 'call 2')):
@@ -245,10 +245,10 @@ def anything() -> Iterator[World]:
         for far, call in product(OUTGOING, (None, NO_CALL, 'call 1', 'call 2')):
             forward = 0b00 if near in SPEAKING else 0b10
             other = TieCircuit(Role.OUTGOING, far, call)
-            yield World(one, other, forward, backward.get(far, 0b10), False, (LOST, LOST))
+            yield TieCircuitWorld(one, other, forward, backward.get(far, 0b10), False, (LOST, LOST))
 
 
-def everything(first: World, most: int) -> set[World]:
+def everything(first: TieCircuitWorld, most: int) -> set[TieCircuitWorld]:
     """All worlds that can come of one."""
     found, todo = {first}, deque((first,))
     while todo:
@@ -260,7 +260,7 @@ def everything(first: World, most: int) -> set[World]:
     return found
 
 
-def walk(chance: Random, steps: int) -> World:
+def walk(chance: Random, steps: int) -> TieCircuitWorld:
     """A world after so many things, commands taking their time and ties being started anew."""
     world = START
     for _ in range(steps):
@@ -273,13 +273,13 @@ def walk(chance: Random, steps: int) -> World:
     return world
 
 
-START = World(TieCircuit(Role.INCOMING, IDLE, NO_CALL), TieCircuit(Role.OUTGOING, IDLE, NO_CALL), up=False,
-              links=(LOST, LOST))
-EXCHANGES = [Exchange(*each) for each in product((True, False), (True, False), (False, True))]
+START = TieCircuitWorld(TieCircuit(Role.INCOMING, IDLE, NO_CALL), TieCircuit(Role.OUTGOING, IDLE, NO_CALL), up=False,
+                        links=(LOST, LOST))
+EXCHANGES = [OutgoingExchange(*each) for each in product((True, False), (True, False), (False, True))]
 
 
-class Agreement(unittest.TestCase):
-    def assert_agreed(self, start: World, rest: Rest, strictly: bool = True) -> None:
+class TieAgreementTests(unittest.TestCase):
+    def assert_agreed(self, start: TieCircuitWorld, rest: FinalState, strictly: bool = True) -> None:
         end = rest.of(start)
         wrong = disagreement(end, strictly)
         if wrong:
@@ -288,7 +288,7 @@ class Agreement(unittest.TestCase):
     def test_every_pair_of_states(self) -> None:
         """From any states and memories both ends come to agree once they hear one another."""
         for exchange in EXCHANGES:
-            rest = Rest(exchange)
+            rest = FinalState(exchange)
             for world in anything():
                 self.assert_agreed(world, rest, strictly=False)
 
@@ -297,15 +297,15 @@ class Agreement(unittest.TestCase):
         both ends agree after it."""
         found = everything(START, 1)
         self.assertGreater(len(found), 50_000)
-        for exchange in (Exchange(), Exchange(acknowledges=False, releases=False)):
-            rest = Rest(exchange)
+        for exchange in (OutgoingExchange(), OutgoingExchange(acknowledges=False, releases=False)):
+            rest = FinalState(exchange)
             for world in found:
                 self.assert_agreed(world, rest)
 
     def test_many_calls(self) -> None:
         """The same for three calls, commands that take their time and ties that are started anew, by chance."""
         chance = Random(1)
-        rests = [Rest(exchange) for exchange in EXCHANGES]
+        rests = [FinalState(exchange) for exchange in EXCHANGES]
         for _ in range(2000):
             self.assert_agreed(walk(chance, chance.randrange(120)), chance.choice(rests), strictly=False)
 
@@ -335,7 +335,7 @@ def called(state: State, call: str | None = 'call 2') -> CircuitEnd:
     return CircuitEnd(Role.OUTGOING, state, call)
 
 
-class Commands(unittest.TestCase):
+class TieCommandTests(unittest.TestCase):
     ROWS = [
         # A call goes on, in its order.
         (outgoing(IDLE, caller(ACKED)), GOOD, Command.SEIZE),
@@ -381,7 +381,7 @@ class Commands(unittest.TestCase):
 
     def test_given_up_stays_so(self) -> None:
         """A call that was given up is not passed on when the other end comes back; the next one is."""
-        circuit = incoming(ACKED, called(IDLE, 'call 1')).settled(GIVEN_UP)
+        circuit = incoming(ACKED, called(IDLE, 'call 1')).marked_over(GIVEN_UP)
         self.assertTrue(circuit.end().over)
         self.assertIs(circuit.wants(GOOD), Command.ANSWER)
         self.assertFalse(circuit.moved(IDLE).moved(ACKED, 'call 3').end().over)

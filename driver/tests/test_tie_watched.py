@@ -11,13 +11,13 @@ import time
 import unittest
 from typing import Any, Callable
 
-from .telling import IDLE, Watched, row
+from .telling import IDLE, WatchedTrunk, row
 from e1gw.lines import Line, Role, State
 from e1gw.naming import Naming
 from e1gw.session import Kind
 from e1gw.tie.circuit import CircuitEnd
 from e1gw.tie.kept import KeptBlocks
-from e1gw.tie.messages import All, Change, Message
+from e1gw.tie.messages import CircuitChange, Message, SiteState
 from e1gw.tie.tie import Tie, TieOptions
 
 CONFIG = 'law = "A"\n[[circuit]]\nnumber = 1\n[[circuit]]\nnumber = 2\nrole = "incoming"\n'
@@ -36,18 +36,18 @@ class FarSite:
     def call(self, circuit: int) -> str | None:
         """The name of a circuit's call as it was sent last."""
         for message in reversed(self.sent):
-            if isinstance(message, Change) and message.circuit == circuit:
+            if isinstance(message, CircuitChange) and message.circuit == circuit:
                 return message.end.call
-            if isinstance(message, All):
+            if isinstance(message, SiteState):
                 return message.ends[circuit].call
         return None
 
 
-class Killed(unittest.IsolatedAsyncioTestCase):
+class TieKilledWatcherTests(unittest.IsolatedAsyncioTestCase):
     """On circuit 1 the other site calls, on circuit 2 the exchange here."""
 
     async def asyncSetUp(self) -> None:
-        self.world = Watched(CONFIG, rows=ROWS)
+        self.world = WatchedTrunk(CONFIG, rows=ROWS)
         self.addCleanup(self.world.__exit__)
         self.events: list[dict[str, Any]] = []
         kept = KeptBlocks(os.path.join(self.world.folder, 'kept'))
@@ -71,8 +71,8 @@ class Killed(unittest.IsolatedAsyncioTestCase):
 
     def hear(self, one: State, two: State, call: str | None = '') -> None:
         """The other site stands so: circuit 1 is incoming there, circuit 2 outgoing, with the call that was passed."""
-        self.tie.heard(All(False, {1: CircuitEnd(Role.INCOMING, one, 'far.1'),
-                                   2: CircuitEnd(Role.OUTGOING, two, call)}))
+        self.tie.heard(SiteState(False, {1: CircuitEnd(Role.INCOMING, one, 'far.1'),
+                                         2: CircuitEnd(Role.OUTGOING, two, call)}))
 
     def commands(self) -> list[tuple[int, int]]:
         """What the program was given."""
@@ -134,7 +134,7 @@ class Killed(unittest.IsolatedAsyncioTestCase):
         self.assertNotIn(self.far.call(2), (name, '', None))
 
 
-class Named(unittest.TestCase):
+class NamingTests(unittest.TestCase):
     """The count goes on over watchers and sessions."""
 
     def setUp(self) -> None:

@@ -5,17 +5,17 @@ import unittest
 from typing import Any
 
 from .telling import IDLE, row
-from e1gw.counts import Counts
+from e1gw.counts import DatagramCounts
 from e1gw.told import BadTelling, Told
 
 BEGIN = ['e1gw tell 1 A', 'at 512', 'alarms 0 0 0 0', *(f'line {each}' for each in IDLE)]
 
 
-class Telling(unittest.TestCase):
+class ToldTests(unittest.TestCase):
     def setUp(self) -> None:
         self.now, self.events = 100.0, list[dict[str, Any]]()
         self.counted: list[tuple[int, ...]] = []
-        self.counts = Counts(lambda *answer: self.counted.append(answer))
+        self.counts = DatagramCounts(lambda *answer: self.counted.append(answer))
         self.told = Told({'law': 'A', 'circuit': [{'number': 1, 'prefill': 320}]}, self.events.append, self.counts,
                          lambda: self.now)
         self.told.begin(1)
@@ -43,7 +43,7 @@ class Telling(unittest.TestCase):
 
     def test_a_whole_state_tells_no_change(self) -> None:
         self.assertEqual(self.events, [])
-        self.assertEqual((self.told.law, self.told.place, self.told.dark_words()), ('A', 512, None))
+        self.assertEqual((self.told.law, self.told.place, self.told.outage()), ('A', 512, None))
         self.assertEqual({row['state'] for row in self.told.status()['circuits']}, {'idle'})
         self.assertEqual(self.circuit()['jitter_buffer_ms'], 40)
 
@@ -95,9 +95,9 @@ class Telling(unittest.TestCase):
 
     def test_alarms(self) -> None:
         self.take('alarms 1 1 0 0')
-        self.assertEqual(self.told.dark_words(), 'no alignment')
+        self.assertEqual(self.told.outage(), 'no alignment')
         self.take('alarms 0 0 1 0')
-        self.assertEqual(self.told.dark_words(), 'the other end has no alignment')
+        self.assertEqual(self.told.outage(), 'the other end has no alignment')
         self.assertEqual(self.told.status()['losses'], {'frame': 1, 'multiframe': 1})
         self.assertEqual(self.names(), [
             ('lost', 'frame'), ('alarm', 'frame', True), ('lost', 'multiframe'), ('alarm', 'multiframe', True),

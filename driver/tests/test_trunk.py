@@ -18,7 +18,7 @@ from . import support
 from .flowing import is_seized
 from .world import ANSWERED, IDLE, LAUNCHER, SECONDS, SEIZED, World, config_of, descendant, free_ports
 from e1gw import session
-from e1gw.left import forget_folders, own_prefix
+from e1gw.recovery import forget_folders, own_prefix
 from e1gw.trunk import options_of, parts_of
 
 FOUR = range(1, 5)
@@ -39,7 +39,7 @@ def aligned(world: W) -> W:
     """Steps until the lines are idle."""
     world.until(lambda: world.exchange.aligned and not world.exchange.remote_alarms)
     world.step(15)
-    world.settle()
+    world.wait_for_watcher()
     return world
 
 
@@ -72,11 +72,10 @@ def call(world: World, circuit: int) -> None:
     assert world.state(circuit) == 'answered'
 
 
-class Commands(unittest.TestCase):
+class TrunkCommandTests(unittest.TestCase):
     """Each command's each answer, by the tables of e1gw-session(5)."""
 
     def setUp(self) -> None:
-        support.program()
         self.world = World(config_of(FOUR, incoming=(2,)))
         self.addCleanup(self.world.__exit__)
 
@@ -160,10 +159,7 @@ class Commands(unittest.TestCase):
                       [{key: each for key, each in event.items() if key != 'time'} for event in told])
 
 
-class Sessions(unittest.TestCase):
-    def setUp(self) -> None:
-        support.program()
-
+class TrunkSessionTests(unittest.TestCase):
     def test_a_session_replays_alike(self) -> None:
         with World(config_of(range(1, 31), prefill=320), '--session', '@/kept') as world:
             aligned(world)
@@ -215,11 +211,8 @@ class Sessions(unittest.TestCase):
                 self.assertEqual(world.status()['circuits'][0]['datagrams'].get('Short', 0), short)
 
 
-class Beside(unittest.TestCase):
+class BesideCallsTests(unittest.TestCase):
     """What ends beside the calls; the calls go on."""
-
-    def setUp(self) -> None:
-        support.program()
 
     def goes_on(self, world: World, what: str | None = None) -> None:
         """A call comes up, and what has ended is told. The trunk goes on in lock step until then: what ends does so in
@@ -296,10 +289,10 @@ class Beside(unittest.TestCase):
         with World(config_of(FOUR), '--align', '--reopen') as world:
             aligned(world)
             call(world, 1)
-            with world.new_door() as door:
+            with world.new_listener() as listener:
                 os.kill(descendant(world.process.pid, 'e1gw-carry'), signal.SIGKILL)
                 world.line.close()
-                world.take(door)
+                world.take(listener)
             world.exchange = support.Exchange()
             world.exchange.pairs[1] = ANSWERED
             world.connected()
@@ -457,7 +450,7 @@ def cut(options: Sequence[str]) -> list[list[str]]:
     return found
 
 
-class Refused(support.Folder):
+class RefusedOptionsTests(support.FolderCase):
     """Command lines that are refused with status 2, before anything is emptied."""
 
     def setUp(self) -> None:
@@ -500,9 +493,9 @@ class Refused(support.Folder):
 
     def test_a_socket_that_is_taken(self) -> None:
         path = os.path.join(self.folder, 'ctl')
-        with socket.socket(socket.AF_UNIX) as door:
-            door.bind(path)
-            door.listen()
+        with socket.socket(socket.AF_UNIX) as listener:
+            listener.bind(path)
+            listener.listen()
             status, said = self.run_driver('--config', self.good, '--unix', 'none', '--control', path)
         self.assertEqual((status, 'another one listens' in said), (2, True))
 
@@ -610,7 +603,7 @@ class Refused(support.Folder):
             self.assertEqual(file.read(), answered[0].body)
 
 
-class Units(support.Folder):
+class UnitTests(support.FolderCase):
     """What systemd is told."""
 
     def setUp(self) -> None:
@@ -639,11 +632,11 @@ class Units(support.Folder):
         return process
 
     def test_in_service_reload_and_end(self) -> None:
-        with socket.socket(socket.AF_UNIX) as door:
-            door.bind(self.path('card'))
-            door.listen(1)
+        with socket.socket(socket.AF_UNIX) as listener:
+            listener.bind(self.path('card'))
+            listener.listen(1)
             process = self.starts('--unix', self.path('card'))
-            line = door.accept()[0]
+            line = listener.accept()[0]
             self.assertEqual(self.told(), 'READY=1\nSTATUS=in service')
             self.assertTrue(os.path.exists(self.path('ctl')))
             process.send_signal(signal.SIGHUP)
@@ -658,10 +651,7 @@ class Units(support.Folder):
         self.assertEqual(self.told(), 'READY=1\nSTATUS=the trunk is not open yet')
 
 
-class OnLoss(unittest.TestCase):
-    def setUp(self) -> None:
-        support.program()
-
+class OnLossTests(unittest.TestCase):
     def guard(self, world: World, words: str) -> socket.socket:
         line = socket.socket(socket.AF_UNIX)
         line.connect(world.path('ctl'))
@@ -705,10 +695,7 @@ class OnLoss(unittest.TestCase):
             self.assertEqual(world.state(1), 'answered')
 
 
-class Darkness(unittest.TestCase):
-    def setUp(self) -> None:
-        support.program()
-
+class DarkTrunkTests(unittest.TestCase):
     def test_calls_of_a_dark_trunk_are_cleared(self) -> None:
         with World(config_of(FOUR), '--dark', '1') as world:
             aligned(world)

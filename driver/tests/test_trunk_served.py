@@ -19,14 +19,14 @@ from typing import Iterator, Sequence
 
 from . import support
 from e1gw.exchange import ACKNOWLEDGED, ANSWERED, IDLE, SEIZED
-from e1gw.session import Codec, Command, CommandRefusal, Kind, codec_record, command_record, records_in, spell
+from e1gw.session import Codec, Command, CommandRefusal, Kind, codec_record, command_record, encode_record, records_in
 from e1gw.session import trunk_record
 
 CONFIG = 'law = "A"\n' + ''.join(f'[[circuit]]\nnumber = {c}\nrole = "incoming"\n' for c in range(1, 31))
 SLOW = 'output slow: discarding whole multiframes'
 MULTIFRAME = 512
 PIPE = 65_536               # the octets that a pipe of Linux holds
-END = spell(0x45, 0, b'')   # asks for the end of the session
+END = encode_record(0x45, 0, b'')   # asks for the end of the session
 ANSWER_LENGTH = 6
 SECONDS = 20
 
@@ -53,23 +53,19 @@ def read_all(end: socket.socket, length: int) -> bytes:
     return got
 
 
-class Configured(unittest.TestCase):
+class ServedTrunkCase(support.FolderCase):
     """A configuration of thirty circuits without ports."""
 
     def setUp(self) -> None:
-        folder = tempfile.TemporaryDirectory()
-        self.addCleanup(folder.cleanup)
-        self.recording = os.path.join(folder.name, 'trunk.rec')
-        self.config = os.path.join(folder.name, 'trunk.toml')
-        with open(self.config, 'w', encoding='ascii') as file:
-            file.write(CONFIG)
+        super().setUp()
+        self.recording, self.config = self.path('trunk.rec'), self.write('trunk.toml', CONFIG)
 
     def serves(self, *words: str) -> list[str]:
         """The words of a trunk in service."""
         return [support.program(), 'trunk', '--config', self.config, *words]
 
 
-class Served(Configured):
+class ServedTrunkTests(ServedTrunkCase):
     """A trunk without clients, and a seizure of each circuit."""
 
     def seizures(self) -> tuple[bytes, bytes]:
@@ -187,7 +183,7 @@ class Served(Configured):
         self.assertEqual(held[0], 0)
 
 
-class Trunk:
+class TrunkProcess:
     """A trunk in service over a socket pair, and the socket that its clients connect to."""
 
     def __init__(self, words: Sequence[str], control: str, passed: tuple[int, ...] = (), waits: bool = False) -> None:
@@ -199,7 +195,7 @@ class Trunk:
                                         pass_fds=passed)
         there.close()
 
-    def __enter__(self) -> Trunk:
+    def __enter__(self) -> TrunkProcess:
         return self
 
     def __exit__(self, kind: type[BaseException] | None, error: BaseException | None,
@@ -244,16 +240,16 @@ def answers_of(client: socket.socket, count: int) -> list[tuple[int, bytes]]:
     return [(record.circuit, record.body) for record in records_in(read_all(client, count * ANSWER_LENGTH))]
 
 
-class Clients(Configured):
+class TrunkClientTests(ServedTrunkCase):
     """Clients of a trunk, in lock step: a client's answer is read before anything else is sent."""
 
     def setUp(self) -> None:
         super().setUp()
         self.control = os.path.join(os.path.dirname(self.config), 'control')
 
-    def trunk(self, *words: str, passed: tuple[int, ...] = (), waits: bool = False) -> Trunk:
+    def trunk(self, *words: str, passed: tuple[int, ...] = (), waits: bool = False) -> TrunkProcess:
         """A trunk that has begun, over a socket that may wait."""
-        trunk = Trunk(self.serves('--control', self.control, *words), self.control, passed, waits)
+        trunk = TrunkProcess(self.serves('--control', self.control, *words), self.control, passed, waits)
         self.addCleanup(trunk.__exit__, None, None, None)
         self.assertEqual(len(trunk.passes(bytes(64))), 64)
         return trunk
@@ -312,8 +308,7 @@ class Clients(Configured):
                 with trunk.client() as bad:
                     bad.sendall(blocks([9])[:3])
                 self.assertEqual(len(trunk.passes(bytes(512))), 512)
-            good.sendall(blocks([3]))
-            self.assertEqual(answers_of(good, 1), self.refused([3]))
+            self.blocked(good, 3)
 
     def test_commands_right_before_a_hang_up(self) -> None:
         trunk = self.trunk('--record', self.recording)
@@ -335,29 +330,31 @@ class Clients(Configured):
             with self.assertRaises(OSError):
                 for _ in range(100_000):
                     bad.sendall(blocks([9]))
-            good.sendall(blocks([3]))
-            self.assertEqual(answers_of(good, 1), self.refused([3]))
+            self.blocked(good, 3)
             self.assertEqual(len(trunk.passes(bytes(512))), 512)
 
-    def test_more_clients_than_there_are_places(self) -> None:
+    def blocked(self, client: socket.socket, circuit: int) -> None:
+        """A client asks for a block, and gets the answer."""
+        client.sendall(blocks([circuit]))
+        self.assertEqual(answers_of(client, 1), self.refused([circuit]))
+
+    def full(self) -> tuple[TrunkProcess, list[socket.socket]]:
+        """A trunk and as many clients as it has places, each of which has been answered."""
         trunk = self.trunk()
         clients = [trunk.client() for _ in range(8)]
         for circuit, client in enumerate(clients, 1):
             self.addCleanup(client.close)
-            client.sendall(blocks([circuit]))
-            self.assertEqual(answers_of(client, 1), self.refused([circuit]))
+            self.blocked(client, circuit)
+        return trunk, clients
+
+    def test_more_clients_than_there_are_places(self) -> None:
+        trunk, clients = self.full()
         with trunk.client() as ninth:
             self.assertEqual(self.closed(ninth), b'')
-        clients[0].sendall(blocks([11]))
-        self.assertEqual(answers_of(clients[0], 1), self.refused([11]))
+        self.blocked(clients[0], 11)
 
     def test_places_of_clients_that_have_left(self) -> None:
-        trunk = self.trunk()
-        clients = [trunk.client() for _ in range(8)]
-        for circuit, client in enumerate(clients, 1):
-            self.addCleanup(client.close)
-            client.sendall(blocks([circuit]))
-            self.assertEqual(answers_of(client, 1), self.refused([circuit]))
+        trunk, clients = self.full()
         trunk.serving.send_signal(signal.SIGSTOP)
         os.waitid(os.P_PID, trunk.serving.pid, os.WSTOPPED)
         for client in clients[2:4]:
@@ -365,8 +362,7 @@ class Clients(Configured):
         with trunk.client() as ninth, trunk.client() as tenth:
             trunk.serving.send_signal(signal.SIGCONT)
             for circuit, client in ((9, ninth), (10, tenth), (1, clients[0]), (8, clients[7])):
-                client.sendall(blocks([circuit]))
-                self.assertEqual(answers_of(client, 1), self.refused([circuit]))
+                self.blocked(client, circuit)
             with trunk.client() as eleventh:
                 self.assertEqual(self.closed(eleventh), b'')
 
@@ -374,8 +370,7 @@ class Clients(Configured):
         trunk = self.trunk(waits=True)
         with trunk.client() as client:
             for circuit in (3, 4):
-                client.sendall(blocks([circuit]))
-                self.assertEqual(answers_of(client, 1), self.refused([circuit]))
+                self.blocked(client, circuit)
             self.assertEqual(len(trunk.passes(bytes(5000))), 5000)
             client.sendall(END)
             self.assertEqual(trunk.ended(), (0, ''))
@@ -392,9 +387,9 @@ class Clients(Configured):
 
     def test_a_socket_that_is_taken(self) -> None:
         self.trunk()
-        with Trunk(self.serves('--control', self.control), self.control) as second:
+        with TrunkProcess(self.serves('--control', self.control), self.control) as second:
             self.assertEqual(second.ended(), (2, 'cannot open the control socket\n'))
-        with Trunk(self.serves('--control', self.config), self.control) as third:
+        with TrunkProcess(self.serves('--control', self.config), self.control) as third:
             self.assertEqual(third.ended(), (2, 'cannot open the control socket\n'))
         self.assertEqual(os.stat(self.control).st_mode & 0o777, 0o660)
 
@@ -408,7 +403,7 @@ class Clients(Configured):
         self.assertEqual(trunk.ends(), (0, 'recording ended: a write failed\n'))
 
 
-class GoesOn(Configured):
+class HandedOverTrunkTests(ServedTrunkCase):
     """A trunk whose program ends at a client's word, and goes on in another one on the same device."""
 
     def setUp(self) -> None:

@@ -13,18 +13,16 @@ from e1gw.trunks import Stream, Trunk, host_and_port, open_files
 OCTETS = bytes(range(256)) * 2
 
 
-class Kinds(support.Folder):
+class TrunkKindTests(support.FolderCase):
     """Each kind gives the octets that come and sends those that go, and ends with an EOFError."""
 
     def both_ways(self, trunk: Trunk, reads: int, writes: int) -> None:
         """The other end writes and reads by these descriptors, which it then closes."""
-        self.assertEqual((trunk.read(100), trunk.unread()), (b'', 0))
+        self.assertEqual(trunk.read(100), b'')
         os.write(writes, OCTETS)
         read = b''
         while len(read) < len(OCTETS):
             read += trunk.read(100)
-            if read:
-                self.assertEqual(trunk.unread(), len(OCTETS) - len(read))
         trunk.write(OCTETS)
         back = b''
         while len(back) < len(OCTETS):
@@ -88,16 +86,7 @@ class Kinds(support.Folder):
                 host_and_port(text)
 
 
-def port_of(world: World) -> int:
-    """That of the first circuit."""
-    with open(world.config, encoding='utf-8') as file:
-        return int(file.read().split('local_port = ')[1].split()[0])
-
-
-class Service(unittest.TestCase):
-    def setUp(self) -> None:
-        support.program()
-
+class TrunkKindServiceTests(unittest.TestCase):
     def test_a_seizure_while_no_octets_come(self) -> None:
         with World(config_of(FOUR)) as world:
             aligned(world)

@@ -14,10 +14,10 @@ import unittest
 from typing import Any, Callable
 
 from . import support
+from .telling import LAUNCHER as WATCHER
 from .test_keeper import GOES_ON
 from .test_keeper import LAUNCHER as KEEPER
-from .telling import LAUNCHER as WATCHER
-from .world import SECONDS, Served, config_of
+from .world import SECONDS, ServedProgram, config_of
 
 EXCHANGE = os.path.join(support.TOP, 'examples', 'exchange')
 
@@ -27,7 +27,7 @@ def tells() -> bool:
     return b'--tell' in support.run('replay', '--help')
 
 
-class Trunk(Served):
+class FourProcesses(ServedProgram):
     """The four processes."""
 
     process: subprocess.Popen[bytes]
@@ -100,11 +100,11 @@ class Trunk(Served):
         self.until(lambda: len(list(GOES_ON.finditer(self.said('keeper')))) > len(found))
 
 
-class Kept(unittest.TestCase):
+class WatchedTrunkTests(unittest.TestCase):
     def setUp(self) -> None:
         if not tells():
             raise unittest.SkipTest('the program has no --tell')
-        self.trunk = Trunk()
+        self.trunk = FourProcesses()
         self.addCleanup(self.trunk.__exit__)
 
     def test_calls(self) -> None:

@@ -8,14 +8,13 @@ import signal
 import socket
 import subprocess
 import sys
-import tempfile
 import time
 import unittest
 import urllib.request
 from typing import Any
 
-from .telling import IDLE, LAUNCHER, Shadow, Watched, row
-from .telling import Program as StandIn
+from .support import FolderCase
+from .telling import IDLE, LAUNCHER, StandInProgram, StandInShadow, WatchedTrunk, row
 from .test_web import free_port, samples
 from .world import SECONDS
 from e1gw.loop import Loop
@@ -27,13 +26,13 @@ CONFIG = 'law = "A"\n[[circuit]]\nnumber = 1\nprefill = 320\n[[circuit]]\nnumber
 ROWS = [IDLE[0], row(2, 'idle', role='incoming')[5:], *IDLE[2:]]
 
 
-class Watches(unittest.TestCase):
-    def watched(self, *options: str, **streams: Any) -> Watched:
-        found = Watched(CONFIG, *options, rows=ROWS, **streams)
+class WatcherCase(unittest.TestCase):
+    def watched(self, *options: str, **streams: Any) -> WatchedTrunk:
+        found = WatchedTrunk(CONFIG, *options, rows=ROWS, **streams)
         self.addCleanup(found.__exit__)
         return found
 
-    def events(self, world: Watched) -> Any:
+    def events(self, world: WatchedTrunk) -> Any:
         found = world.follow()
         self.addCleanup(found.close)
         return found
@@ -43,7 +42,7 @@ class Watches(unittest.TestCase):
         event = next(event for line in events if (event := json.loads(line))['event'] == name)
         return [event.get(key) for key in keys]
 
-    def lines(self, world: Watched) -> list[dict[str, str]]:
+    def lines(self, world: WatchedTrunk) -> list[dict[str, str]]:
         """The lines of --calls @/calls, once there are some."""
         def found() -> list[dict[str, str]]:
             with open(world.path('calls'), encoding='utf-8', newline='') as file:
@@ -52,16 +51,15 @@ class Watches(unittest.TestCase):
         return lines
 
 
-class Answers(unittest.TestCase):
+class CommandAnswerTests(FolderCase):
     """An answer of the program waits until the shadow has told of the command, and no longer than a moment."""
 
     def setUp(self) -> None:
-        folder = tempfile.TemporaryDirectory()
-        self.addCleanup(folder.cleanup)
-        door = StandIn(os.path.join(folder.name, 'program'))
-        self.addCleanup(door.close)
+        super().setUp()
+        listener = StandInProgram(self.path('program'))
+        self.addCleanup(listener.close)
         self.loop, self.said = Loop(1.0), list[str]()
-        self.program = Program(self.loop, door.path, lambda what, on, why: None)
+        self.program = Program(self.loop, listener.path, lambda what, on, why: None)
         self.program.link.look()
         self.addCleanup(self.program.link.close, '')
         self.records = [command_record(n, Command.SEIZE) for n in (1, 2)]
@@ -90,7 +88,7 @@ class Answers(unittest.TestCase):
         self.assertEqual(self.said, ['1 None', '2 None'])
 
 
-class Service(Watches):
+class WatcherServiceTests(WatcherCase):
     def test_status(self) -> None:
         world = self.watched('--name', 'west')
         world.shadow.row(1, 'answered', '00 01', (101, 100, 0))
@@ -116,7 +114,7 @@ class Service(Watches):
                               ('codec 1 g726-32 96', codec_record(1, Codec.G726_32, 96))):
             front = ' '.join(words.split()[:2])
             self.assertEqual(world.ask(words), f'{front}: done')
-            self.assertEqual(world.program.taken[-1].spelled(), record)
+            self.assertEqual(world.program.taken[-1].encode(), record)
 
     def test_an_answer_comes_behind_what_follows_from_it(self) -> None:
         """As with e1gw-trunk: a change, then the answer to the command that made it, and a status that has it."""
@@ -233,7 +231,7 @@ class Service(Watches):
             self.assertEqual((done.returncode, said in done.stderr.decode()), (2, True), done.stderr)
 
 
-class Connections(Watches):
+class WatcherConnectionTests(WatcherCase):
     def test_no_program(self) -> None:
         world = self.watched()
         events = self.events(world)
@@ -243,7 +241,7 @@ class Connections(Watches):
         status = world.told()
         self.assertEqual((status['program'], status['trunk_up'], status['program_since'] > 1e9), (False, False, True))
         self.assertIn('no connection to the program since', world.ask('status'))
-        world.program = StandIn(world.path('program'))
+        world.program = StandInProgram(world.path('program'))
         world.connected()
         self.assertEqual(world.program.taken, [])
         self.assertEqual(world.ask('seize 1'), 'seize 1: done')
@@ -258,7 +256,7 @@ class Connections(Watches):
             world.until(lambda: world.program.taken)
             world.program.close()
             self.assertEqual(line.recv(200), b'seize 1: no answer, the connection to the program is lost\n\n')
-        world.program = StandIn(world.path('program'))
+        world.program = StandInProgram(world.path('program'))
 
     def test_a_program_that_answers_nonsense(self) -> None:
         world = self.watched()
@@ -283,7 +281,7 @@ class Connections(Watches):
         self.assertEqual(status['circuits'][0]['state'], 'answered')
         self.assertEqual(world.ask('seize 4'), 'seize 4: done')        # what the alarms are is not known to be wrong
         rows = [row(1, 'idle', counts=(60, 45, 2))[5:], *ROWS[1:2], row(3, 'answered', '00 01')[5:], *ROWS[3:]]
-        world.shadow = Shadow(world.path('tell.2'), rows)
+        world.shadow = StandInShadow(world.path('tell.2'), rows)
         os.symlink('tell.2', world.path('tell'))
         self.assertEqual(self.next(events, 'state', 'circuit', 'was', 'state', 'unwatched'),
                          [1, 'answered', 'idle', True])
@@ -338,7 +336,7 @@ class Connections(Watches):
         self.assertTrue(line['answered'] and line['ended'])
 
 
-class Calls(Watches):
+class WatcherCallTests(WatcherCase):
     """What is done with calls by itself."""
 
     def test_a_line_for_each_call(self) -> None:
@@ -364,7 +362,7 @@ class Calls(Watches):
         world.shadow.tell('alarms 1 1 0 0')
         self.assertEqual(self.next(events, 'cleared', 'circuits'), [[1, 2]])
         world.until(lambda: len(world.program.taken) == 2)
-        self.assertEqual([record.spelled() for record in world.program.taken],
+        self.assertEqual([record.encode() for record in world.program.taken],
                          [command_record(1, Command.CLEAR), command_record(2, Command.CLEAR_BACK)])
 
     def test_the_last_client_is_gone(self) -> None:
@@ -379,7 +377,7 @@ class Calls(Watches):
             self.assertEqual(line.recv(100), b'on-loss: done\n\n')
         self.assertEqual(self.next(events, 'cleared', 'circuits'), [[1]])
         world.until(lambda: len(world.program.taken) == 2)
-        self.assertEqual(world.program.taken[1].spelled(), command_record(2, Command.BLOCK))
+        self.assertEqual(world.program.taken[1].encode(), command_record(2, Command.BLOCK))
 
     def test_a_playout_is_restarted(self) -> None:
         """Half a second of datagrams that are refused for their time."""
@@ -392,7 +390,7 @@ class Calls(Watches):
                 world.shadow.tell(f'datagram 1 16 {number} {160 * number} 9')
         self.assertEqual(self.next(events, 'renewed', 'circuits'), [[1]])
         world.until(lambda: world.program.taken)
-        self.assertEqual(world.program.taken[0].spelled(), codec_record(1, Codec.G711, 8))
+        self.assertEqual(world.program.taken[0].encode(), codec_record(1, Codec.G711, 8))
 
 
 if __name__ == '__main__':

@@ -33,18 +33,18 @@ def samples(text: str) -> dict[str, float]:
 
 
 def free_port() -> int:
-    with socket.create_server(('127.0.0.1', 0)) as door:
-        port: int = door.getsockname()[1]
+    with socket.create_server(('127.0.0.1', 0)) as listener:
+        port: int = listener.getsockname()[1]
         return port
 
 
-class Text(unittest.TestCase):
+class PageTextTests(unittest.TestCase):
     def test_labels_are_escaped(self) -> None:
         text = family('a', 'gauge', 'b', [({'c': 'd"e\\f\ng'}, 1)], 'h="i"')
         self.assertEqual(text, '# HELP a b\n# TYPE a gauge\na{h="i",c="d\\"e\\\\f\\ng"} 1\n')
 
 
-class Picture(unittest.TestCase):
+class PictureRequestTests(unittest.TestCase):
     def test_the_last_seconds(self) -> None:
         """Drawn of what is kept; the calls go on meanwhile."""
         support.program()
@@ -67,9 +67,8 @@ class Picture(unittest.TestCase):
             call(world, 2)
 
 
-class Pages(unittest.TestCase):
+class WebTests(unittest.TestCase):
     def setUp(self) -> None:
-        support.program()
         self.port = free_port()
         self.world = World(config_of(FOUR), '--http', f'127.0.0.1:{self.port}', '--name', 'west', '--metrics', '@/prom')
         self.addCleanup(self.world.__exit__)

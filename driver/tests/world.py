@@ -14,6 +14,7 @@ import time
 from typing import Any, Callable, Self
 
 from . import support
+from e1gw.testing.service import ask
 
 IDLE, SEIZED, ACKNOWLEDGED, ANSWERED = 2, 0, 3, 1
 LAUNCHER = os.path.join(support.TOP, 'driver', 'e1gw-trunk')
@@ -88,7 +89,7 @@ def config_of(circuits: range, codec: str = 'pcma', payload: int = 8, prefill: i
     return ''.join(text)
 
 
-class Served:
+class ServedProgram:
     """A program in service whose control socket is `ctl` of a folder of its own."""
 
     process: subprocess.Popen[bytes]
@@ -117,18 +118,7 @@ class Served:
 
     def ask(self, command: str | bytes) -> str:
         """The answer to a command."""
-        with socket.socket(socket.AF_UNIX) as line:
-            line.connect(self.path('ctl'))      # waits for a place; with a time limit it would be refused
-            line.settimeout(SECONDS)
-            with contextlib.suppress(BrokenPipeError):      # who has no seat is told so at once
-                line.sendall((command.encode() if isinstance(command, str) else command) + b'\n')
-            answer = b''
-            while not answer.endswith(b'\n\n'):
-                piece = line.recv(65536)
-                if not piece:
-                    raise EOFError(answer)
-                answer += piece
-        return answer.decode().rstrip('\n')
+        return ask(self.path('ctl'), command.encode() if isinstance(command, str) else command)
 
     def told(self) -> dict[str, Any]:
         """The status, which may be a moment old; every change that was told is in it."""
@@ -166,11 +156,11 @@ class Served:
         return self.process.wait(SECONDS), said.decode()
 
 
-SETTLES = 'codec 30 g726-16 95'     # a command that is refused and changes nothing
-SETTLED = 'codec 30: no payload type of the codec'
+NO_EFFECT = 'codec 30 g726-16 95'     # a command that is refused and changes nothing
+NO_EFFECT_ANSWER = 'codec 30: no payload type of the codec'
 
 
-class World(Served):
+class World(ServedProgram):
     """An e1gw-trunk at a Unix socket, with a folder of its own. The exchange acknowledges and answers what is seized.
 
     It gives octets when a test does, and not by a clock; so but for an option --gap no pause is one. What it is asked
@@ -188,7 +178,7 @@ class World(Served):
         if '--gap' not in options:
             options += ('--gap', '10000')
         os.mkdir(self.path('run'))
-        with self._door() as door:
+        with self._listener() as listener:
             streams = {'stdin': subprocess.DEVNULL, 'stdout': subprocess.DEVNULL, 'stderr': subprocess.PIPE} | streams
             self.process = subprocess.Popen(
                 [*front, sys.executable, '-B', LAUNCHER, '--program', support.program(), '--config', self.config,
@@ -196,7 +186,7 @@ class World(Served):
                  *(word.replace('@', self.folder) for word in options)],
                 env={**os.environ, 'RUNTIME_DIRECTORY': self.path('run')}, **streams)
             try:
-                self.take(door)
+                self.take(listener)
                 self.connected()
             except BaseException:
                 self.__exit__()
@@ -207,7 +197,7 @@ class World(Served):
         until = time.monotonic() + SECONDS
         while time.monotonic() < until and self.process.poll() is None:
             try:
-                if self.ask_at_once(SETTLES) == SETTLED and self.known()['shadow']:
+                if self.ask_at_once(NO_EFFECT) == NO_EFFECT_ANSWER and self.known()['shadow']:
                     return
             except (FileNotFoundError, ConnectionRefusedError, EOFError):
                 time.sleep(0.01)
@@ -216,7 +206,7 @@ class World(Served):
         raise AssertionError('the watcher does not come to know the trunk')
 
     def ask(self, command: str | bytes) -> str:
-        self.settle()
+        self.wait_for_watcher()
         return self.ask_at_once(command)
 
     def ask_at_once(self, command: str | bytes) -> str:
@@ -228,14 +218,14 @@ class World(Served):
         found: dict[str, Any] = json.loads(self.ask_at_once('status json'))
         return found
 
-    def settle(self) -> None:
+    def wait_for_watcher(self) -> None:
         """Returns once the watcher knows what was given."""
-        assert self.ask_at_once(SETTLES) == SETTLED
+        assert self.ask_at_once(NO_EFFECT) == NO_EFFECT_ANSWER
 
-    def new_door(self) -> socket.socket:
+    def new_listener(self) -> socket.socket:
         """The socket anew, for a driver that opens its trunk again."""
         os.unlink(self.path('card'))
-        return self._door()
+        return self._listener()
 
     def all_read(self) -> None:
         """Returns once the other end has read all that was sent."""
@@ -247,20 +237,20 @@ class World(Served):
 
     def comes_again(self) -> None:
         """Takes whoever opens the trunk again, and waits until the watcher knows it."""
-        with self.new_door() as door:
-            self.take(door)
+        with self.new_listener() as listener:
+            self.take(listener)
         self.connected()
 
-    def _door(self) -> socket.socket:
-        door = socket.socket(socket.AF_UNIX)
-        door.bind(self.path('card'))
-        door.listen(1)
-        door.settimeout(SECONDS)
-        return door
+    def _listener(self) -> socket.socket:
+        listener = socket.socket(socket.AF_UNIX)
+        listener.bind(self.path('card'))
+        listener.listen(1)
+        listener.settimeout(SECONDS)
+        return listener
 
-    def take(self, door: socket.socket) -> None:
+    def take(self, listener: socket.socket) -> None:
         """Takes the driver that comes there."""
-        self.line = door.accept()[0]
+        self.line = listener.accept()[0]
         self.line.settimeout(SECONDS)
 
     def __enter__(self) -> Self:

@@ -58,7 +58,7 @@ class Phone:
     def step(self, number: int) -> None:
         piece = self.speech[number * PACKET:(number + 1) * PACKET]
         if piece:
-            self.line.sendto(Packet(8, number, number * PACKET, self.ssrc, piece).spelled(), self.to)
+            self.line.sendto(Packet(8, number, number * PACKET, self.ssrc, piece).encode(), self.to)
         try:
             while True:
                 self.heard += packet_of(self.line.recv(2048)).payload

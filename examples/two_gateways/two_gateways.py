@@ -15,7 +15,7 @@ import sys
 from typing import Callable
 
 import paths    # noqa: F401 (makes e1gw known)
-from e1gw.exchange import ACKNOWLEDGED, ANSWERED, IDLE, SEIZED, Exchange, Serve, decibels, delay, samples
+from e1gw.exchange import ACKNOWLEDGED, ANSWERED, IDLE, SEIZED, Exchange, ServeProcess, decibels, delay, samples
 from e1gw.session import Kind, records_in
 
 CIRCUIT = 1
@@ -31,7 +31,7 @@ class End:
         self.config = os.path.join(folder, name + '.toml')
         self.program = program
         self.recording, self.sent = (os.path.join(kept, name + ending) for ending in ('.rec', '.raw'))
-        self.serve = Serve(program, self.config, '--record', self.recording, '--record-over')
+        self.serve = ServeProcess(program, self.config, '--record', self.recording, '--record-over')
         self.exchange = Exchange()
         # The trunk does not begin with a frame: the gateway has to look for one.
         self.exchange.hear(self.serve.trunk(self.exchange.multiframe()[first:]))

@@ -8,7 +8,7 @@ import subprocess
 import threading
 from collections.abc import Iterator
 
-from ..kept import PIECE, Source, Trouble, pieces
+from ..kept import PIECE, InputError, Source, pieces
 from ..lines import SEIZURE_WAIT, wait_words
 
 WAITING = 256               # pieces: more than a gateway holds back before it answers
@@ -24,7 +24,7 @@ def program_of(named: str | None) -> str:
     found = shutil.which('e1gw')
     if found:
         return found
-    raise Trouble('no program e1gw on the path: name it by --program, or give the answers by --answers')
+    raise InputError('no program e1gw on the path: name it by --program, or give the answers by --answers')
 
 
 class Replayed:
@@ -41,7 +41,7 @@ class Replayed:
             self.process = subprocess.Popen(words, stdin=subprocess.PIPE, stdout=subprocess.PIPE,
                                             stderr=subprocess.PIPE)
         except OSError as fault:
-            raise Trouble(f'{program}: {fault.strerror}') from fault
+            raise InputError(f'{program}: {fault.strerror}') from fault
         assert self.process.stdout
         # (what has arrived: to wait for a whole piece of answers would be to wait for ever)
         self.given, self.answered = Source(iter(self.queue.get, b'')), Source(pieces(self.process.stdout))
@@ -76,5 +76,5 @@ class Replayed:
         if self.fault:
             raise self.fault
         if status == 2:
-            raise Trouble(words.splitlines()[-1] if words else 'e1gw replay: status 2')
+            raise InputError(words.splitlines()[-1] if words else 'e1gw replay: status 2')
         return words if status else ''

@@ -5,8 +5,8 @@ import os
 import subprocess
 from dataclasses import dataclass
 
-from ..followed import Standing
-from ..kept import Kept, Trouble
+from ..followed import CircuitState
+from ..kept import InputError, KeptSession
 from ..lines import State
 from ..session import MULTIFRAME
 
@@ -17,41 +17,41 @@ COLUMNS = 10                # of the listing: number, role, state, two pairs, th
 class Begun:
     """The place in a sent multiframe at which the piece begins, and its circuits."""
     place: int
-    circuits: list[Standing]
+    circuits: list[CircuitState]
 
 
-def standing_of(line: str) -> Standing:
-    """A circuit by a line of the listing, or Trouble."""
+def standing_of(line: str) -> CircuitState:
+    """A circuit by a line of the listing, or InputError."""
     words = line.split()
     try:
         if len(words) != COLUMNS:
             raise ValueError
         recognised = None if words[4] == '--' else int(words[4], 2)
-        return Standing(int(words[0]), State(words[2]), int(words[3], 2), recognised, words[8], int(words[9]))
+        return CircuitState(int(words[0]), State(words[2]), int(words[3], 2), recognised, words[8], int(words[9]))
     except ValueError:
-        raise Trouble(f'e1gw check prints a line that is no circuit: {line}') from None
+        raise InputError(f'e1gw check prints a line that is no circuit: {line}') from None
 
 
-def listed(state: str, program: str, config: str) -> list[Standing]:
-    """The circuits of a state, as `e1gw check` lists them. Trouble if it refuses the state, or begins a circuit as new
-    since it was configured otherwise."""
+def listed(state: str, program: str, config: str) -> list[CircuitState]:
+    """The circuits of a state, as `e1gw check` lists them. InputError if it refuses the state, or begins a circuit as
+    new since it was configured otherwise."""
     words = [program, 'check', '--config', config, '--load', state]
     try:
         done = subprocess.run(words, stdin=subprocess.DEVNULL, stdout=subprocess.PIPE, stderr=subprocess.PIPE,
                               check=False)
     except OSError as fault:
-        raise Trouble(f'{program}: {fault.strerror}') from fault
+        raise InputError(f'{program}: {fault.strerror}') from fault
     told = done.stderr.decode(errors='replace').strip()
     if done.returncode or told:
-        raise Trouble(told.splitlines()[-1] if told else f'e1gw check: status {done.returncode}')
+        raise InputError(told.splitlines()[-1] if told else f'e1gw check: status {done.returncode}')
     return [standing_of(line) for line in done.stdout.decode().splitlines()]
 
 
-def begun(session: Kept, program: str, config: str) -> tuple[Begun | None, str]:
+def begun(session: KeptSession, program: str, config: str) -> tuple[Begun | None, str]:
     """The gateway at the start of a session that begins in the middle, or why it is not known."""
     if not session.state:
         return None, f'{os.path.basename(session.files[0])} has no state beside it'
     try:
         return Begun(session.place % MULTIFRAME, listed(session.state, program, config)), ''
-    except Trouble as trouble:
+    except InputError as trouble:
         return None, f'{session.state} is not used ({trouble})'

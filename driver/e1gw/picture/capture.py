@@ -9,12 +9,12 @@ from collections.abc import Iterable, Iterator, Mapping
 from statistics import median
 from typing import Any
 
-from ..kept import Source, Trouble
+from ..kept import InputError, Source
 from ..lines import law_of
 from ..repetitions import mark_of
-from ..session import OCTETS_A_SECOND, BadPacket, Kind, packet_of, spell
-from .facts import BITS, FRAME, HEADER, MOST, WINDOW, Facts, Row, CallStream, Wire
-from .listening import Listener
+from ..session import OCTETS_A_SECOND, BadPacket, Kind, encode_record, packet_of
+from .facts import BITS, FRAME, HEADER, MOST, WINDOW, CallStream, Facts, Row, Wire
+from .listening import SpeechListener
 from .packets import Datagram, datagrams
 from .reading import RecordStream
 from .reading import rows_of
@@ -127,11 +127,11 @@ def merged(octets: Iterator[bytes], path: str, config: Mapping[str, Any], facts:
     """A session with the datagrams of a capture, each at its place on the trunk, and the time of its first octet,
     before which so many octets of the trunk were sent. The addresses are noted in the facts."""
     if not ports(config):
-        raise Trouble('the configuration has no local_port, so the circuits of a capture are unknown')
+        raise InputError('the configuration has no local_port, so the circuits of a capture are unknown')
     begin = first_begin(path, config, before) if begin is None else begin
     if begin is None:
-        raise Trouble('the capture has no datagram that the gateway sent, so the time of the session is unknown: '
-                      'say it by --begin')
+        raise InputError('the capture has no datagram that the gateway sent, so the time of the session is unknown: '
+                         'say it by --begin')
     return _merged(Source(octets), arrivals(path, config, begin, facts, before)), begin
 
 
@@ -143,18 +143,18 @@ def _merged(source: Source, came: Iterable[tuple[int, int, bytes]]) -> Iterator[
         if kind == Kind.DATAGRAM:
             continue
         if kind != Kind.TRUNK:
-            yield spell(kind, circuit, body)
+            yield encode_record(kind, circuit, body)
             continue
         at = 0
         while following and following[0] < place + len(body):
             cut = max(at, following[0] - place)
             if cut > at:
-                yield spell(Kind.TRUNK, 0, body[at:cut])
+                yield encode_record(Kind.TRUNK, 0, body[at:cut])
             if len(following[2]) <= 65_535:
-                yield spell(Kind.DATAGRAM, following[1], following[2])
+                yield encode_record(Kind.DATAGRAM, following[1], following[2])
             at, following = cut, next(waiting, None)
         if at < len(body):
-            yield spell(Kind.TRUNK, 0, body[at:])
+            yield encode_record(Kind.TRUNK, 0, body[at:])
         place += len(body)
 
 
@@ -183,7 +183,7 @@ def reckoned(path: str, config: Mapping[str, Any], last: float | None = None, pr
     facts.told = 'reckoned from the capture'
     facts.alarms.clear()
     facts.law = law_of(config)
-    circuits, ways, listener = ports(config), Ways(facts, config), Listener(facts, program)
+    circuits, ways, listener = ports(config), Ways(facts, config), SpeechListener(facts, program)
     seen: dict[int, int] = {}
     with open(path, 'rb') as file:
         for each in datagrams(file):
@@ -206,11 +206,11 @@ def reckoned(path: str, config: Mapping[str, Any], last: float | None = None, pr
                     listener.came(row, place, each.body)
     listener.look()
     if facts.begin is None:
-        raise Trouble('the capture has no UDP datagram')
+        raise InputError('the capture has no UDP datagram')
     return facts
 
 
-def _listen(listener: Listener, row: Row, place: int, body: bytes) -> None:
+def _listen(listener: SpeechListener, row: Row, place: int, body: bytes) -> None:
     """A datagram sent: in G.711 it has the octets of the time slot."""
     if row.codec in BITS or not row.stream.slot.come(place, listener.most):
         return

@@ -13,10 +13,10 @@ from collections.abc import Iterable, Iterator
 from dataclasses import dataclass, field
 from typing import Any
 
-from ..followed import Standing
+from ..followed import CircuitState
 from ..lines import SEIZURE_WAIT
 from ..repetitions import Repetitions
-from .sound import Heard, Turns
+from .sound import HeardSamples, ListeningTimes
 
 SECOND = 256_000            # octets of the trunk
 FRAME, MULTIFRAME = 32, 512
@@ -41,7 +41,7 @@ class Cell:
         self.low = self.high = self.total = 0               # samples before their turn, of those admitted
         self.refused: dict[int, list[int]] = {}             # code: how many, least and most samples before their turn
         self.counts: dict[str, int] = {}                    # calls, answers, repetitions, ..
-        self.heard: dict[str, Heard] = {}                   # by way: what came, its order of words, the time slot
+        self.heard: dict[str, HeardSamples] = {}            # by way: what came, its order of words, the time slot
 
     def is_empty(self) -> bool:
         return not (self.sent or self.admitted or self.refused or self.counts or self.lost or self.heard)
@@ -90,9 +90,9 @@ class Cell:
         for way, more in other.heard.items():
             self.hear(way, more)
 
-    def hear(self, way: str, more: Heard) -> None:
+    def hear(self, way: str, more: HeardSamples) -> None:
         """Adds a sample of one direction."""
-        self.heard.setdefault(way, Heard()).join(more)
+        self.heard.setdefault(way, HeardSamples()).join(more)
 
 
 class Spans:
@@ -172,8 +172,8 @@ class CallStream:
     sequence: int = -1
     stamp: int = 0
     missing: set[int] = field(default_factory=set)      # missing sequence numbers
-    came: Turns = field(default_factory=Turns)          # when to listen: to datagrams, to the time slot
-    slot: Turns = field(default_factory=Turns)
+    came: ListeningTimes = field(default_factory=ListeningTimes)    # when to listen: to datagrams, to the time slot
+    slot: ListeningTimes = field(default_factory=ListeningTimes)
     stretch: list[bytes] | None = None                  # consecutive datagrams to decode
 
 
@@ -346,7 +346,7 @@ class Facts:
         self.port_faults = 0
         self.under_way: list[int] = []      # circuits with a call at the start of the session
 
-    def began(self, place: int, circuits: Iterable[Standing]) -> None:
+    def began(self, place: int, circuits: Iterable[CircuitState]) -> None:
         """The session begins at this place, in the first column, with these circuits."""
         self.place = self.start = place
         for which in self.alarms:
@@ -438,7 +438,7 @@ class Facts:
         if len(places) < MOST:
             places.append(place)
 
-    def hear(self, circuit: int, place: int, way: str, more: Heard) -> None:
+    def hear(self, circuit: int, place: int, way: str, more: HeardSamples) -> None:
         """A sample at a past place."""
         row = self.rows[circuit]
         row.cells.get(place // self.width, row.cell).hear(way, more)

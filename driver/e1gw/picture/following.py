@@ -1,7 +1,7 @@
 """The lines of a trunk, followed quickly: multiframes with the signals of those before are skipped."""
 from __future__ import annotations
 
-from ..followed import Followed
+from ..followed import FollowedTrunk
 from ..lines import State
 from ..session import FRAME, MULTIFRAME
 
@@ -9,7 +9,7 @@ from ..session import FRAME, MULTIFRAME
 STEADY = 12
 
 
-class Follower(Followed):
+class PictureFollower(FollowedTrunk):
     """Lines that get many multiframes at once."""
 
     same = 0                            # consecutive multiframes with the last one's signals

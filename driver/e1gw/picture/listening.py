@@ -6,12 +6,12 @@ import math
 from ..session import FRAME, BadPacket, packet_of
 from .facts import BITS, OPEN, Facts, Row
 from .orders import STRETCH, Orders
-from .sound import LOOKED_AT, Heard, heard, is_silent
+from .sound import LOOKED_AT, HeardSamples, heard, is_silent
 
 AGAIN = 16                  # samples at least in the page of a trunk in service
 
 
-class Listener:
+class SpeechListener:
     """Puts the results into the columns of facts."""
 
     def __init__(self, facts: Facts, program: str | None = None) -> None:
@@ -30,7 +30,7 @@ class Listener:
             self._further(row, place, payload, stream.stretch)
         elif stream.came.come(place, self.most):
             if row.codec in BITS:
-                row.cell.hear('came', Heard(1, is_silent(payload)))
+                row.cell.hear('came', HeardSamples(1, is_silent(payload)))
                 stream.stretch = [payload]
             else:
                 row.cell.hear('came', heard(payload, self.facts.law))

@@ -10,7 +10,7 @@ from collections.abc import Iterator
 from typing import Any
 
 from ..faults import number
-from ..kept import Kept, Source, Trouble, kept, octets_of, pieces
+from ..kept import InputError, KeptSession, Source, kept, octets_of, pieces
 from ..lines import read_config, with_wait
 from ..raw import raw_words_of
 from ..session import OCTETS_A_SECOND, BadSession
@@ -19,7 +19,7 @@ from .begun import Begun, begun
 from .capture import merged, reckoned
 from .facts import Facts
 from .page import draw
-from .reading import Reading, rows_of
+from .reading import SessionReading, rows_of
 
 UNITS = {'ms': 0.001, 's': 1.0, 'm': 60.0, 'h': 3600.0, 'd': 86400.0}
 
@@ -96,7 +96,7 @@ def parser() -> argparse.ArgumentParser:
     return words
 
 
-def given(session: Kept) -> Iterator[bytes]:
+def given(session: KeptSession) -> Iterator[bytes]:
     """The octets of a session."""
     for path in session.files:
         yield from pieces(sys.stdin.buffer) if path == '-' else octets_of(path)
@@ -107,11 +107,11 @@ def port_faults(path: str) -> int:
     with open(path, encoding='utf-8', errors='replace') as file:
         told = re.findall(r'\bport_faults (\d+)', file.read())
     if not told:
-        raise Trouble(f'{path} has no totals: no line with port_faults')
+        raise InputError(f'{path} has no totals: no line with port_faults')
     return int(told[-1])
 
 
-def facts_of(options: argparse.Namespace, session: Kept, tables: dict[str, Any],
+def facts_of(options: argparse.Namespace, session: KeptSession, tables: dict[str, Any],
              place: int) -> tuple[Facts, Iterator[bytes]]:
     """The facts known of a session before it is read, and its octets from this place."""
     facts = Facts(rows_of(tables), span_of(options))
@@ -125,21 +125,21 @@ def facts_of(options: argparse.Namespace, session: Kept, tables: dict[str, Any],
     return facts, octets
 
 
-def gathered(options: argparse.Namespace, session: Kept, config: str, known: Begun | None) -> tuple[Facts, str]:
+def gathered(options: argparse.Namespace, session: KeptSession, config: str, known: Begun | None) -> tuple[Facts, str]:
     """The facts of a session, and a word about its end. It begins with a known gateway, or a new one."""
     wait = options.seizure_wait or session.wait
     tables = with_wait(read_config(config), wait)
     facts, octets = facts_of(options, session, tables, known.place if known else 0)
     if options.answers:
         with open(options.answers, 'rb') as answers:
-            reading = Reading(facts, tables, Source(octets), answers, options.program)
+            reading = SessionReading(facts, tables, Source(octets), answers, options.program)
             reading.read()
         return facts, '' if reading.whole else 'it ends inside a record, or its answers do'
     program = program_of(options.program)
     replayed = Replayed(program, config, octets, session.state if known else '', wait)
     fault = ''
     try:
-        Reading(facts, tables, replayed.given, replayed.answered, program, known).read()
+        SessionReading(facts, tables, replayed.given, replayed.answered, program, known).read()
     except BadSession as bad:
         fault = str(bad)
     return facts, replayed.end() or fault
@@ -150,11 +150,11 @@ def span_of(options: argparse.Namespace) -> int | None:
     return int(options.last * OCTETS_A_SECOND) if options.last else None
 
 
-def session_of(options: argparse.Namespace) -> tuple[Kept, Begun | None, str]:
+def session_of(options: argparse.Namespace) -> tuple[KeptSession, Begun | None, str]:
     """The session named, the gateway at its start, and a note about that. If the gateway is not known, the session is
     read as if it began there."""
     if not options.session or options.session == '-':
-        return Kept(['-']), None, ''
+        return KeptSession(['-']), None, ''
     whole = kept(options.session)
     told: list[str] = []
     if options.answers or not (options.config or whole.config):
@@ -169,7 +169,7 @@ def session_of(options: argparse.Namespace) -> tuple[Kept, Begun | None, str]:
     return whole, None, '; '.join([*told, MIDDLE])
 
 
-def failure_of(word: str, session: Kept) -> str:
+def failure_of(word: str, session: KeptSession) -> str:
     """Why a session failed before its end, and for a trunk's octets the command that makes a session of them; nothing
     for one that ends inside a record, as one still being written."""
     if not word.startswith('fault') or 'Truncated' in word:
@@ -181,14 +181,14 @@ def failure_of(word: str, session: Kept) -> str:
 def drawn(options: argparse.Namespace) -> tuple[str, bool]:
     """The page asked for, and whether its session is complete."""
     if not options.session and not options.capture:
-        raise Trouble('no session and no capture was named')
+        raise InputError('no session and no capture was named')
     session, known, middle = session_of(options)
     config = options.config or session.config
     if not config:
         if session.files[0] != '-':
             with open(session.files[0], 'rb'):      # a path that is wrong has no configuration either
                 pass
-        raise Trouble('no configuration: name it by --config')
+        raise InputError('no configuration: name it by --config')
     if options.session:
         facts, word = gathered(options, session, config, known)
     else:
@@ -217,7 +217,7 @@ def main() -> int:
     except BrokenPipeError:
         os.dup2(os.open(os.devnull, os.O_WRONLY), 1)
         return 1
-    except (Trouble, BadSession, ValueError, KeyError) as trouble:
+    except (InputError, BadSession, ValueError, KeyError) as trouble:
         print(f'e1gw-picture: {trouble}', file=sys.stderr)
         return 1
     except OSError as trouble:

@@ -8,14 +8,14 @@ from collections.abc import Callable, Sequence
 
 from ..session import datagram_record
 from .facts import BITS
-from .sound import Heard, clearer, sound
+from .sound import HeardSamples, clearer, sound
 
 STRETCH = 10                # consecutive datagrams
 SETTLES = 4                 # of them those before the decoder has settled, which are ignored
 WAITING = 240               # stretches queued for decoding
 SECONDS = 30                # seconds for a run of the program
 HEADER = bytes([0x80, 96]) + bytes(10)      # RTP, of the payload type that `e1gw decode` has for G.726
-OnHeard = Callable[[int, int, Heard], None]    # of a circuit, at a place
+OnHeard = Callable[[int, int, HeardSamples], None]    # of a circuit, at a place
 
 
 def reordered(payload: bytes, bits: int) -> bytes:
@@ -59,7 +59,7 @@ class Orders:
             return
         at = 0
         for circuit, place, each in stretches:
-            seen = Heard()
+            seen = HeardSamples()
             for n, payload in enumerate(each):
                 size = len(payload) // bits * 8
                 if n >= SETTLES:
@@ -67,10 +67,10 @@ class Orders:
                 at += size
             self.tell(circuit, place, seen)
 
-    def _heard(self, own: bytes, other: bytes) -> Heard:
+    def _heard(self, own: bytes, other: bytes) -> HeardSamples:
         """A datagram in both orders."""
         here, there = sound(own, self.law), sound(other, self.law)
-        seen = Heard(1, power=here.power, under_other=there.power)
+        seen = HeardSamples(1, power=here.power, under_other=there.power)
         seen.vote(clearer(here, there))
         return seen
 

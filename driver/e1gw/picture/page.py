@@ -10,7 +10,7 @@ from collections.abc import Iterable, Mapping
 from . import charts
 from .facts import OPEN, SECOND, Cell, Facts, Row
 from .findings import Anomaly, findings
-from .sound import Heard
+from .sound import HeardSamples
 from .style import CSS, PATTERNS
 from .svg import Scale, duration
 
@@ -42,7 +42,7 @@ def is_quiet(row: Row, whole: Cell) -> bool:
     return whole.is_empty() and not row.commands and states in (['fault'], ['fault', 'idle'], ['idle'], ['unknown'])
 
 
-def loud(heard: Mapping[str, Heard], way: str) -> str:
+def loud(heard: Mapping[str, HeardSamples], way: str) -> str:
     """The levels of one direction, as played and in the other law or order."""
     seen = heard.get(way)
     if not seen or not (seen.power and seen.under_other):

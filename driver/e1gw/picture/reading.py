@@ -10,8 +10,8 @@ from ..repetitions import mark_of
 from ..session import MULTIFRAME, BadSession, Codec, Command, Fault, Kind, Readable, refusal_of
 from .begun import Begun
 from .facts import Facts, Row
-from .following import Follower
-from .listening import Listener
+from .following import PictureFollower
+from .listening import SpeechListener
 
 PIECE = 1 << 16
 TRUNK, DATAGRAM, ANSWER = int(Kind.TRUNK), int(Kind.DATAGRAM), int(Kind.ANSWER)
@@ -87,16 +87,16 @@ class RecordStream:
         return BadSession(fault, self.gone + self.at)
 
 
-class Reading:
+class SessionReading:
     """A session while it is read. Datagrams wait until the octets before them are followed."""
 
     def __init__(self, facts: Facts, config: Mapping[str, Any], given: Readable | None = None,
                  answered: Readable | None = None, program: str | None = None, begun: Begun | None = None) -> None:
         self.facts = facts
         facts.law = law_of(config)
-        self.listener = Listener(facts, program)
+        self.listener = SpeechListener(facts, program)
         self.told: deque[Event] = deque()
-        self.lines = Follower(config, self.told.append)
+        self.lines = PictureFollower(config, self.told.append)
         self.tell = EventSink(facts)
         self.given, self.answered = RecordStream(given), RecordStream(answered)
         self.place = 0
@@ -275,11 +275,3 @@ class Reading:
         if event['place'] >= self.facts.place:
             self.facts.turn(event['place'])
         self.tell(event)
-
-
-def read(given: Readable, answered: Readable, config: Mapping[str, Any], last: int | None = None,
-         program: str | None = None) -> Facts:
-    """The facts of a gateway's input and its answers. The program finds the order of words of G.726."""
-    facts = Facts(rows_of(config), last)
-    Reading(facts, config, given, answered, program).read()
-    return facts

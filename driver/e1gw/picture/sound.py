@@ -60,7 +60,7 @@ def clearer(one: Sound, other: Sound) -> int:
 
 
 @dataclass(slots=True)
-class Heard:
+class HeardSamples:
     """The samples of one direction of a circuit."""
     looks: int = 0
     silent: int = 0                     # of one octet only
@@ -69,7 +69,7 @@ class Heard:
     power: float = 0.0                  # the sum, under the circuit's law
     under_other: float = 0.0            # under the other law
 
-    def join(self, more: Heard) -> None:
+    def join(self, more: HeardSamples) -> None:
         self.looks += more.looks
         self.silent += more.silent
         self.own += more.own
@@ -96,15 +96,15 @@ def is_silent(octets: bytes) -> bool:
     return octets.count(octets[:1]) == len(octets)
 
 
-def heard(octets: bytes, law: str) -> Heard:
+def heard(octets: bytes, law: str) -> HeardSamples:
     """A sample of a circuit's octets of G.711, which should be in this law."""
     own, other = sound(octets, law), sound(octets, OTHER[law])
-    seen = Heard(1, is_silent(octets), power=own.power, under_other=other.power)
+    seen = HeardSamples(1, is_silent(octets), power=own.power, under_other=other.power)
     seen.vote(clearer(own, other))
     return seen
 
 
-class Turns:
+class ListeningTimes:
     """When to listen: each 320 ms at the start of a call, half as often after each eight samples."""
     __slots__ = ('due', 'each', 'looks')
 

@@ -99,13 +99,12 @@ class Sheet:
         side = f' text-anchor="{anchor}"' if anchor else ''
         self.out.append(f'<text x="{x:.1f}" y="{y:g}" class="{kind}"{side}>{html.escape(words)}</text>')
 
-    def grid(self, scale: Scale, top: float, bottom: float, named: bool = True) -> None:
+    def grid(self, scale: Scale, top: float, bottom: float) -> None:
         """Lines at round times, with their texts above."""
         lines = []
         for x, words in scale.ticks():
             lines.append(f'M{x:.1f} {top:g}V{bottom:g}')
-            if named:
-                self.words(min(x, LEFT + WIDE - 10), top - 3, words, 'tick', 'middle')
+            self.words(min(x, LEFT + WIDE - 10), top - 3, words, 'tick', 'middle')
         self.path(''.join(lines), 'grid')
 
     def drawn(self) -> str:

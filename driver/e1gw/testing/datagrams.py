@@ -15,7 +15,7 @@ from collections.abc import Callable, Iterator
 from functools import partial
 from typing import Any
 
-from ..exchange import ACKNOWLEDGED, Exchange, Serve
+from ..exchange import ACKNOWLEDGED, Exchange, ServeProcess
 
 Wrongs = Iterator[str]      # what is not as it must be
 
@@ -59,7 +59,7 @@ class UdpCalls:
             for c in circuits:
                 text.write(CIRCUIT.format(number=c, local=self.locals[c], peer_host=peer_named,
                                           peer=self.peers[c].getsockname()[1]))
-        self.serve = Serve(program, path, '--totals', *options, stderr=subprocess.PIPE)
+        self.serve = ServeProcess(program, path, '--totals', *options, stderr=subprocess.PIPE)
         assert self.serve.process.stderr
         self.faults = self.serve.process.stderr
         self.packets: dict[int, list[bytes]] = {}       # those that each peer got, if a session notes them

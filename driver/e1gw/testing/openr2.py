@@ -13,11 +13,11 @@ HEAD = struct.Struct('>BBH')
 MULTIFRAME = 512
 
 
-class Missing(Exception):
+class NoOpenR2(Exception):
     """The exchange cannot be built here; the text says why."""
 
 
-class Event(NamedTuple):
+class OpenR2Event(NamedTuple):
     """What happened at the exchange: milliseconds of the trunk, the circuit (0 is the trunk), and what."""
 
     ms: float
@@ -26,11 +26,11 @@ class Event(NamedTuple):
 
 
 def build(folder: str) -> str:
-    """Builds the exchange in a folder, and returns its path. Missing if a package is not installed."""
+    """Builds the exchange in a folder, and returns its path. NoOpenR2 if a package is not installed."""
     path = os.path.join(folder, 'exchange')
     done = subprocess.run([os.path.join(HERE, 'build'), path], stderr=subprocess.PIPE, text=True, check=False)
     if done.returncode == 2:
-        raise Missing(done.stderr.strip())
+        raise NoOpenR2(done.stderr.strip())
     if done.returncode:
         raise RuntimeError(done.stderr)
     return path
@@ -40,7 +40,7 @@ def exchange_of(folder: str) -> str:
     """The exchange, built in a folder; status 2 if a package is not installed."""
     try:
         return build(folder)
-    except Missing as missing:
+    except NoOpenR2 as missing:
         print(missing, file=sys.stderr)
         sys.exit(2)
 
@@ -52,7 +52,7 @@ class OpenR2:
         self._process = subprocess.Popen([program, *options], stdin=subprocess.PIPE, stdout=subprocess.PIPE)
         assert self._process.stdin and self._process.stdout
         self._input, self._output = self._process.stdin, self._process.stdout
-        self.events: list[Event] = []
+        self.events: list[OpenR2Event] = []
 
     def command(self, text: str) -> None:
         """A command; what it brings is reported by the next step."""
@@ -68,7 +68,7 @@ class OpenR2:
             if kind == ord('T'):
                 return body
             ms, circuit, text = body.decode(errors='replace').split(' ', 2)
-            self.events.append(Event(float(ms), int(circuit), text))
+            self.events.append(OpenR2Event(float(ms), int(circuit), text))
 
     def found(self, circuit: int, pattern: str) -> list[re.Match[str]]:
         """The events of a circuit that a pattern matches from their first letter."""

@@ -1,6 +1,7 @@
 """A trunk in service: `e1gw-trunk` as a process, and its control."""
 from __future__ import annotations
 
+import contextlib
 import json
 import os
 import socket
@@ -9,7 +10,23 @@ import sys
 from typing import Any
 
 LAUNCHER = os.path.join(os.path.dirname(os.path.dirname(os.path.dirname(os.path.realpath(__file__)))), 'e1gw-trunk')
-PATIENCE = 30               # seconds
+PATIENCE = 60               # seconds
+
+
+def ask(path: str, command: bytes) -> str:
+    """What a trunk answers to a command at the socket of its control. EOFError if it ends before that."""
+    with socket.socket(socket.AF_UNIX) as line:
+        line.connect(path)                              # waits for a place; with a time limit it would be refused
+        line.settimeout(PATIENCE)
+        with contextlib.suppress(BrokenPipeError):      # who has no seat is told so at once
+            line.sendall(command + b'\n')
+        answer = b''
+        while not answer.endswith(b'\n\n'):
+            piece = line.recv(65536)
+            if not piece:
+                raise EOFError(answer)
+            answer += piece
+    return answer.decode().rstrip('\n')
 
 
 class Service:
@@ -24,18 +41,14 @@ class Service:
 
     def ask(self, command: str) -> str:
         """The first line of the answer to a command."""
-        with socket.socket(socket.AF_UNIX) as line:
-            line.settimeout(PATIENCE)
-            line.connect(self.control)
-            line.sendall(command.encode() + b'\n')
-            return line.makefile('rb').readline().decode().strip()
+        return ask(self.control, command.encode()).partition('\n')[0]
 
     def status(self) -> dict[str, Any]:
         """All that is known; nothing where nobody answers."""
         try:
             found: dict[str, Any] = json.loads(self.ask('status json'))
             return found
-        except (OSError, ValueError):
+        except (OSError, EOFError, ValueError):
             return {}
 
     def state(self) -> str:

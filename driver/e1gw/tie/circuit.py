@@ -70,7 +70,7 @@ class TieCircuit:
         """The call was passed on to this outgoing end, done or refused."""
         return replace(self, call=call)
 
-    def settled(self, link: LinkState) -> TieCircuit:
+    def marked_over(self, link: LinkState) -> TieCircuit:
         """Marks a call that cannot be set up as given up until it ends."""
         return replace(self, over=True) if not self.over and self.ends(link) else self
 

@@ -6,8 +6,8 @@ import json
 from typing import Iterable
 
 from ..keep import put_file
-from ..outlets import Outlet
 from ..session import CIRCUITS
+from ..writers import Writer
 
 
 class KeptBlocks:
@@ -15,7 +15,7 @@ class KeptBlocks:
 
     def __init__(self, path: str | None) -> None:
         self._circuits = read(path) if path else frozenset()
-        self._outlet = Outlet('state', functools.partial(put_file, path)) if path else None
+        self._writer = Writer('state', functools.partial(put_file, path)) if path else None
 
     def has(self, circuit: int) -> bool:
         return circuit in self._circuits
@@ -23,12 +23,12 @@ class KeptBlocks:
     def put(self, circuits: Iterable[int]) -> None:
         """Keeps these circuits and no others."""
         self._circuits = frozenset(circuits)
-        if self._outlet:
-            self._outlet.put(json.dumps(sorted(self._circuits)).encode() + b'\n')
+        if self._writer:
+            self._writer.put(json.dumps(sorted(self._circuits)).encode() + b'\n')
 
     def close(self) -> None:
-        if self._outlet:
-            self._outlet.close()
+        if self._writer:
+            self._writer.close()
 
 
 def read(path: str) -> frozenset[int]:

@@ -4,22 +4,20 @@ from __future__ import annotations
 import argparse
 import asyncio
 import ipaddress
-import json
 import math
 import os
 import secrets
 import signal
 import ssl
 import sys
-import time
 from contextlib import suppress
 from typing import Any
 
+from ..events import json_line
 from ..faults import Parser, named, words_of_fault
-from ..outlets import hold_descriptors, to_descriptor
 from ..trunks import host_and_port
+from ..writers import hold_descriptors, to_descriptor
 from .coding import SIGNALLING
-from .control import Tell
 from .kept import KeptBlocks
 from .pairs import BadPairs, Pairs, pairs_of
 from .site import Site, context_of
@@ -56,11 +54,11 @@ def parser() -> argparse.ArgumentParser:
     ways.add_argument('--connect', type=place, metavar='HOST:PORT', help='the address at which the other site listens')
     made.add_argument('--map', metavar='FILE', help='a file of joined circuits, `HERE THERE` a line '
                       '[default: equal numbers]')
-    doors = made.add_mutually_exclusive_group()
-    doors.add_argument('--tls', nargs=3, metavar=('CERT', 'KEY', 'CA'), help='TLS: the certificate of this site, its '
-                       'key, and the authority of both sites')
-    doors.add_argument('--insecure', action='store_true', help='listens without --tls at an address that other '
-                       'machines reach, as in a tunnel')
+    security = made.add_mutually_exclusive_group()
+    security.add_argument('--tls', nargs=3, metavar=('CERT', 'KEY', 'CA'), help='TLS: the certificate of this site, '
+                          'its key, and the authority of both sites')
+    security.add_argument('--insecure', action='store_true', help='listens without --tls at an address that other '
+                          'machines reach, as in a tunnel')
     made.add_argument('--peer', metavar='NAME', help='with --tls, the host or address in the certificate of the other '
                       'site [default: the host of --connect; with --listen any that CA has signed]')
     made.add_argument('--hold', type=seconds, default=2.0, metavar='SECONDS', help='how long calls are kept without '
@@ -137,13 +135,6 @@ def refuse(why: object) -> None:
     sys.exit(2)
 
 
-def told_on(outlet: Any) -> Tell:
-    """Prints each event as a line of JSON; a reader that stops ends nothing."""
-    def tell(event: str, **fields: Any) -> None:
-        outlet.put(json.dumps({'time': round(time.time(), 6), 'event': event, **fields}).encode() + b'\n')
-    return tell
-
-
 def main() -> None:
     hold_descriptors()
     options = parser().parse_args()
@@ -152,8 +143,10 @@ def main() -> None:
     if is_open(options):
         return refuse(f'{options.listen[0]} is not a loopback address, and without --tls whoever connects can seize '
                       'and clear circuits: give --tls, or --insecure within a tunnel')
-    outlet = to_descriptor('standard output', 1)
-    tell = told_on(outlet)
+    writer = to_descriptor('standard output', 1)
+
+    def tell(event: str, **fields: Any) -> None:
+        writer.put(json_line({'event': event, **fields}))
     kept = KeptBlocks(options.state)
     try:
         pairs = read_map(options.map) if options.map else None
@@ -169,6 +162,6 @@ def main() -> None:
         tell('warning', about=ANYBODY)
     status = asyncio.run(work(tie, site))
     kept.close()
-    outlet.close()
+    writer.close()
     # The thread of a stuck reader is not waited for.
     os._exit(status)

@@ -31,16 +31,16 @@ class Greeting:
 
 
 @dataclass(frozen=True)
-class All:
+class SiteState:
     """The state of a site."""
 
-    dark: bool
+    out_of_service: bool
     ends: dict[int, CircuitEnd]
     until_answer: str | None = None     # the codec that it can give its circuits until the answer
 
 
 @dataclass(frozen=True)
-class Change:
+class CircuitChange:
     """The new state of a circuit."""
 
     circuit: int
@@ -48,32 +48,32 @@ class Change:
 
 
 @dataclass(frozen=True)
-class Dark:
+class OutOfService:
     """Whether the trunk of that site is out of service."""
 
-    dark: bool
+    out_of_service: bool
 
 
 @dataclass(frozen=True)
-class Alive:
+class KeepAlive:
     """A keepalive."""
 
 
-Message = Greeting | All | Change | Dark | Alive
+Message = Greeting | SiteState | CircuitChange | OutOfService | KeepAlive
 
 
 def _plain(message: Message) -> dict[str, Any]:
     if isinstance(message, Greeting):
         return {'tie': VERSION, 'run': message.run, 'pairs': message.pairs}
-    if isinstance(message, All):
-        return {'all': {n: asdict(end) for n, end in message.ends.items()}, 'dark': message.dark,
+    if isinstance(message, SiteState):
+        return {'all': {n: asdict(end) for n, end in message.ends.items()}, 'dark': message.out_of_service,
                 'until_answer': message.until_answer}
-    if isinstance(message, Change):
+    if isinstance(message, CircuitChange):
         return {'circuit': message.circuit, 'end': asdict(message.end)}
-    return {'dark': message.dark} if isinstance(message, Dark) else {'alive': True}
+    return {'dark': message.out_of_service} if isinstance(message, OutOfService) else {'alive': True}
 
 
-def spell(message: Message) -> bytes:
+def encode_message(message: Message) -> bytes:
     """The line of a message."""
     return json.dumps(_plain(message)).encode() + b'\n'
 
@@ -131,11 +131,11 @@ def message_of(line: bytes) -> Message:
     if 'all' in fields:
         ends = {_circuit(n): _end(end) for n, end in _is(fields['all'], dict, 'circuits').items()}
         codec = fields.get('until_answer')
-        return All(_is(fields.get('dark'), bool, 'dark'), ends, None if codec is None else _name(codec, 'codec'))
+        return SiteState(_is(fields.get('dark'), bool, 'dark'), ends, None if codec is None else _name(codec, 'codec'))
     if 'circuit' in fields:
-        return Change(_circuit(fields['circuit']), _end(fields.get('end')))
+        return CircuitChange(_circuit(fields['circuit']), _end(fields.get('end')))
     if 'dark' in fields:
-        return Dark(_is(fields['dark'], bool, 'dark'))
+        return OutOfService(_is(fields['dark'], bool, 'dark'))
     if 'alive' in fields:
-        return Alive()
+        return KeepAlive()
     raise BadMessage('an unknown message')

@@ -10,8 +10,8 @@ import ssl
 from contextlib import ExitStack, suppress
 from typing import Any, Protocol
 
-from .messages import MOST, Alive, BadMessage, Greeting, Message, message_of, spell
-from .strangers import Stage, Stranger, Strangers, address_of
+from .messages import MOST, BadMessage, Greeting, KeepAlive, Message, encode_message, message_of
+from .strangers import Stranger, StrangerStage, Strangers, address_of
 
 ALIVE = 0.5                 # seconds between two keepalives
 GONE = 2.0                  # seconds without one after which the connection is given up
@@ -24,7 +24,7 @@ MOST_WAITING = 1 << 20      # octets not yet taken by the other site
 Streams = tuple[asyncio.StreamReader, asyncio.StreamWriter]
 
 
-class Hooks(Protocol):
+class SiteHooks(Protocol):
     """The events of the connection."""
 
     def greeting(self) -> Greeting:
@@ -43,7 +43,7 @@ class Hooks(Protocol):
         """A connection was refused here or there."""
 
 
-class Refused(Exception):
+class SiteRefused(Exception):
     """A refused connection; the words say why."""
 
 
@@ -95,13 +95,13 @@ async def listeners_of(host: str, port: int) -> list[socket.socket]:
     return made
 
 
-def stage_of(line: socket.socket) -> Stage:
+def stage_of(line: socket.socket) -> StrangerStage:
     """Whether a connection has sent anything."""
     try:
         line.recv(1, socket.MSG_PEEK)
     except OSError:
-        return Stage.SILENT
-    return Stage.SPEAKS
+        return StrangerStage.SILENT
+    return StrangerStage.SPEAKS
 
 
 async def first_octet(line: socket.socket) -> None:
@@ -129,7 +129,7 @@ class Site:
     """The other site."""
 
     def __init__(self, place: tuple[str, int], listens: bool, context: ssl.SSLContext | None, name: str | None,
-                 hooks: Hooks) -> None:
+                 hooks: SiteHooks) -> None:
         self.place, self.listens, self.context, self.name, self.hooks = place, listens, context, name, hooks
         self._writer: asyncio.StreamWriter | None = None    # the present connection
         self._run = ''                                      # the program at its other end
@@ -143,7 +143,7 @@ class Site:
             if writer.transport.get_write_buffer_size() > MOST_WAITING:
                 writer.transport.abort()
             else:
-                writer.write(spell(message))
+                writer.write(encode_message(message))
 
     def close(self) -> None:
         """Closes the present connection."""
@@ -203,13 +203,13 @@ class Site:
     async def _accepted(self, line: socket.socket, stranger: Stranger) -> None:
         """A connection from its first octet: a silent one costs only its socket."""
         try:
-            if stranger.stage is Stage.SILENT:
+            if stranger.stage is StrangerStage.SILENT:
                 await first_octet(line)
-                stranger.stage = Stage.SPEAKS
+                stranger.stage = StrangerStage.SPEAKS
             stranger.has_transport = True
             reader, writer = await streams_of(line, self.context)
             if self.context:
-                stranger.stage = Stage.CERTIFIED
+                stranger.stage = StrangerStage.CERTIFIED
             await self._hold(reader, writer, stranger)
         except (OSError, TimeoutError) as fault:
             self.hooks.turned_away(str(fault) or 'it sends nothing')
@@ -236,7 +236,7 @@ class Site:
             if stranger:
                 self._strangers.peer = stranger.address
             why = await self._follow(reader, writer)
-        except (Refused, BadMessage, OSError, TimeoutError) as fault:
+        except (SiteRefused, BadMessage, OSError, TimeoutError) as fault:
             why = str(fault) or 'no keepalive'
             if self._writer is not writer:
                 self.hooks.turned_away(why)
@@ -249,18 +249,18 @@ class Site:
     async def _greeted(self, reader: asyncio.StreamReader, writer: asyncio.StreamWriter) -> Greeting:
         """Exchanges greetings."""
         if self.listens and self.context and self.name and not has_name(writer.get_extra_info('peercert'), self.name):
-            raise Refused(f'its certificate is not that of {self.name}')
-        writer.write(spell(self.hooks.greeting()))
+            raise SiteRefused(f'its certificate is not that of {self.name}')
+        writer.write(encode_message(self.hooks.greeting()))
         greeting = await read_one(reader)
         if not isinstance(greeting, Greeting):
-            raise Refused('it sends no greeting' if greeting else 'it closed the connection')
+            raise SiteRefused('it sends no greeting' if greeting else 'it closed the connection')
         return greeting
 
     async def _take_up(self, greeting: Greeting, writer: asyncio.StreamWriter) -> None:
         """Makes this the present connection; another one of the same run is dead and not yet closed."""
         if self._writer is not None:
             if self._run != greeting.run:
-                raise Refused('another one is connected')
+                raise SiteRefused('another one is connected')
             self._writer.transport.abort()
             while self._writer is not None:
                 await asyncio.sleep(0)
@@ -279,7 +279,7 @@ class Site:
     async def _signs(self, writer: asyncio.StreamWriter) -> None:
         while self._writer is writer:
             await asyncio.sleep(ALIVE)
-            self.send(Alive())
+            self.send(KeepAlive())
 
 
 async def read_one(reader: asyncio.StreamReader) -> Message | None:

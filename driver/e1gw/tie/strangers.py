@@ -15,7 +15,7 @@ MOST_OF_ADDRESS = 2         # of one address other than the peer's
 PREFIX = 64                 # bits of an IPv6 address that count as one
 
 
-class Stage(IntEnum):
+class StrangerStage(IntEnum):
     """How far a connection has come."""
 
     SILENT = 0              # nothing was received
@@ -28,7 +28,7 @@ class Stranger:
     """A connection that has not greeted."""
 
     address: str
-    stage: Stage = Stage.SILENT
+    stage: StrangerStage = StrangerStage.SILENT
     task: asyncio.Task[None] | None = None      # that reads from it; None only in tests
     has_transport: bool = False
 
@@ -67,7 +67,7 @@ class Strangers:
 
     def is_hard(self, last: Stranger, by: Stranger) -> bool:
         """Whether closing that one is a loss: it had sent something, and was within the limit of an address."""
-        return last.stage > Stage.SILENT and (last.address != by.address or by.address == self.peer)
+        return last.stage > StrangerStage.SILENT and (last.address != by.address or by.address == self.peer)
 
     def remove(self, stranger: Stranger) -> None:
         """Removes one that has greeted or ended."""

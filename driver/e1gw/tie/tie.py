@@ -14,7 +14,7 @@ from .circuit import NO_CALL, CallNames, CircuitEnd, LinkState, TieCircuit, begu
 from .client import ControlClient, Event
 from .control import AGAIN, ControlLink, Tasks, Tell
 from .kept import KeptBlocks
-from .messages import All, Change, Dark, Greeting, Message
+from .messages import CircuitChange, Greeting, Message, OutOfService, SiteState
 from .pairs import Pairs, agreed
 from .site import Site
 
@@ -34,7 +34,7 @@ class TieOptions:
     until_answer: str | None = None     # the codec of each call until it is answered
 
 
-class Refusals:
+class RefusalReports:
     """Why nobody is connected: each reason is reported once a minute, ten of them at most."""
 
     def __init__(self, tell: Tell) -> None:
@@ -92,11 +92,16 @@ class Releases:
             self._stuck(n)
 
 
-def is_dark(status: dict[str, Any]) -> bool:
+def is_out_of_service(status: dict[str, Any]) -> bool:
     """Whether a trunk whose octets come carries no calls: it is stalled, or there is an alarm."""
     clock = status.get('clock') or {}
     return (not status.get('trunk_up', True) or bool(clock.get('stalled'))
             or any(status['alarm'].values()) or any(status['remote_alarm'].values()))
+
+
+def octets_come(status: dict[str, Any], before: int) -> bool:
+    """Whether octets of the trunk come: a watcher knows it by its shadow, else there are more than before."""
+    return bool(status['shadow']) if 'shadow' in status else int(status['octets']) != before
 
 
 class Tie:
@@ -113,17 +118,17 @@ class Tie:
         self.tasks = Tasks()
         self.control = ControlLink(options.control, options.hold, self, tell)
         self.codecs = CodecChanges(options.until_answer, self.control, self.tasks, tell, self._look_at_codec)
-        self.refusals = Refusals(tell)
+        self.refusals = RefusalReports(tell)
         self.calls = CallNames()
         self._octets = -1
-        self._dark = self._far_dark = True
+        self._out_of_service = self._far_out_of_service = True
         self._far: dict[int, CircuitEnd] | None = None         # the other site's states, by its numbers; None: unknown
         self._busy: dict[int, Command] = {}
 
     # ---- the trunk here ----
 
     def lost(self) -> None:
-        self._set_dark(True)
+        self._set_out_of_service(True)
 
     def begin(self, status: dict[str, Any], life: str) -> None:
         """Takes all circuits from the driver, with what is remembered of their calls."""
@@ -145,11 +150,9 @@ class Tie:
 
     def stands(self, status: dict[str, Any]) -> None:
         """Takes the status of the trunk, and makes up for missed events."""
-        octets = int(status['octets'])
-        # (a watcher knows by its shadow whether octets come)
-        lives = bool(status['shadow']) if 'shadow' in status else octets != self._octets
-        self._octets = octets
-        self._set_dark(not lives or is_dark(status))
+        lives = octets_come(status, self._octets)
+        self._octets = int(status['octets'])
+        self._set_out_of_service(not lives or is_out_of_service(status))
         for row in status['circuits']:
             n = int(row['circuit'])
             circuit = self.circuits[n]
@@ -172,7 +175,7 @@ class Tie:
         if name == 'state':
             self._state(int(event['circuit']), State(event['was']), State(event['state']))
         elif name in ('alarm', 'remote alarm') and event.get('on') or name in ('trunk lost', 'stalled'):
-            self._set_dark(True)
+            self._set_out_of_service(True)
         elif name == 'command' and event['command'] == Command.BLOCK.word:
             n = int(event['circuit'])
             if self._busy.get(n) is not Command.BLOCK:
@@ -224,12 +227,12 @@ class Tie:
         if not self.control.client or n in self._busy or n not in self.there:
             return
         link = self._link_of(n)
-        settled = self.circuits[n].settled(link)
-        if settled is not self.circuits[n]:
-            self.tell('over', circuit=n, call=settled.call, link=link.value)
-            self.circuits[n] = settled
+        marked_over = self.circuits[n].marked_over(link)
+        if marked_over is not self.circuits[n]:
+            self.tell('over', circuit=n, call=marked_over.call, link=link.value)
+            self.circuits[n] = marked_over
             self._send(n)
-        command = settled.wants(link, self.options.waits)
+        command = marked_over.wants(link, self.options.waits)
         if command is not None:
             self._busy[n] = command
             self.tasks.begin(self._do(self.control.client, n, command))
@@ -270,22 +273,22 @@ class Tie:
 
     # ---- the link ----
 
-    def _set_dark(self, dark: bool) -> None:
+    def _set_out_of_service(self, on: bool) -> None:
         """Notes whether the trunk here can carry calls."""
-        if dark != self._dark:
-            self._dark = dark
-            self.tell('dark' if dark else 'light')
+        if on != self._out_of_service:
+            self._out_of_service = on
+            self.tell('dark' if on else 'light')
             if self.site:
-                self.site.send(Dark(dark))
+                self.site.send(OutOfService(on))
             self._look_at_link()
 
     def _look_at_link(self) -> None:
         """Follows the state of the connection to the other end."""
         known = self.control.client is not None and self._far is not None
-        if not self.link.look(known and not self._dark and not self._far_dark):
+        if not self.link.look(known and not self._out_of_service and not self._far_out_of_service):
             return
-        self.tell('link', state=self.link.state.value, site=self._far is not None, dark=self._dark,
-                  far_dark=self._far_dark)
+        self.tell('link', state=self.link.state.value, site=self._far is not None, dark=self._out_of_service,
+                  far_dark=self._far_out_of_service)
         self._look_at_all()
 
     # ---- the other site ----
@@ -301,19 +304,19 @@ class Tie:
         self._send_all()
 
     def heard(self, message: Message) -> None:
-        if isinstance(message, All):
-            self._far, self._far_dark = dict(message.ends), message.dark
+        if isinstance(message, SiteState):
+            self._far, self._far_out_of_service = dict(message.ends), message.out_of_service
             self.codecs.heard(message.until_answer)
             self._join()
             self._look_at_link()
             self._look_at_all()
-        elif isinstance(message, Change) and self._far is not None:
+        elif isinstance(message, CircuitChange) and self._far is not None:
             self._far[message.circuit] = message.end
             for here, there in self.there.items():
                 if there == message.circuit and here in self.circuits:
                     self._put(here, self.circuits[here].heard(message.end))
-        elif isinstance(message, Dark):
-            self._far_dark = message.dark
+        elif isinstance(message, OutOfService):
+            self._far_out_of_service = message.out_of_service
             self._look_at_link()
 
     def gone(self, why: str) -> None:
@@ -341,13 +344,13 @@ class Tie:
 
     def _send(self, n: int) -> None:
         if self.site and n in self.there:
-            self.site.send(Change(n, self.circuits[n].end()))
+            self.site.send(CircuitChange(n, self.circuits[n].end()))
 
     def _send_all(self) -> None:
         """Sends the state of all circuits, once it is known."""
         if self.site and self.circuits:
             ends = {n: self.circuits[n].end() for n in self.there if n in self.circuits}
-            self.site.send(All(self._dark, ends, self.codecs.codings.own))
+            self.site.send(SiteState(self._out_of_service, ends, self.codecs.codings.own))
         if self._far is not None:
             self._join()
             self._look_at_link()

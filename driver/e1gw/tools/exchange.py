@@ -94,14 +94,14 @@ def receive(line: socket.socket, exchange: Exchange) -> bool:
 
 def awaited(path: str) -> socket.socket:
     """Waits for one who connects to a socket at this path, which is removed then."""
-    with socket.socket(socket.AF_UNIX) as door:
+    with socket.socket(socket.AF_UNIX) as listener:
         try:
-            door.bind(path)
+            listener.bind(path)
         except OSError as fault:
             rest = f': another exchange waits there, or one left it (rm {path})' if os.path.exists(path) else ''
             sys.exit(f'{os.path.basename(sys.argv[0])}: {path}: {fault.strerror}{rest}')
-        door.listen(1)
-        line = door.accept()[0]
+        listener.listen(1)
+        line = listener.accept()[0]
     os.unlink(path)
     return line
 

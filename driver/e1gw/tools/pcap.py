@@ -26,8 +26,8 @@ from typing import BinaryIO, Iterable, Iterator
 
 from ..faults import words_of_fault
 from ..repetitions import Repetitions
-from ..session import (
-    CIRCUITS, FRAME, SAMPLES_A_SECOND, BadPacket, BadSession, Kind, datagram_record, packet_of, records)
+from ..session import (CIRCUITS, FRAME, SAMPLES_A_SECOND, BadPacket, BadSession, Kind, datagram_record, packet_of,
+                       records)
 
 NAME = os.path.basename(sys.argv[0])    # in the package e1gw-pcap
 GATEWAY, PEER = bytes([192, 0, 2, 1]), bytes([192, 0, 2, 2])  # RFC 5737, addresses for examples
@@ -48,7 +48,7 @@ class BadPcap(Exception):
 
 # ---- a session to a capture ----
 
-class Again:
+class PcapRepetitions:
     """The repetitions among datagrams, which are no faults."""
 
     def __init__(self) -> None:
@@ -74,7 +74,7 @@ class StreamClock:
         self.octets = 0
         self.streams: dict[tuple[int, int], tuple[int, int]] = {}
         self.last: dict[int, int] = {}
-        self.again = Again()
+        self.again = PcapRepetitions()
 
     def time(self, circuit: int, body: bytes) -> int:
         """The time of a datagram; one that is no RTP, or a repetition, comes with the datagram before it."""
@@ -170,7 +170,7 @@ def udp_of(link: int, octets: bytes) -> tuple[int, bytes] | None:
 def write_records(source: BinaryIO, asked: int | None, sink: BinaryIO) -> None:
     """Writes a D record for each datagram of a capture."""
     circuits = {port: circuit for circuit, port in PORTS.items()}
-    again = Again()
+    again = PcapRepetitions()
     packets = passed = 0
     for link, octets in captured(source):
         packets += 1

@@ -26,10 +26,10 @@ import sys
 from typing import BinaryIO, Iterable, Iterator
 
 from ..faults import words_of_fault
-from ..kept import Source, Trouble, beside, octets_of
+from ..kept import InputError, Source, beside, octets_of
 from ..raw import DOUBLE, FAS, REVERSED, SIGNALS, is_frame, raw_words_of
-from ..session import (
-    CIRCUITS, FRAME, OCTETS_A_SECOND, BadPacket, BadSession, Kind, Readable, Record, packet_of, records, trunk_record)
+from ..session import (CIRCUITS, FRAME, OCTETS_A_SECOND, BadPacket, BadSession, Kind, Readable, Record, packet_of,
+                       records, trunk_record)
 
 NAME = os.path.basename(sys.argv[0])    # in the package e1gw-records
 MOST_WRONG = 3
@@ -103,7 +103,7 @@ def write_records(source: Readable, begin: int, end: int | None, sink: BinaryIO)
     place = 0
     for record in records(source):
         if begin <= place and (end is None or place < end):
-            sink.write(record.spelled())
+            sink.write(record.encode())
         place += len(record.body) if record.kind is Kind.TRUNK else 0
 
 
@@ -161,8 +161,8 @@ def hear(pieces: Iterator[bytes], circuit: int, law: str, sink: BinaryIO) -> Non
     slot = circuit if circuit < 16 else circuit + 1
     heard = b''.join(bytes((pair[slot], pair[FRAME + slot])) for pair in frames(pieces))
     if not heard:
-        raise Trouble('no frame was found in the octets of the trunk; for reversed bits use --from-raw --reverse, '
-                      'for unaligned octets e1gw align')
+        raise InputError('no frame was found in the octets of the trunk; for reversed bits use --from-raw --reverse, '
+                         'for unaligned octets e1gw align')
     write_wave(heard, law, sink)
 
 
@@ -236,7 +236,7 @@ def main() -> None:
     except BadSession as bad:
         why = raw_words_of(asked.file) if asked.file else None
         sys.exit(f'{NAME}: {bad}{f": {why}" if why else ""}')
-    except (Trouble, OSError) as trouble:
+    except (InputError, OSError) as trouble:
         sys.exit(f'{NAME}: {words_of_fault(trouble)}')
     except KeyboardInterrupt:
         sys.exit(130)

@@ -9,9 +9,9 @@ import unittest
 from unittest import mock
 
 from . import support
-from .test_keep import EACH, KEPT, Now
+from .test_keep import EACH, KEPT, ThreadAtOnce
 from .test_state import config_of, records_of
-from e1gw import behind, keep
+from e1gw import archive, keep
 from e1gw.session import Kind
 
 FAILS_TO_SAVE = '''#!/bin/sh
@@ -25,7 +25,7 @@ def octets_in(records: list[bytes]) -> int:
     return sum(len(record) - 4 for record in records if record[0] == Kind.TRUNK)
 
 
-class Ringed(support.Folder):
+class RingCase(support.FolderCase):
     """A session that is kept in four pieces."""
 
     def setUp(self) -> None:
@@ -34,8 +34,8 @@ class Ringed(support.Folder):
         self.ring, self.passed = self.path('ring'), 1000.0
         clock = types.SimpleNamespace(monotonic=lambda: self.passed, time=lambda: 1_800_000_000 + self.passed,
                                       strftime=time.strftime, gmtime=lambda: time.gmtime(self.passed))
-        threads = types.SimpleNamespace(Thread=Now)
-        for each in (mock.patch.object(keep, 'time', clock), mock.patch.object(behind, 'threading', threads)):
+        threads = types.SimpleNamespace(Thread=ThreadAtOnce)
+        for each in (mock.patch.object(keep, 'time', clock), mock.patch.object(archive, 'threading', threads)):
             each.start()
             self.addCleanup(each.stop)
         self.failed: list[str] = []
@@ -44,7 +44,7 @@ class Ringed(support.Folder):
              during: str = '') -> None:
         """Keeps pieces; after the first one the configuration becomes `during`."""
         ring = keep.Ring(self.ring, 'west', config, KEPT,
-                         behind.Behind(program or self.program, failed=self.failed.append, zstd=zstd))
+                         archive.FinishedPieces(program or self.program, failed=self.failed.append, zstd=zstd))
         ring.open()
         place = 0
         for records in pieces:
@@ -78,7 +78,7 @@ def in_four(records: list[bytes], rng: random.Random) -> list[list[bytes]]:
     return [records[a:b] for a, b in zip([0, *places], [*places, len(records)])]
 
 
-class States(Ringed):
+class RingStateTests(RingCase):
     """What the ring writes."""
 
     def test_each_piece_replays_as_it_was(self) -> None:
@@ -131,7 +131,7 @@ class States(Ringed):
 
     def test_a_piece_that_is_gone(self) -> None:
         config, records = self.write('trunk.toml', config_of('A')), list(records_of(random.Random(1), 'A', 20))
-        worker = behind.Behind(self.program, failed=self.failed.append, zstd=None)
+        worker = archive.FinishedPieces(self.program, failed=self.failed.append, zstd=None)
         ring = keep.Ring(self.ring, 'west', config, KEPT, worker)
         ring.open()
         for _ in range(2):

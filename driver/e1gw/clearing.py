@@ -1,4 +1,4 @@
-"""What is done when those who steer the trunk are gone."""
+"""What clears calls by itself: control clients that are gone (--on-loss), and a trunk out of service (--dark)."""
 from __future__ import annotations
 
 from dataclasses import dataclass
@@ -6,30 +6,30 @@ from typing import Callable
 
 
 @dataclass(frozen=True)
-class OnLoss:
+class DisconnectPolicy:
     """After so many seconds calls are cleared, and idle circuits blocked where that is asked too; None keeps them."""
 
     seconds: float | None = None
     blocks: bool = False
 
 
-def on_loss_of(words: list[str]) -> OnLoss:
+def on_loss_of(words: list[str]) -> DisconnectPolicy:
     """`keep`, `clear SECONDS` or `block SECONDS`. ValueError where it is none."""
     if words == ['keep']:
-        return OnLoss()
+        return DisconnectPolicy()
     if len(words) == 2 and words[0] in ('clear', 'block'):
         seconds = float(words[1])
         if 0 <= seconds <= 86400:
-            return OnLoss(seconds, words[0] == 'block')
+            return DisconnectPolicy(seconds, words[0] == 'block')
     raise ValueError('keep, or clear or block SECONDS (0 to 86400)')
 
 
-class Guards:
+class DisconnectWatch:
     """The clients that asked for something to be done when the last of them is gone."""
 
-    def __init__(self, usual: OnLoss, clear: Callable[[str, bool], None]) -> None:
+    def __init__(self, usual: DisconnectPolicy, clear: Callable[[str, bool], None]) -> None:
         self._usual, self._clear = usual, clear
-        self._asked: dict[object, OnLoss] = {}
+        self._asked: dict[object, DisconnectPolicy] = {}
         self._due: float | None = None
         self._blocks = False
 
@@ -60,3 +60,22 @@ class Guards:
         if self._due is not None and now >= self._due:
             self._due = None
             self._clear('the last control client is gone', self._blocks)
+
+
+class OutageWatch:
+    """Clears the calls of a trunk that has been out of service for so many seconds; never if that is None."""
+
+    def __init__(self, seconds: float | None, clear: Callable[[str], None]) -> None:
+        self._seconds, self._clear = seconds, clear
+        self._since: float | None = None
+        self._has_cleared = False
+
+    def look(self, now: float, outage: str | None) -> None:
+        """To be called now and then, with why the trunk is out of service, or None."""
+        if outage is None:
+            self._since, self._has_cleared = None, False
+            return
+        self._since = now if self._since is None else self._since
+        if self._seconds is not None and not self._has_cleared and now - self._since >= self._seconds:
+            self._has_cleared = True
+            self._clear(f'the trunk has been dark for {self._seconds:g} s')

@@ -21,7 +21,7 @@ class NoState(Exception):
 
 
 @dataclass
-class Behind:
+class FinishedPieces:
     """Works on pieces that are whole, in their order, one at a time and as the last of the machine's work.
 
     The state behind a piece is the one that the next piece begins with: `e1gw replay` reads the piece, begins with the

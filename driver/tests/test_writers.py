@@ -11,10 +11,10 @@ import unittest
 from . import support
 from .test_trunk import FOUR, aligned, call
 from .world import SECONDS, World, config_of
-from e1gw.outlets import Journal, Outlet, open_to_append, to_file
+from e1gw.writers import Journal, Writer, open_to_append, to_file
 
 
-class Openings(support.Folder):
+class WriterOpeningTests(support.FolderCase):
     def setUp(self) -> None:
         super().setUp()
         self.fifo = self.path('fifo')
@@ -30,28 +30,28 @@ class Openings(support.Folder):
     def test_a_fifo_that_nobody_reads(self) -> None:
         with self.assertRaises(OSError):
             open_to_append(self.fifo, 0.1)
-        outlet = to_file('session', self.fifo, lambda what, why: self.ended.append(f'{what}: {why}'))
-        outlet.put(b'abc')
+        writer = to_file('session', self.fifo, lambda what, why: self.ended.append(f'{what}: {why}'))
+        writer.put(b'abc')
         self.assertEqual(self.until_ended(), f'session: nobody reads it: {self.fifo}')
 
     def test_a_fifo_that_somebody_reads_in_time(self) -> None:
-        outlet = to_file('session', self.fifo, lambda what, why: self.ended.append(why))
-        outlet.put(b'abc')
+        writer = to_file('session', self.fifo, lambda what, why: self.ended.append(why))
+        writer.put(b'abc')
         time.sleep(0.1)
         with open(self.fifo, 'rb') as file:
-            outlet.put(b'def')
+            writer.put(b'def')
             self.assertEqual(file.read(6), b'abcdef')
-            outlet.close()
+            writer.close()
         self.assertEqual(self.ended, [])
 
     def test_an_opening_that_never_ends(self) -> None:
         opened, written = threading.Event(), list[bytes]()
-        outlet = Outlet('session', written.append, None, None, opened.wait)
+        writer = Writer('session', written.append, None, None, opened.wait)
         for _ in range(1000):
-            outlet.put(b'abc')
-        self.assertEqual((written, outlet.waiting()), ([], 3000))
+            writer.put(b'abc')
+        self.assertEqual((written, writer.waiting()), ([], 3000))
         opened.set()
-        outlet.close()
+        writer.close()
         self.assertEqual(len(written), 1000)
 
     def test_a_trunk_whose_files_do_not_open(self) -> None:
@@ -80,7 +80,7 @@ class Openings(support.Folder):
                              [0o640, 0o640])
 
 
-class Storms(unittest.TestCase):
+class JournalTests(unittest.TestCase):
     def test_lines_of_a_kind(self) -> None:
         now = [100.0]
         reads, writes = os.pipe()

@@ -14,9 +14,9 @@ from typing import Callable
 MOST_WAITING = 16 << 20     # octets for one place; more are not kept
 
 
-class Outlet:
+class Writer:
     """Writes pieces in their order by `write`, which may wait and may fail; before the first one `begin` opens what is
-    to be opened. After a failure, or where too much waits, the outlet has ended, and `ended(why)` is called once, in
+    to be opened. After a failure, or where too much waits, the writer has ended, and `ended(why)` is called once, in
     another thread or in that of `put`. `where` is the path that the reason names."""
 
     def __init__(self, name: str, write: Callable[[bytes], object], ended: Callable[[str, str], None] | None = None,
@@ -27,7 +27,7 @@ class Outlet:
         self.has_ended = False
         self._queue: queue.SimpleQueue[bytes | None] = queue.SimpleQueue()
         self._put = self._done = 0
-        self._thread = threading.Thread(target=self._run, name=f'outlet {name}', daemon=True)
+        self._thread = threading.Thread(target=self._run, name=f'writer {name}', daemon=True)
         self._thread.start()
 
     def put(self, piece: bytes) -> None:
@@ -80,8 +80,8 @@ def write_all(file: int, octets: bytes) -> None:
             threading.Event().wait(0.02)
 
 
-def to_descriptor(name: str, file: int, ended: Callable[[str, str], None] | None = None) -> Outlet:
-    return Outlet(name, lambda octets: write_all(file, octets), ended)
+def to_descriptor(name: str, file: int, ended: Callable[[str, str], None] | None = None) -> Writer:
+    return Writer(name, lambda octets: write_all(file, octets), ended)
 
 
 def open_to_append(path: str, seconds: float = 2.0) -> int:
@@ -102,8 +102,8 @@ def open_to_append(path: str, seconds: float = 2.0) -> int:
             return file
 
 
-class OneFile:
-    """A file that is written behind what it has. It is opened by `open`, in the thread of its outlet."""
+class AppendedFile:
+    """A file that is written behind what it has. It is opened by `open`, in the thread of its writer."""
 
     def __init__(self, path: str) -> None:
         self._path, self._file = path, -1
@@ -118,10 +118,17 @@ class OneFile:
         os.close(self._file)
 
 
-def to_file(name: str, path: str, ended: Callable[[str, str], None]) -> Outlet:
-    """An outlet to a file of this path, which may not be there, and may never open."""
-    file = OneFile(path)
-    return Outlet(name, file.write, ended, file.close, file.open, path)
+def to_file(name: str, path: str, ended: Callable[[str, str], None]) -> Writer:
+    """A writer to a file of this path, which may not be there, and may never open."""
+    file = AppendedFile(path)
+    return Writer(name, file.write, ended, file.close, file.open, path)
+
+
+def to_json(path: str | None, ended: Callable[[str, str], None]) -> Writer | None:
+    """A writer of lines of JSON; - is standard output. None without a path."""
+    if not path:
+        return None
+    return to_descriptor('json', 1, ended) if path == '-' else to_file('json', path, ended)
 
 
 @dataclass
@@ -142,7 +149,7 @@ class Journal:
     MOST, MINUTE = 20, 60.0
 
     def __init__(self, file: int = 2, clock: Callable[[], float] = time.monotonic, name: str = 'e1gw-trunk') -> None:
-        self._outlet, self._clock, self._name = to_descriptor('standard error', file), clock, name
+        self._writer, self._clock, self._name = to_descriptor('standard error', file), clock, name
         self._levels = _is_journal(file)
         self._kinds: dict[str, _Kind] = {}
 
@@ -169,11 +176,11 @@ class Journal:
 
     def _put(self, level: int, text: str) -> None:
         front = f'<{level}>' if self._levels else f'{self._name}: '
-        self._outlet.put(f'{front}{text}\n'.encode(errors='replace'))
+        self._writer.put(f'{front}{text}\n'.encode(errors='replace'))
 
     def close(self) -> None:
         self.look(True)
-        self._outlet.close()
+        self._writer.close()
 
 
 def _is_journal(file: int) -> bool:

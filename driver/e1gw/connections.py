@@ -1,21 +1,25 @@
 """Those who connect: sockets that listen, and the ends of connections, none of which is ever waited for."""
 from __future__ import annotations
 
+import grp
 import os
 import socket
+import stat
 from typing import Any, Callable
 
+from .faults import named
 from .loop import GONE, READ, WRITE, Loop
 
+BACKLOG = 64                # connections that wait to be taken
 MOST_HELD = 256 << 10       # octets that wait for one who does not read, before the connection is closed
 
 
-class Peer:
+class Connection:
     """One end of a connection. What the other end does not take at once waits, up to a bound."""
 
     TAKES = 65536           # octets that are received at once
 
-    def __init__(self, loop: Loop, line: socket.socket, closed: Callable[[Peer], None]) -> None:
+    def __init__(self, loop: Loop, line: socket.socket, closed: Callable[[Connection], None]) -> None:
         self.loop, self.line, self._closed = loop, line, closed
         self.open, self._out, self._last = True, bytearray(), False
         self._reads, self._blocked, self._queued, self._gone = True, False, False, False
@@ -114,29 +118,73 @@ class Peer:
             self._closed(self)
 
 
-class Door:
+class Listener:
     """A socket that listens, and gives each who connects to `came`."""
 
-    def __init__(self, loop: Loop, door: socket.socket, came: Callable[[socket.socket, Any], object],
+    def __init__(self, loop: Loop, line: socket.socket, came: Callable[[socket.socket, Any], object],
                  path: str | None = None) -> None:
-        self.loop, self.door, self.path, self._came = loop, door, path, came
+        self.loop, self.line, self.path, self._came = loop, line, path, came
         self._inode = os.lstat(path).st_ino if path else 0
-        door.setblocking(False)
-        loop.watch(door.fileno(), READ, lambda _: self._accept(), beside=True)
+        line.setblocking(False)
+        loop.watch(line.fileno(), READ, lambda _: self._accept(), beside=True)
 
     def _accept(self) -> None:
         try:
-            line, address = self.door.accept()
+            line, address = self.line.accept()
         except OSError:
             return
         self._came(line, address)
 
     def close(self) -> None:
-        self.loop.forget(self.door.fileno())
-        self.door.close()
+        self.loop.forget(self.line.fileno())
+        self.line.close()
         if self.path:
             try:
                 if os.lstat(self.path).st_ino == self._inode:
                     os.unlink(self.path)
             except OSError:
                 pass
+
+
+class SocketTaken(Exception):
+    """A path is not free for a socket; the words say why."""
+
+
+def free_path(path: str) -> None:
+    """Takes away a socket at which nobody listens. SocketTaken if somebody does, or if something else is there."""
+    try:
+        if not stat.S_ISSOCK(os.lstat(path).st_mode):
+            raise SocketTaken(f'{path} is there and no socket')
+    except FileNotFoundError:
+        return
+    with socket.socket(socket.AF_UNIX) as line:
+        try:
+            line.connect(path)
+        except ConnectionRefusedError:
+            os.unlink(path)
+            return
+    raise SocketTaken(f'at {path} another one listens')
+
+
+def listen(loop: Loop, option: str, path: str, came: Callable[[socket.socket, Any], object], mode: int = 0o660,
+           group: str | None = None) -> Listener:
+    """Listens at the path of an option."""
+    try:
+        return Listener(loop, _listen_unix(path, mode, group), came, path)
+    except OSError as fault:
+        raise named(fault, f'{option} {path}') from None
+
+
+def _listen_unix(path: str, mode: int, group: str | None) -> socket.socket:
+    """A Unix stream socket that listens, with its mode and group from the first moment on."""
+    free_path(path)
+    line = socket.socket(socket.AF_UNIX)
+    before = os.umask(0o777 & ~mode)
+    try:
+        line.bind(path)
+    finally:
+        os.umask(before)
+    if group:
+        os.chown(path, -1, int(group) if group.isdecimal() else grp.getgrnam(group).gr_gid)
+    line.listen(BACKLOG)
+    return line
