@@ -1,9 +1,8 @@
 ghost use Rattle.std.specs.Prelude.{◌≡◌, None, length};
 
 use arrayvec::ArrayVec;
-use g704_crc4::Crc4Inserter;
 use gw_filter::{
-    Checked, CountsTeller, NoReports, ReceiverCounts, ReportingChecker, ReportingSender, ToReports,
+    Checked, CountsTeller, NoReports, ReceiverCounts, ReportingChecker, ReportingSender,
     align_stream, crc4_check_stream, crc4_stream,
 };
 use gw_records::{FromRead, NO_TOTALS, RunFault, Sink, SinkFault, Source, SourceFault, Totals};
@@ -176,8 +175,7 @@ fn multiframes_are_sent(rt: HostRuntime) {
 }
 
 // Five errored submultiframes are reported before the first octet, in two reports: the two E bits of the
-// first
-// 600 octets are 0, frames 13 and 15 (ITU-T G.704, 2.3.3.4).
+// first 600 octets are 0, frames 13 and 15 (ITU-T G.704, 2.3.3.4).
 #[test]
 fn reports_become_e_bits(rt: HostRuntime) {
     let mut sink = Taken::new(600);
@@ -220,75 +218,4 @@ fn a_checked_trunk_passes(rt: HostRuntime) {
     for (place, octet) in sink.octets.iter().enumerate() {
         assert_eq!(rt; *octet, late(place), "at {place}");
     }
-}
-
-// Gives twelve multiframes as they are sent, 512 octets in a read, one bit of each of two submultiframes
-// wrong.
-#[derive(Drop)]
-struct Damaged {
-    multiframer: Crc4Inserter,
-    at: usize,
-    failed: u64,
-    reads: u64,
-}
-
-impl Source for Damaged {
-    ghost tells = { λ s. record { failures = s.failed; reads = s.reads; given = None; to_come = None } };
-
-    fn read(&mut self, buf: &mut [u8]) -> Result<usize, SourceFault> {
-        let n = 6144usize.saturating_sub(self.at).min(512).min(buf.len());
-        for octet in buf[..n].iter_mut() {
-            *octet = self.multiframer.octet(trunk(self.at));
-            if self.at == 3000 || self.at == 4500 {
-                *octet ^= 0x10;
-            }
-            self.at = self.at.saturating_add(1);
-        }
-        self.reads = self.reads.saturating_add(1);
-        Ok(n)
-    }
-}
-
-// Takes octets of any number.
-#[derive(Drop)]
-struct All {
-    failed: u64,
-}
-
-impl Sink for All {
-    ghost tells = { λ s. record { failures = s.failed; taken = None } };
-
-    fn write(&mut self, octets: &[u8]) -> Result<usize, SinkFault> {
-        Ok(octets.len())
-    }
-}
-
-fn make_damaged() -> Damaged
-    ensures failed { result.failed ≡ 0 }
-    ensures reads { result.reads ≡ 0 }
-{
-    Damaged {
-        multiframer: Crc4Inserter::new(),
-        at: 0,
-        failed: 0,
-        reads: 0,
-    }
-}
-
-// Two submultiframes are errored, that of octet 3000 and that of octet 4500, and each is reported.
-#[test]
-fn errored_submultiframes_are_reported(rt: HostRuntime) {
-    let mut checker = ReportingChecker::new(ToReports::new(std::io::sink()), Untold);
-    let ended = crc4_check_stream(&mut checker, &mut make_damaged(), &mut All { failed: 0 });
-    let counts = ended.map(|checked| (checked.tally.errored, checked.unreported));
-    assert!(rt; counts == Ok((2, 0)));
-}
-
-// What cannot be sent is said.
-#[test]
-fn unreported_submultiframes_are_counted(rt: HostRuntime) {
-    let mut checker = ReportingChecker::new(NoReports::new(), Untold);
-    let ended = crc4_check_stream(&mut checker, &mut make_damaged(), &mut All { failed: 0 });
-    let counts = ended.map(|checked| (checked.tally.errored, checked.unreported));
-    assert!(rt; counts == Ok((2, 2)));
 }
