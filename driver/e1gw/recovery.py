@@ -99,6 +99,23 @@ def state_of(kept: dict[str, Any]) -> str | None:
     return begun if begun and os.path.exists(begun) else None
 
 
+def end_all_in(folder: str) -> None:
+    """Ends what keepers that are no more have left in this folder: the program in order, then the rest."""
+    for path in glob.glob(os.path.join(folder, 'keep-*', NOTE)):
+        try:
+            with open(path, encoding='utf-8') as file:
+                kept = json.load(file)
+            if not Adopted(kept['keeper']).ended():
+                continue
+            end_others(kept)
+            state_of(kept)
+            run = kept['run'] or {}
+            for its in (run[name] for name in ('shadow', 'recorder') if run.get(name)):
+                _wait(Adopted(its))
+        except (OSError, ValueError, KeyError, TypeError):
+            continue        # of a keeper that has noted nothing
+
+
 def _ask_end(control: str) -> None:
     """Asks a program to end behind what it has read."""
     with socket.socket(socket.AF_UNIX) as line:

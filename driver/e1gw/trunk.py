@@ -24,7 +24,7 @@ from .keep import seconds_of
 from .keeper_files import folder_of
 from .options import add_calls, add_control, add_options, fields_of
 from .programs import add_program, add_session, check_config, program_of
-from .recovery import forget_folders, own_prefix
+from .recovery import end_all_in, forget_folders, own_prefix
 from .supervisor import Part, Parts, Supervisor
 from .systemd import Notify
 from .trunk_options import add_trunk, opening_of
@@ -129,6 +129,7 @@ def _serve(asked: argparse.Namespace, journal: Journal) -> int:
     try:
         return Supervisor(parts_of(asked, program, folder), journal, Notify()).run()
     finally:
+        end_all_in(folder)      # of a keeper that was killed, if no other has taken over
         shutil.rmtree(folder, ignore_errors=True)
 
 

@@ -1,6 +1,7 @@
 """e1gw-trunk in service: commands, what ends beside the calls without ending them, and how all of it ends."""
 from __future__ import annotations
 
+import glob
 import json
 import os
 import signal
@@ -18,7 +19,7 @@ from . import support
 from .flowing import is_seized
 from .world import ANSWERED, IDLE, LAUNCHER, SECONDS, SEIZED, World, config_of, descendant, free_ports
 from e1gw import session
-from e1gw.recovery import forget_folders, own_prefix
+from e1gw.recovery import NOTE, forget_folders, own_prefix
 from e1gw.trunk import options_of, parts_of
 
 FOUR = range(1, 5)
@@ -63,6 +64,15 @@ def keepers(world: World) -> list[int]:
         return [descendant(world.process.pid, 'e1gw-keep')]
     except AssertionError:
         return []
+
+
+def has_taken_over(world: World, keeper: int) -> bool:
+    """Whether this keeper has noted what it has."""
+    for path in glob.glob(os.path.join(world.path('run'), 'trunk-*', 'keep-*', NOTE)):
+        with open(path, encoding='utf-8') as file:
+            if json.load(file)['keeper'][0] == keeper:
+                return True
+    return False
 
 
 def call(world: World, circuit: int) -> None:
@@ -270,7 +280,7 @@ class BesideCallsTests(unittest.TestCase):
                 os.kill(keeper, signal.SIGKILL)
                 world.step(100)
                 until = time.monotonic() + SECONDS
-                while not (others := keepers(world)) or others == [keeper]:
+                while not any(has_taken_over(world, other) for other in keepers(world) if other != keeper):
                     self.assertLess(time.monotonic(), until)
                     world.step(1)
                 world.step(200)
@@ -283,6 +293,15 @@ class BesideCallsTests(unittest.TestCase):
             status, said = world.quit()
             self.assertEqual((status, said.count('e1gw-keep ended by signal 9 (SIGKILL), the calls go on'),
                               said.count(f'the keeper was killed; program {program} goes on')), (0, 2, 2))
+
+    def test_an_end_without_a_keeper(self) -> None:
+        """The trunk ends before another keeper has taken over: the program, its shadow and the recorder end too."""
+        with World('law = "A"\n') as world:
+            aligned(world)
+            program = descendant(world.process.pid, 'trunk', '/dev/fd/3')
+            os.kill(descendant(world.process.pid, 'e1gw-keep'), signal.SIGKILL)
+            status, _ = world.quit()        # once nobody has its standard error any more
+            self.assertEqual((status, is_there(program)), (0, False))
 
     def test_a_carrier_that_is_killed(self) -> None:
         """Another one opens the trunk again, and the call is up."""
