@@ -7,8 +7,8 @@ use Rattle.std.proofs.lemmas.Bool.{lt-ltb, le-ltb, eq-eqb, ne_eqb, cases_lt, cas
 use Rattle.g704_framing.specs.Alignment.{alignments_from}
 use Rattle.g704_framing.specs.Age.{age_in}
 use Rattle.g704_framing.specs.Places.{place_since}
-use Rattle.g704_framing.specs.Restart.{IsOver, last_of}
-use Rattle.g704_framing.proofs.Ends.{alignments-standing, kept-more, IsOver-lost}
+use Rattle.g704_framing.specs.Restart.{RestartsAfter, last_of}
+use Rattle.g704_framing.proofs.Ends.{alignments-standing, kept-more, RestartsAfter-lost}
 use Rattle.g704_framing.proofs.Ages.{age-early, age-standing}
 use Rattle.g704_framing.proofs.Standings.{place-history, place-over, alarm-since, alarm-over}
 use Rattle.g704_framing.proofs.Standings.{since-nothing, since-more, since-anew}
@@ -71,7 +71,7 @@ IsNoSpeech p = number_of p % 16 ≡ 0
 pub place-signal : (b : Option ℕ) (c : List ℕ) (x age ws wd : ℕ) → IsAlignment age ws wd c → age % 16 ≡ 0
     → number_of (place_since frames b (c ++ x ∷ []) (length c)) % 16 ≡ 0
 place-signal b c x age ws wd h e = elim (cases_Bool (is_third_wrong (c ++ x ∷ []) (length c))) [
-  | inl lost ↦ subst IsNoSpeech (place-over frames b c x (IsOver-lost frame_alignment frame_is_framing b c x
+  | inl lost ↦ subst IsNoSpeech (place-over frames b c x (RestartsAfter-lost frame_alignment frame_is_framing b c x
       (λ t. search-found c t h.found h.fas h.nfas h.confirmed) h.kept lost)) refl
   | inr kept ↦
       let counted = h.counted in
@@ -109,7 +109,7 @@ place-left phase history octet h is =
 
 -- the aligner has the history with one more octet
 pub stands-follows : (phase : Phase) (history earlier since : List ℕ) (x : ℕ) → history ≡ earlier ++ since
-    → IsOver frame_alignment None earlier → Follows phase (last_of None earlier) (since ++ x ∷ [])
+    → RestartsAfter frame_alignment None earlier → Follows phase (last_of None earlier) (since ++ x ∷ [])
     → HasHistory (record { phase = phase }) (history ++ x ∷ [])
 stands-follows Searching history earlier since x e over f =
     since-anew frame_alignment _ history earlier since x e over f refl
@@ -129,7 +129,8 @@ alarm_of (Candidate age) = true
 alarm_of (Aligned age ws wd) = false
 
 -- the alarm, by the octets since the last restart
-alarm-after : (phase : Phase) (earlier since : List ℕ) → IsOver frame_alignment None earlier → Describes phase since
+alarm-after : (phase : Phase) (earlier since : List ℕ) → RestartsAfter frame_alignment None earlier
+    → Describes phase since
     → alarm_of phase ≡ alarm_after (earlier ++ since)
 alarm-after Searching earlier since over f = rw f (alarm-over frames earlier over)
 alarm-after (Candidate age) earlier since over f =

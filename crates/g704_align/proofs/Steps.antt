@@ -7,8 +7,8 @@ use Rattle.std.proofs.lemmas.List.{get_or_append_left, length_push, get_or_push}
 use Rattle.std.proofs.lemmas.Bool.{lt-ltb, le-ltb, eqb-true, not-true, not-false, and_left}
 use Rattle.std.proofs.lemmas.Bool.{and_parts, or_cases, or_parts}
 use Rattle.std.proofs.lemmas.Bool.{cases_eq, cases_lt}
-use Rattle.g704_framing.specs.Restart.{IsOver}
-use Rattle.g704_framing.proofs.Ends.{IsOver-passed, kept-more, IsOver-lost}
+use Rattle.g704_framing.specs.Restart.{RestartsAfter}
+use Rattle.g704_framing.proofs.Ends.{RestartsAfter-passed, kept-more, RestartsAfter-lost}
 use Rattle.g704_align.specs.Search.{is_fas, is_nfas, search}
 use Rattle.g704_align.specs.Loss.{is_wrong, is_third_wrong, frame_alignment}
 use Rattle.g704_align.specs.Aligner.{IsCandidate, IsAlignment, CountsWrong, wrong_before, count_after, is_refuted}
@@ -22,9 +22,9 @@ push_at : (c : List ℕ) (x k : ℕ) → k < length c → get_or (c ++ x ∷ [])
 push_at c x k h = get_or_append_left c (x ∷ []) 0 k h
 
 -- an octet that a search meets, and that is no FAS octet
-pub IsOver-no_fas : (b : Option ℕ) (x : ℕ) → is_fas x ≡ false → IsOver frame_alignment b (x ∷ [])
+pub RestartsAfter-no_fas : (b : Option ℕ) (x : ℕ) → is_fas x ≡ false → RestartsAfter frame_alignment b (x ∷ [])
 unfolding search
-IsOver-no_fas b x h = IsOver-passed frame_alignment frame_is_framing b (x ∷ []) (λ t. rw h refl)
+RestartsAfter-no_fas b x h = RestartsAfter-passed frame_alignment frame_is_framing b (x ∷ []) (λ t. rw h refl)
 
 -- what an octet says that does not refute a candidate
 right_at_32 : (x age : ℕ) → is_refuted age x ≡ false → age ≡ 32 → is_nfas x ≡ true
@@ -56,10 +56,10 @@ candidate-more c x age h kept lt = let n = h.counted in let b = h.begun in recor
 
 -- everything restarts after an octet that should be an NFAS octet, and is not
 over_no_nfas : (b : Option ℕ) (c : List ℕ) (x : ℕ) → length c ≡ 32 → is_fas (get_or c 0 0) ≡ true → is_nfas x ≡ false
-    → IsOver frame_alignment b (c ++ x ∷ [])
+    → RestartsAfter frame_alignment b (c ++ x ∷ [])
 unfolding search
 over_no_nfas b [] x n h g = absurd (omega arith)
-over_no_nfas b (y ∷ c) x n h g = IsOver-passed frame_alignment frame_is_framing b ((y ∷ c) ++ x ∷ []) (λ t.
+over_no_nfas b (y ∷ c) x n h g = RestartsAfter-passed frame_alignment frame_is_framing b ((y ∷ c) ++ x ∷ []) (λ t.
     let l : length c ≡ 31 = omega arith in
     let m : length (c ++ x ∷ []) ≡ 32 = omega (arith, length_push c x) in
     let e : slice_get (c ++ x ∷ [] ++ t) 31 ≡ Some x = rw (append_assoc c (x ∷ []) t) (rw l at (slice_get-at c x t)) in
@@ -67,10 +67,11 @@ over_no_nfas b (y ∷ c) x n h g = IsOver-passed frame_alignment frame_is_framin
 
 -- or should be the second FAS octet, and is not
 over_no_second_fas : (b : Option ℕ) (c : List ℕ) (x : ℕ) → length c ≡ 64 → is_fas (get_or c 0 0) ≡ true
-    → is_nfas (get_or c 32 0) ≡ true → is_fas x ≡ false → IsOver frame_alignment b (c ++ x ∷ [])
+    → is_nfas (get_or c 32 0) ≡ true → is_fas x ≡ false → RestartsAfter frame_alignment b (c ++ x ∷ [])
 unfolding search
 over_no_second_fas b [] x n h s g = absurd (omega arith)
-over_no_second_fas b (y ∷ c) x n h s g = IsOver-passed frame_alignment frame_is_framing b ((y ∷ c) ++ x ∷ []) (λ t.
+over_no_second_fas b (y ∷ c) x n h s g = RestartsAfter-passed frame_alignment frame_is_framing b ((y ∷ c) ++ x
+    ∷ []) (λ t.
     let l : length c ≡ 63 = omega arith in
     let m : length (c ++ x ∷ []) ≡ 64 = omega (arith, length_push c x) in
     let d : slice_get (c ++ x ∷ [] ++ t) 31 ≡ Some (get_or c 31 0)
@@ -80,7 +81,7 @@ over_no_second_fas b (y ∷ c) x n h s g = IsOver-passed frame_alignment frame_i
 
 -- a candidate that is refuted, by its NFAS octet or by its second FAS octet
 pub candidate-refuted : (b : Option ℕ) (c : List ℕ) (x age : ℕ) → IsCandidate age c → is_refuted age x ≡ true
-    → IsOver frame_alignment b (c ++ x ∷ [])
+    → RestartsAfter frame_alignment b (c ++ x ∷ [])
 candidate-refuted b c x age h refuted = elim (or_cases _ _ refuted) [
   | inl nfas ↦
       let parts = and_parts _ _ nfas in
@@ -232,9 +233,10 @@ module _ (c : List ℕ) (x age ws wd : ℕ) (h : IsAlignment age ws wd c) where
   }
 
   -- everything restarts, if it is
-  lost_by : (b : Option ℕ) → is_third_wrong (c ++ x ∷ []) (length c) ≡ true → IsOver frame_alignment b (c ++ x ∷ [])
+  lost_by : (b : Option ℕ) → is_third_wrong (c ++ x ∷ []) (length c) ≡ true
+      → RestartsAfter frame_alignment b (c ++ x ∷ [])
   lost_by b third =
-      IsOver-lost frame_alignment frame_is_framing b c x
+      RestartsAfter-lost frame_alignment frame_is_framing b c x
       (λ t. search-found c t h.found h.fas h.nfas h.confirmed) h.kept third
 
   -- whether the octet is wrong, if a FAS octet is expected
@@ -271,7 +273,8 @@ module _ (c : List ℕ) (x age ws wd : ℕ) (h : IsAlignment age ws wd c) where
   fas-third e counted = count-lost c x 0 ws h.found h.fas_count (at_rest 0 e) (is_fas x) (wrong-fas e) counted
 
   -- and then everything restarts
-  pub fas-lost : (b : Option ℕ) → age ≡ 0 → None ≡ count_after ws (is_fas x) → IsOver frame_alignment b (c ++ x ∷ [])
+  pub fas-lost : (b : Option ℕ) → age ≡ 0 → None ≡ count_after ws (is_fas x)
+      → RestartsAfter frame_alignment b (c ++ x ∷ [])
   fas-lost b e counted = lost_by b (fas-third e counted)
 
   -- of an odd frame
@@ -286,7 +289,8 @@ module _ (c : List ℕ) (x age ws wd : ℕ) (h : IsAlignment age ws wd c) where
   nfas-third e counted = count-lost c x 32 wd h.found h.nfas_count (at_rest 32 e) (is_nfas x) (wrong-nfas e) counted
 
   -- and then everything restarts
-  pub nfas-lost : (b : Option ℕ) → age ≡ 32 → None ≡ count_after wd (is_nfas x) → IsOver frame_alignment b (c ++ x ∷ [])
+  pub nfas-lost : (b : Option ℕ) → age ≡ 32 → None ≡ count_after wd (is_nfas x)
+      → RestartsAfter frame_alignment b (c ++ x ∷ [])
   nfas-lost b e counted = lost_by b (nfas-third e counted)
 
   -- of another slot

@@ -1,7 +1,7 @@
 -- The history of an aligner: the octets that it received, by its fields.
 use Rattle.std.specs.Prelude.{◌≡◌, ℕ, ◌+◌, ◌-◌, ◌%◌, ◌<◌, ◌≤◌, Bool, true, false, not, ◌&&◌, ◌||◌, ◌==◌}
 use Rattle.std.specs.Prelude.{nat_lt, if◌then◌else◌, List, [], length, slice_index, Option, Some, None}
-use Rattle.g704_framing.specs.Restart.{IsOver, HoldsSince}
+use Rattle.g704_framing.specs.Restart.{RestartsAfter, HoldsSince}
 use Rattle.g704_align.specs.declared.alignment.Aligner.{Aligner}
 use Rattle.g704_align.specs.declared.alignment.Phase.{Phase}
 use Rattle.g704_align.specs.declared.alignment.Phase.TheVariants.{Searching, Candidate, Aligned}
@@ -55,7 +55,7 @@ Describes (Aligned age wrong_fas wrong_nfas) octets = IsAlignment age wrong_fas 
 
 -- the phase fits these octets, or is the search that follows them
 abbrev pub Follows : Phase → Option ℕ → List ℕ → Type 0
-Follows Searching before octets = IsOver frame_alignment before octets
+Follows Searching before octets = RestartsAfter frame_alignment before octets
 Follows (Candidate age) before octets = IsCandidate age octets
 Follows (Aligned age wrong_fas wrong_nfas) before octets = IsAlignment age wrong_fas wrong_nfas octets
 

@@ -1,6 +1,6 @@
 -- The slot and the frame of each octet, and the alarm.
 use Rattle.std.specs.Prelude.{ℕ, ◌-◌, ◌/◌, ◌%◌, Bool, ◌==◌, List, length, Option, Some, None}
-use Rattle.g704_framing.specs.Places.{Placing, place_in, alarm_in}
+use Rattle.g704_framing.specs.Places.{PlaceRules, place_in, alarm_in}
 use Rattle.g704_align.specs.declared.alignment.Place.{Place}
 use Rattle.g704_align.specs.declared.alignment.Place.TheVariants.{Hunting, Slot}
 use Rattle.g704_align.specs.Loss.{is_expected, frame_alignment}
@@ -17,7 +17,7 @@ number_of (Slot number fas) = number
 
 -- The slots of frames: octets after the search have places until the loss, and those of slot 0 keep the
 -- alignment.
-abbrev pub frames : Placing Place
+abbrev pub frames : PlaceRules Place
 frames = record {
   framing = frame_alignment;
   placed_from = 65;

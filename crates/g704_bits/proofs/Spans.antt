@@ -4,8 +4,8 @@ use Rattle.std.proofs.Common.{Bool, Option, Some, None, refl, sym, ap, ◌∙◌
 use Rattle.std.specs.Prelude.{◌&&◌, nat_le, option_map}
 use Rattle.std.proofs.lemmas.Bool.Decides.{nat_tests}
 use Rattle.std.proofs.lemmas.List.{length-append, append-nil, drop_at, length_push}
-use Rattle.g704_framing.specs.Alignment.{Alignment, loss, alignments_from, after_search, after_loss}
-use Rattle.g704_framing.specs.Restart.{IsOver, last_of, moved}
+use Rattle.g704_framing.specs.Alignment.{FoundAlignment, loss, alignments_from, after_search, after_loss}
+use Rattle.g704_framing.specs.Restart.{RestartsAfter, last_of, moved}
 use Rattle.g704_framing.proofs.Leasts.{IsLeast, least_equals}
 use Rattle.g704_framing.proofs.Turns.{alignments-turns, alignments-append, onto}
 use Rattle.g704_framing.proofs.Ends.{is_lost-append}
@@ -98,7 +98,7 @@ one-lost b sk al x age ws wd h none third t =
 -- so everything restarts after it
 pub over-lost : (b : Option ℕ) (sk al : List ℕ) (x age ws wd : ℕ) → IsAlignment age ws wd al
     → ((k : ℕ) → k < length sk → is_confirmed (sk ++ al) k ≡ false)
-    → is_lost_at (al ++ x ∷ []) (length al) ≡ true → IsOver bit_alignment b ((sk ++ al) ++ x ∷ [])
+    → is_lost_at (al ++ x ∷ []) (length al) ≡ true → RestartsAfter bit_alignment b ((sk ++ al) ++ x ∷ [])
 over-lost b sk al x age ws wd h none third = record {
   earlier = record { start = length sk; lost = Some (length sk + length al) } ∷ [];
   all_lost = (omega (arith, length_push (sk ++ al) x, length-append sk al), tt);
@@ -106,12 +106,12 @@ over-lost b sk al x age ws wd h none third = record {
 }
 
 -- the offset of alignments, one list after another
-offset_of-append : (j : ℕ) (ds es : List Alignment) → offset_of j (ds ++ es) ≡ offset_of (offset_of j ds) es
+offset_of-append : (j : ℕ) (ds es : List FoundAlignment) → offset_of j (ds ++ es) ≡ offset_of (offset_of j ds) es
 offset_of-append j [] es = refl
 offset_of-append j (d ∷ ds) es = offset_of-append (d.start % 8) ds es
 
 -- the offset after a history, by the windows since the last restart
-pub offset-since : (earlier since : List ℕ) (over : IsOver bit_alignment None earlier)
+pub offset-since : (earlier since : List ℕ) (over : RestartsAfter bit_alignment None earlier)
     → offset_after (earlier ++ since)
     ≡ offset_of (offset_of 7 over.earlier)
     (map (moved (length earlier)) (alignments_from bit_alignment (last_of None earlier) since 0))

@@ -4,7 +4,7 @@ use Rattle.std.proofs.Common.{None, refl, sym, ap, ◌∙◌, arith, append_asso
 use Rattle.std.specs.Prelude.{slice_set}
 use Rattle.std.proofs.lemmas.List.{length-append, append-nil}
 use Rattle.g704_framing.specs.Alignment.{alignments_from}
-use Rattle.g704_framing.specs.Restart.{IsOver, last_of, moved}
+use Rattle.g704_framing.specs.Restart.{RestartsAfter, last_of, moved}
 use Rattle.g704_framing.proofs.Standings.{since-nothing, since-more, since-anew}
 use Rattle.g704_bits.specs.Search.{is_confirmed}
 use Rattle.g704_bits.specs.Loss.{is_lost_at, bit_alignment}
@@ -18,7 +18,7 @@ use Rattle.g704_bits.proofs.Spans.{none-yet, one-stands, one-lost, over-lost, of
 use Rattle.g704_bits.proofs.Hunts.{hunting-nothing, hunting-more, aligned-found}
 
 -- the offset while nothing was found since the last restart
-offset-quiet : (earlier c : List ℕ) (over : IsOver bit_alignment None earlier)
+offset-quiet : (earlier c : List ℕ) (over : RestartsAfter bit_alignment None earlier)
     → ((k : ℕ) → is_confirmed c k ≡ false) → offset_after (earlier ++ c) ≡ offset_of 7 over.earlier
 offset-quiet earlier c over none =
     offset-since earlier c over
@@ -26,7 +26,7 @@ offset-quiet earlier c over none =
     (none-yet (last_of None earlier) c none)
 
 -- in alignment
-offset-stands : (earlier sk al : List ℕ) (age ws wd : ℕ) (over : IsOver bit_alignment None earlier)
+offset-stands : (earlier sk al : List ℕ) (age ws wd : ℕ) (over : RestartsAfter bit_alignment None earlier)
     → IsAlignment age ws wd al → ((k : ℕ) → k < length sk → is_confirmed (sk ++ al) k ≡ false)
     → offset_after (earlier ++ (sk ++ al)) ≡ (length earlier + length sk) % 8
 offset-stands earlier sk al age ws wd over h none =
@@ -35,7 +35,7 @@ offset-stands earlier sk al age ws wd over h none =
     (one-stands (last_of None earlier) sk al age ws wd h none)
 
 -- if it is lost by the last window
-offset-lost : (earlier sk al : List ℕ) (x age ws wd : ℕ) (over : IsOver bit_alignment None earlier)
+offset-lost : (earlier sk al : List ℕ) (x age ws wd : ℕ) (over : RestartsAfter bit_alignment None earlier)
     → IsAlignment age ws wd al → ((k : ℕ) → k < length sk → is_confirmed (sk ++ al) k ≡ false)
     → is_lost_at (al ++ x ∷ []) (length al) ≡ true
     → offset_after (earlier ++ ((sk ++ al) ++ x ∷ [])) ≡ (length earlier + length sk) % 8
@@ -154,8 +154,8 @@ stands-aligned age ws wd o memory history x (Hunting seen) s follows =
     let none : (k : ℕ) → k < length a.skipped → is_confirmed (a.skipped ++ a.aligned) k ≡ false
     = λ k lt. ap (λ s. is_confirmed s k) (sym a.whole) ∙ a.none k lt in
     let whole : h.since ++ x ∷ [] ≡ (a.skipped ++ a.aligned) ++ x ∷ [] = ap (λ s. s ++ x ∷ []) a.whole in
-    let over : IsOver bit_alignment (last_of None h.earlier) (h.since ++ x ∷ [])
-    = subst (IsOver bit_alignment (last_of None h.earlier)) (sym whole)
+    let over : RestartsAfter bit_alignment (last_of None h.earlier) (h.since ++ x ∷ [])
+    = subst (RestartsAfter bit_alignment (last_of None h.earlier)) (sym whole)
     (over-lost (last_of None h.earlier) a.skipped a.aligned x age ws wd a.fields none lost.1) in
     record {
       since = since-anew bit_alignment (λ before windows. Describes (Hunting seen) memory windows)

@@ -5,7 +5,7 @@ use Rattle.std.specs.Prelude.{is_none}
 use Rattle.g704_framing.specs.Alignment.{alignments_from}
 use Rattle.g704_framing.specs.Age.{age_in}
 use Rattle.g704_framing.specs.Places.{place_since}
-use Rattle.g704_framing.specs.Restart.{IsOver, last_of}
+use Rattle.g704_framing.specs.Restart.{RestartsAfter, last_of}
 use Rattle.g704_framing.proofs.Ends.{alignments-standing, last_of-append}
 use Rattle.g704_framing.proofs.Ages.{age-standing}
 use Rattle.g704_framing.proofs.Standings.{alarm-since, alarm-over, since-nothing, since-more, since-anew}
@@ -45,7 +45,7 @@ place-next b c x frame frame' wrong wrong' h g =
 
 -- the aligner has the history with one more octet
 pub stands-follows : (phase : Phase) (history earlier since : List ℕ) (x : ℕ) → history ≡ earlier ++ since
-    → IsOver multiframe_alignment None earlier → Follows phase (last_of None earlier) (since ++ x ∷ [])
+    → RestartsAfter multiframe_alignment None earlier → Follows phase (last_of None earlier) (since ++ x ∷ [])
     → HasHistory (record { phase = phase }) (history ++ x ∷ [])
 stands-follows (Searching after) history earlier since x e over f =
     since-anew multiframe_alignment _ history earlier since x e over f.0

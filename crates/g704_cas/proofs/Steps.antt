@@ -4,8 +4,8 @@ use Rattle.std.proofs.Common.{Option, refl, sym, ◌∙◌, arith, not, inl, inr
 use Rattle.std.specs.Prelude.{◌≢◌, ◌&&◌}
 use Rattle.std.proofs.lemmas.List.{get_or_append_left, length_push}
 use Rattle.std.proofs.lemmas.Bool.{lt-ltb, le-ltb, ne_eqb, and_left, and_right, cases_eq, true≢false}
-use Rattle.g704_framing.specs.Restart.{IsOver, last_of}
-use Rattle.g704_framing.proofs.Ends.{IsOver-passed, kept-more, IsOver-lost, last_of-push}
+use Rattle.g704_framing.specs.Restart.{RestartsAfter, last_of}
+use Rattle.g704_framing.proofs.Ends.{RestartsAfter-passed, kept-more, RestartsAfter-lost, last_of-push}
 use Rattle.g704_cas.specs.Search.{is_mfas, is_not_zero, search}
 use Rattle.g704_cas.specs.Loss.{is_wrong, is_second_wrong, multiframe_alignment}
 use Rattle.g704_cas.specs.Aligner.{IsAlignment}
@@ -25,10 +25,10 @@ first_octet b x h r = record {
 }
 
 -- and one by which it is not
-pub IsOver-other : (b : Option ℕ) (x : ℕ) → (is_mfas x && is_not_zero b) ≡ false
-    → IsOver multiframe_alignment b (x ∷ [])
+pub RestartsAfter-other : (b : Option ℕ) (x : ℕ) → (is_mfas x && is_not_zero b) ≡ false
+    → RestartsAfter multiframe_alignment b (x ∷ [])
 unfolding search
-IsOver-other b x h = IsOver-passed multiframe_alignment multiframe_is_framing b (x ∷ []) (λ t. rw h refl)
+RestartsAfter-other b x h = RestartsAfter-passed multiframe_alignment multiframe_is_framing b (x ∷ []) (λ t. rw h refl)
 
 -- a wrong octet is not 0
 pub not_zero-wrong : (b : Option ℕ) (c : List ℕ) (x : ℕ) → is_mfas x ≡ false
@@ -99,9 +99,9 @@ module _ (b : Option ℕ) (c : List ℕ) (x frame : ℕ) (wrong : Bool) (h : IsA
       (λ k ge lt m. let n : k - 16 ≡ length c = omega arith in rw (n, is_wrong-last c x (at_zero e), r) refl)
 
   -- by the second
-  pub zero-lost : frame ≡ 0 → is_mfas x ≡ false → wrong ≡ true → IsOver multiframe_alignment b (c ++ x ∷ [])
+  pub zero-lost : frame ≡ 0 → is_mfas x ≡ false → wrong ≡ true → RestartsAfter multiframe_alignment b (c ++ x ∷ [])
   zero-lost e r w =
-      IsOver-lost multiframe_alignment multiframe_is_framing b c x
+      RestartsAfter-lost multiframe_alignment multiframe_is_framing b c x
       (λ t. search-found b c t h.begun h.after_nonzero h.first) h.kept
       (second_now e ∙ rw (r, w) refl)
 

@@ -1,7 +1,7 @@
 -- The history of a multiframe aligner: the octets that it received, by its fields.
 use Rattle.std.specs.Prelude.{◌≡◌, ℕ, ◌+◌, ◌-◌, ◌%◌, ◌<◌, ◌≤◌, Bool, true, false, List, [], length}
 use Rattle.std.specs.Prelude.{slice_index, Option}
-use Rattle.g704_framing.specs.Restart.{IsOver, last_of, HoldsSince}
+use Rattle.g704_framing.specs.Restart.{RestartsAfter, last_of, HoldsSince}
 use Rattle.g704_cas.specs.declared.alignment.MfAligner.{MfAligner}
 use Rattle.g704_cas.specs.declared.alignment.Phase.{Phase}
 use Rattle.g704_cas.specs.declared.alignment.Phase.TheVariants.{Searching, Aligned}
@@ -27,7 +27,7 @@ Describes (Aligned frame wrong) before octets = IsAlignment before frame wrong o
 -- the phase fits these octets, or is the search that follows them
 abbrev pub Follows : Phase → Option ℕ → List ℕ → Type 0
 Follows (Searching after_nonzero) before octets =
-    IsOver multiframe_alignment before octets × (after_nonzero ≡ is_not_zero (last_of before octets))
+    RestartsAfter multiframe_alignment before octets × (after_nonzero ≡ is_not_zero (last_of before octets))
 Follows (Aligned frame wrong) before octets = IsAlignment before frame wrong octets
 
 -- The aligner has this history: the octets since it was made, or since a loss of frame alignment.

@@ -1,6 +1,6 @@
 -- The frame of each octet of time slot 16, and the alarm.
 use Rattle.std.specs.Prelude.{ℕ, ◌-◌, ◌%◌, Bool, List, length, Option, Some, None}
-use Rattle.g704_framing.specs.Places.{Placing, place_in, alarm_in}
+use Rattle.g704_framing.specs.Places.{PlaceRules, place_in, alarm_in}
 use Rattle.g704_cas.specs.declared.alignment.MfPlace.{MfPlace}
 use Rattle.g704_cas.specs.declared.alignment.MfPlace.TheVariants.{Hunting, Frame}
 use Rattle.g704_cas.specs.Search.{is_mfas}
@@ -18,7 +18,7 @@ frame_of (Frame number) = number
 
 -- The frames of a multiframe: octets have places from the first of an alignment to its loss, and those of
 -- frame 0 keep the alignment.
-abbrev pub multiframes : Placing MfPlace
+abbrev pub multiframes : PlaceRules MfPlace
 multiframes = record {
   framing = multiframe_alignment;
   placed_from = 0;

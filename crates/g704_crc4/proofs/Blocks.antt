@@ -3,8 +3,8 @@ use Rattle.std.proofs.Common.{◌≡◌, ℕ, zero, suc, ◌+◌, ◌-◌, ◌*�
 use Rattle.std.proofs.Common.{List, [], ◌∷◌, ◌++◌, length, Option, Some, refl, sym, ap, ◌∙◌, arith, inl, inr}
 use Rattle.std.specs.Prelude.{nat_le, ◌||◌, ◌==◌}
 use Rattle.std.proofs.lemmas.Bool.{cases_eq, cases_lt, cases_Bool, eq-eqb, ne_eqb, lt-ltb, le-ltb, and_left, and_right}
-use Rattle.g704_crc4.specs.declared.checking.Event.{Event}
-use Rattle.g704_crc4.specs.declared.checking.Event.TheVariants.{Block}
+use Rattle.g704_crc4.specs.declared.checking.Crc4Event.{Crc4Event}
+use Rattle.g704_crc4.specs.declared.checking.Crc4Event.TheVariants.{Block}
 use Rattle.g704_crc4.specs.Receiving.{si_of, check_bits_in}
 use Rattle.g704_crc4.specs.Checking.{is_right, event_of, far_end_event}
 use Rattle.g704_crc4.specs.Aligning.{count_in, errored_in, known_blocks, is_excessive}
@@ -85,7 +85,7 @@ block-came d right e = elim (cases_eq (length d % 256) 0) [
 ]
 
 -- Where none is, there is no such octet.
-pub none-came : (d : List ℕ) (o : Option Event) → o ≡ event_of d → ((right : Bool) → o ≡ Some (Block right) → ⊥)
+pub none-came : (d : List ℕ) (o : Option Crc4Event) → o ≡ event_of d → ((right : Bool) → o ≡ Some (Block right) → ⊥)
     → length d % 256 ≡ 0 → length d ≤ 256
 none-came d o e other whole = elim (cases_lt 256 (length d)) [
   | inr ge ↦ ge

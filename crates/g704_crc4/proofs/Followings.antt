@@ -5,8 +5,8 @@ use Rattle.std.specs.Prelude.{nat_le, option_map, ◌==◌, if◌then◌else◌}
 use Rattle.std.proofs.lemmas.Bool.{cases_Bool, cases_eq, eq-eqb, ne_eqb, false≢true, cases_lt, le-leb}
 use Rattle.std.proofs.lemmas.List.{length_push, drop-append-le, take-append-le, drop_all}
 use Rattle.g704_crc4.specs.declared.checking.Checker.{Checker}
-use Rattle.g704_crc4.specs.declared.checking.Event.{Event}
-use Rattle.g704_crc4.specs.declared.checking.Event.TheVariants.{Block}
+use Rattle.g704_crc4.specs.declared.checking.Crc4Event.{Crc4Event}
+use Rattle.g704_crc4.specs.declared.checking.Crc4Event.TheVariants.{Block}
 use Rattle.g704_crc4.specs.declared.receiving.SubmultiframeCheck.{SubmultiframeCheck}
 use Rattle.g704_crc4.specs.declared.receiving.ReceiverEvent.TheVariants.{GivenUp, Received}
 use Rattle.g704_crc4.specs.Checking.{is_right, event_of}
@@ -39,7 +39,7 @@ unfolding followed is_excessive event_of
 followed-nothing octets e = rw e refl
 
 -- The event if no thousand has too many errored ones.
-pub followed-is : (octets checked : List ℕ) (o : Option Event) → checked_octets octets ≡ checked
+pub followed-is : (octets checked : List ℕ) (o : Option Crc4Event) → checked_octets octets ≡ checked
     → is_excessive checked ≡ false → o ≡ event_of checked
     → option_map (λ event. Received event) o ≡ followed octets
 unfolding followed
@@ -59,7 +59,7 @@ tells-excess octets = elim (cases_Bool (is_excessive (checked_octets octets))) [
   | inr few ↦ rw few (no_end (event_of (checked_octets octets)))
 ]
   where
-    no_end : (o : Option Event) → tells_given_up (option_map (λ event. Received event) o) ≡ false
+    no_end : (o : Option Crc4Event) → tells_given_up (option_map (λ event. Received event) o) ≡ false
     no_end None = refl
     no_end (Some event) = refl
 

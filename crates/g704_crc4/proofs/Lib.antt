@@ -16,5 +16,5 @@ pub mod Parts
 pub mod Blocks
 pub mod Followings
 pub mod Searched
-pub mod Tallies
+pub mod CountsOfEvents
 pub mod Reports

@@ -7,9 +7,9 @@ use Rattle.std.proofs.lemmas.List.{length_push, take_all}
 use Rattle.g704_framing.specs.Alignment.{alignments_of}
 use Rattle.g704_framing.specs.Age.{age_in}
 use Rattle.g704_framing.specs.Laws.{IsFraming}
-use Rattle.g704_framing.specs.Restart.{IsOver, last_of}
+use Rattle.g704_framing.specs.Restart.{RestartsAfter, last_of}
 use Rattle.g704_framing.proofs.Ages.{age-over, age-at_over, age-standing}
-use Rattle.g704_framing.proofs.Ends.{alignments-standing, IsOver-lost, kept-more}
+use Rattle.g704_framing.proofs.Ends.{alignments-standing, RestartsAfter-lost, kept-more}
 use Rattle.g704_framing.proofs.Searches.{StaysFound, later-found, FoundAfter, later-after, few-after}
 use Rattle.g704_crc4.specs.Aligning.{octets_since, since_start, octets_before, is_given_up}
 use Rattle.g704_crc4.specs.Aligning.{aligned_octets, position_in, parts, part_before}
@@ -64,7 +64,7 @@ given_up-is part x =
     ∙ take_all (suc (length part)) (part ++ x ∷ []) (omega (arith, length_push part x)))
 
 -- The part that goes on is the octets since it began.
-pub part-is : (earlier part : List ℕ) → IsOver parts None earlier
+pub part-is : (earlier part : List ℕ) → RestartsAfter parts None earlier
     → ((position : ℕ) → position < length part → parts.is_lost part position ≡ false)
     → part_before (earlier ++ part) ≡ part
 unfolding since_start part_before
@@ -84,10 +84,11 @@ part-is earlier (x ∷ part) over kept =
 -- A part is given up by its next octet, and everything restarts.
 pub part-over : (before : Option ℕ) (part : List ℕ) (x : ℕ) → 0 < length part
     → ((position : ℕ) → position < length part → parts.is_lost part position ≡ false)
-    → is_given_up (aligned_octets (part ++ x ∷ [])) ≡ true → IsOver parts before (part ++ x ∷ [])
+    → is_given_up (aligned_octets (part ++ x ∷ [])) ≡ true → RestartsAfter parts before (part ++ x ∷ [])
 part-over before [] x lt kept given_up = absurd (omega arith)
 part-over before (y ∷ part) x lt kept given_up =
-    IsOver-lost parts parts_are_framing before (y ∷ part) x (λ rest. refl) kept (given_up-is (y ∷ part) x ∙ given_up)
+    RestartsAfter-lost parts parts_are_framing before (y ∷ part) x (λ rest. refl) kept (given_up-is (y ∷ part) x
+    ∙ given_up)
 
 -- Or it goes on.
 pub part-kept : (part : List ℕ) (x : ℕ)

@@ -4,8 +4,8 @@ use Rattle.std.specs.Prelude.{◌^◌, min}
 use Rattle.std.specs.Prelude.{if◌then◌else◌, List, [], ◌∷◌, ◌++◌, length, Option, Some, None}
 use Rattle.g704_crc4.specs.declared.remainder.Remainder.{Remainder}
 use Rattle.g704_crc4.specs.declared.checking.Counts.{Counts}
-use Rattle.g704_crc4.specs.declared.checking.Event.{Event}
-use Rattle.g704_crc4.specs.declared.checking.Event.TheVariants.{Block, FarEnd}
+use Rattle.g704_crc4.specs.declared.checking.Crc4Event.{Crc4Event}
+use Rattle.g704_crc4.specs.declared.checking.Crc4Event.TheVariants.{Block, FarEnd}
 use Rattle.g704_crc4.specs.Remainder.{add, no_remainder, after_bits}
 use Rattle.g704_crc4.specs.Multiframe.{sent_octets}
 use Rattle.g704_crc4.specs.Receiving.{si_of, check_bits_in, remainder_in}
@@ -25,11 +25,11 @@ check_bits_with bits place si =
     }
 
 -- The event of a submultiframe's last octet, if there is a previous one.
-abbrev pub block_event : Bool → Bool → Option Event
+abbrev pub block_event : Bool → Bool → Option Crc4Event
 block_event begun right = if begun then Some (Block right) else None
 
 -- The event of an E bit, in frames 13 and 15 of a multiframe.
-abbrev pub far_end_event : ℕ → Bool → Option Event
+abbrev pub far_end_event : ℕ → Bool → Option Crc4Event
 far_end_event place si = if (place == 416) || (place == 480) then Some (FarEnd si) else None
 
 -- A received submultiframe is right if the next one carries its remainder.
@@ -38,7 +38,7 @@ is_right octets number = same (check_bits_in octets (number + 1)) (remainder_in 
 
 -- The event of the last of these octets. The last octet of a submultiframe shows whether the one before it is
 -- right; an E bit, what the far end reports.
-unfoldable pub event_of : List ℕ → Option Event
+unfoldable pub event_of : List ℕ → Option Crc4Event
 event_of octets =
     if length octets % 256 == 0
     then block_event (nat_lt 256 (length octets)) (is_right octets (length octets / 256 - 2))
@@ -49,7 +49,7 @@ abbrev pub errors_with : ℕ → Bool → ℕ
 errors_with count right = if right then count else min (count + 1) (2 ^ 64 - 1)
 
 -- The counts with an event.
-abbrev pub counts_with : Counts → Option Event → Counts
+abbrev pub counts_with : Counts → Option Crc4Event → Counts
 counts_with counts None = counts
 counts_with counts (Some (Block right)) =
     record counts {

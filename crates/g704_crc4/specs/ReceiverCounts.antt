@@ -3,8 +3,8 @@ use Rattle.std.specs.Prelude.{ℕ, ◌+◌, ◌-◌, ◌^◌, Bool, true, false,
 use Rattle.std.specs.Prelude.{List, [], ◌∷◌, ◌++◌, Option, Some}
 use Rattle.g704_crc4.specs.declared.receiving.ReceiverEvent.{ReceiverEvent}
 use Rattle.g704_crc4.specs.declared.receiving.ReceiverEvent.TheVariants.{Found, Lost, GivenUp, Received}
-use Rattle.g704_crc4.specs.declared.checking.Event.TheVariants.{Block, FarEnd}
-use Rattle.g704_crc4.specs.declared.tallying.ReceiverCounts.{ReceiverCounts}
+use Rattle.g704_crc4.specs.declared.checking.Crc4Event.TheVariants.{Block, FarEnd}
+use Rattle.g704_crc4.specs.declared.counting.ReceiverCounts.{ReceiverCounts}
 use Rattle.g704_crc4.specs.Remainder.{bit_number}
 use Rattle.g704_crc4.specs.Aligning.{learned}
 
@@ -52,8 +52,8 @@ tells_given_up (Some GivenUp) = true
 tells_given_up _ = false
 
 -- The counts of a stream.
-abbrev pub tally_of : List ℕ → ReceiverCounts
-tally_of octets = record {
+abbrev pub receiver_counts_of : List ℕ → ReceiverCounts
+receiver_counts_of octets = record {
   submultiframes = times tells_block octets;
   errored = times tells_errored octets;
   far_end_errored = times tells_far_end octets;
@@ -67,12 +67,12 @@ abbrev pub count_with : ℕ → Bool → ℕ
 count_with count more = if more then min (count + 1) (2 ^ 64 - 1) else count
 
 -- The counts after one more octet's event.
-abbrev pub tally_with : ReceiverCounts → Option ReceiverEvent → ReceiverCounts
-tally_with tally learned = record {
-  submultiframes = count_with tally.submultiframes (tells_block learned);
-  errored = count_with tally.errored (tells_errored learned);
-  far_end_errored = count_with tally.far_end_errored (tells_far_end learned);
-  found = count_with tally.found (tells_found learned);
-  lost = count_with tally.lost (tells_lost learned);
-  given_up = count_with tally.given_up (tells_given_up learned);
+abbrev pub receiver_counts_with : ReceiverCounts → Option ReceiverEvent → ReceiverCounts
+receiver_counts_with receiver_counts learned = record {
+  submultiframes = count_with receiver_counts.submultiframes (tells_block learned);
+  errored = count_with receiver_counts.errored (tells_errored learned);
+  far_end_errored = count_with receiver_counts.far_end_errored (tells_far_end learned);
+  found = count_with receiver_counts.found (tells_found learned);
+  lost = count_with receiver_counts.lost (tells_lost learned);
+  given_up = count_with receiver_counts.given_up (tells_given_up learned);
 }

@@ -8,11 +8,11 @@ use Rattle.g704_crc4.specs.declared.receiving.MultiframeSync.{MultiframeSync}
 use Rattle.g704_crc4.specs.declared.receiving.MultiframeSync.TheVariants.{Hunting, Searching}
 use Rattle.g704_crc4.specs.declared.receiving.MultiframeSync.TheVariants.{SubmultiframeCheck}
 use Rattle.g704_crc4.specs.declared.receiving.SubmultiframeCheck as followings
-use Rattle.g704_crc4.specs.declared.tallying.TrunkChecker.{TrunkChecker}
+use Rattle.g704_crc4.specs.declared.counting.TrunkChecker.{TrunkChecker}
 use Rattle.g704_crc4.specs.States.{ChecksAfter}
 use Rattle.g704_crc4.specs.Aligning.{aligned_octets, multiframe_in, checked_octets, known_blocks}
 use Rattle.g704_crc4.specs.Aligning.{errored_in, parts}
-use Rattle.g704_crc4.specs.ReceiverCounts.{tally_of}
+use Rattle.g704_crc4.specs.ReceiverCounts.{receiver_counts_of}
 
 -- During the 8 ms: the number of their octets received, and these octets.
 pub record IsSearched (count : ℕ) (searched octets : List ℕ) : Type 0 where
@@ -68,4 +68,4 @@ ReceivesAfter receiver history = HoldsSince parts (λ before part. ReceivesPart 
 -- A checker of a trunk with this history of octets.
 pub record ChecksTrunk (checker : TrunkChecker) (history : List ℕ) : Type 0 where
   pub receives : ReceivesAfter checker.receiver history
-  pub tally : checker.tally ≡ tally_of history
+  pub receiver_counts : checker.receiver_counts ≡ receiver_counts_of history

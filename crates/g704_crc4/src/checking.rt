@@ -14,7 +14,7 @@ use crate::{BIT_1, FRAME, MULTIFRAME, SUBMULTIFRAME, TWO_FRAMES};
 
 /// What a receiver learns from an octet.
 #[derive(Clone, Copy, Debug, PartialEq, Eq)]
-pub enum Event {
+pub enum Crc4Event {
     /// A submultiframe is complete: whether its check bits are the remainder of the one before it.
     Block {
         /// They are.
@@ -77,7 +77,7 @@ impl Checker {
     }
 
     /// Takes the next octet and returns what it shows.
-    pub fn octet(&mut self, octet: u8) -> Option<Event>
+    pub fn octet(&mut self, octet: u8) -> Option<Crc4Event>
         ensures reply { (history : List ℕ) → ChecksAfter self.old history
             → result ≡ event_of (history ++ octet ∷ []) }
         ensures stands { (history : List ℕ) → ChecksAfter self.old history
@@ -98,7 +98,7 @@ impl Checker {
     //
     // It is out of line, so that other octets cost only a step of the remainder.
     #[inline(never)]
-    fn first_octet(&mut self, octet: u8) -> Option<Event>
+    fn first_octet(&mut self, octet: u8) -> Option<Crc4Event>
         ensures reply { (history : List ℕ) → ChecksAfter self.old history → self.old.place % 32 ≡ 0
             → result ≡ event_of (history ++ octet ∷ []) }
         ensures stands { (history : List ℕ) → ChecksAfter self.old history → self.old.place % 32 ≡ 0
@@ -114,7 +114,7 @@ impl Checker {
 
     // Ends a complete submultiframe.
     #[inline(never)]
-    fn end_submultiframe(&mut self) -> Option<Event>
+    fn end_submultiframe(&mut self) -> Option<Crc4Event>
         ensures reply { result ≡ block_event self.old.begun (same self.old.check_bits self.old.before) }
         ensures before { (left : Remainder) → self.old.running ≡ crc_number left → self.new.before ≡ left }
         ensures anew { (self.new.running ≡ 0) × (self.new.begun ≡ true) }
@@ -143,17 +143,17 @@ pub fn check(octets: &[u8]) -> Counts
 }
 
 // The counts with an event.
-fn counts_with(counts: Counts, event: Option<Event>) -> Counts
+fn counts_with(counts: Counts, event: Option<Crc4Event>) -> Counts
     ensures { result ≡ counts_with counts event }
 {
     match event {
         None => counts,
-        Some(Event::Block { right }) => Counts {
+        Some(Crc4Event::Block { right }) => Counts {
             blocks: counts.blocks.saturating_add(1),
             errored: errors_with(counts.errored, right),
             far_end_errored: counts.far_end_errored,
         },
-        Some(Event::FarEnd { right }) => Counts {
+        Some(Crc4Event::FarEnd { right }) => Counts {
             blocks: counts.blocks,
             errored: counts.errored,
             far_end_errored: errors_with(counts.far_end_errored, right),
@@ -173,22 +173,22 @@ fn errors_with(count: u64, right: bool) -> u64
 }
 
 // The event of a submultiframe's last octet, if there is a previous one.
-fn block_event(begun: bool, right: bool) -> Option<Event>
+fn block_event(begun: bool, right: bool) -> Option<Crc4Event>
     ensures { result ≡ block_event begun right }
 {
     if begun {
-        Some(Event::Block { right })
+        Some(Crc4Event::Block { right })
     } else {
         None
     }
 }
 
 // The event of an E bit, in frames 13 and 15 of a multiframe.
-fn far_end_event(place: u16, si: bool) -> Option<Event>
+fn far_end_event(place: u16, si: bool) -> Option<Crc4Event>
     ensures { result ≡ far_end_event place si }
 {
     if place == 416 || place == 480 {
-        Some(Event::FarEnd { right: si })
+        Some(Crc4Event::FarEnd { right: si })
     } else {
         None
     }

@@ -5,6 +5,7 @@
 #![tactic(auto)]
 
 mod checking;
+mod counting;
 pub mod laws;
 mod receiving;
 mod remainder;
@@ -12,15 +13,14 @@ mod reporting;
 mod searching;
 mod sending;
 mod table;
-mod tallying;
 
-pub use checking::{Checker, Counts, Event, check};
+pub use checking::{Checker, Counts, Crc4Event, check};
+pub use counting::{ReceiverCounts, TrunkChecker};
 pub use receiving::{Receiver, ReceiverEvent};
 pub use remainder::Remainder;
 pub use reporting::EBitReporter;
 pub use searching::find_multiframe;
 pub use sending::Crc4Inserter;
-pub use tallying::{ReceiverCounts, TrunkChecker};
 
 // Octets of a frame, a double frame, a submultiframe and a multiframe.
 const FRAME: u16 = 32;

@@ -9,7 +9,7 @@ ghost use Rattle.g704_crc4.specs.ReceiverCounts.{tells_given_up};
 ghost use Rattle.g704_crc4.specs.Receivers.{ReceivesAfter, IsSearched, IsStage, IsFollowed};
 ghost use Rattle.g704_crc4.specs.Receivers.{GoesOn, BeginsAnew};
 
-use crate::checking::{Checker, Event};
+use crate::checking::{Checker, Crc4Event};
 use crate::searching::find_multiframe;
 use g704_align::{Aligner, Place};
 
@@ -31,7 +31,7 @@ pub enum ReceiverEvent {
     /// A submultiframe is errored, the 915th of a thousand: frame alignment is given up.
     GivenUp,
     /// A submultiframe or an E bit.
-    Received(Event),
+    Received(Crc4Event),
 }
 
 // The state of CRC multiframe alignment.
@@ -220,14 +220,16 @@ impl SubmultiframeCheck {
             return None;
         }
         match self.checker.octet(octet) {
-            Some(Event::Block { right }) => {
+            Some(Crc4Event::Block { right }) => {
                 if self.is_excess(right) {
                     Some(ReceiverEvent::GivenUp)
                 } else {
-                    Some(ReceiverEvent::Received(Event::Block { right }))
+                    Some(ReceiverEvent::Received(Crc4Event::Block { right }))
                 }
             }
-            Some(Event::FarEnd { right }) => Some(ReceiverEvent::Received(Event::FarEnd { right })),
+            Some(Crc4Event::FarEnd { right }) => Some(ReceiverEvent::Received(Crc4Event::FarEnd {
+                right,
+            })),
             None => None,
         }
     }

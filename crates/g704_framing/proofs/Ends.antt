@@ -5,8 +5,8 @@ use Rattle.std.specs.Prelude.{option_map}
 use Rattle.std.proofs.lemmas.List.{append-nil, length-append, length_push, map-append, get_or_append_left}
 use Rattle.std.proofs.lemmas.Bool.{cases_eq}
 use Rattle.g704_framing.specs.Least.{least}
-use Rattle.g704_framing.specs.Alignment.{Framing, Alignment, loss, alignments_from}
-use Rattle.g704_framing.specs.Restart.{moved, IsLostBefore, AllLostBefore, IsOver, last_of}
+use Rattle.g704_framing.specs.Alignment.{Framing, FoundAlignment, loss, alignments_from}
+use Rattle.g704_framing.specs.Restart.{moved, IsLostBefore, AllLostBefore, RestartsAfter, last_of}
 use Rattle.g704_framing.specs.Laws.{IsFraming}
 use Rattle.g704_framing.proofs.Leasts.{IsLeast, least_equals}
 use Rattle.g704_framing.proofs.Moves.{option_map-zero, map-moved_zero, map-moved_add}
@@ -14,8 +14,13 @@ use Rattle.g704_framing.specs.Alignment.{after_search, after_loss}
 use Rattle.g704_framing.proofs.Turns.{alignments-turns, alignments-append, onto}
 
 -- the empty history is over
-pub IsOver-nil : (framing : Framing) (before : Option ℕ) → IsOver framing before []
-IsOver-nil f b = record { earlier = []; all_lost = tt; anew = λ t. sym (map-moved_zero (alignments_from f b t 0)) }
+pub RestartsAfter-nil : (framing : Framing) (before : Option ℕ) → RestartsAfter framing before []
+RestartsAfter-nil f b = record {
+  earlier = [];
+  all_lost = tt;
+  anew = λ t. sym (map-moved_zero
+      (alignments_from f b t 0));
+}
 
 -- what is lost before a position is lost before a later one
 lost_later : (m n : ℕ) (o : Option ℕ) → m ≤ n → IsLostBefore m o → IsLostBefore n o
@@ -28,17 +33,18 @@ lost_moved m n None g = g
 lost_moved m n (Some k) g = omega arith
 
 -- the same of all alignments of a list
-all_later : (m n : ℕ) (ds : List Alignment) → m ≤ n → AllLostBefore m ds → AllLostBefore n ds
+all_later : (m n : ℕ) (ds : List FoundAlignment) → m ≤ n → AllLostBefore m ds → AllLostBefore n ds
 all_later m n [] h g = tt
 all_later m n (d ∷ ds) h g = (lost_later m n d.lost h g.0, all_later m n ds h g.1)
 
 -- and with positions counted from further back
-all_moved : (m n : ℕ) (ds : List Alignment) → AllLostBefore n ds → AllLostBefore (m + n) (map (moved m) ds)
+all_moved : (m n : ℕ) (ds : List FoundAlignment) → AllLostBefore n ds → AllLostBefore (m + n) (map (moved m) ds)
 all_moved m n [] g = tt
 all_moved m n (d ∷ ds) g = (lost_moved m n d.lost g.0, all_moved m n ds g.1)
 
 -- and of two lists, one after the other
-all_append : (n : ℕ) (ds es : List Alignment) → AllLostBefore n ds → AllLostBefore n es → AllLostBefore n (ds ++ es)
+all_append : (n : ℕ) (ds es : List FoundAlignment) → AllLostBefore n ds → AllLostBefore n es
+    → AllLostBefore n (ds ++ es)
 all_append n [] es g h = h
 all_append n (d ∷ ds) es g h = (g.0, all_append n ds es g.1 h)
 
@@ -54,9 +60,10 @@ pub last_of-push : (before : Option ℕ) (octets : List ℕ) (octet : ℕ)
 last_of-push b c x = last_of-append b c (x ∷ [])
 
 -- everything restarts after two histories that are both over
-pub IsOver-append : (framing : Framing) (before : Option ℕ) (octets others : List ℕ) → IsOver framing before octets
-    → IsOver framing (last_of before octets) others → IsOver framing before (octets ++ others)
-IsOver-append f o a b p q = record {
+pub RestartsAfter-append : (framing : Framing) (before : Option ℕ) (octets others : List ℕ)
+    → RestartsAfter framing before octets
+    → RestartsAfter framing (last_of before octets) others → RestartsAfter framing before (octets ++ others)
+RestartsAfter-append f o a b p q = record {
   earlier = p.earlier ++ map (moved (length a)) q.earlier;
   all_lost = rw (length-append a b) (all_append (length a + length b) p.earlier (map (moved (length a)) q.earlier)
       (all_later (length a) (length a + length b) p.earlier (omega arith) p.all_lost)
@@ -72,11 +79,11 @@ IsOver-append f o a b p q = record {
 }
 
 -- if the search passes over the whole history, it is over
-pub IsOver-passed : (framing : Framing) → IsFraming framing → (before : Option ℕ) (octets : List ℕ)
+pub RestartsAfter-passed : (framing : Framing) → IsFraming framing → (before : Option ℕ) (octets : List ℕ)
     → ((rest : List ℕ)
     → framing.search before (octets ++ rest) 0 ≡ framing.search before (octets ++ rest) (length octets))
-    → IsOver framing before octets
-IsOver-passed f h b c passed = record {
+    → RestartsAfter framing before octets
+RestartsAfter-passed f h b c passed = record {
   earlier = [];
   all_lost = tt;
   anew = λ t.
@@ -110,12 +117,13 @@ unfolding loss
 loss-head f s o h = option_map-zero (least (f.is_lost s) (length s)) ∙ least_equals (f.is_lost s) (length s) o h
 
 -- an alignment at the head of the stream that is lost by the last octet
-pub IsOver-lost : (framing : Framing) → IsFraming framing → (before : Option ℕ) (octets : List ℕ) (octet : ℕ)
+pub RestartsAfter-lost : (framing : Framing) → IsFraming framing → (before : Option ℕ) (octets : List ℕ) (octet : ℕ)
     → ((rest : List ℕ) → framing.search before (octets ++ rest) 0 ≡ Some 0)
     → ((position : ℕ) → position < length octets → framing.is_lost octets position ≡ false)
-    → framing.is_lost (octets ++ octet ∷ []) (length octets) ≡ true → IsOver framing before (octets ++ octet ∷ [])
+    → framing.is_lost (octets ++ octet ∷ []) (length octets) ≡ true
+    → RestartsAfter framing before (octets ++ octet ∷ [])
 unfolding after_search after_loss
-IsOver-lost f h b c x found kept lost =
+RestartsAfter-lost f h b c x found kept lost =
     let len : length (c ++ x ∷ []) ≡ suc (length c) = length-append c (x ∷ []) ∙ add-one (length c) in
     record {
       earlier = record { start = 0; lost = Some (length c) } ∷ [];

@@ -3,17 +3,17 @@ use Rattle.std.proofs.Common.{◌≡◌, ℕ, ◌+◌, List, drop, sym, ap, ◌�
 use Rattle.std.specs.Prelude.{is_none}
 use Rattle.std.proofs.lemmas.List.{get_or-drop}
 use Rattle.std.proofs.lemmas.List.Elements.{All-weaker}
-use Rattle.g704_framing.specs.Alignment.{Alignment, search_ends_of}
+use Rattle.g704_framing.specs.Alignment.{FoundAlignment, search_ends_of}
 use Rattle.g704_framing.specs.Age.{age_in}
 use Rattle.g704_framing.specs.Laws.{IsLostAlike, AgreeAlong}
-use Rattle.g704_framing.specs.Places.{Placing, alignments_in, place_in, alarm_in, IsAlikeAlong, IsPlacing}
+use Rattle.g704_framing.specs.Places.{PlaceRules, alignments_in, place_in, alarm_in, IsAlikeAlong, IsPlacing}
 use Rattle.g704_framing.specs.Places.{PlacesAreSettled, PlacesAreAlike, OtherPlacesAreNotRead}
 use Rattle.g704_framing.proofs.Settles.{ages_are_settled}
 use Rattle.g704_framing.proofs.Agrees.{alignments_are_alike, up_to_loss-earlier}
 use Rattle.g704_framing.proofs.Keeps.{others_are_not_read}
 
 -- no later octet moves a place or changes an alarm
-pub places_are_settled : {Place : Type 0} (placing : Placing Place) → IsPlacing placing → PlacesAreSettled placing
+pub places_are_settled : {Place : Type 0} (placing : PlaceRules Place) → IsPlacing placing → PlacesAreSettled placing
 unfolding place_in alarm_in
 places_are_settled p is s t n lt = (
   ap p.place_of (ages_are_settled p.framing is.framing s t p.placed_from n is.found lt),
@@ -21,7 +21,7 @@ places_are_settled p is s t n lt = (
 )
 
 -- streams whose octets that keep an alignment are right or wrong alike lose it alike
-lost_alike : {Place : Type 0} (p : Placing Place) → IsPlacing p → (s t : List ℕ) (d : Alignment)
+lost_alike : {Place : Type 0} (p : PlaceRules Place) → IsPlacing p → (s t : List ℕ) (d : FoundAlignment)
     → IsAlikeAlong p s t d → IsLostAlike p.framing s t d
 lost_alike p is s t d alike k lt up = is.lost (drop d.start s) (drop d.start t) k (λ j le late e.
     ap (p.is_right j) (get_or-drop d.start s j 0)
@@ -29,7 +29,7 @@ lost_alike p is s t d alike k lt up = is.lost (drop d.start s) (drop d.start t) 
     ∙ sym (ap (p.is_right j) (get_or-drop d.start t j 0)))
 
 -- streams that are aligned alike have the same alignments, places and alarms
-pub places_are_alike : {Place : Type 0} (placing : Placing Place) → IsPlacing placing → PlacesAreAlike placing
+pub places_are_alike : {Place : Type 0} (placing : PlaceRules Place) → IsPlacing placing → PlacesAreAlike placing
 unfolding place_in alarm_in
 places_are_alike p is s t alike =
     let same : alignments_in p s ≡ alignments_in p t
@@ -44,7 +44,7 @@ places_are_alike p is s t alike =
     )
 
 -- streams that differ only in octets of other numbers are aligned alike
-pub other_places_are_not_read : {Place : Type 0} (placing : Placing Place) → IsPlacing placing
+pub other_places_are_not_read : {Place : Type 0} (placing : PlaceRules Place) → IsPlacing placing
     → OtherPlacesAreNotRead placing
 unfolding place_in
 other_places_are_not_read p is s t keeps =

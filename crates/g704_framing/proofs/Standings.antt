@@ -5,14 +5,14 @@ use Rattle.std.specs.Prelude.{is_none}
 use Rattle.std.proofs.lemmas.List.{length_push, append_assoc, length-append, append-nil}
 use Rattle.g704_framing.specs.Alignment.{Framing, alignments_from}
 use Rattle.g704_framing.specs.Age.{age_in}
-use Rattle.g704_framing.specs.Places.{Placing, place_since, place_in, alarm_in}
-use Rattle.g704_framing.specs.Restart.{IsOver, last_of, HoldsSince}
-use Rattle.g704_framing.proofs.Ends.{IsOver-nil, IsOver-append}
+use Rattle.g704_framing.specs.Places.{PlaceRules, place_since, place_in, alarm_in}
+use Rattle.g704_framing.specs.Restart.{RestartsAfter, last_of, HoldsSince}
+use Rattle.g704_framing.proofs.Ends.{RestartsAfter-nil, RestartsAfter-append}
 use Rattle.g704_framing.proofs.Ages.{age-over, age-at_over}
 
 -- the place of the next octet is that in the whole history
-pub place-history : {Place : Type 0} (placing : Placing Place) (history earlier since : List ℕ) (octet : ℕ)
-    → history ≡ earlier ++ since → IsOver placing.framing None earlier
+pub place-history : {Place : Type 0} (placing : PlaceRules Place) (history earlier since : List ℕ) (octet : ℕ)
+    → history ≡ earlier ++ since → RestartsAfter placing.framing None earlier
     → place_since placing (last_of None earlier) (since ++ octet ∷ []) (length since)
     ≡ place_in placing (history ++ octet ∷ []) (length history)
 unfolding place_in place_since
@@ -21,8 +21,8 @@ place-history p history earlier since x e over =
     (ap p.place_of (sym (age-over p.framing None earlier (since ++ x ∷ []) p.placed_from (length since) over)))
 
 -- an octet after which everything restarts has none
-pub place-over : {Place : Type 0} (placing : Placing Place) (before : Option ℕ) (octets : List ℕ) (octet : ℕ)
-    → IsOver placing.framing before (octets ++ octet ∷ [])
+pub place-over : {Place : Type 0} (placing : PlaceRules Place) (before : Option ℕ) (octets : List ℕ) (octet : ℕ)
+    → RestartsAfter placing.framing before (octets ++ octet ∷ [])
     → placing.place_of None ≡ place_since placing before (octets ++ octet ∷ []) (length octets)
 unfolding place_since
 place-over p b c x over =
@@ -30,8 +30,8 @@ place-over p b c x over =
     ap p.place_of (sym (age-at_over p.framing b (c ++ x ∷ []) p.placed_from (length c) over (omega arith)))
 
 -- the alarm in the whole history, if octets came since
-pub alarm-since : {Place : Type 0} (placing : Placing Place) (earlier since : List ℕ)
-    → IsOver placing.framing None earlier → 0 < length since
+pub alarm-since : {Place : Type 0} (placing : PlaceRules Place) (earlier since : List ℕ)
+    → RestartsAfter placing.framing None earlier → 0 < length since
     → is_none (age_in placing.framing.found_at (alignments_from placing.framing (last_of None earlier) since 0)
     (length since - 1)) ≡ alarm_in placing (earlier ++ since) (length (earlier ++ since) - 1)
 unfolding alarm_in
@@ -41,7 +41,8 @@ alarm-since p earlier since over lt =
     (ap is_none (sym (age-over p.framing None earlier since p.framing.found_at (length since - 1) over)))
 
 -- and if none did
-pub alarm-over : {Place : Type 0} (placing : Placing Place) (earlier : List ℕ) → IsOver placing.framing None earlier
+pub alarm-over : {Place : Type 0} (placing : PlaceRules Place) (earlier : List ℕ)
+    → RestartsAfter placing.framing None earlier
     → true ≡ alarm_in placing (earlier ++ []) (length (earlier ++ []) - 1)
 unfolding alarm_in
 alarm-over p earlier over =
@@ -52,11 +53,12 @@ alarm-over p earlier over =
 pub since-nothing : (framing : Framing) (holds : Option ℕ → List ℕ → Type 0) → holds None []
     → HoldsSince framing holds []
 since-nothing framing holds h =
-    record { earlier = []; since = []; whole = refl; over = IsOver-nil framing None; fields = h }
+    record { earlier = []; since = []; whole = refl; over = RestartsAfter-nil framing None; fields = h }
 
 -- what is so with one octet more
 pub since-more : (framing : Framing) (holds : Option ℕ → List ℕ → Type 0) (history earlier since : List ℕ) (octet : ℕ)
-    → history ≡ earlier ++ since → IsOver framing None earlier → holds (last_of None earlier) (since ++ octet ∷ [])
+    → history ≡ earlier ++ since → RestartsAfter framing None earlier
+    → holds (last_of None earlier) (since ++ octet ∷ [])
     → HoldsSince framing holds (history ++ octet ∷ [])
 since-more framing holds history earlier since x e over h = record {
   earlier = earlier;
@@ -68,13 +70,13 @@ since-more framing holds history earlier since x e over h = record {
 
 -- and for an octet after which everything restarts
 pub since-anew : (framing : Framing) (holds : Option ℕ → List ℕ → Type 0) (history earlier since : List ℕ) (octet : ℕ)
-    → history ≡ earlier ++ since → IsOver framing None earlier
-    → IsOver framing (last_of None earlier) (since ++ octet ∷ [])
+    → history ≡ earlier ++ since → RestartsAfter framing None earlier
+    → RestartsAfter framing (last_of None earlier) (since ++ octet ∷ [])
     → holds (last_of None (earlier ++ (since ++ octet ∷ []))) [] → HoldsSince framing holds (history ++ octet ∷ [])
 since-anew framing holds history earlier since x e over f h = record {
   earlier = earlier ++ (since ++ x ∷ []);
   since = [];
   whole = rw (e, append_assoc earlier since (x ∷ []), append-nil (earlier ++ (since ++ x ∷ []))) refl;
-  over = IsOver-append framing None earlier (since ++ x ∷ []) over f;
+  over = RestartsAfter-append framing None earlier (since ++ x ∷ []) over f;
   fields = h;
 }

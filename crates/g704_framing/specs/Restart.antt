@@ -2,10 +2,10 @@
 -- its first search may read the last octet before.
 use Rattle.std.specs.Prelude.{◌≡◌, ℕ, ◌+◌, ◌<◌, List, [], ◌∷◌, ◌++◌, map, length, Option, Some, None}
 use Rattle.std.specs.Prelude.{option_map}
-use Rattle.g704_framing.specs.Alignment.{Framing, Alignment, alignments_from}
+use Rattle.g704_framing.specs.Alignment.{Framing, FoundAlignment, alignments_from}
 
 -- an alignment in a stream, seen in the stream with this many octets before it
-abbrev pub moved : ℕ → Alignment → Alignment
+abbrev pub moved : ℕ → FoundAlignment → FoundAlignment
 moved before alignment = record {
   start = before + alignment.start;
   lost = option_map (λ position. before + position) alignment.lost;
@@ -16,7 +16,7 @@ abbrev pub IsLostBefore : ℕ → Option ℕ → Type 0
 IsLostBefore position None = ⊥
 IsLostBefore position (Some lost) = lost < position
 
-abbrev pub AllLostBefore : ℕ → List Alignment → Type 0
+abbrev pub AllLostBefore : ℕ → List FoundAlignment → Type 0
 AllLostBefore position [] = Unit {0}
 AllLostBefore position (alignment ∷ others) =
     IsLostBefore position alignment.lost × AllLostBefore position others
@@ -27,8 +27,8 @@ last_of before [] = before
 last_of before (octet ∷ octets) = last_of (Some octet) octets
 
 -- the alignments of these octets are lost, and later octets are searched as a stream of their own
-pub record IsOver (framing : Framing) (before : Option ℕ) (octets : List ℕ) : Type 0 where
-  pub earlier : List Alignment
+pub record RestartsAfter (framing : Framing) (before : Option ℕ) (octets : List ℕ) : Type 0 where
+  pub earlier : List FoundAlignment
   pub all_lost : AllLostBefore (length octets) earlier
   pub anew : (rest : List ℕ) → alignments_from framing before (octets ++ rest) 0
       ≡ earlier ++ map (moved (length octets)) (alignments_from framing (last_of before octets) rest 0)
@@ -40,5 +40,5 @@ pub record HoldsSince (framing : Framing) (holds : Option ℕ → List ℕ → T
   pub earlier : List ℕ
   pub since : List ℕ
   pub whole : history ≡ earlier ++ since
-  pub over : IsOver framing None earlier
+  pub over : RestartsAfter framing None earlier
   pub fields : holds (last_of None earlier) since

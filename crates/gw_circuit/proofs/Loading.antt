@@ -22,8 +22,8 @@ use Rattle.gw_circuit.specs.declared.config.CircuitConfig.{CircuitConfig}
 use Rattle.gw_circuit.specs.declared.circuit.Circuit.{Circuit}
 use Rattle.gw_circuit.specs.declared.circuit.saving.Numbers.{Numbers}
 use Rattle.gw_circuit.specs.declared.speech.Speech.{Speech}
-use Rattle.gw_circuit.specs.Items.{Item}
-use Rattle.gw_circuit.specs.Coding.{coding_after}
+use Rattle.gw_circuit.specs.Items.{CircuitEvent}
+use Rattle.gw_circuit.specs.Coding.{format_after}
 use Rattle.gw_circuit.specs.Speech.{Speaks}
 use Rattle.gw_circuit.specs.Replies.{packet_size}
 use Rattle.gw_circuit.specs.Saved.{saved_coding, saved_packet, saved_speech, saved_numbers, saved_circuit}
@@ -141,7 +141,8 @@ same-circuit one other law config line speech clock sequence sent received dropp
 }
 
 -- a circuit with a new line, and speech that begins anew, stands before its first item
-pub stands-cleared : (c : Circuit) (law : Law) (config : CircuitConfig) (items : List Item) (l : Line) (s : Speech)
+pub stands-cleared : (c : Circuit) (law : Law) (config : CircuitConfig) (items : List CircuitEvent) (l : Line)
+    (s : Speech)
     → StandsSince c law config items → line.HasHistory l c.config.role []
     → Speaks s c.law (record { kind = c.config.codec; payload_type = c.config.payload_type }) (packet_size c.config)
     c.config.prefill [] [] → c.config.sequence < 2 ^ 16
@@ -163,7 +164,7 @@ stands-cleared c law config items l s stands at speaks small =
 -- so does a circuit that stands there, with these parts
 with-parts : (c : Circuit) (law : Law) (config : CircuitConfig) (l : Line) (s : Speech) → StandsSince c law config []
     → line.HasHistory l config.role []
-    → Speaks s law (coding_after law config []) (packet_size config) config.prefill [] []
+    → Speaks s law (format_after law config []) (packet_size config) config.prefill [] []
     → StandsSince (with_parts c l s) law config []
 unfolding StandsSince
 with-parts c law config l s keeps at speaks = record {
@@ -182,7 +183,7 @@ with-parts c law config l s keeps at speaks = record {
 -- the same where its line was read already
 pub stands-reset : (k c : Circuit) (law : Law) (config : CircuitConfig) (l : Line) (s : Speech)
     → k ≡ record c { line = k.line } → StandsSince c law config [] → line.HasHistory l k.config.role []
-    → Speaks s k.law (coding_after law config []) (packet_size config) config.prefill [] []
+    → Speaks s k.law (format_after law config []) (packet_size config) config.prefill [] []
     → StandsSince (with_parts k l s) law config []
 stands-reset k c law config l s is stands at speaks =
     let keeps = keeps-of c law config [] stands in

@@ -16,9 +16,9 @@ use Rattle.q421_line.specs.Signalling.{signalling}
 use Rattle.gw_circuit.specs.declared.config.CircuitConfig.{CircuitConfig}
 use Rattle.gw_circuit.specs.declared.CodecFault.TheVariants.{PayloadType}
 use Rattle.gw_circuit.specs.declared.Dropped.TheVariants.{NotOpen}
-use Rattle.gw_circuit.specs.Items.{Item, Slot, Signal, Datagram, Codec}
+use Rattle.gw_circuit.specs.Items.{CircuitEvent, Slot, Signal, Datagram, Codec}
 use Rattle.gw_circuit.specs.Histories.{count, since}
-use Rattle.gw_circuit.specs.Coding.{fits, coding_after, codec_reply}
+use Rattle.gw_circuit.specs.Coding.{fits, format_after, codec_reply}
 use Rattle.gw_circuit.specs.Spells.{open_after, spell, stretch}
 use Rattle.gw_circuit.specs.Packets.{is_full, payload_of, sound_of}
 use Rattle.gw_circuit.specs.Replies.{slot_reply_since, signal_reply_since, datagram_reply_since, completes}
@@ -41,11 +41,11 @@ config = record {
 }
 
 -- ten signals with this nibble
-abbrev signals : ℕ → List Item
+abbrev signals : ℕ → List CircuitEvent
 signals nibble = replicate 10 (Signal (Some nibble))
 
 -- so many slots in which 0xD4 is heard
-abbrev sent : ℕ → List Item
+abbrev sent : ℕ → List CircuitEvent
 sent n = replicate n (Slot (Some 0xD4))
 
 -- a datagram of PCMA with two words
@@ -53,7 +53,7 @@ abbrev two_words : List ℕ
 two_words = 0x80 ∷ 8 ∷ 0 ∷ 0 ∷ 0 ∷ 0 ∷ 0 ∷ 0 ∷ 0 ∷ 0 ∷ 0 ∷ 9 ∷ 0xD5 ∷ 0xD4 ∷ []
 
 -- the line was idle, and was seized
-abbrev seized : List Item
+abbrev seized : List CircuitEvent
 seized = signals 0b1001 ++ signals 0b0001
 
 -- it sends blocking until idle is recognised, then idle, then the acknowledgement
@@ -65,7 +65,7 @@ nibbles = (refl, refl, refl)
 
 -- a datagram is admitted while the path is open
 admitted : datagram_reply_since A config seized two_words ≡ Ok tt
-unfolding datagram_reply_since open_after signalling recognised is_open next_state coding_after stretch spell since
+unfolding datagram_reply_since open_after signalling recognised is_open next_state format_after stretch spell since
     offer_answer due read_of parts_of header_of marker_of extension_of padding_len words_of
 admitted = refl
 
@@ -86,7 +86,7 @@ types = (refl, refl, refl, refl, refl, refl, refl, refl)
 played : ((slot_reply_since A config (seized ++ Datagram two_words ∷ []) (Some 0xD4)).0 ≡ 0xD5)
     × ((slot_reply_since A config (seized ++ Datagram two_words ∷ sent 1) (Some 0xD4)).0 ≡ 0xD4)
     × ((slot_reply_since A config (seized ++ Datagram two_words ∷ sent 2) (Some 0xD4)).0 ≡ 0xD5)
-unfolding slot_reply_since open_after signalling recognised is_open next_state coding_after stretch spell since sound_of
+unfolding slot_reply_since open_after signalling recognised is_open next_state format_after stretch spell since sound_of
     offer_answer take_answer due drawn_words take_answers dec read_of parts_of header_of marker_of extension_of
     padding_len words_of
 played = (refl, refl, refl)
@@ -94,7 +94,7 @@ played = (refl, refl, refl)
 -- the datagram of the eightieth slot
 first_datagram : (slot_reply_since A config (seized ++ Datagram two_words ∷ sent 79) (Some 0xD4)).1
     ≡ Some (0x80 ∷ 8 ∷ 0 ∷ 0 ∷ 0 ∷ 0 ∷ 0 ∷ 0 ∷ 0 ∷ 0 ∷ 0 ∷ 9 ∷ replicate 80 0xD4)
-unfolding slot_reply_since open_after signalling recognised is_open next_state coding_after stretch spell since count
+unfolding slot_reply_since open_after signalling recognised is_open next_state format_after stretch spell since count
     is_full payload_of enc octets_of plain_datagram
 first_datagram = refl
 
@@ -102,7 +102,7 @@ first_datagram = refl
 -- discarded, sequence number and sample clock go on.
 second_datagram : (slot_reply_since A config (seized ++ sent 120 ++ seized ++ sent 79) (Some 0xD4)).1
     ≡ Some (0x80 ∷ 8 ∷ 0 ∷ 1 ∷ 0 ∷ 0 ∷ 0 ∷ 120 ∷ 0 ∷ 0 ∷ 0 ∷ 9 ∷ replicate 80 0xD4)
-unfolding slot_reply_since open_after signalling recognised is_open next_state coding_after stretch spell since count
+unfolding slot_reply_since open_after signalling recognised is_open next_state format_after stretch spell since count
     is_full payload_of enc octets_of plain_datagram
 second_datagram = refl
 
@@ -114,5 +114,5 @@ packet_anew : (completes A config (seized ++ sent 37 ++ Codec G32 96 ∷ sent 79
     × (completes A config (seized ++ sent 37 ++ Codec G32 8 ∷ sent 42) (Slot None) ≡ true)
     × (header_after A config (seized ++ sent 37 ++ Codec G32 8 ∷ sent 42)
     ≡ record { payload_type = 8; sequence = 0; timestamp = 0; ssrc = 9 })
-unfolding open_after signalling recognised is_open next_state coding_after fits stretch spell since count is_full
+unfolding open_after signalling recognised is_open next_state format_after fits stretch spell since count is_full
 packet_anew = (refl, refl, refl, refl)

@@ -17,8 +17,8 @@ use Rattle.gw_command.specs.declared.command.Request.{Request}
 use Rattle.gw_command.specs.declared.command.Request.TheVariants as requests
 use Rattle.gw_command.specs.declared.command.SpeechJob.{SpeechJob}
 use Rattle.gw_command.specs.declared.command.SpeechJob.TheVariants.{Encode, Decode}
-use Rattle.gw_command.specs.declared.command.Session.{Session}
-use Rattle.gw_command.specs.declared.command.Session.TheVariants.{Replay, Check, Serve}
+use Rattle.gw_command.specs.declared.command.SessionKind.{SessionKind}
+use Rattle.gw_command.specs.declared.command.SessionKind.TheVariants.{Replay, Check, Serve}
 
 -- the name of a law
 abbrev pub law_name : Law → List ℕ
@@ -78,13 +78,13 @@ pub record IsJob (command : Option (List ℕ × List Row)) (job : SpeechJob) : T
   pub stream : IsStream options (job_spec job)
 
 -- the name of a session
-abbrev pub session_name : Session → List ℕ
+abbrev pub session_name : SessionKind → List ℕ
 session_name Replay = codes "replay"
 session_name Check = codes "check"
 session_name Serve = codes "serve"
 
 -- the session that a subcommand names
-pub record IsSession (command : Option (List ℕ × List Row)) (session : Session) : Type 0 where
+pub record IsSession (command : Option (List ℕ × List Row)) (session : SessionKind) : Type 0 where
   pub options : List Row
   pub named : command ≡ Some (session_name session, options)
 

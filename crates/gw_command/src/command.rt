@@ -11,7 +11,7 @@ ghost use Rattle.gw_command.specs.Command.{SaysNumberIn, IsWaitOf, SaysWait};
 ghost use Rattle.gw_command.specs.declared.command.Filter.{Filter};
 ghost use Rattle.gw_command.specs.declared.command.SpeechJob.{SpeechJob};
 ghost use Rattle.gw_command.specs.declared.command.Request.{Request};
-ghost use Rattle.gw_command.specs.declared.command.Session.{Session};
+ghost use Rattle.gw_command.specs.declared.command.SessionKind.{SessionKind};
 
 use crate::options::G711;
 use clap::ArgMatches;
@@ -29,7 +29,7 @@ pub enum Request {
     /// A job on a stream of speech.
     SpeechJob(SpeechJob),
     /// A session of a gateway.
-    Session(Session),
+    Session(SessionKind),
     /// A filter of a trunk.
     Filter(Filter),
     /// A trunk in service.
@@ -49,7 +49,7 @@ pub enum SpeechJob {
 
 /// What a session of a gateway is.
 #[derive(Clone, Copy, Debug, PartialEq, Eq)]
-pub enum Session {
+pub enum SessionKind {
     /// Records from standard input, answered on standard output.
     Replay,
     /// Records from standard input, and a line for each circuit after them.
@@ -161,22 +161,22 @@ pub fn job_of(matches: &ArgMatches<'_>) -> Option<SpeechJob>
 }
 
 // The session of this name.
-fn session_named(name: &str) -> Option<Session>
+fn session_named(name: &str) -> Option<SessionKind>
     ensures found { IfSome result (λ session. name.now ≡ session_name session) }
-    ensures none { IfNone result ((session : Session) → name.now ≢ session_name session) }
+    ensures none { IfNone result ((session : SessionKind) → name.now ≢ session_name session) }
 {
     match name {
-        "replay" => Some(Session::Replay),
-        "check" => Some(Session::Check),
-        "serve" => Some(Session::Serve),
+        "replay" => Some(SessionKind::Replay),
+        "check" => Some(SessionKind::Check),
+        "serve" => Some(SessionKind::Serve),
         _ => None,
     }
 }
 
 /// The session that the matches ask for, if it is one.
-pub fn session_of(matches: &ArgMatches<'_>) -> Option<Session>
+pub fn session_of(matches: &ArgMatches<'_>) -> Option<SessionKind>
     ensures found { IfSome result (IsSession (subcommand_rows_of matches.now)) }
-    ensures none { IfNone result ((session : Session)
+    ensures none { IfNone result ((session : SessionKind)
         → ¬ IsSession (subcommand_rows_of matches.now) session) }
 {
     let (name, _) = matches.subcommand()?;

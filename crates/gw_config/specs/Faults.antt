@@ -1,11 +1,11 @@
 -- The numbers of the kinds of faults.
 use Rattle.std.specs.Prelude.{ℕ}
-use Rattle.gw_config.specs.declared.fault.Kind.{Kind}
-use Rattle.gw_config.specs.declared.fault.Kind.TheVariants.{Syntax, UnknownKey, Missing, WrongType}
-use Rattle.gw_config.specs.declared.fault.Kind.TheVariants.{OutOfRange, Twice, LawCodec, TooLong}
+use Rattle.gw_config.specs.declared.fault.FaultKind.{FaultKind}
+use Rattle.gw_config.specs.declared.fault.FaultKind.TheVariants.{Syntax, UnknownKey, Missing, WrongType}
+use Rattle.gw_config.specs.declared.fault.FaultKind.TheVariants.{OutOfRange, Twice, LawCodec, TooLong}
 
 -- the number of a kind
-abbrev pub kind_number : Kind → ℕ
+abbrev pub kind_number : FaultKind → ℕ
 kind_number Syntax = 1
 kind_number UnknownKey = 2
 kind_number Missing = 3

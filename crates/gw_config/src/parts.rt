@@ -35,7 +35,7 @@ pub(crate) struct Speech {
 
 /// The packets and the playout of a circuit.
 #[derive(Clone, Copy)]
-pub(crate) struct Stream {
+pub(crate) struct RtpSettings {
     /// 10, 20 or 30 ms.
     pub ptime: u8,
     /// 0 to 1600 samples.

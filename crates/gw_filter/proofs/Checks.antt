@@ -5,11 +5,11 @@ use Rattle.std.proofs.lemmas.List.Sums.{sum_by-append}
 use Rattle.std.specs.Prelude.{sum}
 use Rattle.g704_framing.specs.Replies.{replies_after}
 use Rattle.g704_crc4.specs.declared.receiving.ReceiverEvent.{ReceiverEvent}
-use Rattle.g704_crc4.specs.declared.tallying.ReceiverCounts.{ReceiverCounts}
-use Rattle.g704_crc4.specs.declared.tallying.TrunkChecker.{TrunkChecker}
+use Rattle.g704_crc4.specs.declared.counting.ReceiverCounts.{ReceiverCounts}
+use Rattle.g704_crc4.specs.declared.counting.TrunkChecker.{TrunkChecker}
 use Rattle.g704_crc4.specs.Receivers.{ChecksTrunk}
 use Rattle.g704_crc4.specs.Remainder.{bit_number}
-use Rattle.g704_crc4.specs.ReceiverCounts.{times_after, tells_errored, tally_of}
+use Rattle.g704_crc4.specs.ReceiverCounts.{times_after, tells_errored, receiver_counts_of}
 use Rattle.g704_crc4.specs.Aligning.{learned}
 use Rattle.gw_filter.specs.Check.{same_octet, HasReported}
 
@@ -32,7 +32,7 @@ times-append passes before (x ∷ a) b =
     )
 
 -- Errored submultiframes only become more.
-errored-grows : (a b : List ℕ) → (tally_of a).errored ≤ (tally_of (a ++ b)).errored
+errored-grows : (a b : List ℕ) → (receiver_counts_of a).errored ≤ (receiver_counts_of (a ++ b)).errored
 errored-grows a b = omega (arith, times-append tells_errored [] a b)
 
 -- A sum with one more number.
@@ -62,16 +62,17 @@ more_checked a b reported reports octets returned old new s checks is =
       checks = checks;
       same = ap (λ xs. xs ++ new) s.same ∙ ap (λ xs. octets ++ xs) (is ∙ same_octets octets old);
       total = s.total;
-      unreported = (tally_of (octets ++ old)).errored - reported;
+      unreported = (receiver_counts_of (octets ++ old)).errored - reported;
       others = omega (arith, s.others, grows);
     }
 
 -- After a report.
 pub report_sent : (checker : TrunkChecker) (reported reported' count : ℕ) (reports reports' octets returned : List ℕ)
-    (tally : ReceiverCounts) → HasReported checker reported reports octets returned → tally ≡ tally_of octets
-    → count ≤ tally.errored - reported → reports' ≡ reports ++ count ∷ [] → reported' ≡ reported + count
+    (receiver_counts : ReceiverCounts) → HasReported checker reported reports octets returned
+    → receiver_counts ≡ receiver_counts_of octets
+    → count ≤ receiver_counts.errored - reported → reports' ≡ reports ++ count ∷ [] → reported' ≡ reported + count
     → HasReported checker reported' reports' octets returned
-report_sent checker reported reported' count reports reports' octets returned tally s is few sent more =
+report_sent checker reported reported' count reports reports' octets returned receiver_counts s is few sent more =
     let errored = ap (λ (t : ReceiverCounts). t.errored) is in
     record {
       checks = s.checks;

@@ -2,9 +2,9 @@
 -- reports of its errored submultiframes.
 use Rattle.std.specs.Prelude.{◌≡◌, ◌+◌, ℕ, List, [], length, sum}
 use Rattle.std.specs.Io.KnownBytes.{Appends, IsAtEnd}
-use Rattle.g704_crc4.specs.ReceiverCounts.{tally_of}
+use Rattle.g704_crc4.specs.ReceiverCounts.{receiver_counts_of}
 use Rattle.g704_crc4.specs.Receivers.{ChecksTrunk}
-use Rattle.g704_crc4.specs.declared.tallying.TrunkChecker.{TrunkChecker}
+use Rattle.g704_crc4.specs.declared.counting.TrunkChecker.{TrunkChecker}
 use Rattle.gw_records.specs.declared.outcome.RunFault.{RunFault}
 use Rattle.gw_records.specs.Streams.{SourceState, SinkState, Yields}
 use Rattle.gw_filter.specs.declared.checking.Checked.{Checked}
@@ -16,7 +16,7 @@ same_octet before octet = octet
 
 -- So many errored submultiframes of these octets are not yet reported; the reports sent add up to the others.
 abbrev pub AreReported : List ℕ → List ℕ → ℕ → Type 0
-AreReported octets reports unreported = sum reports + unreported ≡ (tally_of octets).errored
+AreReported octets reports unreported = sum reports + unreported ≡ (receiver_counts_of octets).errored
 
 -- Octets that went out as they came in, and whose errored submultiframes are reported, all but some.
 pub record IsChecked (reports octets returned : List ℕ) : Type 0 where
@@ -25,12 +25,13 @@ pub record IsChecked (reports octets returned : List ℕ) : Type 0 where
   pub reported : AreReported octets reports unreported
 
 -- A checker after octets, with the number that its reports add up to.
-pub record HasReported (checker : TrunkChecker) (reported : ℕ) (reports octets returned : List ℕ) : Type 0 where
+pub record HasReported (checker : TrunkChecker) (reported : ℕ)
+    (reports octets returned : List ℕ) : Type 0 where
   pub checks : ChecksTrunk checker octets
   pub same : returned ≡ octets
   pub total : sum reports ≡ reported
   pub unreported : ℕ
-  pub others : reported + unreported ≡ (tally_of octets).errored
+  pub others : reported + unreported ≡ (receiver_counts_of octets).errored
 
 -- The source gave octets to its end. The sink took the same octets; they were counted, and their errored
 -- submultiframes reported, except for those that are told.
@@ -41,7 +42,7 @@ pub record ChecksMultiframes (source source' : SourceState) (sink sink' : SinkSt
   pub ended : IsAtEnd source'.to_come
   pub took : Appends sink.taken sink'.taken octets
   pub totals_are : checked.totals ≡ filter_totals (length octets)
-  pub tally_is : checked.tally ≡ tally_of octets
+  pub counts_are : checked.receiver_counts ≡ receiver_counts_of octets
   pub reported : AreReported octets reports checked.unreported
   pub no_read : source'.failures ≡ source.failures
   pub no_write : sink'.failures ≡ sink.failures

@@ -1,7 +1,7 @@
 //! CRC-4 multiframes of a trunk checked, and their errored submultiframes reported.
 
 ghost use Rattle.std.specs.Prelude.{◌≡◌, ◌+◌, ◌-◌, ◌<◌, ◌≤◌, ◌++◌, ℕ, List, [], length, sum, IfOk, IfErr};
-ghost use Rattle.g704_crc4.specs.ReceiverCounts.{tally_of};
+ghost use Rattle.g704_crc4.specs.ReceiverCounts.{receiver_counts_of};
 ghost use Rattle.g704_crc4.specs.Receivers.{ChecksTrunk};
 ghost use Rattle.gw_records.specs.Streams.{CanBegin};
 ghost use Rattle.gw_filter.specs.Check.{same_octet, HasReported, ChecksMultiframes, ChecksMultiframesUntil};
@@ -34,7 +34,7 @@ pub struct Checked {
     /// The octets.
     pub totals: Totals,
     /// The counts of the multiframes.
-    pub tally: ReceiverCounts,
+    pub receiver_counts: ReceiverCounts,
     /// Errored submultiframes that were not reported.
     pub unreported: u64,
 }
@@ -75,7 +75,11 @@ impl<R: ReportSink, T: CountsTeller + Drop> ReportingChecker<R, T> {
             (R.sent self.old.reports) octets returned
             → HasReported self.new.checker self.new.reported (R.sent self.new.reports) octets returned }
     {
-        let unreported = self.checker.tally().errored.saturating_sub(self.reported);
+        let unreported = self
+            .checker
+            .receiver_counts()
+            .errored
+            .saturating_sub(self.reported);
         if unreported == 0 {
             return;
         }
@@ -94,7 +98,7 @@ impl<R: ReportSink, T: CountsTeller + Drop> ReportingChecker<R, T> {
         self.untold = self.untold.saturating_add(len);
         if self.untold >= SECOND {
             self.untold %= SECOND;
-            let counts = self.checker.tally();
+            let counts = self.checker.receiver_counts();
             self.teller.tell(&counts);
         }
     }
@@ -124,7 +128,8 @@ pub fn crc4_check_stream<R: ReportSink, T: CountsTeller + Drop, S: Source, K: Si
     source: &mut S,
     sink: &mut K,
 ) -> Result<Checked, RunFault>
-    requires begins { HasReported checker.old.checker checker.old.reported (R.sent checker.old.reports) [] [] }
+    requires begins { HasReported checker.old.checker checker.old.reported
+        (R.sent checker.old.reports) [] [] }
     requires streams { CanBegin (S.tells source.old) (K.tells sink.old) }
     ensures ok { IfOk result (ChecksMultiframes (S.tells source.old) (S.tells source.new)
         (K.tells sink.old) (K.tells sink.new) (R.sent checker.new.reports)) }
@@ -132,10 +137,10 @@ pub fn crc4_check_stream<R: ReportSink, T: CountsTeller + Drop, S: Source, K: Si
         (K.tells sink.old) (K.tells sink.new) (R.sent checker.new.reports)) }
 {
     let totals = octets_through(checker, source, sink)?;
-    let tally = checker.checker.tally();
+    let receiver_counts = checker.checker.receiver_counts();
     Ok(Checked {
         totals,
-        tally,
-        unreported: tally.errored.saturating_sub(checker.reported),
+        receiver_counts,
+        unreported: receiver_counts.errored.saturating_sub(checker.reported),
     })
 }

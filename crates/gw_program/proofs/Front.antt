@@ -8,7 +8,7 @@ use Rattle.std.specs.declared.io.ErrorKind.TheVariants as errors
 use Rattle.std.proofs.lemmas.Bool.{lt-ltb, ltb-true, ltb-false}
 use Rattle.std.proofs.lemmas.List.{take_all, length-take}
 use Rattle.gw_config.specs.declared.config.Config.{Config}
-use Rattle.gw_config.specs.declared.fault.Kind.TheVariants as kinds
+use Rattle.gw_config.specs.declared.fault.FaultKind.TheVariants as kinds
 use Rattle.gw_config.specs.Octets.{meaning_of_octets, at_top}
 use Rattle.gw_program.specs.Setup.{Says, FailsToRead}
 use Rattle.gw_program.specs.Status.{fault_of_error}

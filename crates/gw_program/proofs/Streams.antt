@@ -9,10 +9,10 @@ use Rattle.gw_records.specs.declared.outcome.RunFault.{RunFault}
 use Rattle.gw_records.specs.Ports.{PortsState}
 use Rattle.gw_records.specs.Streams.{SourceState, SinkState}
 use Rattle.gw_session.specs.PacketPorts.{no_ports}
-use Rattle.gw_session.specs.Serve.{Around, around}
+use Rattle.gw_session.specs.Serve.{SessionStreams, around}
 use Rattle.gw_session.specs.Tape.{TapeState, no_tape}
-use Rattle.gw_command.specs.declared.command.Session.{Session}
-use Rattle.gw_command.specs.declared.command.Session.TheVariants.{Replay, Check, Serve}
+use Rattle.gw_command.specs.declared.command.SessionKind.{SessionKind}
+use Rattle.gw_command.specs.declared.command.SessionKind.TheVariants.{Replay, Check, Serve}
 use Rattle.gw_program.specs.declared.program_fault.ProgramFault.{ProgramFault}
 use Rattle.gw_program.specs.Performing.{EndedSaved, NotBegun, HasServed, HasConfig, by_session}
 use Rattle.gw_program.specs.Sessions.{HasGateway, Runs, Serves, Checks}
@@ -23,7 +23,7 @@ use Rattle.gw_program.specs.Requests.{OnNewStreams, ByGateway, DoesSession, Serv
 use Rattle.gw_trunk.specs.Multiframes.{GoesInTime}
 
 -- what was done on streams to which nothing had happened was done on new streams
-pub on_new : (s s' : SourceState) (k k' : SinkState) {does : Around → Around → Type 0}
+pub on_new : (s s' : SourceState) (k k' : SinkState) {does : SessionStreams → SessionStreams → Type 0}
     → does (around s k no_ports no_tape) (around s' k' no_ports no_tape)
     → s.reads ≡ 0 → s.given ≡ Some [] → s.failures ≡ 0 → k.failures ≡ 0 → OnNewStreams does
 on_new s s' k k' done reads given failures writes = record {
@@ -35,12 +35,13 @@ on_new s s' k k' done reads given failures writes = record {
 
 -- a fault is told of streams that nothing was done with
 pub untouched : (load : Option (List ℕ)) (asks : Option ℕ → Type 0)
-    (does : Around → Around → Gateway → Gateway → Type 0) (program_fault : ProgramFault)
+    (does : SessionStreams → SessionStreams → Gateway → Gateway → Type 0) (program_fault : ProgramFault)
     → OnNewStreams (λ a a'. ByGateway a a' (Err program_fault) load asks (does a a'))
 untouched load asks does program_fault =
     let source : SourceState = record { failures = 0; reads = 0; given = Some []; to_come = None } in
     let sink : SinkState = record { failures = 0; taken = None } in on_new source source sink sink
-    (inl (record { program_fault = program_fault; why = tt; told_is = refl; unread = refl; unwritten = refl })) refl refl refl refl
+    (inl (record { program_fault = program_fault; why = tt; told_is = refl; unread = refl; unwritten = refl })) refl
+    refl refl refl
 
 -- why nothing was begun is left out, and what the streams are beside what they tell
 told_untouched : {S K : Type 0} {x x' : S} {y y' : K} {why : ProgramFault → Type 0} {told : Result Totals ProgramFault}
@@ -103,7 +104,7 @@ module _ (s s' : SourceState) (k k' : SinkState) {P T : Type 0} (reads : Config 
     }
 
     -- a session that was done on new streams
-    pub session_done : (lacks_watch : ProgramFault → Type 0) (session : Session) → NotBegun s s' k k' lacks told
+    pub session_done : (lacks_watch : ProgramFault → Type 0) (session : SessionKind) → NotBegun s s' k k' lacks told
         ⊎ HasConfig reads (λ config. NotBegun s s' k k' (lacks_gateway config) told
         ⊎ HasGateway (starts config) (λ gateway gateway'. by_session session
         (NotBegun s s' k k' lacks_watch told
@@ -118,7 +119,7 @@ module _ (s s' : SourceState) (k k' : SinkState) {P T : Type 0} (reads : Config 
         on_new s s' k k' (inl (told_untouched (λ e. e) (λ e. e) n)) a b c d
     session_done lacks_watch session (inr h) a b c d = with_config session h.config h.done a b c d
       where
-        with_gateway : (session : Session) (config : Config) (gateway gateway' : Gateway) → starts config gateway
+        with_gateway : (session : SessionKind) (config : Config) (gateway gateway' : Gateway) → starts config gateway
             → by_session session
             (NotBegun s s' k k' lacks_watch told
             ⊎ EndedSaved (λ end. Runs s s' k k' end gateway gateway') (saves config gateway') told)
@@ -134,12 +135,24 @@ module _ (s s' : SourceState) (k k' : SinkState) {P T : Type 0} (reads : Config 
         with_gateway Replay config gateway gateway' new (inr e) a b c d = on_new s s' k k' (inr (record {
           config = config;
           read = tt;
-          done = record { gateway = gateway; gateway' = gateway'; begun = begun config gateway new; done = saved_told config gateway' e };
+          done = record {
+            gateway = gateway;
+            gateway' = gateway';
+            begun = begun config gateway new;
+            done = saved_told
+                config gateway' e;
+          };
         })) a b c d
         with_gateway Check config gateway gateway' new e a b c d = on_new s s' k k' (inr (record {
           config = config;
           read = tt;
-          done = record { gateway = gateway; gateway' = gateway'; begun = begun config gateway new; done = saved_told config gateway' e };
+          done = record {
+            gateway = gateway;
+            gateway' = gateway';
+            begun = begun config gateway new;
+            done = saved_told
+                config gateway' e;
+          };
         })) a b c d
         with_gateway Serve config gateway gateway' new (inl n) a b c d =
             on_new s s' k k' (inl (told_untouched (λ e. e) (λ e. e) n)) a b c d
@@ -150,11 +163,17 @@ module _ (s s' : SourceState) (k k' : SinkState) {P T : Type 0} (reads : Config 
           done = inr (record {
             config = config;
             read = tt;
-            done = record { gateway = gateway; gateway' = gateway'; begun = begun config gateway new; done = saved_told config gateway' v.done };
+            done = record {
+              gateway = gateway;
+              gateway' = gateway';
+              begun = begun config gateway new;
+              done = saved_told
+                  config gateway' v.done;
+            };
           });
         }
 
-        with_config : (session : Session) (config : Config)
+        with_config : (session : SessionKind) (config : Config)
             → NotBegun s s' k k' (lacks_gateway config) told
             ⊎ HasGateway (starts config) (λ gateway gateway'. by_session session
             (NotBegun s s' k k' lacks_watch told

@@ -4,8 +4,8 @@ use Rattle.gw_config.specs.declared.config.Config.{Config}
 use Rattle.gw_records.specs.declared.outcome.Totals.{Totals}
 use Rattle.gw_records.specs.declared.outcome.RunFault.{RunFault}
 use Rattle.gw_session.specs.Tape.{TapeState, no_tape}
-use Rattle.gw_command.specs.declared.command.Session.{Session}
-use Rattle.gw_command.specs.declared.command.Session.TheVariants.{Replay, Check, Serve}
+use Rattle.gw_command.specs.declared.command.SessionKind.{SessionKind}
+use Rattle.gw_command.specs.declared.command.SessionKind.TheVariants.{Replay, Check, Serve}
 use Rattle.gw_program.specs.declared.program_fault.ProgramFault.{ProgramFault}
 use Rattle.gw_program.specs.declared.program_fault.ProgramFault.TheVariants as program_faults
 
@@ -66,7 +66,7 @@ pub record HasServed {P T : Type 0} (Opens : P → Type 0) (Begins : T → Type 
   pub done : served ports ports' tape tape'
 
 -- what a session does, by its name
-abbrev pub by_session : Session → Type 0 → Type 0 → Type 0 → Type 0
+abbrev pub by_session : SessionKind → Type 0 → Type 0 → Type 0 → Type 0
 by_session Replay replays checks serves = replays
 by_session Check replays checks serves = checks
 by_session Serve replays checks serves = serves

@@ -5,14 +5,14 @@ use Rattle.std.specs.Prelude.{MatchResult, MatchOption, codes}
 use Rattle.clap.specs.Words.{Row}
 use Rattle.gw_switch.specs.declared.gateway.Gateway.{Gateway}
 use Rattle.gw_records.specs.declared.outcome.Totals.{Totals}
-use Rattle.gw_session.specs.Serve.{Around}
+use Rattle.gw_session.specs.Serve.{SessionStreams}
 use Rattle.gw_command.specs.Command.{IsRequest, text_in, SaysWait}
 use Rattle.gw_command.specs.declared.command.Filter.{Filter}
 use Rattle.gw_command.specs.declared.command.Filter.TheVariants.{Align, Crc4}
 use Rattle.gw_command.specs.declared.command.SpeechJob.{SpeechJob}
 use Rattle.gw_command.specs.declared.command.Request.{Request}
 use Rattle.gw_command.specs.declared.command.Request.TheVariants as requests
-use Rattle.gw_command.specs.declared.command.Session.{Session}
+use Rattle.gw_command.specs.declared.command.SessionKind.{SessionKind}
 use Rattle.gw_program.specs.declared.program_fault.ProgramFault.{ProgramFault}
 use Rattle.gw_program.specs.declared.program_fault.ProgramFault.TheVariants as program_faults
 use Rattle.gw_program.specs.Filters.{DoesFilter, DoesFilterUntil, HasChecked, HasCheckedUntil}
@@ -32,7 +32,7 @@ AsksCheck command = text_in (codes "check") command ≡ Some (codes "true")
 -- what a request does, of what jobs, filters, the check of CRC-4 multiframes, sessions, the trunk and the
 -- circuit
 -- do
-abbrev pub by_request : (SpeechJob → Type 0) → (Filter → Type 0) → Type 0 → (Session → Type 0) → Type 0
+abbrev pub by_request : (SpeechJob → Type 0) → (Filter → Type 0) → Type 0 → (SessionKind → Type 0) → Type 0
     → Type 0
     → Command → Request → Type 0
 by_request jobs filters checks sessions trunk satop command (requests.SpeechJob job) = jobs job
@@ -55,16 +55,16 @@ pub record NoRequest (command : Command) (told : Result Totals ProgramFault) : T
   pub told_is : told ≡ Err program_faults.Nothing
 
 -- nothing has happened to the streams: no read, no octet and no failure
-pub record AreNew (a : Around) : Type 0 where
+pub record AreNew (a : SessionStreams) : Type 0 where
   pub unread : a.source.reads ≡ 0
   pub no_octet : a.source.given ≡ Some []
   pub no_failed_read : a.source.failures ≡ 0
   pub no_failed_write : a.sink.failures ≡ 0
 
 -- this was done on new streams
-pub record OnNewStreams (does : Around → Around → Type 0) : Type 0 where
-  pub before : Around
-  pub after : Around
+pub record OnNewStreams (does : SessionStreams → SessionStreams → Type 0) : Type 0 where
+  pub before : SessionStreams
+  pub after : SessionStreams
   pub new : AreNew before
   pub done : does before after
 
@@ -104,14 +104,15 @@ ChecksCrc4 named told = LacksReports named told ⊎ OnNewStreams (λ a a'.
 
 -- a fault is told, and nothing was read or written; or this was done with a gateway that was begun by a
 -- configuration, from a state if one is named, and with the wait that is asked for
-abbrev pub ByGateway : Around → Around → Result Totals ProgramFault → Option (List ℕ) → (Option ℕ → Type 0)
+abbrev pub ByGateway : SessionStreams → SessionStreams → Result Totals ProgramFault → Option (List ℕ)
+    → (Option ℕ → Type 0)
     → (Gateway → Gateway → Type 0) → Type 0
 ByGateway a a' told load asks does = NotBegun a.source a'.source a.sink a'.sink (λ _. ⊤) told
     ⊎ HasConfig (λ _. ⊤) (λ config. HasGateway (BeginsWaiting config.gateway load asks) does)
 
 -- what the session told when it was done, by the states to load and to save if they are named, and the wait
 -- that is asked for
-abbrev pub DoesSession : Option (List ℕ) → Option (List ℕ) → (Option ℕ → Type 0) → Session
+abbrev pub DoesSession : Option (List ℕ) → Option (List ℕ) → (Option ℕ → Type 0) → SessionKind
     → Result Totals ProgramFault → Type 0
 DoesSession load save asks session told = OnNewStreams (λ a a'. ByGateway a a' told load asks
     (λ gateway gateway'. by_session session

@@ -10,7 +10,7 @@ use Rattle.gw_records.specs.declared.outcome.RunFault.{RunFault}
 use Rattle.gw_records.specs.declared.outcome.RunFault.TheVariants as faults
 use Rattle.gw_records.specs.Streams.{SourceState, SinkState, FailsAfterPrefix}
 use Rattle.gw_session.specs.Running.{RunsAll, RunsUntil}
-use Rattle.gw_session.specs.Serve.{Around, ServesAll, ServesUntil}
+use Rattle.gw_session.specs.Serve.{SessionStreams, ServesAll, ServesUntil}
 use Rattle.gw_program.specs.Listing.{listing}
 
 -- records of a source were acted on by a gateway, and this was the end
@@ -28,7 +28,7 @@ pub record HasGateway (Begins : Gateway → Type 0) (does : Gateway → Gateway 
   pub done : does gateway gateway'
 
 -- the same with datagrams that come and go through ports, and what the gateway took was recorded
-abbrev pub Serves : Around → Around → Result Totals RunFault → Gateway → Gateway → Type 0
+abbrev pub Serves : SessionStreams → SessionStreams → Result Totals RunFault → Gateway → Gateway → Type 0
 Serves a a' end gateway gateway' =
     MatchResult end (ServesAll a a' gateway gateway') (ServesUntil a a' gateway gateway')
 

@@ -6,7 +6,7 @@ ghost use Rattle.gw_filter.specs.Crc4.{HasSent};
 ghost use Rattle.gw_program.specs.Filters.{DoesFilter, DoesFilterUntil, HasChecked, HasCheckedUntil};
 
 use crate::program_fault::ProgramFault;
-use crate::report::{CheckTells, LiveCounts, print_tally, print_unreported};
+use crate::report::{CheckTells, LiveCounts, print_receiver_counts, print_unreported};
 use crate::sealed::{StandardInput, StandardOutput};
 use gw_command::Filter;
 use gw_filter::{
@@ -64,7 +64,7 @@ pub fn perform_crc4_check<
     );
     match crc4_check_stream(&mut checker, source, sink) {
         Ok(checked) => {
-            print_tally(rt, &checked.tally);
+            print_receiver_counts(rt, &checked.receiver_counts);
             if tells.unreported {
                 print_unreported(rt, checked.unreported);
             }

@@ -25,8 +25,8 @@ pub use performing::{System, perform_job, perform_session};
 pub use program_fault::{DONE, NO_MEMORY, ProgramFault, REFUSED};
 pub use recording::{Recording, Tape, begin, tell_end};
 pub use report::{
-    CheckTells, LiveCounts, Skipped, passed_over, print_discarded, print_tally, print_totals,
-    print_unreported,
+    CheckTells, LiveCounts, Skipped, passed_over, print_discarded, print_receiver_counts,
+    print_totals, print_unreported,
 };
 pub use reports::open_reports;
 pub use requests::{Commands, perform};

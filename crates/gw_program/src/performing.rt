@@ -13,7 +13,7 @@ use crate::program_fault::ProgramFault;
 use crate::report::passed_over;
 use crate::sealed::{StandardInput, StandardOutput};
 use crate::sessions::{check, replay_watched, serve_through};
-use gw_command::{Session, SpeechJob};
+use gw_command::{SessionKind, SpeechJob};
 use gw_config::Config;
 use gw_session::{Ports, RunFault, Sink, Source, Tape, Totals, Watch};
 use gw_switch::Gateway;
@@ -215,7 +215,7 @@ fn perform_serve<Y: System, S: Source, K: Sink>(
 pub fn perform_session<Y: System, S: Source + StandardInput, K: Sink + StandardOutput>(
     system: &Y,
     alloc: Global,
-    session: Session,
+    session: SessionKind,
     source: &mut S,
     sink: &mut K,
 ) -> Result<Totals, ProgramFault>
@@ -245,11 +245,11 @@ pub fn perform_session<Y: System, S: Source + StandardInput, K: Sink + StandardO
     let config = system.read_config()?;
     let mut gateway = system.begin_gateway(&config)?;
     match session {
-        Session::Replay => perform_replay(system, alloc, &config, &mut gateway, source, sink),
-        Session::Check => {
+        SessionKind::Replay => perform_replay(system, alloc, &config, &mut gateway, source, sink),
+        SessionKind::Check => {
             let ended = check(alloc, &mut gateway, source, sink);
             end_session(system, &config, &gateway, ended)
         }
-        Session::Serve => perform_serve(system, alloc, &config, &mut gateway, source, sink),
+        SessionKind::Serve => perform_serve(system, alloc, &config, &mut gateway, source, sink),
     }
 }

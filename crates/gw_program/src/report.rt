@@ -46,13 +46,13 @@ pub fn print_discarded(rt: &impl Eprint, discarded: u64) {
 }
 
 /// Prints what was counted of CRC-4 multiframes on standard error, one name and value a line.
-pub fn print_tally(rt: &impl Eprint, tally: &ReceiverCounts) {
-    let _ = eprintln!(rt; "submultiframes {}", tally.submultiframes);
-    let _ = eprintln!(rt; "errored {}", tally.errored);
-    let _ = eprintln!(rt; "far_end_errored {}", tally.far_end_errored);
-    let _ = eprintln!(rt; "multiframes_found {}", tally.found);
-    let _ = eprintln!(rt; "multiframes_lost {}", tally.lost);
-    let _ = eprintln!(rt; "given_up {}", tally.given_up);
+pub fn print_receiver_counts(rt: &impl Eprint, receiver_counts: &ReceiverCounts) {
+    let _ = eprintln!(rt; "submultiframes {}", receiver_counts.submultiframes);
+    let _ = eprintln!(rt; "errored {}", receiver_counts.errored);
+    let _ = eprintln!(rt; "far_end_errored {}", receiver_counts.far_end_errored);
+    let _ = eprintln!(rt; "multiframes_found {}", receiver_counts.found);
+    let _ = eprintln!(rt; "multiframes_lost {}", receiver_counts.lost);
+    let _ = eprintln!(rt; "given_up {}", receiver_counts.given_up);
 }
 
 /// Prints how many errored submultiframes were not reported on standard error, in the form of the counts.

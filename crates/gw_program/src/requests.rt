@@ -6,7 +6,7 @@ ghost use Rattle.gw_program.specs.Requests.{HasRequest, NoRequest, by_request};
 
 use crate::program_fault::ProgramFault;
 use clap::ArgMatches;
-use gw_command::{Filter, Request, Session, SpeechJob, asks_check, request_of};
+use gw_command::{Filter, Request, SessionKind, SpeechJob, asks_check, request_of};
 use gw_session::Totals;
 
 /// What the program does for its subcommands: one method for each. The relations belong to the type. A
@@ -15,7 +15,7 @@ pub trait Commands {
     ghost use Rattle.std.specs.Prelude.{Result};
     ghost use Rattle.gw_command.specs.declared.command.Filter.{Filter};
     ghost use Rattle.gw_command.specs.declared.command.SpeechJob.{SpeechJob};
-    ghost use Rattle.gw_command.specs.declared.command.Session.{Session};
+    ghost use Rattle.gw_command.specs.declared.command.SessionKind.{SessionKind};
     ghost use Rattle.gw_records.specs.declared.outcome.Totals.{Totals};
     ghost use Rattle.gw_program.specs.declared.program_fault.ProgramFault.{ProgramFault};
 
@@ -29,7 +29,7 @@ pub trait Commands {
     ghost does_check: { Self → Result Totals ProgramFault → Type 0 };
 
     /// Holds of a session and its result.
-    ghost does_session: { Self → Session → Result Totals ProgramFault → Type 0 };
+    ghost does_session: { Self → SessionKind → Result Totals ProgramFault → Type 0 };
 
     /// Holds of the result of serving a trunk.
     ghost does_trunk: { Self → Result Totals ProgramFault → Type 0 };
@@ -50,7 +50,7 @@ pub trait Commands {
         ensures { does_check self.now result };
 
     /// Runs a session of a gateway.
-    fn session(&self, session: Session) -> Result<Totals, ProgramFault>
+    fn session(&self, session: SessionKind) -> Result<Totals, ProgramFault>
         ensures { does_session self.now session result };
 
     /// Serves a trunk.

@@ -5,13 +5,13 @@ ghost use Rattle.gw_satop.specs.Session.{HasSettings};
 
 use crate::program_fault::ProgramFault;
 use gw_records::NO_TOTALS;
-use gw_satop::{Circuit, Clock, Peer, carry_satop};
+use gw_satop::{Clock, Peer, SatopCircuit, carry_satop};
 use gw_session::{RunFault, Totals};
 use gw_trunk::{Incoming, Outgoing};
 
 /// Carries an emulated circuit until no octet comes from the trunk any more.
 pub fn perform_satop<I: Incoming, O: Outgoing, P: Peer, M: Clock>(
-    circuit: &mut Circuit<I, O, P>,
+    circuit: &mut SatopCircuit<I, O, P>,
     moments: &mut M,
 ) -> Result<Totals, ProgramFault>
     ensures carries { CarriesSatop (record {

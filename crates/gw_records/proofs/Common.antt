@@ -10,7 +10,7 @@ unfoldable pub use Rattle.gw_records.specs.Records.{has_bad_command, head_of}
 pub use Rattle.gw_records.specs.Streams.{SourceState, SinkState, Yields, GivesUp, at_most, AppendsPrefix, AppendsBut}
 pub use Rattle.gw_records.specs.Streams.{TakesAllBut, FailsAfterPrefix}
 pub use Rattle.gw_records.specs.declared.reader.Reader.{Reader}
-pub use Rattle.gw_records.specs.declared.records.EndOfRecords.{EndOfRecords}
+pub use Rattle.gw_records.specs.declared.records.EndReason.{EndReason}
 pub use Rattle.gw_records.specs.declared.records.FirstRecord.{FirstRecord}
 pub use Rattle.gw_records.specs.declared.records.AcceptedKinds.{AcceptedKinds}
 pub use Rattle.std.proofs.Common.{◌≡◌, ◌≤◌, ℕ, refl, arith, ◌+◌, ◌-◌, ◌<◌, true, List, ◌++◌, length, take, drop, sym}

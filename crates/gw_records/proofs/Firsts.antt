@@ -4,15 +4,15 @@ use Rattle.gw_records.proofs.Common.{◌∷◌, Bool, cond, Option, Some, None, 
 use Rattle.gw_records.proofs.Common.{take, get_or, refl, sym, ◌∙◌, length-take-le, arith, slice_index, nat_tests}
 use Rattle.gw_records.proofs.Common.{common_steps, AcceptedKinds, spelled, IsGood, body_len, has_bad_kind}
 use Rattle.gw_records.proofs.Common.{has_bad_circuit, has_bad_length, has_bad_command, is_cut, end_of, IsCircuit}
-use Rattle.gw_records.proofs.Common.{IsFirst, head_of, named, EndOfRecords, command_of, codec_of}
+use Rattle.gw_records.proofs.Common.{IsFirst, head_of, named, EndReason, command_of, codec_of}
 use Rattle.byteorder.specs.Endian.{big_bytes}
 use Rattle.gw_records.specs.declared.records.RecordKind.{RecordKind}
 use Rattle.gw_records.specs.declared.records.RecordKind.TheVariants as heads
-use Rattle.gw_records.specs.declared.records.EndOfRecords.TheVariants as endings
+use Rattle.gw_records.specs.declared.records.EndReason.TheVariants as endings
 use Rattle.gw_records.proofs.Again.{octet_of_command_again, octet_of_codec_again}
 
 -- what is known of the tests of end_of, by what they give
-abbrev pub Found : (none few kind circuit len cut command : Bool) → Option EndOfRecords → Type 0
+abbrev pub Found : (none few kind circuit len cut command : Bool) → Option EndReason → Type 0
 Found none few kind circuit len cut command None =
     (few ≡ false) × (kind ≡ false) × (circuit ≡ false) × (len ≡ false) × (cut ≡ false) × (command ≡ false)
 Found none few kind circuit len cut command (Some endings.End) = none ≡ true
@@ -36,7 +36,7 @@ first_found false false false false false false true = (refl, inr refl)
 first_found false false false false false false false = (refl, refl, refl, refl, refl, refl)
 
 -- .. of octets that end so
-pub found_in : (kinds : AcceptedKinds) (octets : List ℕ) (o : Option EndOfRecords) → end_of kinds octets ≡ o
+pub found_in : (kinds : AcceptedKinds) (octets : List ℕ) (o : Option EndReason) → end_of kinds octets ≡ o
     → Found (length octets == 0) (nat_lt (length octets) 4) (has_bad_kind kinds octets) (has_bad_circuit octets)
     (has_bad_length octets) (is_cut octets) (has_bad_command octets) o
 unfolding end_of

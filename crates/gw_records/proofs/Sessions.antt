@@ -2,13 +2,13 @@
 use Rattle.gw_records.proofs.Common.{◌≡◌, ◌+◌, ◌^◌, ◌<◌, ◌≤◌, inl, inr, ℕ, true, List, [], ◌∷◌, ◌++◌, length, drop}
 use Rattle.gw_records.proofs.Common.{refl, sym, ap, ◌∙◌, append_assoc, append-nil, length-append, arith}
 use Rattle.gw_records.proofs.Common.{take-append-drop, Some, Result, Ok, Err, IfOk, IfErr, IsErrAnd, flat_map}
-use Rattle.gw_records.proofs.Common.{AllByRecursion, IsAtEnd, Reader, AcceptedKinds, FirstRecord, EndOfRecords, Record}
+use Rattle.gw_records.proofs.Common.{AllByRecursion, IsAtEnd, Reader, AcceptedKinds, FirstRecord, EndReason, Record}
 use Rattle.gw_records.proofs.Common.{spelled, IsGood, IsFirst, record_at, end_of, is_open, SourceState, SinkState}
 use Rattle.gw_records.proofs.Common.{Yields, GivesUp, held, Brings, RunsOut, FailsToRead}
 use Rattle.std.proofs.lemmas.List.Concat.{flat_map-append}
 use Rattle.gw_records.specs.declared.outcome.Totals.{Totals}
 use Rattle.gw_records.specs.declared.outcome.RunFault.{RunFault}
-use Rattle.gw_records.specs.declared.records.EndOfRecords.TheVariants as endings
+use Rattle.gw_records.specs.declared.records.EndReason.TheVariants as endings
 use Rattle.gw_records.specs.Outcome.{answer_of, SessionTo, Ends, EndsAll, EndsUntil, FailsToWrite}
 use Rattle.gw_records.proofs.Writes.{Yields-none, Yields-join, Yields-end}
 
@@ -70,7 +70,8 @@ pub first_held : {kinds : AcceptedKinds} {slice held : List ℕ} (f : FirstRecor
 first_held f e first = rw e at first
 
 -- a record was acted on and passed
-pub record_taken : {kinds : AcceptedKinds} {a b : SourceState} {c d d' : SinkState} {reader reader' : Reader} {octets : List ℕ}
+pub record_taken : {kinds : AcceptedKinds} {a b : SourceState} {c d d' : SinkState} {reader reader' : Reader} {octets :
+    List ℕ}
     {records : List Record} (f : FirstRecord) → Stage kinds a b c d reader octets records
     → IsFirst kinds f (held reader)
     → held reader' ≡ drop f.len (held reader) → reader'.reads_left ≡ reader.reads_left → d'.failures ≡ d.failures
@@ -139,7 +140,7 @@ reads_more {reader = reader} {octets = octets} {records = records} w r few kept 
 
 -- what is held ends so, and nothing came behind it
 unfoldable session_to : {kinds : AcceptedKinds} {a b b' : SourceState} {c d d' : SinkState} {reader : Reader}
-    {octets slice : List ℕ} {records : List Record} {ending : EndOfRecords} {Done : Totals → List Record → Type 0}
+    {octets slice : List ℕ} {records : List Record} {ending : EndReason} {Done : Totals → List Record → Type 0}
     (totals : Totals) → Stage kinds a b c d reader octets records → Yields b b' [] → slice ≡ held reader
     → end_of kinds slice ≡ Some ending → d'.failures ≡ d.failures → Done totals records
     → SessionTo kinds a b' c d' Done ending
@@ -155,7 +156,7 @@ session_to {kinds} {reader = reader} {octets = octets} {records = records} total
 
 -- the records end so
 pub ended : {kinds : AcceptedKinds} {a b b' : SourceState} {c d d' : SinkState} {reader reader' : Reader}
-    {octets slice : List ℕ} {records : List Record} {ending : EndOfRecords} {Done : Totals → List Record → Type 0}
+    {octets slice : List ℕ} {records : List Record} {ending : EndReason} {Done : Totals → List Record → Type 0}
     (totals : Totals) → Stage kinds a b c d reader octets records → RunsOut b b' reader reader' ending
     → slice ≡ held reader → end_of kinds slice ≡ Some ending → d'.failures ≡ d.failures → Done totals records
     → (e : Ends kinds a b' c d' Done ending) × (totals ≡ e.0.totals)
@@ -164,10 +165,10 @@ ended totals w r same ends kept done = ((session_to totals w r.gives same ends k
 
 -- a read failed, or there were too many
 pub gives_up : {kinds : AcceptedKinds} {a b b' : SourceState} {c d d' : SinkState} {reader reader' : Reader}
-    {octets slice : List ℕ} {records : List Record} {ending : EndOfRecords} {Done : Totals → List Record → Type 0}
+    {octets slice : List ℕ} {records : List Record} {ending : EndReason} {Done : Totals → List Record → Type 0}
     (totals : Totals) → Stage kinds a b c d reader octets records → FailsToRead b b' reader reader' ending
     → slice ≡ held reader → end_of kinds slice ≡ Some ending → d'.failures ≡ d.failures → Done totals records
-    → (ending : EndOfRecords) × (s : SessionTo kinds a b' c d' Done ending) × GivesUp a b' s.octets
+    → (ending : EndReason) × (s : SessionTo kinds a b' c d' Done ending) × GivesUp a b' s.octets
     × (is_open ending ≡ true)
 unfolding session_to
 gives_up totals w r same ends kept done = (
@@ -182,7 +183,7 @@ gives_up totals w r same ends kept done = (
 
 -- a session ends if its records end so
 pub ends_so : {kinds : AcceptedKinds} {a b : SourceState} {c d : SinkState} {Done : Totals → List Record → Type 0}
-    (Begun : List Record → Type 0) (ending : EndOfRecords) (totals : Totals) (result : Result Totals RunFault)
+    (Begun : List Record → Type 0) (ending : EndReason) (totals : Totals) (result : Result Totals RunFault)
     → (e : Ends kinds a b c d Done ending) → (is_open ending ≡ true → IsAtEnd b.to_come) → totals ≡ e.0.totals
     → result ≡ answer_of ending totals
     → (IfOk result (EndsAll kinds a b c d Done)) × (IfErr result (EndsUntil kinds a b c d Done Begun))

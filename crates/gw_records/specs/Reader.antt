@@ -2,7 +2,7 @@
 use Rattle.std.specs.Prelude.{◌≡◌, ◌⊎◌, ◌+◌, ◌*◌, ◌<◌, ◌≤◌, ◌++◌}
 use Rattle.std.specs.Prelude.{ℕ, Bool, true, false, List, [], length, take, drop}
 use Rattle.std.specs.Io.KnownBytes.{IsAtEnd}
-use Rattle.gw_records.specs.declared.records.EndOfRecords.{EndOfRecords}
+use Rattle.gw_records.specs.declared.records.EndReason.{EndReason}
 use Rattle.gw_records.specs.declared.reader.Reader.{Reader}
 use Rattle.gw_records.specs.Records.{is_open}
 use Rattle.gw_records.specs.Streams.{SourceState, Yields, at_most}
@@ -28,7 +28,7 @@ pub record Brings (source source' : SourceState) (reader reader' : Reader) : Typ
 
 -- No octet arrived, and none is to come if more would matter; if not, none was asked for.
 pub record RunsOut (source source' : SourceState) (reader reader' : Reader)
-    (ending : EndOfRecords) : Type 0 where
+    (ending : EndReason) : Type 0 where
   pub gives : Yields source source' []
   pub holds : held reader' ≡ held reader
   pub ended : is_open ending ≡ true → IsAtEnd source'.to_come
@@ -36,14 +36,14 @@ pub record RunsOut (source source' : SourceState) (reader reader' : Reader)
   pub same : source'.failures ≡ source.failures
 
 -- reading on brought octets, or found that there is nothing to wait for
-abbrev pub ReadsOn : SourceState → SourceState → Reader → Reader → EndOfRecords → Bool → Type 0
+abbrev pub ReadsOn : SourceState → SourceState → Reader → Reader → EndReason → Bool → Type 0
 ReadsOn source source' reader reader' ending true = Brings source source' reader reader'
 ReadsOn source source' reader reader' ending false = RunsOut source source' reader reader' ending
 
 -- more octets might have changed the end, and the source gave no more: it failed, or the read limit was
 -- reached
 pub record FailsToRead (source source' : SourceState) (reader reader' : Reader)
-    (ending : EndOfRecords) : Type 0
+    (ending : EndReason) : Type 0
   where
     pub awaited : is_open ending ≡ true
     pub gives : Yields source source' []

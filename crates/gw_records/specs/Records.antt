@@ -8,8 +8,8 @@ use Rattle.gw_records.specs.declared.records.AcceptedKinds.{AcceptedKinds}
 use Rattle.gw_records.specs.declared.records.RecordKind.{RecordKind}
 use Rattle.gw_records.specs.declared.records.RecordKind.TheVariants as heads
 use Rattle.gw_records.specs.declared.records.FirstRecord.{FirstRecord}
-use Rattle.gw_records.specs.declared.records.EndOfRecords.{EndOfRecords}
-use Rattle.gw_records.specs.declared.records.EndOfRecords.TheVariants as endings
+use Rattle.gw_records.specs.declared.records.EndReason.{EndReason}
+use Rattle.gw_records.specs.declared.records.EndReason.TheVariants as endings
 use Rattle.gw_records.specs.Octets.{command_of, octet_of_command, codec_of, octet_of_codec}
 
 -- a kind, a circuit, a 16-bit length and the body
@@ -77,7 +77,7 @@ has_bad_command octets =
     || nat_lt 127 (slice_index octets 5))
 
 -- how octets end that do not begin with a whole good record
-unfoldable pub end_of : AcceptedKinds → List ℕ → Option EndOfRecords
+unfoldable pub end_of : AcceptedKinds → List ℕ → Option EndReason
 end_of kinds octets =
     if length octets == 0 then Some endings.End
     else (if nat_lt (length octets) 4 then Some endings.Truncated
@@ -89,7 +89,7 @@ end_of kinds octets =
     else None))))))
 
 -- more octets may change this end
-abbrev pub is_open : EndOfRecords → Bool
+abbrev pub is_open : EndReason → Bool
 is_open endings.End = true
 is_open endings.Truncated = true
 is_open _ = false
@@ -102,7 +102,7 @@ pub record Begins (kinds : AcceptedKinds) (octets : List ℕ) (records : List Re
 
 -- the octets are these good records, and a rest with this end
 pub record Reads (kinds : AcceptedKinds) (octets : List ℕ) (records : List Record)
-    (ending : EndOfRecords) : Type 0 where
+    (ending : EndReason) : Type 0 where
   pub rest : List ℕ
   pub whole : octets ≡ flat_map spelled records ++ rest
   pub good : AllByRecursion (IsGood kinds) records

@@ -17,8 +17,8 @@ pub use outcome::{NO_TOTALS, RunFault, Totals, answer};
 pub use ports::{PortFault, Ports};
 pub use reader::{MAX_READS, Reader, read_behind};
 pub use records::{
-    AcceptedKinds, CODEC, COMMAND, DATAGRAM, EndOfRecords, FRONT_LEN, FirstRecord, RecordKind,
-    TRUNK, datagram_record, first_record,
+    AcceptedKinds, CODEC, COMMAND, DATAGRAM, EndReason, FRONT_LEN, FirstRecord, RecordKind, TRUNK,
+    datagram_record, first_record,
 };
 pub use streams::{FromRead, Sink, SinkFault, Source, SourceFault, ToWrite};
 pub use writing::{OutputBuffer, TrunkRecord, flush, put, write_all};

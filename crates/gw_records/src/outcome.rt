@@ -2,7 +2,7 @@
 ghost use Rattle.std.specs.Prelude.{◌≡◌};
 ghost use Rattle.gw_records.specs.Outcome.{fault_number, answer_of};
 
-use crate::records::EndOfRecords;
+use crate::records::EndReason;
 use thiserror::Error;
 
 /// The totals of a session.
@@ -78,14 +78,14 @@ impl RunFault {
 }
 
 /// The result of a session whose records end so.
-pub fn answer(ending: EndOfRecords, totals: Totals) -> Result<Totals, RunFault>
+pub fn answer(ending: EndReason, totals: Totals) -> Result<Totals, RunFault>
     ensures { result ≡ answer_of ending totals }
 {
     match ending {
-        EndOfRecords::End => Ok(totals),
-        EndOfRecords::BadKind => Err(RunFault::BadKind),
-        EndOfRecords::BadCircuit => Err(RunFault::BadCircuit),
-        EndOfRecords::BadCommand => Err(RunFault::BadCommand),
-        EndOfRecords::Truncated => Err(RunFault::Truncated),
+        EndReason::End => Ok(totals),
+        EndReason::BadKind => Err(RunFault::BadKind),
+        EndReason::BadCircuit => Err(RunFault::BadCircuit),
+        EndReason::BadCommand => Err(RunFault::BadCommand),
+        EndReason::Truncated => Err(RunFault::Truncated),
     }
 }

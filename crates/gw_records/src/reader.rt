@@ -4,7 +4,7 @@ ghost use Rattle.gw_records.specs.Streams.{CountsRead, CountsTurn, Refills, Yiel
 ghost use Rattle.gw_records.specs.Records.{is_open};
 
 use crate::outcome::RunFault;
-use crate::records::{AcceptedKinds, EndOfRecords};
+use crate::records::{AcceptedKinds, EndReason};
 use crate::streams::{Source, SourceFault};
 use std::alloc::{AllocError, Global};
 
@@ -29,10 +29,10 @@ pub struct Reader {
 }
 
 // Whether more octets may change how octets end.
-fn is_open(ending: EndOfRecords) -> bool
+fn is_open(ending: EndReason) -> bool
     ensures { result ≡ is_open ending }
 {
-    matches!(ending, EndOfRecords::End | EndOfRecords::Truncated)
+    matches!(ending, EndReason::End | EndReason::Truncated)
 }
 
 /// Reads octets behind the first ones of a buffer.
@@ -155,7 +155,7 @@ impl Reader {
     pub fn read_on<S: Source>(
         &mut self,
         kinds: &AcceptedKinds,
-        ending: EndOfRecords,
+        ending: EndReason,
         source: &mut S,
     ) -> Result<bool, RunFault>
         requires ends { end_of kinds.now (held self.old) ≡ Some ending }

@@ -34,7 +34,7 @@ pub struct AcceptedKinds {
 
 /// The end of records.
 #[derive(Clone, Copy, Debug, PartialEq, Eq)]
-pub enum EndOfRecords {
+pub enum EndReason {
     End,
     BadKind,
     BadCircuit,
@@ -131,30 +131,30 @@ fn head_of(held: &[u8]) -> Option<RecordKind>
 /// It is inlined, so that a session that accepts one kind tests for no other.
 #[inline(always)]
 #[tactic(auto, unfolding(crate::specs::Records::end_of, crate::specs::Records::is_cut))]
-pub fn first_record(kinds: &AcceptedKinds, held: &[u8]) -> Result<FirstRecord, EndOfRecords>
+pub fn first_record(kinds: &AcceptedKinds, held: &[u8]) -> Result<FirstRecord, EndReason>
     ensures good { IfOk result (λ f. IsFirst kinds.now f held.now) }
     ensures end { IfErr result (λ e. end_of kinds.now held.now ≡ Some e) }
 {
     if held.is_empty() {
-        return Err(EndOfRecords::End);
+        return Err(EndReason::End);
     }
     if held.len() < 4 {
-        return Err(EndOfRecords::Truncated);
+        return Err(EndReason::Truncated);
     }
     if has_bad_kind(kinds, held) {
-        return Err(EndOfRecords::BadKind);
+        return Err(EndReason::BadKind);
     }
     if has_bad_circuit(held) {
-        return Err(EndOfRecords::BadCircuit);
+        return Err(EndReason::BadCircuit);
     }
     if has_bad_length(held) {
-        return Err(EndOfRecords::BadCommand);
+        return Err(EndReason::BadCommand);
     }
     let len = 4 + body_len(held);
     if held.len() < len {
-        return Err(EndOfRecords::Truncated);
+        return Err(EndReason::Truncated);
     }
-    let head = head_of(held).ok_or(EndOfRecords::BadCommand)?;
+    let head = head_of(held).ok_or(EndReason::BadCommand)?;
     Ok(FirstRecord { head, len })
 }
 

@@ -2,7 +2,7 @@
 use Rattle.std.proofs.Common.{◌≡◌, ℕ, Bool, List, [], ◌∷◌, ◌++◌, refl, sym, ap, ◌∙◌, append_assoc, append-nil, Ok, Err}
 use Rattle.std.proofs.Common.{Result}
 use Rattle.satop_packet.specs.Satop.{Content}
-use Rattle.satop_playout.specs.Calls.{Call, Begins, Arrives, Plays}
+use Rattle.satop_playout.specs.Calls.{PlayoutCall, Begins, Arrives, Plays}
 use Rattle.satop_playout.specs.Laws.{arrivals_of}
 use Rattle.gw_satop.specs.declared.line.DatagramOutcome.{DatagramOutcome}
 use Rattle.gw_satop.specs.declared.line.DatagramOutcome.TheVariants as receipts
@@ -11,7 +11,8 @@ use Rattle.gw_satop.specs.Line.{calls_for}
 use Rattle.gw_satop.specs.Packets.{arrival_of, arrivals_in, packet_in}
 
 -- What arrives in calls, and in others after them.
-pub arrivals-append : (calls more : List Call) → arrivals_of (calls ++ more) ≡ arrivals_of calls ++ arrivals_of more
+pub arrivals-append : (calls more : List PlayoutCall)
+    → arrivals_of (calls ++ more) ≡ arrivals_of calls ++ arrivals_of more
 arrivals-append [] more = refl
 arrivals-append (Begins sequence ∷ calls) more = arrivals-append calls more
 arrivals-append (Arrives sequence octets ∷ calls) more =

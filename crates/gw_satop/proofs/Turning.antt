@@ -1,6 +1,6 @@
 -- One more event of a circuit.
 use Rattle.std.proofs.Common.{◌≡◌, ℕ, Bool, true, List, [], ◌∷◌, ◌++◌, refl, sym, ap, ◌∙◌, append-nil, nat_lt}
-use Rattle.satop_playout.specs.Calls.{Call}
+use Rattle.satop_playout.specs.Calls.{PlayoutCall}
 use Rattle.satop_playout.specs.Laws.{arrivals_of}
 use Rattle.satop_playout.specs.Plays.{given_octets, is_there, reach_after}
 use Rattle.gw_satop.specs.declared.counts.Counts.{Counts}
@@ -12,8 +12,9 @@ use Rattle.gw_satop.specs.Line.{HasPlayed, calls_for, played, receipt_of}
 use Rattle.gw_satop.specs.Pace.{after_listening, after_outcome, after_plan, after_play, at_time, falls_silent, is_due}
 use Rattle.gw_satop.specs.Packets.{control_in, packet_in}
 use Rattle.gw_satop.specs.Session.{PlaysAll}
-use Rattle.gw_satop.specs.Turns.{AllDue, Hears, Listens, Plans, Plays, Sends, Turns, datagrams_in, outcome_at, standing_after}
-use Rattle.gw_satop.specs.Turns.{standing_of}
+use Rattle.gw_satop.specs.Turns.{AllDue, Hears, Listens, Plans, Plays, Sends, Turns, datagrams_in, outcome_at}
+use Rattle.gw_satop.specs.Turns.{state_after}
+use Rattle.gw_satop.specs.Turns.{state_of}
 use Rattle.gw_satop.proofs.Arriving.{arrivals-append, arrivals-for, arrivals-more}
 
 -- A turn begins.
@@ -21,7 +22,7 @@ pub turned : (receiver : Receiver) (pace pace' : Pace) (counts : Counts) (flags 
     (received : List (List ℕ)) (went : List ℕ) (now : ℕ) → pace' ≡ at_time pace now
     → pace'.timing ≡ pace.timing → PlaysAll receiver pace counts flags received went
     → PlaysAll receiver pace' counts flags received went
-unfolding standing_after AllDue datagrams_in
+unfolding state_after AllDue datagrams_in
 turned receiver pace pace' counts flags received went now is timing k = record {
   past = record k.past { events = Turns now ∷ k.past.events };
   settings_are = k.settings_are;
@@ -43,7 +44,7 @@ pub listened : (receiver : Receiver) (pace pace' : Pace) (counts counts' : Count
     → counts' ≡ record counts { silences = more_if (falls_silent pace pace.counted) counts.silences }
     → pace'.timing ≡ pace.timing → PlaysAll receiver pace counts flags received went
     → PlaysAll receiver pace' counts' flags received went
-unfolding standing_after AllDue datagrams_in
+unfolding state_after AllDue datagrams_in
 listened receiver pace pace' counts counts' flags received went is counted timing k = record {
   past = record k.past { events = Listens ∷ k.past.events };
   settings_are = k.settings_are;
@@ -62,17 +63,17 @@ listened receiver pace pace' counts counts' flags received went is counted timin
 -- The next turn is planned.
 pub planned : (receiver : Receiver) (pace pace' : Pace) (counts : Counts) (flags : List Bool)
     (received : List (List ℕ)) (went : List ℕ) (reach : ℕ)
-    → ((calls : List Call) → HasPlayed receiver calls → reach ≡ reach_after receiver.settings calls)
+    → ((calls : List PlayoutCall) → HasPlayed receiver calls → reach ≡ reach_after receiver.settings calls)
     → pace' ≡ after_plan pace pace.counted reach → pace'.timing ≡ pace.timing
     → PlaysAll receiver pace counts flags received went → PlaysAll receiver pace' counts flags received went
-unfolding standing_after AllDue datagrams_in
+unfolding state_after AllDue datagrams_in
 planned receiver pace pace' counts flags received went reach reach-is is timing k = record {
   past = record k.past { events = Plans ∷ k.past.events };
   settings_are = k.settings_are;
   rtp_is = k.rtp_is;
   timing_is = timing ∙ k.timing_is;
   stands = k.stands;
-  pace_is = is ∙ rw (reach-is (standing_of k.past).calls k.stands, k.settings_are, k.pace_is) refl;
+  pace_is = is ∙ rw (reach-is (state_of k.past).calls k.stands, k.settings_are, k.pace_is) refl;
   flags_are = k.flags_are;
   counts_are = k.counts_are;
   due = (tt, k.due);
@@ -86,7 +87,7 @@ pub sent-more : (receiver : Receiver) (pace : Pace) (counts counts' : Counts) (f
     (received : List (List ℕ)) (went : List ℕ) (taken : Bool) → flags' ≡ flags ++ pace.silent ∷ []
     → counts' ≡ counts_by_sending counts taken → PlaysAll receiver pace counts flags received went
     → PlaysAll receiver pace counts' flags' received went
-unfolding standing_after AllDue datagrams_in
+unfolding state_after AllDue datagrams_in
 sent-more receiver pace counts counts' flags flags' received went taken flagged counted k = record {
   past = record k.past { events = Sends taken ∷ k.past.events };
   settings_are = k.settings_are;
@@ -106,22 +107,22 @@ sent-more receiver pace counts counts' flags flags' received went taken flagged 
 pub played-more : (receiver receiver' : Receiver) (pace pace' : Pace) (counts counts' : Counts) (flags : List Bool)
     (received : List (List ℕ)) (went octets : List ℕ) (read_all there later : Bool)
     → receiver'.settings ≡ receiver.settings → receiver'.rtp ≡ receiver.rtp
-    → ((calls : List Call) → HasPlayed receiver calls → HasPlayed receiver' (calls ++ Call.Plays ∷ []))
-    → ((calls : List Call) → HasPlayed receiver calls
-    → played receiver'.settings (calls ++ Call.Plays ∷ []) ≡ played receiver.settings calls ++ octets)
-    → ((calls : List Call) → HasPlayed receiver calls
+    → ((calls : List PlayoutCall) → HasPlayed receiver calls → HasPlayed receiver' (calls ++ PlayoutCall.Plays ∷ []))
+    → ((calls : List PlayoutCall) → HasPlayed receiver calls
+    → played receiver'.settings (calls ++ PlayoutCall.Plays ∷ []) ≡ played receiver.settings calls ++ octets)
+    → ((calls : List PlayoutCall) → HasPlayed receiver calls
     → is_due pace pace.counted (reach_after receiver.settings calls) read_all ≡ true)
-    → ((calls : List Call) → HasPlayed receiver calls → there ≡ is_there receiver.settings calls)
-    → ((calls : List Call) → HasPlayed receiver calls → later ≡ nat_lt 0 (reach_after receiver.settings calls))
+    → ((calls : List PlayoutCall) → HasPlayed receiver calls → there ≡ is_there receiver.settings calls)
+    → ((calls : List PlayoutCall) → HasPlayed receiver calls → later ≡ nat_lt 0 (reach_after receiver.settings calls))
     → pace' ≡ after_play pace → pace'.timing ≡ pace.timing
     → counts' ≡ counts_by_play counts there later pace.silent
     → PlaysAll receiver pace counts flags received went
     → PlaysAll receiver' pace' counts' flags received (went ++ octets)
-unfolding standing_after AllDue datagrams_in
+unfolding state_after AllDue datagrams_in
 played-more receiver receiver' pace pace' counts counts' flags received went octets read_all there later
     settings rtp stands given due there-is later-is is timing counted k =
-    let calls = (standing_of k.past).calls in
-    let more : played k.past.settings (calls ++ Call.Plays ∷ []) ≡ played k.past.settings calls ++ octets =
+    let calls = (state_of k.past).calls in
+    let more : played k.past.settings (calls ++ PlayoutCall.Plays ∷ []) ≡ played k.past.settings calls ++ octets =
     rw (settings, k.settings_are) at (given calls k.stands) in
     record {
       past = record k.past { events = Plays read_all ∷ k.past.events };
@@ -135,7 +136,7 @@ played-more receiver receiver' pace pace' counts counts' flags received went oct
           ∙ rw (there-is calls k.stands, later-is calls k.stands, k.settings_are, k.counts_are, k.pace_is) refl;
       due = (rw (k.settings_are, k.pace_is) at (due calls k.stands), k.due);
       received_are = k.received_are;
-      arrivals_are = rw (arrivals-append calls (Call.Plays ∷ []), append-nil (arrivals_of calls)) k.arrivals_are;
+      arrivals_are = rw (arrivals-append calls (PlayoutCall.Plays ∷ []), append-nil (arrivals_of calls)) k.arrivals_are;
       went_are = ap (λ (w : List ℕ). w ++ octets) k.went_are ∙ sym more;
     }
 
@@ -143,12 +144,12 @@ played-more receiver receiver' pace pace' counts counts' flags received went oct
 pub heard : (receiver receiver' : Receiver) (pace pace' : Pace) (counts counts' : Counts) (flags : List Bool)
     (received : List (List ℕ)) (datagram went : List ℕ) (outcome : DatagramOutcome)
     → receiver'.settings ≡ receiver.settings → receiver'.rtp ≡ receiver.rtp
-    → ((calls : List Call) → HasPlayed receiver calls → outcome ≡ receipt_of receiver.settings calls pace
+    → ((calls : List PlayoutCall) → HasPlayed receiver calls → outcome ≡ receipt_of receiver.settings calls pace
     pace.counted (packet_in receiver.rtp receiver.settings.size datagram))
-    → ((calls : List Call) → HasPlayed receiver calls
+    → ((calls : List PlayoutCall) → HasPlayed receiver calls
     → HasPlayed receiver' (calls ++ calls_for receiver.settings.size outcome
     (packet_in receiver.rtp receiver.settings.size datagram)))
-    → ((calls : List Call) → given_octets receiver.settings (calls ++ calls_for receiver.settings.size outcome
+    → ((calls : List PlayoutCall) → given_octets receiver.settings (calls ++ calls_for receiver.settings.size outcome
     (packet_in receiver.rtp receiver.settings.size datagram)) ≡ given_octets receiver.settings calls)
     → pace' ≡ after_outcome pace outcome (packet_in receiver.rtp receiver.settings.size datagram) pace.counted
     → pace'.timing ≡ pace.timing
@@ -156,10 +157,10 @@ pub heard : (receiver receiver' : Receiver) (pace pace' : Pace) (counts counts' 
     (control_in (packet_in receiver.rtp receiver.settings.size datagram))
     → PlaysAll receiver pace counts flags received went
     → PlaysAll receiver' pace' counts' flags (received ++ datagram ∷ []) went
-unfolding standing_after AllDue datagrams_in
+unfolding state_after AllDue datagrams_in
 heard receiver receiver' pace pace' counts counts' flags received datagram went outcome
     settings rtp outcome-is stands given is timing counted k =
-    let s = standing_of k.past in
+    let s = state_of k.past in
     let size = k.past.settings.size in
     let packet = packet_in k.past.rtp size datagram in
     let became : outcome ≡ outcome_at k.past.settings s packet =

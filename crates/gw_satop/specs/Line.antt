@@ -5,7 +5,7 @@ use Rattle.gw_filter.specs.Align.{align_reply}
 use Rattle.satop_packet.specs.Satop.{Content}
 use Rattle.satop_playout.specs.declared.ArrivalFault.{ArrivalFault}
 use Rattle.satop_playout.specs.declared.Settings.{Settings}
-use Rattle.satop_playout.specs.Calls.{Call, Begins, Arrives}
+use Rattle.satop_playout.specs.Calls.{PlayoutCall, Begins, Arrives}
 use Rattle.satop_playout.specs.Plays.{arrival_answer, given_octets}
 use Rattle.g704_bits.specs.Standing.{StandsAfter}
 use Rattle.satop_playout.specs.Standing.{HasHistory}
@@ -28,28 +28,28 @@ receipt_by (Ok _) begins = receipts.Accepted
 receipt_by (Err fault) begins = receipt_refused fault (begins fault)
 
 -- what becomes of a datagram at a time, after these calls
-abbrev pub receipt_of : Settings → List Call → Pace → ℕ → Result Content PacketFault → DatagramOutcome
+abbrev pub receipt_of : Settings → List PlayoutCall → Pace → ℕ → Result Content PacketFault → DatagramOutcome
 receipt_of settings calls pace now (Err fault) = receipts.PacketFault fault
 receipt_of settings calls pace now (Ok p) = receipt_by
     (arrival_answer settings calls p.control.sequence (octets_to_play settings.size p))
     (λ fault. beginning pace fault p.control.sequence now)
 
 -- the calls for a packet of which this became: it arrives, after a beginning if a stream begins with it
-abbrev pub calls_of_receipt : DatagramOutcome → ℕ → List ℕ → List Call
+abbrev pub calls_of_receipt : DatagramOutcome → ℕ → List ℕ → List PlayoutCall
 calls_of_receipt (receipts.Began first) sequence octets = Begins first ∷ Arrives sequence octets ∷ []
 calls_of_receipt _ sequence octets = Arrives sequence octets ∷ []
 
 -- the calls for a datagram of which this became
-abbrev pub calls_for : ℕ → DatagramOutcome → Result Content PacketFault → List Call
+abbrev pub calls_for : ℕ → DatagramOutcome → Result Content PacketFault → List PlayoutCall
 calls_for size receipt (Err fault) = []
 calls_for size receipt (Ok p) = calls_of_receipt receipt p.control.sequence (octets_to_play size p)
 
 -- the octets that a receiver gives in the plays of these calls: those of the time slots (ITU-T G.704) for the
 -- octets that its playout gives
-abbrev pub played : Settings → List Call → List ℕ
+abbrev pub played : Settings → List PlayoutCall → List ℕ
 played settings calls = stream_replies align_reply (given_octets settings calls)
 
 -- a receiver whose playout has this history of calls: the aligner has taken the octets of the plays
-pub record HasPlayed (receiver : Receiver) (calls : List Call) : Type 0 where
+pub record HasPlayed (receiver : Receiver) (calls : List PlayoutCall) : Type 0 where
   pub playout : HasHistory receiver.playout receiver.settings calls
   pub aligner : StandsAfter receiver.aligner (given_octets receiver.settings calls)

@@ -8,26 +8,26 @@ use Rattle.gw_satop.specs.declared.sender.Sender.{Sender}
 use Rattle.gw_satop.specs.Line.{HasPlayed, played}
 use Rattle.gw_satop.specs.Packets.{arrivals_in}
 use Rattle.gw_satop.specs.Sending.{packets_of}
-use Rattle.gw_satop.specs.Turns.{AllDue, Past, datagrams_in, standing_at_first, standing_of}
+use Rattle.gw_satop.specs.Turns.{AllDue, Past, datagrams_in, state_at_first, state_of}
 
 -- Datagrams came from the far end: their packets arrived at the playout, each once and in this order, and
--- streams began and packets were played between them, each when it was due. What went to the trunk are the octets
--- of the time slots for the octets of the plays. The pace, bit R of each packet that was sent and the counts follow
--- from what happened.
+-- streams began and packets were played between them, each when it was due. What went to the trunk are the
+-- octets of the time slots for the octets of the plays. The pace, bit R of each packet that was sent and the
+-- counts follow from what happened.
 pub record PlaysAll (receiver : Receiver) (pace : Pace) (counts : Counts) (flags : List Bool)
     (received : List (List ℕ)) (went : List ℕ) : Type 0 where
   pub past : Past
   pub settings_are : receiver.settings ≡ past.settings
   pub rtp_is : receiver.rtp ≡ past.rtp
   pub timing_is : pace.timing ≡ past.timing
-  pub stands : HasPlayed receiver (standing_of past).calls
-  pub pace_is : pace ≡ (standing_of past).pace
-  pub flags_are : flags ≡ (standing_of past).flags
-  pub counts_are : counts ≡ (standing_of past).counts
-  pub due : AllDue past.settings past.rtp (standing_at_first past.timing past.began) past.events
+  pub stands : HasPlayed receiver (state_of past).calls
+  pub pace_is : pace ≡ (state_of past).pace
+  pub flags_are : flags ≡ (state_of past).flags
+  pub counts_are : counts ≡ (state_of past).counts
+  pub due : AllDue past.settings past.rtp (state_at_first past.timing past.began) past.events
   pub received_are : received ≡ datagrams_in past.events
-  pub arrivals_are : arrivals_of (standing_of past).calls ≡ arrivals_in past.rtp past.settings.size received
-  pub went_are : went ≡ played past.settings (standing_of past).calls
+  pub arrivals_are : arrivals_of (state_of past).calls ≡ arrivals_in past.rtp past.settings.size received
+  pub went_are : went ≡ played past.settings (state_of past).calls
 
 -- What was sent to the far end are the packets of the octets that came from the trunk, in order, each octet
 -- once; fewer than a packet has are left.

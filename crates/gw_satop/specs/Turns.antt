@@ -3,7 +3,7 @@ use Rattle.std.specs.Prelude.{◌≡◌, ⊤, ℕ, Bool, true, nat_lt, List, [],
 use Rattle.std.specs.Prelude.{Result}
 use Rattle.satop_packet.specs.Satop.{Content}
 use Rattle.satop_playout.specs.declared.Settings.{Settings}
-use Rattle.satop_playout.specs.Calls.{Call}
+use Rattle.satop_playout.specs.Calls.{PlayoutCall}
 use Rattle.satop_playout.specs.Plays.{is_there, reach_after}
 use Rattle.gw_satop.specs.declared.counts.Counts.{Counts}
 use Rattle.gw_satop.specs.declared.line.DatagramOutcome.{DatagramOutcome}
@@ -17,9 +17,9 @@ use Rattle.gw_satop.specs.Pace.{after_listening, after_outcome, after_plan, afte
 use Rattle.gw_satop.specs.Pace.{is_due, new_pace}
 use Rattle.gw_satop.specs.Packets.{control_in, packet_in}
 
--- What happens: a turn begins at a time; a datagram comes; a packet is played, after all that came was read or
--- before; all that came was read, so that a silence may begin; a packet is sent, which the system takes or not;
--- the next turn is planned.
+-- What happens: a turn begins at a time; a datagram comes; a packet is played, after all that came was read
+-- or before; all that came was read, so that a silence may begin; a packet is sent, which the system takes or
+-- not; the next turn is planned.
 pub data TurnEvent : Type 0 where
   Turns : ℕ → TurnEvent
   Hears : List ℕ → TurnEvent
@@ -30,23 +30,24 @@ pub data TurnEvent : Type 0 where
 
 -- What follows: the calls of the playout; the pace, which tells whether the circuit is silent; bit R of each
 -- packet that was sent; and the counts.
-pub record Standing : Type 0 where
-  pub calls : List Call
+pub record CircuitState : Type 0 where
+  pub calls : List PlayoutCall
   pub pace : Pace
   pub flags : List Bool
   pub counts : Counts
 
 -- before anything has happened
-abbrev pub standing_at_first : Timing → ℕ → Standing
-standing_at_first timing began =
+abbrev pub state_at_first : Timing → ℕ → CircuitState
+state_at_first timing began =
     record { calls = []; pace = new_pace timing began; flags = []; counts = no_counts }
 
 -- what becomes of a datagram at the time of the turn
-abbrev pub outcome_at : Settings → Standing → Result Content PacketFault → DatagramOutcome
+abbrev pub outcome_at : Settings → CircuitState → Result Content PacketFault → DatagramOutcome
 outcome_at settings s packet = receipt_of settings s.calls s.pace s.pace.counted packet
 
 -- a datagram with this packet came, of which this became
-abbrev pub after_datagram : Settings → Standing → Result Content PacketFault → DatagramOutcome → Standing
+abbrev pub after_datagram : Settings → CircuitState → Result Content PacketFault → DatagramOutcome
+    → CircuitState
 after_datagram settings s packet outcome = record {
   calls = s.calls ++ calls_for settings.size outcome packet;
   pace = after_outcome s.pace outcome packet s.pace.counted;
@@ -54,15 +55,15 @@ after_datagram settings s packet outcome = record {
   counts = counts_by_bits (counts_by_outcome s.counts outcome) (control_in packet);
 }
 
--- What follows from an event. Bit R of a packet that is sent says that the circuit is silent, since no packet of
--- the stream has come for 100 ms (RFC 4553, 4.3 and 6.2.2).
-abbrev pub after_event : Settings → Bool → Standing → TurnEvent → Standing
+-- What follows from an event. Bit R of a packet that is sent says that the circuit is silent, since no packet
+-- of the stream has come for 100 ms (RFC 4553, 4.3 and 6.2.2).
+abbrev pub after_event : Settings → Bool → CircuitState → TurnEvent → CircuitState
 after_event settings rtp s (Turns now) = record s { pace = at_time s.pace now }
 after_event settings rtp s (Hears datagram) =
     after_datagram settings s (packet_in rtp settings.size datagram)
     (outcome_at settings s (packet_in rtp settings.size datagram))
 after_event settings rtp s (Plays read_all) = record {
-  calls = s.calls ++ Call.Plays ∷ [];
+  calls = s.calls ++ PlayoutCall.Plays ∷ [];
   pace = after_play s.pace;
   flags = s.flags;
   counts = counts_by_play s.counts (is_there settings s.calls) (nat_lt 0 (reach_after settings s.calls))
@@ -80,10 +81,10 @@ after_event settings rtp s Plans =
     record s { pace = after_plan s.pace s.pace.counted (reach_after settings s.calls) }
 
 -- what follows from all events, the last of which is the first of the list
-unfoldable pub standing_after : Settings → Bool → Standing → List TurnEvent → Standing
-standing_after settings rtp begun [] = begun
-standing_after settings rtp begun (event ∷ earlier) =
-    after_event settings rtp (standing_after settings rtp begun earlier) event
+unfoldable pub state_after : Settings → Bool → CircuitState → List TurnEvent → CircuitState
+state_after settings rtp begun [] = begun
+state_after settings rtp begun (event ∷ earlier) =
+    after_event settings rtp (state_after settings rtp begun earlier) event
 
 -- the settings of a circuit, when it began, and what has happened since then, the last event first
 pub record Past : Type 0 where
@@ -94,20 +95,20 @@ pub record Past : Type 0 where
   pub events : List TurnEvent
 
 -- what follows from all that has happened
-abbrev pub standing_of : Past → Standing
-standing_of p = standing_after p.settings p.rtp (standing_at_first p.timing p.began) p.events
+abbrev pub state_of : Past → CircuitState
+state_of p = state_after p.settings p.rtp (state_at_first p.timing p.began) p.events
 
 -- a packet that is played is due
-abbrev pub IsDueAt : Settings → Standing → TurnEvent → Type 0
+abbrev pub IsDueAt : Settings → CircuitState → TurnEvent → Type 0
 IsDueAt settings s (Plays read_all) =
     is_due s.pace s.pace.counted (reach_after settings s.calls) read_all ≡ true
 IsDueAt settings s event = ⊤
 
 -- .. each of them, when it was
-unfoldable pub AllDue : Settings → Bool → Standing → List TurnEvent → Type 0
+unfoldable pub AllDue : Settings → Bool → CircuitState → List TurnEvent → Type 0
 AllDue settings rtp begun [] = ⊤
 AllDue settings rtp begun (event ∷ earlier) =
-    IsDueAt settings (standing_after settings rtp begun earlier) event × AllDue settings rtp begun earlier
+    IsDueAt settings (state_after settings rtp begun earlier) event × AllDue settings rtp begun earlier
 
 -- the datagrams that came, in order
 unfoldable pub datagrams_in : List TurnEvent → List (List ℕ)

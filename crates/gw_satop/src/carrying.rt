@@ -3,7 +3,7 @@
 ghost use Rattle.std.specs.Prelude.{◌≡◌, ◌++◌, [], IfOk};
 ghost use Rattle.gw_satop.specs.Session.{HasSettings, PlaysAll, SendsAll};
 
-use crate::circuit::Circuit;
+use crate::circuit::SatopCircuit;
 use crate::counts::Counts;
 use crate::peer::Peer;
 use gw_trunk::{DeviceFault, Incoming, Outgoing};
@@ -40,15 +40,15 @@ fn report_changes<M: Clock>(
 /// Carries an emulated circuit until no octet comes from the trunk any more.
 ///
 /// The octets that go to the trunk are those of the time slots for the octets of the packets that come, in
-/// order, with others in place of the missing ones, and each is played when it is due. The packets that are sent
-/// have the octets that come from the trunk, in order, each once, and bit R in silence.
+/// order, with others in place of the missing ones, and each is played when it is due. The packets that are
+/// sent have the octets that come from the trunk, in order, each once, and bit R in silence.
 ///
 /// # Errors
 ///
 /// [`DeviceFault`] if a device of the trunk fails. All clauses hold then too, and what the trunk did not take
 /// is left.
 pub fn carry_satop<I: Incoming, O: Outgoing, P: Peer, M: Clock>(
-    circuit: &mut Circuit<I, O, P>,
+    circuit: &mut SatopCircuit<I, O, P>,
     moments: &mut M,
 ) -> Result<(), DeviceFault>
     ensures plays { ∥ PlaysAll circuit.new.receiver circuit.new.pace circuit.new.counts

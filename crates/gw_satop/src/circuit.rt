@@ -8,7 +8,7 @@ ghost use Rattle.gw_satop.specs.Counts.{counts_by_play, no_counts};
 ghost use Rattle.gw_satop.specs.Line.{HasPlayed};
 ghost use Rattle.gw_satop.specs.Pace.{after_play, is_due, new_pace};
 ghost use Rattle.gw_satop.specs.Sending.{packets_of};
-ghost use Rattle.satop_playout.specs.Calls.{Call};
+ghost use Rattle.satop_playout.specs.Calls.{PlayoutCall};
 ghost use Rattle.satop_playout.specs.Plays.{is_there, reach_after};
 
 use crate::counts::Counts;
@@ -31,7 +31,7 @@ const MOST_PLAYS: usize = 8_192;
 
 /// An emulated circuit: the octets of a trunk on one side, packets to and from the far end on the other.
 #[derive(Drop)]
-pub struct Circuit<I: Incoming, O: Outgoing, P: Peer> {
+pub struct SatopCircuit<I: Incoming, O: Outgoing, P: Peer> {
     incoming: I,
     outgoing: O,
     peer: P,
@@ -86,7 +86,8 @@ fn play_into(
 )
     requires room { length room.old ≡ receiver.old.settings.size }
     requires left { left.old.items ≡ [] }
-    requires due { (calls : List Call) → HasPlayed receiver.old calls → is_due pace.old pace.old.counted
+    requires due { (calls : List PlayoutCall) → HasPlayed receiver.old calls
+        → is_due pace.old pace.old.counted
         (reach_after receiver.old.settings calls) _read_all ≡ true }
     ensures settings { receiver.new.settings ≡ receiver.old.settings }
     ensures rtp { receiver.new.rtp ≡ receiver.old.rtp }
@@ -134,7 +135,7 @@ fn send_all<P: Peer>(
     }
 }
 
-impl<I: Incoming, O: Outgoing, P: Peer> Circuit<I, O, P> {
+impl<I: Incoming, O: Outgoing, P: Peer> SatopCircuit<I, O, P> {
     /// A circuit before any octet and datagram.
     pub fn new(
         incoming: I,
@@ -143,7 +144,7 @@ impl<I: Incoming, O: Outgoing, P: Peer> Circuit<I, O, P> {
         receiver: Receiver,
         sender: Sender,
         pace: Pace,
-    ) -> Circuit<I, O, P>
+    ) -> SatopCircuit<I, O, P>
         requires came { I.came incoming ≡ [] }
         requires went { O.went outgoing ≡ [] }
         requires received { P.received peer ≡ [] }
@@ -156,7 +157,7 @@ impl<I: Incoming, O: Outgoing, P: Peer> Circuit<I, O, P> {
         ensures sender { result.sender ≡ sender }
         ensures pace { result.pace ≡ pace }
     {
-        Circuit {
+        SatopCircuit {
             incoming,
             outgoing,
             peer,
@@ -222,7 +223,8 @@ impl<I: Incoming, O: Outgoing, P: Peer> Circuit<I, O, P> {
 
     // Whether a packet is due. `read_all` is whether all that came was read.
     fn is_due(&self, read_all: bool) -> bool
-        ensures { (calls : List Call) → HasPlayed self.now.receiver calls → result ≡ is_due self.now.pace
+        ensures { (calls : List PlayoutCall) → HasPlayed self.now.receiver calls
+            → result ≡ is_due self.now.pace
             self.now.pace.counted (reach_after self.now.receiver.settings calls) read_all }
     {
         self.pace
@@ -232,7 +234,7 @@ impl<I: Incoming, O: Outgoing, P: Peer> Circuit<I, O, P> {
     // Plays the next packet, which is due, and is then left for the trunk.
     fn play_next(&mut self, read_all: bool)
         requires left { self.old.left.items ≡ [] }
-        requires due { (calls : List Call) → HasPlayed self.old.receiver calls → is_due self.old.pace
+        requires due { (calls : List PlayoutCall) → HasPlayed self.old.receiver calls → is_due self.old.pace
             self.old.pace.counted (reach_after self.old.receiver.settings calls) read_all ≡ true }
         ensures same { HasSettings self.old.receiver self.new.receiver self.old.sender self.new.sender
             self.old.pace self.new.pace }
@@ -251,7 +253,7 @@ impl<I: Incoming, O: Outgoing, P: Peer> Circuit<I, O, P> {
 
     // Plays the next packet, which is due, to the trunk.
     fn play(&mut self, read_all: bool) -> Result<(), DeviceFault>
-        requires due { (calls : List Call) → HasPlayed self.old.receiver calls → is_due self.old.pace
+        requires due { (calls : List PlayoutCall) → HasPlayed self.old.receiver calls → is_due self.old.pace
             self.old.pace.counted (reach_after self.old.receiver.settings calls) read_all ≡ true }
         ensures same { HasSettings self.old.receiver self.new.receiver self.old.sender self.new.sender
             self.old.pace self.new.pace }

@@ -15,7 +15,7 @@ mod system;
 mod timing;
 
 pub use carrying::{Clock, carry_satop};
-pub use circuit::Circuit;
+pub use circuit::SatopCircuit;
 pub use counts::Counts;
 pub use line::{DatagramOutcome, Receiver};
 pub use pace::Pace;

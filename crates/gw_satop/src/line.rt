@@ -41,7 +41,7 @@ impl Receiver {
     ghost use Rattle.std.specs.Prelude.{◌++◌, ◌∷◌, [], List, length, IfOk};
     ghost use Rattle.g704_framing.specs.Replies.{replies_after};
     ghost use Rattle.gw_filter.specs.Align.{align_reply};
-    ghost use Rattle.satop_playout.specs.Calls.{Call, Begins, Arrives, Plays};
+    ghost use Rattle.satop_playout.specs.Calls.{PlayoutCall, Begins, Arrives, Plays};
     ghost use Rattle.satop_playout.specs.Plays.{arrival_answer, given_octets, is_there, play_octets};
     ghost use Rattle.satop_playout.specs.Plays.{reach_after};
     ghost use Rattle.gw_satop.specs.Line.{calls_for, calls_of_receipt, HasPlayed, played};
@@ -66,13 +66,13 @@ impl Receiver {
 
     /// A datagram comes. Says what became of it.
     pub fn receive(&mut self, pace: &mut Pace, now: u64, datagram: &[u8]) -> DatagramOutcome
-        ensures receipt { (calls : List Call) → HasPlayed self.old calls
+        ensures receipt { (calls : List PlayoutCall) → HasPlayed self.old calls
             → result ≡ receipt_of self.old.settings calls pace.old now
             (packet_in self.old.rtp self.old.settings.size datagram.now) }
-        ensures stands { (calls : List Call) → HasPlayed self.old calls
+        ensures stands { (calls : List PlayoutCall) → HasPlayed self.old calls
             → HasPlayed self.new (calls ++ calls_for self.old.settings.size result
             (packet_in self.old.rtp self.old.settings.size datagram.now)) }
-        ensures given { (calls : List Call) → given_octets self.old.settings
+        ensures given { (calls : List PlayoutCall) → given_octets self.old.settings
             (calls ++ calls_for self.old.settings.size result
             (packet_in self.old.rtp self.old.settings.size datagram.now))
             ≡ given_octets self.old.settings calls }
@@ -103,12 +103,12 @@ impl Receiver {
 
     // A packet arrives. If it is refused a stream may begin with it.
     fn arrive(&mut self, pace: &mut Pace, now: u64, sequence: u16, octets: &[u8]) -> DatagramOutcome
-        ensures receipt { (calls : List Call) → HasPlayed self.old calls
+        ensures receipt { (calls : List PlayoutCall) → HasPlayed self.old calls
             → result ≡ receipt_by (arrival_answer self.old.settings calls sequence octets.now)
             (λ fault. beginning pace.old fault sequence now) }
-        ensures stands { (calls : List Call) → HasPlayed self.old calls
+        ensures stands { (calls : List PlayoutCall) → HasPlayed self.old calls
             → HasPlayed self.new (calls ++ calls_of_receipt result sequence octets.now) }
-        ensures given { (calls : List Call) → given_octets self.old.settings
+        ensures given { (calls : List PlayoutCall) → given_octets self.old.settings
             (calls ++ calls_of_receipt result sequence octets.now) ≡ given_octets self.old.settings calls }
         ensures pace { pace.new ≡ after_packet_outcome pace.old result sequence now }
         ensures timing { pace.new.timing ≡ pace.old.timing }
@@ -135,9 +135,9 @@ impl Receiver {
     // A stream begins at this number, and a packet of it arrives.
     #[inline(never)]
     fn begin(&mut self, first: u16, sequence: u16, octets: &[u8])
-        ensures stands { (calls : List Call) → HasPlayed self.old calls
+        ensures stands { (calls : List PlayoutCall) → HasPlayed self.old calls
             → HasPlayed self.new (calls ++ Begins first ∷ Arrives sequence octets.now ∷ []) }
-        ensures given { (calls : List Call) → given_octets self.old.settings
+        ensures given { (calls : List PlayoutCall) → given_octets self.old.settings
             (calls ++ Begins first ∷ Arrives sequence octets.now ∷ [])
             ≡ given_octets self.old.settings calls }
         ensures settings { self.new.settings ≡ self.old.settings }
@@ -152,14 +152,14 @@ impl Receiver {
     /// there. The room has as many octets as a packet.
     pub fn play(&mut self, room: &mut [u8]) -> bool
         requires { length room.old ≡ self.old.settings.size }
-        ensures there { (calls : List Call) → HasPlayed self.old calls
+        ensures there { (calls : List PlayoutCall) → HasPlayed self.old calls
             → result ≡ is_there self.old.settings calls }
-        ensures octets { (calls : List Call) → HasPlayed self.old calls → room.new
+        ensures octets { (calls : List PlayoutCall) → HasPlayed self.old calls → room.new
             ≡ replies_after align_reply (given_octets self.old.settings calls)
             (play_octets self.old.settings calls) }
-        ensures stands { (calls : List Call) → HasPlayed self.old calls
+        ensures stands { (calls : List PlayoutCall) → HasPlayed self.old calls
             → HasPlayed self.new (calls ++ Plays ∷ []) }
-        ensures played { (calls : List Call) → HasPlayed self.old calls
+        ensures played { (calls : List PlayoutCall) → HasPlayed self.old calls
             → played self.new.settings (calls ++ Plays ∷ []) ≡ played self.old.settings calls ++ room.new }
         ensures settings { self.new.settings ≡ self.old.settings }
         ensures rtp { self.new.rtp ≡ self.old.rtp }
@@ -172,7 +172,7 @@ impl Receiver {
 
     /// How many packets there are from the next one to the last that came, both counted; 0 if none waits.
     pub fn reach(&self) -> u16
-        ensures { (calls : List Call) → HasPlayed self.now calls
+        ensures { (calls : List PlayoutCall) → HasPlayed self.now calls
             → result ≡ reach_after self.now.settings calls }
     {
         self.playout.reach()

@@ -1,29 +1,29 @@
--- Records of the same events answer as the acts did.
+-- Records of the same events answer as the inputs did.
 use Rattle.gw_session.proofs.Common.{◌≡◌, ℕ, List, [], ◌∷◌, ◌++◌, refl, sym, ap, ◌∙◌, append_assoc, append-nil, map}
 use Rattle.gw_session.proofs.Common.{flat_map, flat_map-append, GatewayConfig, Event, Reply, reply_to, whole_from}
 use Rattle.gw_session.proofs.Common.{Record, Written, written_out, answers, trunk_in, datagrams_in, code_of, octets_in}
-use Rattle.gw_session.proofs.Common.{packets_in, Act, Turn, events_through, events_in, events_of_turns, coming}
+use Rattle.gw_session.proofs.Common.{packets_in, SessionInput, Turn, events_through, events_in, events_of_turns, coming}
 use Rattle.gw_session.proofs.Common.{arrivals, answer_to, octets_for, packets_for, given_by, written, all_answers}
 use Rattle.gw_session.proofs.Common.{answers_to, command_in, RecordingsAnswerAlike}
 use Rattle.gw_session.specs.Answers as records_of
 use Rattle.gw_session.proofs.Cutting.{Splits, given_by-splits, trunk_has, trunk_is, datagrams_are, all_of}
 
--- what answers acts, by what answers each
+-- what answers inputs, by what answers each
 live_of : {X : Type 0} (f : Written → List X) {h : GatewayConfig → List Event → List Event → List X} → Splits h
-    → ((config : GatewayConfig) (before : List Event) (act : Act)
-    → flat_map f (answers_to config before act) ≡ h config before (events_in act))
-    → (config : GatewayConfig) (before : List Event) (acts : List Act)
-    → flat_map f (all_answers config before acts) ≡ h config before (events_through acts)
+    → ((config : GatewayConfig) (before : List Event) (input : SessionInput)
+    → flat_map f (answers_to config before input) ≡ h config before (events_in input))
+    → (config : GatewayConfig) (before : List Event) (inputs : List SessionInput)
+    → flat_map f (all_answers config before inputs) ≡ h config before (events_through inputs)
 live_of f s each config before [] = sym (s.none config before)
-live_of f s each config before (act ∷ acts) =
-    rw (flat_map-append, each, live_of f s each config (before ++ events_in act) acts, s.more)
+live_of f s each config before (input ∷ inputs) =
+    rw (flat_map-append, each, live_of f s each config (before ++ events_in input) inputs, s.more)
 
--- the trunk octets in the records that answer an act are those that are sent for its events
-trunk_act : (config : GatewayConfig) (before : List Event) (act : Act)
-    → flat_map trunk_in (answers_to config before act) ≡ octets_for config before (events_in act)
+-- the trunk octets in the records that answer an input are those that are sent for its events
+trunk_input : (config : GatewayConfig) (before : List Event) (input : SessionInput)
+    → flat_map trunk_in (answers_to config before input) ≡ octets_for config before (events_in input)
 unfolding given_by
-trunk_act config before (Act.Trunk ts) = append-nil (octets_for config before (events_of_turns ts))
-trunk_act config before act = refl
+trunk_input config before (SessionInput.Trunk ts) = append-nil (octets_for config before (events_of_turns ts))
+trunk_input config before input = refl
 
 -- the answer to an event, if it is a command or a codec
 abbrev obeys : Event → Reply → List (ℕ × ℕ × ℕ)
@@ -81,35 +81,35 @@ commands_one config before (Record.Trunk octets) =
     trunk_has command_in (λ circuit octets. refl) config before octets ∙ sym (none_obeyed config before octets)
 commands_one config before r = refl
 
--- the answers to commands in the records that answer an act are those to the commands among its events
-commands_act : (config : GatewayConfig) (before : List Event) (act : Act)
-    → flat_map command_in (answers_to config before act) ≡ obeyed config before (events_in act)
+-- the answers to commands in the records that answer an input are those to the commands among its events
+commands_input : (config : GatewayConfig) (before : List Event) (input : SessionInput)
+    → flat_map command_in (answers_to config before input) ≡ obeyed config before (events_in input)
 unfolding obeyed
-commands_act config before (Act.Trunk ts) = sym (none_turns config before ts)
-commands_act config before act = refl
+commands_input config before (SessionInput.Trunk ts) = sym (none_turns config before ts)
+commands_input config before input = refl
 
 -- what was written
-written_act : (config : GatewayConfig) (before : List Event) (act : Act)
-    → answer_to config before act ≡ flat_map written_out (answers_to config before act)
+written_input : (config : GatewayConfig) (before : List Event) (input : SessionInput)
+    → answer_to config before input ≡ flat_map written_out (answers_to config before input)
 unfolding answer_to
-written_act config before (Act.Trunk ts) = rw append-nil
-written_act config before act = refl
+written_input config before (SessionInput.Trunk ts) = rw append-nil
+written_input config before input = refl
 
--- what was written for acts is the records that answer them, written out
-written_live : (config : GatewayConfig) (before : List Event) (acts : List Act)
-    → written config before acts ≡ flat_map written_out (all_answers config before acts)
+-- what was written for inputs is the records that answer them, written out
+written_live : (config : GatewayConfig) (before : List Event) (inputs : List SessionInput)
+    → written config before inputs ≡ flat_map written_out (all_answers config before inputs)
 written_live config before [] = refl
-written_live config before (act ∷ acts) =
-    rw (written_act, written_live config (before ++ events_in act) acts, flat_map-append)
+written_live config before (input ∷ inputs) =
+    rw (written_input, written_live config (before ++ events_in input) inputs, flat_map-append)
 
--- records of the same events as those of acts answer as the acts did: octets, datagrams and commands
+-- records of the same events as those of inputs answer as the inputs did: octets, datagrams and commands
 pub answer_alike : RecordingsAnswerAlike
-answer_alike config before acts records e = record {
-  live = written_live config before acts;
+answer_alike config before inputs records e = record {
+  live = written_live config before inputs;
   trunk = all_of trunk_in (given_by-splits octets_in) trunk_is config before records ∙ ap (octets_for config before) e
-      ∙ sym (live_of trunk_in (given_by-splits octets_in) trunk_act config before acts);
+      ∙ sym (live_of trunk_in (given_by-splits octets_in) trunk_input config before inputs);
   datagrams = all_of datagrams_in (given_by-splits packets_in) datagrams_are config before records
       ∙ ap (packets_for config before) e;
   commands = all_of command_in obeyed-splits commands_one config before records ∙ ap (obeyed config before) e
-      ∙ sym (live_of command_in obeyed-splits commands_act config before acts);
+      ∙ sym (live_of command_in obeyed-splits commands_input config before inputs);
 }

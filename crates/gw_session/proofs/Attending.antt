@@ -1,12 +1,15 @@
--- Acts one after another.
+-- Inputs one after another.
 use Rattle.gw_session.proofs.Common.{◌≡◌, ◌⊎◌, inl, inr, ◌+◌, ◌-◌, ◌<◌, ◌≤◌, ℕ, zero, suc, Option, List, [], ◌∷◌, ◌++◌}
 use Rattle.gw_session.proofs.Common.{length, take, drop, refl, ap, ◌∙◌, append_assoc, append-nil, length-append, arith}
 use Rattle.gw_session.proofs.Common.{Appends, map_push, flat_map_more, GatewayConfig, Event, octets, HasHistory}
 use Rattle.gw_session.proofs.Common.{AcceptedKinds, Record, IsGood, record_at, SinkState, TakesAllBut, FailsAfterPrefix}
 use Rattle.gw_session.proofs.Common.{AppendsBut, AppendsPrefix, TakesAllBut-appended, TakesAllBut-empty}
-use Rattle.gw_session.proofs.Common.{TakesAllBut-join, Appends-join, AppendsBut-behind, all_kinds, PacketOutput, Act}
-use Rattle.gw_session.proofs.Common.{told, turns_of, turns, events_in, events_through, Follows, but_last, WatchedTrace}
-use Rattle.gw_session.proofs.Common.{OfFirstActs, written_for, written_by, ActsOn, StopsAt, CutTrace, TapeState, State}
+use Rattle.gw_session.proofs.Common.{TakesAllBut-join, Appends-join, AppendsBut-behind, all_kinds, PacketOutput}
+use Rattle.gw_session.proofs.Common.{SessionInput}
+use Rattle.gw_session.proofs.Common.{input_record, turns_of, turns, events_in, events_through, Follows, but_last}
+use Rattle.gw_session.proofs.Common.{WatchedTrace}
+use Rattle.gw_session.proofs.Common.{OfFirstInputs, written_for, written_by, ActsOn, StopsAt, CutTrace, TapeState}
+use Rattle.gw_session.proofs.Common.{SessionState}
 use Rattle.gw_session.proofs.Common.{Output, drop-take, named, TakesAllBut-start, ActTrace}
 use Rattle.gw_records.specs.declared.records.FirstRecord.{FirstRecord}
 use Rattle.gw_session.proofs.Turns.{TurnsTrace-none, TurnsTrace-join, counted-more, octets-append, turns_have_octets}
@@ -27,51 +30,52 @@ good_in_all kinds (Record.Datagram circuit octets) good = (refl, good.1, good.2)
 good_in_all kinds (Record.Command circuit command) good = (refl, good.1, good.2, good.3)
 good_in_all kinds (Record.Codec circuit codec payload_type) good = (refl, good.1, good.2, good.3, good.4)
 
--- the octets of acts are those of their turns
-act_octets : (act : Act) → length (octets (events_in act)) ≡ length (turns_of act)
-act_octets (Act.Trunk ts) = turns_have_octets ts
-act_octets _ = refl
+-- the octets of inputs are those of their turns
+input_octets : (input : SessionInput) → length (octets (events_in input)) ≡ length (turns_of input)
+input_octets (SessionInput.Trunk ts) = turns_have_octets ts
+input_octets _ = refl
 
--- the octets of acts are as many as their turns
-acts_octets : (acts : List Act) → length (octets (events_through acts)) ≡ length (turns acts)
-acts_octets [] = refl
-acts_octets (act ∷ acts) =
-    ap length (octets-append (events_in act) (events_through acts))
-    ∙ length-append (octets (events_in act)) (octets (events_through acts))
-    ∙ omega (arith, act_octets act, acts_octets acts, length-append (turns_of act) (turns acts))
+-- the octets of inputs are as many as their turns
+inputs_octets : (inputs : List SessionInput) → length (octets (events_through inputs)) ≡ length (turns inputs)
+inputs_octets [] = refl
+inputs_octets (input ∷ inputs) =
+    ap length (octets-append (events_in input) (events_through inputs))
+    ∙ length-append (octets (events_in input)) (octets (events_through inputs))
+    ∙ omega (arith, input_octets input, inputs_octets inputs, length-append (turns_of input) (turns inputs))
 
--- acts that were done, and then the act of one record more
-follows_more : {s s' s'' : State} {x y z : TapeState} {acts : List Act} {r : Record} → Follows s s' x y acts
-    → (q : ActsOn s' s'' y z r) → Follows s s'' x z (acts ++ q.act ∷ [])
-follows_more {s = s} {acts = acts} p q = record {
-  goes = rw (← flat_map_more turns_of [] acts q.act, ← flat_map_more events_in [] acts q.act)
-      (TurnsTrace-join _ _ _ _ _ _ _ (acts_octets acts) p.goes q.goes);
-  records = rw (length-append acts (q.act ∷ []))
-      (counted-more s.totals.records _ _ (length acts) 1 p.records q.records);
-  trunk_octets = rw (← flat_map_more turns_of [] acts q.act, length-append (turns acts) (turns_of q.act))
-      (counted-more s.totals.octets _ _ (length (turns acts)) (length (turns_of q.act)) p.trunk_octets q.octets);
-  recorded = rw (← flat_map_more events_in [] acts q.act) (recorded_join _ _ _ _ _ p.recorded q.recorded);
+-- inputs that were done, and then the input of one record more
+follows_more : {s s' s'' : SessionState} {x y z : TapeState} {inputs : List SessionInput} {r : Record}
+    → Follows s s' x y inputs
+    → (q : ActsOn s' s'' y z r) → Follows s s'' x z (inputs ++ q.input ∷ [])
+follows_more {s = s} {inputs = inputs} p q = record {
+  goes = rw (← flat_map_more turns_of [] inputs q.input, ← flat_map_more events_in [] inputs q.input)
+      (TurnsTrace-join _ _ _ _ _ _ _ (inputs_octets inputs) p.goes q.goes);
+  records = rw (length-append inputs (q.input ∷ []))
+      (counted-more s.totals.records _ _ (length inputs) 1 p.records q.records);
+  trunk_octets = rw (← flat_map_more turns_of [] inputs q.input, length-append (turns inputs) (turns_of q.input))
+      (counted-more s.totals.octets _ _ (length (turns inputs)) (length (turns_of q.input)) p.trunk_octets q.octets);
+  recorded = rw (← flat_map_more events_in [] inputs q.input) (recorded_join _ _ _ _ _ p.recorded q.recorded);
 }
 
--- the last of acts is the one that came last
-pub but_last_more : (acts : List Act) (act : Act) → but_last (acts ++ act ∷ []) ≡ acts
+-- the last of inputs is the one that came last
+pub but_last_more : (inputs : List SessionInput) (input : SessionInput) → but_last (inputs ++ input ∷ []) ≡ inputs
 unfolding but_last
-but_last_more [] act = refl
-but_last_more (a ∷ []) act = refl
-but_last_more (a ∷ b ∷ acts) act = ap (λ (xs : List Act). a ∷ xs) (but_last_more (b ∷ acts) act)
+but_last_more [] input = refl
+but_last_more (a ∷ []) input = refl
+but_last_more (a ∷ b ∷ inputs) input = ap (λ (xs : List SessionInput). a ∷ xs) (but_last_more (b ∷ inputs) input)
 
--- what is put for all acts but the last is no more than what is put for all
-less_written : (spells : PacketOutput) (config : GatewayConfig) (before : List Event) (acts : List Act)
-    → length (written_by spells config before (but_last acts)) ≤ length (written_by spells config before acts)
+-- what is put for all inputs but the last is no more than what is put for all
+less_written : (spells : PacketOutput) (config : GatewayConfig) (before : List Event) (inputs : List SessionInput)
+    → length (written_by spells config before (but_last inputs)) ≤ length (written_by spells config before inputs)
 unfolding but_last
 less_written spells config before [] = omega arith
 less_written spells config before (a ∷ []) = omega arith
-less_written spells config before (a ∷ b ∷ acts) = omega (
+less_written spells config before (a ∷ b ∷ inputs) = omega (
   arith,
-  less_written spells config (before ++ events_in a) (b ∷ acts),
+  less_written spells config (before ++ events_in a) (b ∷ inputs),
   length-append (written_for spells config before a)
-      (written_by spells config (before ++ events_in a) (but_last (b ∷ acts))),
-  length-append (written_for spells config before a) (written_by spells config (before ++ events_in a) (b ∷ acts)),
+      (written_by spells config (before ++ events_in a) (but_last (b ∷ inputs))),
+  length-append (written_for spells config before a) (written_by spells config (before ++ events_in a) (b ∷ inputs)),
 )
 
 -- octets of which few wait, and a write of these failed
@@ -93,13 +97,13 @@ waiting_cut late o s s' w first xs few less took breaks = record {
 }
 
 -- before the first record
-pub through_none : (spells : PacketOutput) (Seen : List Act → Type 0)
-    {s : State} {tape : TapeState} {o : Option (List ℕ)}
+pub through_none : (spells : PacketOutput) (Seen : List SessionInput → Type 0)
+    {s : SessionState} {tape : TapeState} {o : Option (List ℕ)}
     {w : List ℕ} → Seen [] → w ≡ []
     → WatchedTrace (written_by spells) s s tape tape (λ first xs. TakesAllBut o o w xs) Seen []
 through_none spells Seen seen none = (
   record {
-    acts = [];
+    inputs = [];
     told_are = refl;
     follows = record { goes = TurnsTrace-none _; records = refl; trunk_octets = refl; recorded = recorded_none _ };
     took = λ config before at. TakesAllBut-start _ _ none;
@@ -108,24 +112,25 @@ through_none spells Seen seen none = (
 )
 
 -- records that were gone through
-module _ (spells : PacketOutput) (Seen : List Act → Type 0) {s s' : State} {x y : TapeState} {records : List Record}
+module _ (spells : PacketOutput) (Seen : List SessionInput
+    → Type 0) {s s' : SessionState} {x y : TapeState} {records : List Record}
   where
-    -- what is known of what was put, and of the acts
-    through_as : {Took More : List ℕ → List ℕ → Type 0} (Known : List Act → Type 0)
+    -- what is known of what was put, and of the inputs
+    through_as : {Took More : List ℕ → List ℕ → Type 0} (Known : List SessionInput → Type 0)
         → ((first xs : List ℕ) → length first ≤ length xs → Took first xs → More first xs)
-        → ((acts : List Act) → Seen acts → Known acts)
+        → ((inputs : List SessionInput) → Seen inputs → Known inputs)
         → WatchedTrace (written_by spells) s s' x y Took Seen records
         → WatchedTrace (written_by spells) s s' x y More Known records
     through_as Known f g p = (
       record {
-        acts = p.0.acts;
+        inputs = p.0.inputs;
         told_are = p.0.told_are;
         follows = p.0.follows;
-        took = λ config before at. f (written_by spells config before (but_last p.0.acts))
-            (written_by spells config before p.0.acts) (less_written spells config before p.0.acts)
+        took = λ config before at. f (written_by spells config before (but_last p.0.inputs))
+            (written_by spells config before p.0.inputs) (less_written spells config before p.0.inputs)
             (p.0.took config before at);
       },
-      g p.0.acts p.1,
+      g p.0.inputs p.1,
     )
 
     -- all of it was taken
@@ -133,7 +138,7 @@ module _ (spells : PacketOutput) (Seen : List Act → Type 0) {s s' : State} {x 
         → WatchedTrace (written_by spells) s s' x y (λ first xs. TakesAllBut o p w xs) Seen records → Appends p q w
         → WatchedTrace (written_by spells) s s' x y (λ first. Appends o q) Seen records
     through_all q h wrote =
-        through_as Seen (λ first xs less took. TakesAllBut-appended _ _ _ _ _ took wrote) (λ acts seen. seen) h
+        through_as Seen (λ first xs less took. TakesAllBut-appended _ _ _ _ _ took wrote) (λ inputs seen. seen) h
 
     -- when what waits is written nothing waits, and the rest is as it was
     pub through_on : {o p q : Option (List ℕ)} {w w' : List ℕ}
@@ -141,77 +146,78 @@ module _ (spells : PacketOutput) (Seen : List Act → Type 0) {s s' : State} {x 
         → w' ≡ [] → WatchedTrace (written_by spells) s s' x y (λ first xs. TakesAllBut o q w' xs) Seen records
     through_on h wrote none = through_as Seen
         (λ first xs less took. TakesAllBut-empty _ _ _ none (TakesAllBut-appended _ _ _ _ _ took wrote))
-        (λ acts seen. seen) h
+        (λ inputs seen. seen) h
 
     -- .. or a write of what waits failed
     pub waiting_failed : (late : ℕ) {o : Option (List ℕ)} {b c : SinkState} {w : List ℕ} → length w ≤ late
         → WatchedTrace (written_by spells) s s' x y (λ first xs. TakesAllBut o b.taken w xs) Seen records
         → 0 < length records → FailsAfterPrefix b c w → (0 < length records)
-        × WatchedTrace (written_by spells) s s' x y (AppendsBut late o c.taken) (OfFirstActs Seen) records
+        × WatchedTrace (written_by spells) s s' x y (AppendsBut late o c.taken) (OfFirstInputs Seen) records
     waiting_failed late {o} {b} {c} {w} few p some breaks = (
       some,
-      through_as (OfFirstActs Seen) (λ first xs less took. waiting_cut late o b c w first xs few less took breaks)
-          (λ acts seen. inl seen) p,
+      through_as (OfFirstInputs Seen) (λ first xs less took. waiting_cut late o b c w first xs few less took breaks)
+          (λ inputs seen. inl seen) p,
     )
 
     -- .. and then one more
-    module _ {s'' : State} {z : TapeState} {r : Record} where
+    module _ {s'' : SessionState} {z : TapeState} {r : Record} where
       -- one record more, for which this is put
-      through_more : {Took More : List ℕ → List ℕ → Type 0} (Known : List Act → Type 0)
+      through_more : {Took More : List ℕ → List ℕ → Type 0} (Known : List SessionInput → Type 0)
           → WatchedTrace (written_by spells) s s' x y Took Seen records
           → (q : ActsOn s' s'' y z r)
           → ((config : GatewayConfig) (now : List Event) → HasHistory config s'.gateway now → (first xs : List ℕ)
-          → Took first xs → More xs (xs ++ written_for spells config now q.act))
-          → ((acts : List Act) → Follows s s' x y acts → Seen acts → Known (acts ++ q.act ∷ []))
+          → Took first xs → More xs (xs ++ written_for spells config now q.input))
+          → ((inputs : List SessionInput) → Follows s s' x y inputs → Seen inputs → Known (inputs ++ q.input ∷ []))
           → WatchedTrace (written_by spells) s s'' x z More Known (records ++ r ∷ [])
       through_more Known p q more known = (
         record {
-          acts = p.0.acts ++ q.act ∷ [];
-          told_are = rw (map_push told p.0.acts q.act, p.0.told_are, q.told_is);
+          inputs = p.0.inputs ++ q.input ∷ [];
+          told_are = rw (map_push input_record p.0.inputs q.input, p.0.told_are, q.told_is);
           follows = follows_more p.0.follows q;
           took = λ config before at. rw (
-            but_last_more p.0.acts q.act,
-            through-append (written_for spells) config before p.0.acts (q.act ∷ []),
+            but_last_more p.0.inputs q.input,
+            through-append (written_for spells) config before p.0.inputs (q.input ∷ []),
             append-nil,
           )
-              (more config (before ++ events_through p.0.acts) ((p.0.follows.goes.hears config before at).stands)
-              (written_by spells config before (but_last p.0.acts)) (written_by spells config before p.0.acts)
+              (more config (before ++ events_through p.0.inputs) ((p.0.follows.goes.hears config before at).stands)
+              (written_by spells config before (but_last p.0.inputs)) (written_by spells config before p.0.inputs)
               (p.0.took config before at));
         },
-        known p.0.acts p.0.follows p.1,
+        known p.0.inputs p.0.follows p.1,
       )
 
       -- records that were gone through, and then one more whose answer passes
-      pub through_done : {o : Option (List ℕ)} {a b : Output} (Known : List Act → Type 0)
+      pub through_done : {o : Option (List ℕ)} {a b : Output} (Known : List SessionInput → Type 0)
           → WatchedTrace (written_by spells) s s' x y (λ first xs. TakesAllBut o a.sink.taken a.waiting xs) Seen records
           → (q : ActTrace spells (record { state = s'; tape = y; output = a })
           (record { state = s''; tape = z; output = b }) r (TakesAllBut a.sink.taken b.sink.taken b.waiting))
-          → ((acts : List Act) → Follows s s' x y acts → Seen acts → Known (acts ++ q.acts.act ∷ []))
+          → ((inputs : List SessionInput) → Follows s s' x y inputs → Seen inputs
+          → Known (inputs ++ q.inputs.input ∷ []))
           → WatchedTrace (written_by spells) s s'' x z (λ first xs. TakesAllBut o b.sink.taken b.waiting xs) Known
           (records ++ r ∷ [])
-      through_done Known p q known = through_more Known p q.acts
+      through_done Known p q known = through_more Known p q.inputs
           (λ config now at first xs took. TakesAllBut-join _ _ _ _ _ _ _ took (q.took config now at)) known
 
       -- a write failed in it, when it was done or when its first octets were heard
-      pub act_failed : (late : ℕ) {o : SinkState} {a b : Output} → length a.waiting ≤ late
+      pub input_failed : (late : ℕ) {o : SinkState} {a b : Output} → length a.waiting ≤ late
           → WatchedTrace (written_by spells) s s' x y (λ first xs. TakesAllBut o.taken a.sink.taken a.waiting xs) Seen
           records
           → ActTrace spells (record { state = s'; tape = y; output = a })
           (record { state = s''; tape = z; output = b }) r (AppendsPrefix a.sink.taken b.sink.taken)
           ⊎ ((octets : List ℕ) × (r ≡ Record.Trunk octets) × StopsAt spells s' s'' a b.sink octets)
           → {w w' : List ℕ} → ((0 < length (records ++ r ∷ []))
-          × WatchedTrace (written_by spells) s s'' x z (AppendsBut late o.taken b.sink.taken) (OfFirstActs Seen)
+          × WatchedTrace (written_by spells) s s'' x z (AppendsBut late o.taken b.sink.taken) (OfFirstInputs Seen)
           (records ++ r ∷ []))
           ⊎ ((c : CutTrace late spells (record { state = s; tape = x; output = record { sink = o; waiting = w } })
           (record { state = s''; tape = z; output = record { sink = b.sink; waiting = w' } }) (records ++ r ∷ []))
-          × Seen c.trace.acts)
-      act_failed late few p (inl q) = inl (
+          × Seen c.trace.inputs)
+      input_failed late few p (inl q) = inl (
         omega (arith, length-append records (r ∷ [])),
-        through_more (OfFirstActs Seen) p q.acts
+        through_more (OfFirstInputs Seen) p q.inputs
             (λ config now at first xs took. AppendsBut-behind late _ _ _ _ _ _ few took (q.took config now at))
-            (λ acts follows seen. inr (rw (but_last_more acts q.acts.act) seen)),
+            (λ inputs follows seen. inr (rw (but_last_more inputs q.inputs.input) seen)),
       )
-      act_failed late {a = a} few p (inr q) = inr (
+      input_failed late {a = a} few p (inr q) = inr (
         record {
           records = records;
           octets = q.0;

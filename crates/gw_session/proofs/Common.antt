@@ -22,8 +22,9 @@ pub use Rattle.gw_records.specs.declared.records.AcceptedKinds.{AcceptedKinds}
 pub use Rattle.gw_session.specs.Answers.{Written, written_out, code_of, answers, trunk_in, datagrams_in, octets_in}
 pub use Rattle.gw_session.specs.Answers.{packets_in, events_of, events, answered, as_record, render, packet_in}
 pub use Rattle.gw_session.specs.Answers.{sent_with}
-pub use Rattle.gw_session.specs.Exchange.{Takes, Exchanges, ActsOn, Acts, written_by, StopsAt, CutTrace, ActTrace}
-pub use Rattle.gw_session.specs.Exchange.{WatchedTrace, OfFirstActs}
+pub use Rattle.gw_session.specs.Exchange.{TakesEvent, Exchanges, ActsOn, Inputs, written_by, StopsAt, CutTrace}
+pub use Rattle.gw_session.specs.Exchange.{ActTrace}
+pub use Rattle.gw_session.specs.Exchange.{WatchedTrace, OfFirstInputs}
 pub use Rattle.gw_session.specs.Exchange.{ComesInTurn, SendsPacket, OctetTrace, PacketWriteError, TraceToWriteError}
 pub use Rattle.gw_session.specs.Exchange.{Receiving, RecordsBehind, IsGiven, FourCome}
 unfoldable pub use Rattle.gw_session.specs.Exchange.{spelled_for, written_for, most_waiting}
@@ -32,10 +33,12 @@ pub use Rattle.gw_session.specs.RecordingLaws.{all_answers, answers_to, command_
 pub use Rattle.gw_session.specs.RecordingLaws.{RecordingsAreReadBack, RecordedSessionsRunAlike}
 pub use Rattle.gw_session.specs.Running.{all_kinds, replies_to, is_refusal, trunk_octets, run_totals, RunsThrough}
 pub use Rattle.gw_session.specs.Running.{AreFirst, RunsUntilWrite}
-pub use Rattle.gw_session.specs.Serve.{Act, told, turns_of, events_in, events_of_turns, octet_of, packets_for}
+pub use Rattle.gw_session.specs.Serve.{SessionInput, input_record, turns_of, events_in, events_of_turns, octet_of}
+pub use Rattle.gw_session.specs.Serve.{packets_for}
 pub use Rattle.gw_session.specs.Serve.{sent_with_octets, Turn, events_through, coming, arrivals, octets_for, written}
 pub use Rattle.gw_session.specs.Serve.{turns, Follows, SessionTrace, events_of_turn, PortTrace, of_circuit, behind_four}
-pub use Rattle.gw_session.specs.Serve.{FirstFour, first_four, Stop, StopsSo, last_receive, LeavesOut, Around, Served}
+pub use Rattle.gw_session.specs.Serve.{FirstFour, first_four, Stop, StopsSo, last_receive, LeavesOut, SessionStreams}
+pub use Rattle.gw_session.specs.Serve.{Served}
 pub use Rattle.gw_session.specs.Serve.{ServesAll, ServesUntil, InTurn, served_kinds, IsFew, ComeFirst, IsStopped}
 pub use Rattle.gw_session.specs.Serve.{GatewayTrace, TurnsTrace}
 unfoldable pub use Rattle.gw_session.specs.Serve.{answer_to, dropped_for, given_by, but_last}
@@ -46,7 +49,7 @@ pub use Rattle.gw_session.specs.Tape.{Taping, taping, Batched, Batches, RecordsA
 unfoldable pub use Rattle.gw_session.specs.Tape.{kind_and_circuit}
 pub use Rattle.gw_session.specs.Watch.{Shows, Look, shown_in, IsCalled, code_after, IsCodeAfter, AreTrue, Watched}
 pub use Rattle.gw_session.specs.Watch.{ActsShown, OfFirst, RunsWatched}
-pub use Rattle.gw_session.specs.World.{Output, World, state_of, State, world_of, output_of}
+pub use Rattle.gw_session.specs.World.{Output, World, state_of, SessionState, world_of, output_of}
 pub use Rattle.gw_switch.specs.Events.{Event, octets}
 unfoldable pub use Rattle.gw_switch.specs.Standing.{HasHistory}
 pub use Rattle.gw_switch.specs.Whole.{reply_to, Reply, whole_from, Sending, octet_reply, next_circuit, datagram_reply}

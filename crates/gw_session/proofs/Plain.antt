@@ -6,10 +6,11 @@ use Rattle.gw_session.proofs.Common.{length-map, flat_map_more, flat_map-append,
 use Rattle.gw_session.proofs.Common.{HasHistory}
 use Rattle.gw_session.proofs.Common.{Reply, whole_from, Totals, Record, SinkState, AppendsBut, at_most, nothing_counted}
 use Rattle.gw_session.proofs.Common.{Waiting, counted, AppendsBut-behind, Written, written_out, packets_in, as_record}
-use Rattle.gw_session.proofs.Common.{answers, events_of, events, render, replies_to, is_refusal, Act, Turn, told}
+use Rattle.gw_session.proofs.Common.{answers, events_of, events, render, replies_to, is_refusal, SessionInput, Turn}
+use Rattle.gw_session.proofs.Common.{input_record}
 use Rattle.gw_session.proofs.Common.{octet_of, turns_of, turns, events_in, events_through, events_of_turns, of_circuit}
 use Rattle.gw_session.proofs.Common.{arrivals, behind_four, FirstFour, PortTrace, Follows, given_by, octets_for}
-use Rattle.gw_session.proofs.Common.{dropped_for, answer_to, but_last, SessionTrace, TapeState, State, state_of}
+use Rattle.gw_session.proofs.Common.{dropped_for, answer_to, but_last, SessionTrace, TapeState, SessionState, state_of}
 use Rattle.gw_session.proofs.Common.{world_of, spelled_for, written_for, written_by, CutTrace, TraceToWriteError}
 use Rattle.gw_session.proofs.Common.{count_by, take_all, take_at, record_of, AppendsBut-same, AppendsBut-more, five}
 use Rattle.gw_session.proofs.Common.{trunk_octets, run_totals, RunsThrough, AreFirst, RunsUntilWrite, in_record}
@@ -55,17 +56,18 @@ turns_events : (ts : List Turn) → Plain ts → events_of_turns ts ≡ map Even
 turns_events [] p = refl
 turns_events (t ∷ ts) p = rw (p.0, turns_events ts p.1)
 
--- where nothing came before its octets, the events of an act are those of its record
-act_events : (act : Act) → Plain (turns_of act) → events_in act ≡ events_of (told act)
-act_events (Act.Trunk ts) p = turns_events ts p
-act_events _ p = refl
+-- where nothing came before its octets, the events of an input are those of its record
+input_events : (input : SessionInput) → Plain (turns_of input) → events_in input ≡ events_of (input_record input)
+input_events (SessionInput.Trunk ts) p = turns_events ts p
+input_events _ p = refl
 
--- .. and so for acts one after another
-acts_events : (acts : List Act) → Plain (turns acts) → events_through acts ≡ events (map told acts)
-acts_events [] p = refl
-acts_events (act ∷ acts) p =
-    let q = plain_parts (turns_of act) (turns acts) p in
-    rw (act_events act q.0, acts_events acts q.1)
+-- .. and so for inputs one after another
+inputs_events : (inputs : List SessionInput) → Plain (turns inputs)
+    → events_through inputs ≡ events (map input_record inputs)
+inputs_events [] p = refl
+inputs_events (input ∷ inputs) p =
+    let q = plain_parts (turns_of input) (turns inputs) p in
+    rw (input_events input q.0, inputs_events inputs q.1)
 
 -- what answers a record after these events, and what answers records, as octets
 abbrev render_one : GatewayConfig → List Event → Record → List ℕ
@@ -97,68 +99,70 @@ trunk_written : (config : GatewayConfig) (before : List Event) (octets : List �
 unfolding spelled_for given_by
 trunk_written config before octets = packets_put _ _
 
--- what is put for an act is what answers its record
-act_written : (config : GatewayConfig) (before : List Event) (act : Act) → Plain (turns_of act)
-    → written_for in_record config before act ≡ render_one config before (told act)
+-- what is put for an input is what answers its record
+input_written : (config : GatewayConfig) (before : List Event) (input : SessionInput) → Plain (turns_of input)
+    → written_for in_record config before input ≡ render_one config before (input_record input)
 unfolding written_for spelled_for answer_to given_by
-act_written config before (Act.Trunk ts) p = rw (turns_events ts p) (trunk_written config before (map octet_of ts))
-act_written config before _ p = refl
+input_written config before (SessionInput.Trunk ts) p = rw (turns_events ts p) (trunk_written config before
+    (map octet_of ts))
+input_written config before _ p = refl
 
--- what answers the records of acts, and then more records, is what is put for the acts, and then their answers
-acts_written : (config : GatewayConfig) (before : List Event) (acts : List Act) (records : List Record)
-    → Plain (turns acts) → render_all config before (map told acts ++ records)
-    ≡ written_by in_record config before acts ++ render_all config (before ++ events_through acts) records
-acts_written config before [] records p = rw (append-nil before)
-acts_written config before (act ∷ acts) records p =
-    let q = plain_parts (turns_of act) (turns acts) p in
-    render_first config before (told act) (map told acts ++ records)
+-- what answers the records of inputs, and then more records, is what is put for the inputs, and then their answers
+inputs_written : (config : GatewayConfig) (before : List Event) (inputs : List SessionInput) (records : List Record)
+    → Plain (turns inputs) → render_all config before (map input_record inputs ++ records)
+    ≡ written_by in_record config before inputs ++ render_all config (before ++ events_through inputs) records
+inputs_written config before [] records p = rw (append-nil before)
+inputs_written config before (input ∷ inputs) records p =
+    let q = plain_parts (turns_of input) (turns inputs) p in
+    render_first config before (input_record input) (map input_record inputs ++ records)
     ∙ rw (
-      ← act_written config before act q.0,
-      ← act_events act q.0,
-      acts_written config (before ++ events_in act) acts records q.1,
-      append_assoc before (events_in act) (events_through acts),
+      ← input_written config before input q.0,
+      ← input_events input q.0,
+      inputs_written config (before ++ events_in input) inputs records q.1,
+      append_assoc before (events_in input) (events_through inputs),
       append_assoc,
     )
 
--- what is put for acts is what answers their records
-all_written : (config : GatewayConfig) (before : List Event) (acts : List Act) → Plain (turns acts)
-    → written_by in_record config before acts ≡ render_all config before (map told acts)
-all_written config before acts p = sym (simp append-nil at (acts_written config before acts [] p))
+-- what is put for inputs is what answers their records
+all_written : (config : GatewayConfig) (before : List Event) (inputs : List SessionInput) → Plain (turns inputs)
+    → written_by in_record config before inputs ≡ render_all config before (map input_record inputs)
+all_written config before inputs p = sym (simp append-nil at (inputs_written config before inputs [] p))
 
 -- counts
 up_to : {t n m : ℕ} → t ≡ counted 0 n → n ≡ m → t ≡ at_most m
 up_to {n = n} p q = let e = counted_is 0 n (omega arith) in omega (arith, e, p, q)
 
--- acts have as many turns as their trunk records have octets
-as_many_octets : (acts : List Act) → length (turns acts) ≡ length (flat_map trunk_octets (map told acts))
+-- inputs have as many turns as their trunk records have octets
+as_many_octets : (inputs : List SessionInput)
+    → length (turns inputs) ≡ length (flat_map trunk_octets (map input_record inputs))
 as_many_octets [] = refl
-as_many_octets (Act.Trunk ts ∷ acts) = omega (
+as_many_octets (SessionInput.Trunk ts ∷ inputs) = omega (
   arith,
-  as_many_octets acts,
+  as_many_octets inputs,
   length-map ts octet_of,
-  length-append ts (turns acts),
-  length-append (map octet_of ts) (flat_map trunk_octets (map told acts)),
+  length-append ts (turns inputs),
+  length-append (map octet_of ts) (flat_map trunk_octets (map input_record inputs)),
 )
-as_many_octets (_ ∷ acts) = as_many_octets acts
+as_many_octets (_ ∷ inputs) = as_many_octets inputs
 
 -- where a session over records alone stands
-abbrev at_records : Gateway → Totals → State
+abbrev at_records : Gateway → Totals → SessionState
 at_records g t = state_of no_ports g t
 
--- the totals of acts are those of a session that had the replies to their records
-plain_totals : {g g' : Gateway} {t : Totals} {x y : TapeState} {acts : List Act}
-    → Follows (at_records g nothing_counted) (at_records g' t) x y acts → Plain (turns acts)
+-- the totals of inputs are those of a session that had the replies to their records
+plain_totals : {g g' : Gateway} {t : Totals} {x y : TapeState} {inputs : List SessionInput}
+    → Follows (at_records g nothing_counted) (at_records g' t) x y inputs → Plain (turns inputs)
     → (config : GatewayConfig) (before : List Event) → HasHistory config g before
-    → t ≡ run_totals (map told acts) (replies_to config before (map told acts))
+    → t ≡ run_totals (map input_record inputs) (replies_to config before (map input_record inputs))
 unfolding given_by dropped_for
-plain_totals {acts = acts} d plain config before at =
+plain_totals {inputs = inputs} d plain config before at =
     let h = d.goes.hears config before at in
     let k = d.goes.trades in
     let sent : k.failed_sends ≡ 0 = unmoved 0 k.failed_sends (omega arith) (sym k.sends) in
     let received : k.failed_receives ≡ 0 = unmoved 0 k.failed_receives (omega arith) (sym k.receives) in
-    let same = ap (whole_from config before) (acts_events acts plain) in
+    let same = ap (whole_from config before) (inputs_events inputs plain) in
     let took = LeavesOut-all k.took _ (rw sent at h.packets) in
-    five (up_to d.records (sym (length-map acts told))) (up_to d.trunk_octets (as_many_octets acts))
+    five (up_to d.records (sym (length-map inputs input_record))) (up_to d.trunk_octets (as_many_octets inputs))
     (up_to d.goes.datagrams (ap length took ∙ ap (λ (rs : List Reply). length (flat_map packets_in rs)) same))
     (up_to h.dropped (ap (count_by is_refusal) same)) (rw (received, sent) at d.goes.faults)
 
@@ -168,10 +172,10 @@ pub runs : {g g' : Gateway} {x y : TapeState} {s s' : SinkState} (t : Totals) (r
     (λ first. Appends s.taken s'.taken) records
     → RunsThrough g g' s s' t records
 runs t records p =
-    let plain = plain_trades (turns p.acts) p.follows.goes.trades in
+    let plain = plain_trades (turns p.inputs) p.follows.goes.trades in
     rw (← p.told_are) (λ config before at. record {
-      stands = rw (acts_events p.acts plain) at ((p.follows.goes.hears config before at).stands);
-      took = rw (all_written config before p.acts plain) at (p.took config before at);
+      stands = rw (inputs_events p.inputs plain) at ((p.follows.goes.hears config before at).stands);
+      took = rw (all_written config before p.inputs plain) at (p.took config before at);
       totals_are = plain_totals p.follows plain config before at;
     })
 
@@ -194,38 +198,47 @@ whole_until : {g g' : Gateway} {x y : TapeState} {s s' : SinkState} {t : Totals}
     (AppendsBut 65536 s.taken s'.taken) records
     → RunsUntilWrite g g' s s' records
 whole_until records some p =
-    let l = last_of p.acts (omega (arith, some, ap length p.told_are, length-map p.acts told)) in
-    let all : records ≡ map told l.0 ++ told l.1 ∷ [] = sym p.told_are ∙ ap (map told) l.2 ∙ map_push told l.0 l.1 in
-    let plain = plain_trades (turns p.acts) p.follows.goes.trades in
+    let l = last_of p.inputs (omega (arith, some, ap length p.told_are, length-map p.inputs input_record)) in
+    let all : records ≡ map input_record l.0 ++ input_record l.1 ∷ [] = sym p.told_are ∙ ap (map input_record) l.2
+    ∙ map_push input_record l.0 l.1 in
+    let plain = plain_trades (turns p.inputs) p.follows.goes.trades in
     let early = (plain_parts (turns l.0) (turns_of l.1) (rw (l.2, ← flat_map_more turns_of [] l.0 l.1) at plain)).0 in
     record {
-      records = map told l.0;
-      last = told l.1;
+      records = map input_record l.0;
+      last = input_record l.1;
       all = all;
-      acted = events_of (told l.1);
-      first = are_all (told l.1);
+      acted = events_of (input_record l.1);
+      first = are_all (input_record l.1);
       stands = λ config before at.
-          rw (acts_events p.acts plain, p.told_are, all, ← flat_map_more events_of [] (map told l.0) (told l.1)) at
+          rw (
+            inputs_events p.inputs plain,
+            p.told_are,
+            all,
+            ← flat_map_more events_of [] (map input_record l.0)
+                (input_record l.1),
+          ) at
           ((p.follows.goes.hears config before at).stands);
       took = λ config before at. AppendsBut-same
-          (ap (λ (xs : List Act). written_by in_record config before (but_last xs)) l.2
+          (ap (λ (xs : List SessionInput). written_by in_record config before (but_last xs)) l.2
           ∙ ap (written_by in_record config before) (but_last_more l.0 l.1) ∙ all_written config before l.0 early)
-          (all_written config before p.acts plain ∙ ap (render_all config before) p.told_are) (p.took config before at);
+          (all_written config before p.inputs plain
+          ∙ ap (render_all config before) p.told_are) (p.took config before at);
     }
 
--- what is put for acts and the first turns of one more stands first in what answers their records
-cut_written : (config : GatewayConfig) (before : List Event) (acts : List Act) (heard : List Turn) (rest : List ℕ)
-    → Plain (turns acts) → Plain heard → (more : List ℕ) × ((written_by in_record config before acts
-    ++ spelled_for in_record config (before ++ events_through acts) (events_of_turns heard)) ++ more
-    ≡ render_all config before (map told acts ++ Record.Trunk (map octet_of heard ++ rest) ∷ []))
-cut_written config before acts heard rest p q =
-    let now = before ++ events_through acts in
+-- what is put for inputs and the first turns of one more stands first in what answers their records
+cut_written : (config : GatewayConfig) (before : List Event) (inputs : List SessionInput) (heard : List Turn)
+    (rest : List ℕ)
+    → Plain (turns inputs) → Plain heard → (more : List ℕ) × ((written_by in_record config before inputs
+    ++ spelled_for in_record config (before ++ events_through inputs) (events_of_turns heard)) ++ more
+    ≡ render_all config before (map input_record inputs ++ Record.Trunk (map octet_of heard ++ rest) ∷ []))
+cut_written config before inputs heard rest p q =
+    let now = before ++ events_through inputs in
     let octets = map octet_of heard ++ rest in
     let first = map Event.Octet (map octet_of heard) in
     let more = spelled_for in_record config (now ++ first) (map Event.Octet rest) in (
       more ++ record_of 0x54 0 (octets_for config now (map Event.Octet octets)),
       rw (
-        acts_written config before acts (Record.Trunk octets ∷ []) p,
+        inputs_written config before inputs (Record.Trunk octets ∷ []) p,
         turns_events heard q,
         render_first config now (Record.Trunk octets) [],
         append-nil,
@@ -242,9 +255,9 @@ cut_until : {g g' : Gateway} {x y : TapeState} {t : Totals} {s s' : SinkState} (
 cut_until begun p =
     let k = p.trace in
     let z = p.stops in
-    let joined = PortTrace-join no_ports p.between.state.ports no_ports (turns k.acts) z.turns k.follows.goes.trades
+    let joined = PortTrace-join no_ports p.between.state.ports no_ports (turns k.inputs) z.turns k.follows.goes.trades
     z.trades in
-    let plain = plain_parts (turns k.acts) z.turns (plain_trades (turns k.acts ++ z.turns) joined) in
+    let plain = plain_parts (turns k.inputs) z.turns (plain_trades (turns k.inputs ++ z.turns) joined) in
     let heard = map octet_of z.turns in
     let later = λ (config : GatewayConfig) (before : List Event) (at : HasHistory config _ before).
     (k.follows.goes.hears config before at).stands in
@@ -255,28 +268,30 @@ cut_until begun p =
       acted = map Event.Octet heard;
       first = (length heard, ap (map Event.Octet) (rw (z.split, take_at heard z.rest (length heard) refl)));
       stands = λ config before at.
-          rw (acts_events k.acts plain.0, k.told_are, turns_events z.turns plain.1, append_assoc) at
-          (z.stands config (before ++ events_through k.acts) (later config before at));
+          rw (inputs_events k.inputs plain.0, k.told_are, turns_events z.turns plain.1, append_assoc) at
+          (z.stands config (before ++ events_through k.inputs) (later config before at));
       took = λ config before at.
-          let w = cut_written config before k.acts z.turns z.rest plain.0 plain.1 in
+          let w = cut_written config before k.inputs z.turns z.rest plain.0 plain.1 in
           let cut = AppendsBut-behind 65536 _ _ _ _ _ _ p.few (k.took config before at)
-          (z.took config (before ++ events_through k.acts) (later config before at)) in
+          (z.took config (before ++ events_through k.inputs) (later config before at)) in
           rw (p.all, ← k.told_are, z.split)
-          (AppendsBut-same (all_written config before k.acts plain.0) w.1 (AppendsBut-more w.0 cut));
+          (AppendsBut-same (all_written config before k.inputs plain.0) w.1 (AppendsBut-more w.0 cut));
     }
 
--- where nothing came before their octets, the events of acts are those of their records, one by one
-each_events : (acts : List Act) → Plain (turns acts) → map events_in acts ≡ map events_of (map told acts)
+-- where nothing came before their octets, the events of inputs are those of their records, one by one
+each_events : (inputs : List SessionInput) → Plain (turns inputs)
+    → map events_in inputs ≡ map events_of (map input_record inputs)
 each_events [] p = refl
-each_events (act ∷ acts) p =
-    let q = plain_parts (turns_of act) (turns acts) p in
-    rw (act_events act q.0, each_events acts q.1)
+each_events (input ∷ inputs) p =
+    let q = plain_parts (turns_of input) (turns inputs) p in
+    rw (input_events input q.0, each_events inputs q.1)
 
--- what a watch is shown of acts is what it is shown of their records
-shown_plain : {W : Type 0} {shows : Shows W} {g : Gateway} {w w' : W} (acts : List Act) → Plain (turns acts)
-    → ActsShown shows g w w' acts
-    → Watched shows g w w' (map told acts) (map events_of (map told acts))
-shown_plain acts p seen = rw (each_events acts p) at seen
+-- what a watch is shown of inputs is what it is shown of their records
+shown_plain : {W : Type 0} {shows : Shows W} {g : Gateway} {w w' : W} (inputs : List SessionInput)
+    → Plain (turns inputs)
+    → ActsShown shows g w w' inputs
+    → Watched shows g w w' (map input_record inputs) (map events_of (map input_record inputs))
+shown_plain inputs p seen = rw (each_events inputs p) at seen
 
 -- a session that was watched
 pub seen_plain : {W : Type 0} {shows : Shows W} {w w' : W} {g g' : Gateway} {t : Totals} {x y : TapeState}
@@ -284,22 +299,23 @@ pub seen_plain : {W : Type 0} {shows : Shows W} {w w' : W} {g g' : Gateway} {t :
     → WatchedTrace (written_by in_record) (at_records g nothing_counted) (at_records g' t) x y Took
     (ActsShown shows g w w') records
     → Watched shows g w w' records (map events_of records)
-seen_plain p = rw (p.0.told_are) at (shown_plain p.0.acts (plain_trades (turns p.0.acts) p.0.follows.goes.trades) p.1)
+seen_plain p = rw (p.0.told_are) at (shown_plain p.0.inputs (plain_trades
+    (turns p.0.inputs) p.0.follows.goes.trades) p.1)
 
 -- the first records of those that were begun, which a watch was shown
 seen_first : {W : Type 0} {shows : Shows W} {w w' : W} {g g' : Gateway} {x y : TapeState} {t : Totals}
     {Took : List ℕ → List ℕ → Type 0} (records : List Record) → 0 < length records
     → (p : SessionTrace (written_by in_record) (at_records g nothing_counted) (at_records g' t) x y Took records)
-    → ActsShown shows g w w' (but_last p.acts)
+    → ActsShown shows g w w' (but_last p.inputs)
     → OfFirst (λ rs. Watched shows g w w' rs (map events_of rs)) records
 seen_first records some p seen =
-    let l = last_of p.acts (omega (arith, some, ap length p.told_are, length-map p.acts told)) in
-    let plain = plain_trades (turns p.acts) p.follows.goes.trades in
+    let l = last_of p.inputs (omega (arith, some, ap length p.told_are, length-map p.inputs input_record)) in
+    let plain = plain_trades (turns p.inputs) p.follows.goes.trades in
     let early = (plain_parts (turns l.0) (turns_of l.1) (rw (l.2, ← flat_map_more turns_of [] l.0 l.1) at plain)).0 in
     inr (
-      map told l.0,
-      told l.1,
-      sym p.told_are ∙ ap (map told) l.2 ∙ map_push told l.0 l.1,
+      map input_record l.0,
+      input_record l.1,
+      sym p.told_are ∙ ap (map input_record) l.2 ∙ map_push input_record l.0 l.1,
       shown_plain l.0 early (rw (l.2, but_last_more l.0 l.1) at seen),
     )
 
@@ -307,15 +323,15 @@ seen_first records some p seen =
 seen_before : {W : Type 0} {shows : Shows W} {w w' : W} {g g' : Gateway} {x y : TapeState} {t : Totals}
     {s s' : SinkState} (begun : List Record)
     → (p : CutTrace 65536 in_record (world_of no_ports g nothing_counted x s []) (world_of no_ports g' t y s' []) begun)
-    → ActsShown shows g w w' p.trace.acts
+    → ActsShown shows g w w' p.trace.inputs
     → OfFirst (λ rs. Watched shows g w w' rs (map events_of rs)) begun
 seen_before begun p seen =
     let k = p.trace in
     let z = p.stops in
-    let joined = PortTrace-join no_ports p.between.state.ports no_ports (turns k.acts) z.turns k.follows.goes.trades
+    let joined = PortTrace-join no_ports p.between.state.ports no_ports (turns k.inputs) z.turns k.follows.goes.trades
     z.trades in
-    let plain = plain_parts (turns k.acts) z.turns (plain_trades (turns k.acts ++ z.turns) joined) in
-    inr (p.records, Record.Trunk p.octets, p.all, rw (k.told_are) at (shown_plain k.acts plain.0 seen))
+    let plain = plain_parts (turns k.inputs) z.turns (plain_trades (turns k.inputs ++ z.turns) joined) in
+    inr (p.records, Record.Trunk p.octets, p.all, rw (k.told_are) at (shown_plain k.inputs plain.0 seen))
 
 -- where a write failed, the records begun ran up to that write, and a watch was shown all, or all but the last
 pub runs_until : {W : Type 0} {shows : Shows W} {w w' : W} {g g' : Gateway} {x y : TapeState} {s s' : SinkState}

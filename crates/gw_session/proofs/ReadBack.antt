@@ -2,7 +2,7 @@
 use Rattle.gw_session.proofs.Common.{◌≡◌, List, [], ◌++◌, flat_map, refl, sym, ap, ◌∙◌, append_assoc, append-nil}
 use Rattle.gw_session.proofs.Common.{AllByRecursion, flat_map-append, Record, IsGood, spelled, Reads, end_of, events}
 use Rattle.gw_session.proofs.Common.{events_of, all_kinds, append_cancel_left, RecordingsAreReadBack}
-use Rattle.gw_records.specs.declared.records.EndOfRecords.TheVariants as endings
+use Rattle.gw_records.specs.declared.records.EndReason.TheVariants as endings
 use Rattle.gw_records.proofs.Readings.{one_reading, more_keeps}
 
 -- the octets of good records are read as these
@@ -19,10 +19,10 @@ read_back tape tape' happened octets records ending p none known reads =
     let written : octets ≡ p.took.written = rw (none, known) at p.took.appended in
     let longer : flat_map spelled p.records ≡ octets ++ p.took.rest = rw written p.took.whole in
     let more = more_keeps all_kinds octets p.took.rest records p.records ending endings.End reads (rw longer at all) in
-    let told = p.events_are ∙ ap (λ (rs : List Record). events rs ++ p.lost) more.1 in
+    let input_record = p.events_are ∙ ap (λ (rs : List Record). events rs ++ p.lost) more.1 in
     record {
       lost = events more.0 ++ p.lost;
-      first = told ∙ rw (flat_map-append events_of records more.0, append_assoc);
+      first = input_record ∙ rw (flat_map-append events_of records more.0, append_assoc);
       all = λ going.
           let w = p.whole going in
           let same : octets ≡ flat_map spelled p.records = rw (none, known) at w.1 in

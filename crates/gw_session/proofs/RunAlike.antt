@@ -1,51 +1,52 @@
 -- A session that was recorded and a run over what was recorded are alike.
 use Rattle.gw_session.proofs.Common.{◌≡◌, ◌<◌, ℕ, List, [], ◌++◌, refl, sym, ◌∙◌, append-nil, arith, Option, Result, Ok}
 use Rattle.gw_session.proofs.Common.{Err, Appends, GatewayConfig, Gateway, Event, HasHistory, Totals, RunFault, Record}
-use Rattle.gw_session.proofs.Common.{AppendsPrefix, AppendsBut, Extends, counted, events, answered, replies_to, Act}
+use Rattle.gw_session.proofs.Common.{AppendsPrefix, AppendsBut, Extends, counted, events, answered, replies_to}
+use Rattle.gw_session.proofs.Common.{SessionInput}
 use Rattle.gw_session.proofs.Common.{events_through, packets_for, given_by, written, but_last, LeavesOut, Recorded}
-use Rattle.gw_session.proofs.Common.{all_answers, MatchResult, Around, Served, ServesAll, ServesUntil}
+use Rattle.gw_session.proofs.Common.{all_answers, MatchResult, SessionStreams, Served, ServesAll, ServesUntil}
 use Rattle.gw_session.proofs.Common.{RecordedSessionsRunAlike}
 use Rattle.std.proofs.KnownBytes.{Appends-nil}
 use Rattle.gw_records.specs.declared.outcome.RunFault.TheVariants as faults
-use Rattle.gw_records.specs.declared.records.EndOfRecords.TheVariants as endings
+use Rattle.gw_records.specs.declared.records.EndReason.TheVariants as endings
 use Rattle.gw_session.proofs.ReadBack.{read_back}
 use Rattle.gw_session.proofs.AnsweredAlike.{answer_alike}
 use Rattle.gw_session.proofs.Taping.{recorded_none}
 use Rattle.gw_session.proofs.Turns.{Extends-none}
 
 -- what a session that was recorded did, whatever ended it
-record Lived (config : GatewayConfig) (before : List Event) (live : Gateway) (a a' : Around) : Type 0 where
-  acts : List Act
-  stands : HasHistory config live (before ++ events_through acts)
-  recorded : Recorded a.tape a'.tape (events_through acts)
-  took : AppendsPrefix a.sink.taken a'.sink.taken (written config before acts)
-  whole : a'.sink.failures ≡ a.sink.failures → Appends a.sink.taken a'.sink.taken (written config before acts)
+record Lived (config : GatewayConfig) (before : List Event) (live : Gateway) (a a' : SessionStreams) : Type 0 where
+  inputs : List SessionInput
+  stands : HasHistory config live (before ++ events_through inputs)
+  recorded : Recorded a.tape a'.tape (events_through inputs)
+  took : AppendsPrefix a.sink.taken a'.sink.taken (written config before inputs)
+  whole : a'.sink.failures ≡ a.sink.failures → Appends a.sink.taken a'.sink.taken (written config before inputs)
   sent : List (ℕ × List ℕ)
   takes : Extends a.ports.taken a'.ports.taken sent
   failed : ℕ
   sends : a'.ports.send_failures ≡ counted a.ports.send_failures failed
-  packets : LeavesOut failed sent (packets_for config before (events_through acts))
+  packets : LeavesOut failed sent (packets_for config before (events_through inputs))
 
 -- what was all taken is a prefix of itself
 prefix_of_all : (a b : Option (List ℕ)) (xs : List ℕ) → Appends a b xs → AppendsPrefix a b xs
 prefix_of_all a b xs p = record { written = xs; rest = []; whole = sym (append-nil xs); appended = p }
 
-module _ {config : GatewayConfig} {before : List Event} {gateway live : Gateway} (a a' : Around)
+module _ {config : GatewayConfig} {before : List Event} {gateway live : Gateway} (a a' : SessionStreams)
     (stood : HasHistory config gateway before)
   where
     -- a session that was served did so, where this is known of what its sink took
     lived_through : {Took : List ℕ → List ℕ → Type 0} {totals : Totals} {records : List Record}
         → (s : Served a a' gateway live Took totals records)
-        → (Took (written config before (but_last s.acts)) (written config before s.acts)
-        → AppendsPrefix a.sink.taken a'.sink.taken (written config before s.acts)
+        → (Took (written config before (but_last s.inputs)) (written config before s.inputs)
+        → AppendsPrefix a.sink.taken a'.sink.taken (written config before s.inputs)
         × (a'.sink.failures ≡ a.sink.failures
-        → Appends a.sink.taken a'.sink.taken (written config before s.acts))) → Lived config before live a a'
+        → Appends a.sink.taken a'.sink.taken (written config before s.inputs))) → Lived config before live a a'
     lived_through s taken =
         let goes = s.follows.goes in
         let hears = goes.hears config before stood in
         let known = taken (s.took config before stood) in
         record {
-          acts = s.acts;
+          inputs = s.inputs;
           stands = hears.stands;
           recorded = s.follows.recorded;
           took = known.0;
@@ -73,12 +74,12 @@ module _ {config : GatewayConfig} {before : List Event} {gateway live : Gateway}
     ))
 
 -- .. where nothing was done
-lived_idly : (config : GatewayConfig) (before : List Event) (live : Gateway) (a : Around)
+lived_idly : (config : GatewayConfig) (before : List Event) (live : Gateway) (a : SessionStreams)
     → HasHistory config live before
     → Lived config before live a a
 unfolding given_by
 lived_idly config before live a stood = record {
-  acts = [];
+  inputs = [];
   stands = rw append-nil stood;
   recorded = recorded_none a.tape;
   took = prefix_of_all a.sink.taken a.sink.taken [] (Appends-nil a.sink.taken);
@@ -91,7 +92,7 @@ lived_idly config before live a stood = record {
 }
 
 -- whatever ended a session that was recorded, it did so
-lived : (a a' : Around) (gateway live : Gateway) (end : Result Totals RunFault) (config : GatewayConfig)
+lived : (a a' : SessionStreams) (gateway live : Gateway) (end : Result Totals RunFault) (config : GatewayConfig)
     (before : List Event) → HasHistory config gateway before
     → MatchResult end (ServesAll a a' gateway live) (ServesUntil a a' gateway live) → Lived config before live a a'
 lived a a' gateway live (Ok totals) config before stood h = lived_well a a' stood h.ends.0.done
@@ -110,17 +111,18 @@ run_alike a a' gateway live end from from' again again' other replayed totals oc
     let l = lived a a' gateway live end config before stood served in
     let s = ran.ends.0 in
     let same : octets ≡ s.octets = rw (at_first, given) at s.gives.gave in
-    let back = read_back a.tape a'.tape (events_through l.acts) octets s.records endings.End l.recorded none known
+    let back = read_back a.tape a'.tape (events_through l.inputs) octets s.records endings.End l.recorded none known
     (rw same s.reads) in
     let nothing = (back.all going).1 in
-    let told : events_through l.acts ≡ events s.records = back.first ∙ rw nothing (append-nil (events s.records)) in
-    let answers = answer_alike config before l.acts s.records (sym told) in
+    let input_record : events_through l.inputs
+    ≡ events s.records = back.first ∙ rw nothing (append-nil (events s.records)) in
+    let answers = answer_alike config before l.inputs s.records (sym input_record) in
     let done = s.done config before stood_again in
     record {
-      happened = before ++ events_through l.acts;
+      happened = before ++ events_through l.inputs;
       stands = l.stands;
-      stands_again = rw told done.stands;
-      answers = all_answers config before l.acts;
+      stands_again = rw input_record done.stands;
+      answers = all_answers config before l.inputs;
       took = rw (← answers.live) l.took;
       whole = λ e. rw (← answers.live) (l.whole e);
       answers_again = answered s.records (replies_to config before s.records);

@@ -1,37 +1,42 @@
 -- Sessions whose packets put nothing in front of the answers.
 use Rattle.gw_session.proofs.Common.{◌≡◌, inl, inr, ℕ, List, [], ◌∷◌, ◌++◌, flat_map, refl, arith, GatewayConfig, Event}
-use Rattle.gw_session.proofs.Common.{Totals, Record, SinkState, AppendsBut, Act, events_in, packets_for, written}
+use Rattle.gw_session.proofs.Common.{Totals, Record, SinkState, AppendsBut, SessionInput, events_in, packets_for}
+use Rattle.gw_session.proofs.Common.{written}
 use Rattle.gw_session.proofs.Common.{but_last, SessionTrace, spelled_for, written_for, written_by, TraceToWriteError}
-use Rattle.gw_session.proofs.Common.{TapeState, State, silent, output_of}
+use Rattle.gw_session.proofs.Common.{TapeState, SessionState, silent, output_of}
 
 -- packets that put nothing give no octets
 nothing_put : (ps : List (ℕ × List ℕ)) → flat_map silent ps ≡ []
 nothing_put [] = refl
 nothing_put (p ∷ ps) = nothing_put ps
 
--- where packets put nothing, what is put for acts is their answers alone
-answers_alone : (config : GatewayConfig) (before : List Event) (acts : List Act)
-    → written_by silent config before acts ≡ written config before acts
+-- where packets put nothing, what is put for inputs is their answers alone
+answers_alone : (config : GatewayConfig) (before : List Event) (inputs : List SessionInput)
+    → written_by silent config before inputs ≡ written config before inputs
 unfolding written_for spelled_for
 answers_alone config before [] = refl
-answers_alone config before (act ∷ acts) =
-    rw (nothing_put (packets_for config before (events_in act)), answers_alone config (before ++ events_in act) acts)
+answers_alone config before (input ∷ inputs) =
+    rw (
+      nothing_put (packets_for config before (events_in input)),
+      answers_alone config
+          (before ++ events_in input) inputs,
+    )
 
 -- records were served
-pub serves : {s s' : State} {x y : TapeState} {Took : List ℕ → List ℕ → Type 0} (records : List Record)
+pub serves : {s s' : SessionState} {x y : TapeState} {Took : List ℕ → List ℕ → Type 0} (records : List Record)
     → SessionTrace (written_by silent) s s' x y Took records → SessionTrace written s s' x y Took records
 serves records p = record {
-  acts = p.acts;
+  inputs = p.inputs;
   told_are = p.told_are;
   follows = p.follows;
   took = λ config before at.
-      rw (answers_alone config before (but_last p.acts), answers_alone config before p.acts) at
+      rw (answers_alone config before (but_last p.inputs), answers_alone config before p.inputs) at
       (p.took config before at);
 }
 
 -- .. up to the one in which a write failed
-pub serves_until : {s : State} {end : Totals → State} {x y : TapeState} {a b : SinkState}
-    (Seen : List Act → Type 0) (records : List Record)
+pub serves_until : {s : SessionState} {end : Totals → SessionState} {x y : TapeState} {a b : SinkState}
+    (Seen : List SessionInput → Type 0) (records : List Record)
     → TraceToWriteError 0 silent Seen (record { state = s; tape = x; output = output_of a [] })
     (λ totals. record { state = end totals; tape = y; output = output_of b [] }) records
     → (totals : Totals) × SessionTrace written s (end totals) x y (AppendsBut 0 a.taken b.taken) records

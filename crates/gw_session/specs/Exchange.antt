@@ -11,16 +11,17 @@ use Rattle.gw_records.specs.Streams.{TakesAllBut, FailsAfterPrefix}
 use Rattle.gw_session.specs.Answers.{code_of, packet_in}
 use Rattle.gw_session.specs.PacketPorts.{PacketOutput}
 use Rattle.gw_records.specs.Ports.{TakesOut, KeepsSends, KeepsReceives}
-use Rattle.gw_session.specs.Serve.{Act, Turn, told, octet_of, turns_of, events_in, events_of_turns, answer_to}
+use Rattle.gw_session.specs.Serve.{SessionInput, Turn, input_record, octet_of, turns_of, events_in}
+use Rattle.gw_session.specs.Serve.{events_of_turns, answer_to}
 use Rattle.gw_session.specs.Serve.{TurnsTrace, SessionTrace, PortTrace, Stop, StopsSo, as_call, receives_of}
 use Rattle.gw_session.specs.Serve.{send_of, of_circuit, coming, first_four, behind_four, LeavesOut}
 use Rattle.gw_session.specs.Serve.{packets_for, octets_for, dropped_for, through, but_last}
 use Rattle.gw_session.specs.Tape.{TapeState, Recorded, Taping, RecordedBut}
-use Rattle.gw_session.specs.World.{State, Output, World}
+use Rattle.gw_session.specs.World.{SessionState, Output, World}
 
 -- the gateway took an event, and the number of its reply is this
-abbrev pub Takes : Gateway → Gateway → Event → ℕ → Type 0
-Takes gateway gateway' event code = (config : GatewayConfig) (before : List Event)
+abbrev pub TakesEvent : Gateway → Gateway → Event → ℕ → Type 0
+TakesEvent gateway gateway' event code = (config : GatewayConfig) (before : List Event)
     → HasHistory config gateway before
     → HasHistory config gateway' (before ++ event ∷ []) × (code ≡ code_of (reply_to config before event))
 
@@ -28,13 +29,13 @@ Takes gateway gateway' event code = (config : GatewayConfig) (before : List Even
 unfoldable pub spelled_for : PacketOutput → GatewayConfig → List Event → List Event → List ℕ
 spelled_for spells config before es = flat_map spells (packets_for config before es)
 
--- all that is put for an act
-unfoldable pub written_for : PacketOutput → GatewayConfig → List Event → Act → List ℕ
-written_for spells config before act =
-    spelled_for spells config before (events_in act) ++ answer_to config before act
+-- all that is put for an input
+unfoldable pub written_for : PacketOutput → GatewayConfig → List Event → SessionInput → List ℕ
+written_for spells config before input =
+    spelled_for spells config before (events_in input) ++ answer_to config before input
 
--- .. for acts, one after another
-abbrev pub written_by : PacketOutput → GatewayConfig → List Event → List Act → List ℕ
+-- .. for inputs, one after another
+abbrev pub written_by : PacketOutput → GatewayConfig → List Event → List SessionInput → List ℕ
 written_by spells = through (written_for spells)
 
 -- how many octets wait at most when a record was acted on: none if it is answered at once, else as many as
@@ -68,7 +69,7 @@ pub record RecordsBehind (t t' : Taping) (heard : List ℕ) (recorded recorded' 
 
 -- datagrams of the circuit whose slot the next octet sends came from the ports, were recorded or put into the
 -- batch behind octets that were heard, and were given to the gateway
-pub record ComesInTurn (s s' : State) (t t' : Taping) (heard : List ℕ)
+pub record ComesInTurn (s s' : SessionState) (t t' : Taping) (heard : List ℕ)
     (recorded recorded' : ℕ) : Type 0 where
   pub circuit : Option ℕ
   pub came : List (List ℕ)
@@ -107,7 +108,8 @@ pub record SendsPacket (ports ports' : PortsState) (totals totals' : Totals) (pa
 
 -- the gateway heard an octet and sends this one, the packet that it sends with it went to the packet ports,
 -- and what that puts passes
-pub record OctetTrace (spells : PacketOutput) (s s' : State) (o o' : Output) (octet sent : ℕ) : Type 0 where
+pub record OctetTrace (spells : PacketOutput) (s s' : SessionState) (o o' : Output)
+    (octet sent : ℕ) : Type 0 where
   pub packet : Option (ℕ × List ℕ)
   pub sends : SendsPacket s.ports s'.ports s.totals s'.totals packet
   pub hears : (config : GatewayConfig) (before : List Event) → HasHistory config s.gateway before
@@ -118,7 +120,7 @@ pub record OctetTrace (spells : PacketOutput) (s s' : State) (o o' : Output) (oc
   pub no_failure : o'.sink.failures ≡ o.sink.failures
 
 -- the gateway heard an octet, and a write of what its packet puts failed
-pub record PacketWriteError (spells : PacketOutput) (s s' : State) (o o' : Output)
+pub record PacketWriteError (spells : PacketOutput) (s s' : SessionState) (o o' : Output)
     (octet : ℕ) : Type 0 where
   pub packet : ℕ × List ℕ
   pub some : 0 < length (spells packet)
@@ -128,14 +130,15 @@ pub record PacketWriteError (spells : PacketOutput) (s s' : State) (o o' : Outpu
       × ((octet_reply config before octet).packet ≡ Some packet)
   pub breaks : FailsAfterPrefix o.sink o'.sink (o.waiting ++ spells packet)
 
-abbrev pub Hearing : PacketOutput → State → State → Output → Output → ℕ → Result ℕ RunFault → Type 0
+abbrev pub Hearing : PacketOutput → SessionState → SessionState → Output → Output → ℕ → Result ℕ RunFault
+    → Type 0
 Hearing spells s s' o o' octet result = MatchResult result
     (λ sent. OctetTrace spells s s' o o' octet sent)
     (λ e. (e ≡ Write) × PacketWriteError spells s s' o o' octet)
 
 -- The gateway heard octets, each after the datagrams that came before it, these were sent, and what the
 -- packets put passes.
-pub record Exchanges (spells : PacketOutput) (s s' : State) (o o' : Output)
+pub record Exchanges (spells : PacketOutput) (s s' : SessionState) (o o' : Output)
     (octets sent : List ℕ) : Type 0 where
   pub turns : List Turn
   pub heard : map octet_of turns ≡ octets
@@ -151,7 +154,8 @@ pub record Exchanges (spells : PacketOutput) (s s' : State) (o o' : Output)
 
 -- A write of what a packet puts failed when the gateway had heard the first octets, and a prefix of what
 -- waited and of what their packets put was taken.
-pub record StopsAt (spells : PacketOutput) (s s' : State) (o : Output) (sink' : SinkState) (octets : List ℕ)
+pub record StopsAt (spells : PacketOutput) (s s' : SessionState) (o : Output) (sink' : SinkState)
+    (octets : List ℕ)
     : Type 0 where
   pub turns : List Turn
   pub rest : List ℕ
@@ -175,7 +179,7 @@ ExchangingAll spells w w' octets answer answer' result = MatchResult result
     (λ e. (e ≡ Write) × StopsAt spells w.state w'.state w.output w'.output.sink octets)
 
 -- datagrams came so far, with no failed receive
-pub record Receiving (s s' : State) (circuit : ℕ) (came : List (List ℕ)) : Type 0 where
+pub record Receiving (s s' : SessionState) (circuit : ℕ) (came : List (List ℕ)) : Type 0 where
   pub gave : Extends s.ports.given s'.ports.given (of_circuit (Some circuit) came)
   pub calls : Extends s.ports.calls s'.ports.calls (map as_call (of_circuit (Some circuit) came))
   pub waits : TakesOut s.ports.waiting s'.ports.waiting circuit came
@@ -184,27 +188,27 @@ pub record Receiving (s s' : State) (circuit : ℕ) (came : List (List ℕ)) : T
   pub others : s'.totals ≡ record s.totals { dropped = s'.totals.dropped }
   pub given : IsGiven s.gateway s'.gateway s.totals s'.totals (of_circuit (Some circuit) came)
 
--- a record was acted on: the gateway and the ports went through its act, which was recorded, and the totals
+-- a record was acted on: the gateway and the ports went through its input, which was recorded, and the totals
 -- count it
-pub record ActsOn (s s' : State) (tape tape' : TapeState) (r : Record) : Type 0 where
-  pub act : Act
-  pub told_is : told act ≡ r
-  pub goes : TurnsTrace s s' (turns_of act) (events_in act)
+pub record ActsOn (s s' : SessionState) (tape tape' : TapeState) (r : Record) : Type 0 where
+  pub input : SessionInput
+  pub told_is : input_record input ≡ r
+  pub goes : TurnsTrace s s' (turns_of input) (events_in input)
   pub records : s'.totals.records ≡ counted s.totals.records 1
-  pub octets : s'.totals.octets ≡ counted s.totals.octets (length (turns_of act))
-  pub recorded : Recorded tape tape' (events_in act)
+  pub octets : s'.totals.octets ≡ counted s.totals.octets (length (turns_of input))
+  pub recorded : Recorded tape tape' (events_in input)
 
 -- .. and this is known of what waited and of all that is put for it
 pub record ActTrace (spells : PacketOutput) (w w' : World) (r : Record)
     (Took : List ℕ → Type 0) : Type 0 where
-  pub acts : ActsOn w.state w'.state w.tape w'.tape r
+  pub inputs : ActsOn w.state w'.state w.tape w'.tape r
   pub took : (config : GatewayConfig) (before : List Event) → HasHistory config w.state.gateway before
-      → Took (w.output.waiting ++ written_for spells config before acts.act)
+      → Took (w.output.waiting ++ written_for spells config before inputs.input)
 
 -- A record was acted on; or a write failed in it, when it was done or when the first octets of a trunk record
 -- were heard.
-abbrev pub Acts : PacketOutput → World → World → Record → Result (Unit {0}) RunFault → Type 0
-Acts spells w w' r result = MatchResult result
+abbrev pub Inputs : PacketOutput → World → World → Record → Result (Unit {0}) RunFault → Type 0
+Inputs spells w w' r result = MatchResult result
     (λ _. ActTrace spells w w' r (TakesAllBut w.output.sink.taken w'.output.sink.taken w'.output.waiting)
     × (w'.output.sink.failures ≡ w.output.sink.failures))
     (λ e. (e ≡ Write) × (w.output.sink.failures < w'.output.sink.failures)
@@ -224,22 +228,23 @@ pub record CutTrace (late : ℕ) (spells : PacketOutput) (w w' : World) (begun :
   pub few : length between.output.waiting ≤ late
   pub stops : StopsAt spells between.state w'.state between.output w'.output.sink octets
 
--- a session, and this is known of its acts
-abbrev pub WatchedTrace : (GatewayConfig → List Event → List Act → List ℕ) → State → State → TapeState
-    → TapeState → (List ℕ → List ℕ → Type 0) → (List Act → Type 0) → List Record → Type 0
+-- a session, and this is known of its inputs
+abbrev pub WatchedTrace : (GatewayConfig → List Event → List SessionInput → List ℕ) → SessionState
+    → SessionState → TapeState
+    → TapeState → (List ℕ → List ℕ → Type 0) → (List SessionInput → Type 0) → List Record → Type 0
 WatchedTrace put s s' tape tape' Took Seen records =
-    (t : SessionTrace put s s' tape tape' Took records) × Seen t.acts
+    (t : SessionTrace put s s' tape tape' Took records) × Seen t.inputs
 
--- this is known of acts, or of all but the last one
-abbrev pub OfFirstActs : (List Act → Type 0) → List Act → Type 0
-OfFirstActs Seen acts = Seen acts ⊎ Seen (but_last acts)
+-- this is known of inputs, or of all but the last one
+abbrev pub OfFirstInputs : (List SessionInput → Type 0) → List SessionInput → Type 0
+OfFirstInputs Seen inputs = Seen inputs ⊎ Seen (but_last inputs)
 
--- a session up to a write that failed, when this many octets waited at most, and this is known of its acts:
+-- a session up to a write that failed, when this many octets waited at most, and this is known of its inputs:
 -- of all, or of all but the last one
-abbrev pub TraceToWriteError : ℕ → PacketOutput → (List Act → Type 0) → World → (Totals → World)
+abbrev pub TraceToWriteError : ℕ → PacketOutput → (List SessionInput → Type 0) → World → (Totals → World)
     → List Record
     → Type 0
 TraceToWriteError late spells Seen w end records = (totals : Totals) × (((0 < length records)
     × WatchedTrace (written_by spells) w.state (end totals).state w.tape (end totals).tape
-    (AppendsBut late w.output.sink.taken (end totals).output.sink.taken) (OfFirstActs Seen) records)
-    ⊎ ((c : CutTrace late spells w (end totals) records) × Seen c.trace.acts))
+    (AppendsBut late w.output.sink.taken (end totals).output.sink.taken) (OfFirstInputs Seen) records)
+    ⊎ ((c : CutTrace late spells w (end totals) records) × Seen c.trace.inputs))

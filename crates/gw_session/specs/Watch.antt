@@ -7,7 +7,7 @@ use Rattle.gw_session.specs.Prelude.{EndsAll, EndsUntil, OrNoMemory}
 use Rattle.gw_switch.specs.Whole.{reply_to}
 use Rattle.gw_session.specs.Answers.{code_of}
 use Rattle.gw_session.specs.Running.{all_kinds, RunsThrough, RunsUntilWrite}
-use Rattle.gw_session.specs.Serve.{Act, told, events_in, Around}
+use Rattle.gw_session.specs.Serve.{SessionInput, input_record, events_in, SessionStreams}
 
 -- relates a watch before and after a call, the record that it is shown, the code of its answer, and the
 -- gateway behind it
@@ -67,9 +67,10 @@ pub record Watched {W : Type 0} (shows : Shows W) (gateway : Gateway) (w w' : W)
   pub are_true : (config : GatewayConfig) (before : List Event) → HasHistory config gateway before
       → AreTrue config before happened looks
 
--- .. for the records of these acts
-abbrev pub ActsShown : {W : Type 0} → Shows W → Gateway → W → W → List Act → Type 0
-ActsShown shows gateway w w' acts = Watched shows gateway w w' (map told acts) (map events_in acts)
+-- .. for the records of these inputs
+abbrev pub ActsShown : {W : Type 0} → Shows W → Gateway → W → W → List SessionInput → Type 0
+ActsShown shows gateway w w' inputs = Watched shows gateway w w' (map input_record inputs)
+    (map events_in inputs)
 
 -- this is known of records, or of all but the last one
 abbrev pub OfFirst : (List Record → Type 0) → List Record → Type 0
@@ -79,7 +80,7 @@ OfFirst Seen records = Seen records
 -- A session over records alone ended as `run` promises, and this is known of its records: of all that it
 -- acted on. Where a write failed, it is known of all, or of all but the last one. For want of memory this was
 -- kept.
-abbrev pub RunsWatched : Around → Around → Gateway → Gateway → (List Record → Type 0) → Type 0
+abbrev pub RunsWatched : SessionStreams → SessionStreams → Gateway → Gateway → (List Record → Type 0) → Type 0
     → Result Totals RunFault → Type 0
 RunsWatched a a' gateway gateway' Seen Kept result = MatchResult result
     (EndsAll all_kinds a.source a'.source a.sink a'.sink

@@ -4,7 +4,7 @@ use Rattle.gw_session.specs.Prelude.{Gateway, Totals, SinkState, PortsState}
 use Rattle.gw_session.specs.Tape.{TapeState}
 
 -- Where a session stands: what its ports tell, its gateway, and what is counted.
-pub record State : Type 0 where
+pub record SessionState : Type 0 where
   pub ports : PortsState
   pub gateway : Gateway
   pub totals : Totals
@@ -16,11 +16,11 @@ pub record Output : Type 0 where
 
 -- All that a session changes, with what its tape tells.
 pub record World : Type 0 where
-  pub state : State
+  pub state : SessionState
   pub tape : TapeState
   pub output : Output
 
-abbrev pub state_of : PortsState → Gateway → Totals → State
+abbrev pub state_of : PortsState → Gateway → Totals → SessionState
 state_of ports gateway totals = record { ports = ports; gateway = gateway; totals = totals }
 
 abbrev pub output_of : SinkState → List ℕ → Output

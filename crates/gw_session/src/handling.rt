@@ -1,11 +1,11 @@
-//! Records that a gateway acts on, and what is written for them.
+//! Records that a gateway inputs on, and what is written for them.
 ghost use Rattle.std.specs.Prelude.{◌≡◌, ◌^◌, ◌<◌, ◌≤◌, ◌∷◌, ◌++◌, length, OnOk};
 ghost use Rattle.byteorder.specs.Endian.{big_bytes};
 ghost use Rattle.gw_switch.specs.Events.{Event};
 ghost use Rattle.gw_switch.specs.Whole.{Reply};
 ghost use Rattle.gw_records.specs.Streams.{CanCount, Puts};
 ghost use Rattle.gw_session.specs.Answers.{code_of};
-ghost use Rattle.gw_session.specs.Exchange.{Takes, most_waiting};
+ghost use Rattle.gw_session.specs.Exchange.{TakesEvent, most_waiting};
 
 use crate::exchange::{SessionBuffers, give_datagram};
 use crate::packet_ports::PacketPorts;
@@ -43,14 +43,14 @@ fn codec_code(answer: Result<(), CodecFault>) -> u8
 
 // Gives a command to its circuit, and returns 0 or the number of the refusal.
 fn give_command(gateway: &mut Gateway, circuit: CircuitNo, command: Cmd) -> u8
-    ensures { Takes gateway.old gateway.new (Event.Command circuit command) result }
+    ensures { TakesEvent gateway.old gateway.new (Event.Command circuit command) result }
 {
     line_code(gateway.command(circuit, command))
 }
 
 // Gives a codec to its circuit, and returns 0 or the number of the refusal.
 fn give_codec(gateway: &mut Gateway, circuit: CircuitNo, codec: CodecKind, payload_type: u8) -> u8
-    ensures { Takes gateway.old gateway.new (Event.Codec circuit codec payload_type) result }
+    ensures { TakesEvent gateway.old gateway.new (Event.Codec circuit codec payload_type) result }
 {
     codec_code(gateway.codec(circuit, codec, payload_type))
 }
@@ -95,7 +95,7 @@ impl SessionBuffers {
     ghost use Rattle.gw_session.specs.Answers.{written_out};
     ghost use Rattle.gw_session.specs.Answers.Written.{Answered};
     ghost use Rattle.gw_session.specs.Running.{all_kinds};
-    ghost use Rattle.gw_session.specs.Exchange.{Acts, most_waiting};
+    ghost use Rattle.gw_session.specs.Exchange.{Inputs, most_waiting};
     ghost use Rattle.gw_session.specs.Watch.{IsCodeAfter};
     ghost use Rattle.gw_session.specs.World.{world_of};
 
@@ -111,7 +111,7 @@ impl SessionBuffers {
         requires short { length body.now < 2 ^ 16 }
         requires room { O.place ≤ vec_len self.old.room }
         requires writes { CanCount (K.tells sink.old).failures }
-        ensures acts { Acts O.spells
+        ensures inputs { Inputs O.spells
             (world_of (O.tells packet_ports.old) gateway.old self.old.totals (T.tells tape.old)
             (K.tells sink.old) self.old.waiting.items)
             (world_of (O.tells packet_ports.new) gateway.new self.new.totals (T.tells tape.new)
@@ -160,7 +160,7 @@ impl SessionBuffers {
         put_out(recorded, &octets, &mut self.waiting, self.at_once, sink)
     }
 
-    /// Acts on a record, which is recorded before, and puts what answers it behind the octets that wait.
+    /// Inputs on a record, which is recorded before, and puts what answers it behind the octets that wait.
     pub fn handle_record<O: PacketPorts, K: Sink, T: Tape>(
         &mut self,
         gateway: &mut Gateway,
@@ -173,7 +173,7 @@ impl SessionBuffers {
         requires good { IsGood all_kinds (named head body.now) }
         requires room { O.place ≤ vec_len self.old.room }
         requires writes { CanCount (K.tells sink.old).failures }
-        ensures acts { Acts O.spells
+        ensures inputs { Inputs O.spells
             (world_of (O.tells packet_ports.old) gateway.old self.old.totals (T.tells tape.old)
             (K.tells sink.old) self.old.waiting.items)
             (world_of (O.tells packet_ports.new) gateway.new self.new.totals (T.tells tape.new)

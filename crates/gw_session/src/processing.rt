@@ -18,7 +18,7 @@ use gw_records::{
 };
 use gw_switch::Gateway;
 
-/// Acts on the records of the source, of these kinds, by a gateway, records on a tape what it takes, and
+/// Inputs on the records of the source, of these kinds, by a gateway, records on a tape what it takes, and
 /// shows each record to a watch when the gateway has acted on it. It is inlined, so that a session tests for
 /// no other kinds than its own.
 #[inline(always)]

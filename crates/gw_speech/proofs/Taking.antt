@@ -13,8 +13,8 @@ use Rattle.std.proofs.lemmas.Bool.Decides.{nat_tests}
 use Rattle.gw_records.specs.declared.records.RecordKind.{RecordKind}
 use Rattle.gw_records.specs.declared.records.RecordKind.TheVariants as heads
 use Rattle.gw_records.specs.declared.records.FirstRecord.{FirstRecord}
-use Rattle.gw_records.specs.declared.records.EndOfRecords.{EndOfRecords}
-use Rattle.gw_records.specs.declared.records.EndOfRecords.TheVariants as endings
+use Rattle.gw_records.specs.declared.records.EndReason.{EndReason}
+use Rattle.gw_records.specs.declared.records.EndReason.TheVariants as endings
 use Rattle.gw_records.specs.declared.outcome.Totals.{Totals}
 use Rattle.gw_records.specs.declared.outcome.RunFault.{RunFault}
 use Rattle.gw_records.specs.Outcome.{answer_of, Ends}
@@ -70,7 +70,7 @@ no_command octets e =
     grind (arith, nat_tests)
 
 -- the end of decoding if the records end so
-pub decode_ends : (s : StreamSpec) {a b : SourceState} {c d : SinkState} (ending : EndOfRecords) (totals : Totals)
+pub decode_ends : (s : StreamSpec) {a b : SourceState} {c d : SinkState} (ending : EndReason) (totals : Totals)
     (result : Result Totals RunFault) → (e : Ends only_datagrams a b c d (DecodesThrough s c d) ending)
     → (is_open ending ≡ true → IsAtEnd b.to_come) → totals ≡ e.0.totals → result ≡ answer_of ending totals
     → (IfOk result (DecodesAll s a b c d)) × (IfErr result (DecodesUntil s a b c d))

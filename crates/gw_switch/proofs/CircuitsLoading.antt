@@ -1,19 +1,19 @@
 -- The circuits of a gateway as octets, and back.
 use Rattle.std.proofs.Common.{◌≡◌, ◌≢◌, ◌<◌, ◌≤◌, ◌+◌, ℕ, List, length, arith, sym, ◌∙◌}
 use Rattle.std.proofs.Common.{slice_set, slice_index_or, get_or-set_other, subst}
-use Rattle.gw_switch.specs.declared.circuits.Channel.{Channel}
+use Rattle.gw_switch.specs.declared.circuits.BoxedCircuit.{BoxedCircuit}
 use Rattle.gw_switch.specs.Saved.{IsAlike, AreAlike}
 
 -- the circuits behind the one that was read are as they were
-pub same-behind : (first mine : List Channel) (i : ℕ) (x : Channel)
-    → ((k : ℕ) (d : Channel) → i ≤ k → slice_index_or mine k d ≡ slice_index_or first k d)
-    → (k : ℕ) (d : Channel) → i + 1 ≤ k → slice_index_or (slice_set mine i x) k d ≡ slice_index_or first k d
+pub same-behind : (first mine : List BoxedCircuit) (i : ℕ) (x : BoxedCircuit)
+    → ((k : ℕ) (d : BoxedCircuit) → i ≤ k → slice_index_or mine k d ≡ slice_index_or first k d)
+    → (k : ℕ) (d : BoxedCircuit) → i + 1 ≤ k → slice_index_or (slice_set mine i x) k d ≡ slice_index_or first k d
 same-behind first mine i x later k d over =
     let other : k ≢ i = omega arith in
     get_or-set_other mine i k x d other ∙ later k d (omega arith)
 
 -- the saved circuit i has the law and the configuration of circuit i
-pub alike-at : (first saved : List Channel) (i : ℕ) (mine x : Channel) → AreAlike first saved
+pub alike-at : (first saved : List BoxedCircuit) (i : ℕ) (mine x : BoxedCircuit) → AreAlike first saved
     → mine ≡ slice_index_or first i mine → i < length first → IsAlike mine (slice_index_or saved i x)
 alike-at first saved i mine x alike is less =
-    subst (λ (m : Channel). IsAlike m (slice_index_or saved i x)) (sym is) (alike.each i mine x less)
+    subst (λ (m : BoxedCircuit). IsAlike m (slice_index_or saved i x)) (sym is) (alike.each i mine x less)

@@ -2,7 +2,7 @@
 use Rattle.std.proofs.Common.{◌≡◌, ◌++◌, ◌+◌, ◌-◌, ◌<◌, ◌≤◌, ℕ, List, length, arith, sym, subst, append_assoc}
 use Rattle.std.proofs.Common.{slice_index_or}
 use Rattle.gw_switch.specs.declared.GatewayConfig.{GatewayConfig}
-use Rattle.gw_switch.specs.declared.circuits.Channel.{Channel}
+use Rattle.gw_switch.specs.declared.circuits.BoxedCircuit.{BoxedCircuit}
 use Rattle.gw_switch.specs.declared.gateway.Gateway.{Gateway}
 use Rattle.gw_switch.specs.declared.trunk.Trunk.{Trunk}
 use Rattle.gw_switch.specs.Events.{Event, octets, view}
@@ -29,7 +29,7 @@ same-stands config g other events trunk circuits stands = (
   record { trunk = trunk; circuits = circuits },
   record {
     trunk = subst (λ (t : Trunk). HasHeard t (octets events)) (sym trunk) stands.trunk;
-    circuits = subst (λ (cs : List Channel). CircuitsStand config cs events) (sym circuits) stands.circuits;
+    circuits = subst (λ (cs : List BoxedCircuit). CircuitsStand config cs events) (sym circuits) stands.circuits;
   },
 )
 
@@ -39,7 +39,13 @@ pub are-alike : (config other : GatewayConfig) (mine saved : Gateway) (before ev
     → GatewayFits saved → AreAlike mine.circuits.channels.items saved.circuits.channels.items
 unfolding HasHistory alone.HasHistory
 are-alike config other mine saved before events ours theirs alike fits = record {
-  many = omega (arith, mine.circuits.thirty, mine.circuits.channels.ok.0, saved.circuits.thirty, saved.circuits.channels.ok.0);
+  many = omega (
+    arith,
+    mine.circuits.thirty,
+    mine.circuits.channels.ok.0,
+    saved.circuits.thirty,
+    saved.circuits.channels.ok.0,
+  );
   each = λ i d e less.
       let last : i + 1 ≤ 30 = omega (arith, mine.circuits.thirty, mine.circuits.channels.ok.0) in
       let there : i < length saved.circuits.channels.items =

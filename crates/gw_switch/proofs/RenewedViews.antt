@@ -3,7 +3,7 @@ use Rattle.std.proofs.Common.{◌≡◌, ◌≢◌, ◌⊎◌, ℕ, zero, suc, �
 use Rattle.std.proofs.Common.{append_assoc, append-nil, arith}
 use Rattle.std.proofs.lemmas.Bool.{eq-eqb, ne_eqb, cases_eq}
 use Rattle.gw_circuit.specs.declared.config.CircuitConfig.{CircuitConfig}
-use Rattle.gw_circuit.specs.Items.{Item}
+use Rattle.gw_circuit.specs.Items.{CircuitEvent}
 use Rattle.gw_switch.specs.declared.GatewayConfig.{GatewayConfig}
 use Rattle.gw_switch.specs.Events.{Event, octets, view}
 use Rattle.gw_switch.specs.Whole.{config_of}
@@ -12,7 +12,7 @@ use Rattle.gw_switch.proofs.Views.{view-push, view-join, octets-push_other}
 
 -- a circuit sees that it is configured, and not that another one is
 view-configured : (c d : ℕ) (new : CircuitConfig) (events : List Event)
-    → ((d ≡ c) × (view c (events ++ Event.Configure d new ∷ []) ≡ view c events ++ Item.Configure new ∷ []))
+    → ((d ≡ c) × (view c (events ++ Event.Configure d new ∷ []) ≡ view c events ++ CircuitEvent.Configure new ∷ []))
     ⊎ ((d ≢ c) × (view c (events ++ Event.Configure d new ∷ []) ≡ view c events))
 view-configured c d new events = elim (cases_eq d c) [
   | inl e ↦ inl (e, view-push c events (Event.Configure d new) ∙ rw (eq-eqb d c e) refl)
@@ -23,7 +23,7 @@ view-configured c d new events = elim (cases_eq d c) [
 record HasSeen (c : ℕ) (old new : GatewayConfig) (before after : List Event) : Type 0 where
   same : config_of old c ≡ config_of new c → view c after ≡ view c before
   other : config_of old c ≢ config_of new c
-      → view c after ≡ view c before ++ Item.Configure (config_of new c) ∷ []
+      → view c after ≡ view c before ++ CircuitEvent.Configure (config_of new c) ∷ []
 
 -- what circuits have seen when the first n of them were renewed
 record HaveSeen (old new : GatewayConfig) (events after : List Event) (n : ℕ) : Type 0 where
@@ -51,9 +51,9 @@ seen-next old new events after last n seen (inr other) = rw other.1 (record {
   done = λ c low high. elim (view-configured c (suc n) (config_of new (suc n)) after) [
     | inl own ↦ record {
       same = λ alike. absurd (other.0 (rw (← own.0) at alike));
-      other = λ ne. own.1 ∙ ap (λ v. v ++ Item.Configure (config_of new (suc n)) ∷ [])
+      other = λ ne. own.1 ∙ ap (λ v. v ++ CircuitEvent.Configure (config_of new (suc n)) ∷ [])
           (seen.left c (omega (arith, own.0)))
-          ∙ ap (λ d. view c events ++ Item.Configure (config_of new d) ∷ []) own.0;
+          ∙ ap (λ d. view c events ++ CircuitEvent.Configure (config_of new d) ∷ []) own.0;
     }
     | inr ne ↦ record {
       same = λ alike. ne.1 ∙ (seen.done c low (omega (arith, ne.0))).same alike;

@@ -7,7 +7,7 @@ use Rattle.std.proofs.Common.{Option, Some, None, SomeIff}
 use Rattle.std.proofs.lemmas.Bool.{eq-eqb, ne_eqb, cases_eq}
 use Rattle.std.proofs.lemmas.List.Sums.{fold-append}
 use Rattle.gw_circuit.specs.declared.config.CircuitConfig.{CircuitConfig}
-use Rattle.gw_circuit.specs.Items.{Item}
+use Rattle.gw_circuit.specs.Items.{CircuitEvent}
 use Rattle.gw_circuit.specs.Lives.{next_config, config_after}
 use Rattle.gw_switch.specs.declared.GatewayConfig.{GatewayConfig}
 use Rattle.gw_switch.specs.declared.gateway.Gateway.{Gateway}
@@ -18,11 +18,11 @@ use Rattle.gw_switch.specs.Reconfigured.{IsRenewal, AreRenewals, HasTaken, Renew
 use Rattle.gw_switch.proofs.Views.{view-push}
 
 -- the configuration of a circuit after a configuration that is its own, or another's
-config-own : (first : CircuitConfig) (items : List Item) (c d : ℕ) (new : CircuitConfig)
-    → ((d ≡ c) × (config_after first (items ++ own_one c d (Item.Configure new)) ≡ new))
-    ⊎ ((d ≢ c) × (config_after first (items ++ own_one c d (Item.Configure new)) ≡ config_after first items))
+config-own : (first : CircuitConfig) (items : List CircuitEvent) (c d : ℕ) (new : CircuitConfig)
+    → ((d ≡ c) × (config_after first (items ++ own_one c d (CircuitEvent.Configure new)) ≡ new))
+    ⊎ ((d ≢ c) × (config_after first (items ++ own_one c d (CircuitEvent.Configure new)) ≡ config_after first items))
 config-own first items c d new = elim (cases_eq d c) [
-  | inl e ↦ inl (e, rw (eq-eqb d c e) (fold-append next_config first items (Item.Configure new ∷ [])))
+  | inl e ↦ inl (e, rw (eq-eqb d c e) (fold-append next_config first items (CircuitEvent.Configure new ∷ [])))
   | inr ne ↦ inr (ne, rw (ne_eqb d c ne) (ap (config_after first) (append-nil items)))
 ]
 

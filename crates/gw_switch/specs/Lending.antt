@@ -4,14 +4,14 @@ use Rattle.std.specs.Borrow.{Lends, MutBor, Fml}
 use Rattle.std.specs.Vec.{with_item}
 use Rattle.gw_circuit.specs.declared.circuit.Circuit.{Circuit}
 use Rattle.gw_circuit.specs.contracts.circuit.Circuit.{the_row as circuit_row}
-use Rattle.gw_switch.specs.declared.circuits.Channel.{Channel}
+use Rattle.gw_switch.specs.declared.circuits.BoxedCircuit.{BoxedCircuit}
 use Rattle.gw_switch.specs.declared.circuits.Circuits.{Circuits}
 use Rattle.gw_switch.specs.contracts.circuits.Circuits.{the_row}
 
 -- this is circuit c
 abbrev pub IsAt : Circuits → ℕ → Circuit → Type 0
 IsAt circuits c circuit =
-    (d : Channel) → circuit ≡ (slice_index_or circuits.channels.items (c - 1) d).circuit
+    (d : BoxedCircuit) → circuit ≡ (slice_index_or circuits.channels.items (c - 1) d).circuit
 
 -- the circuits, with circuit c as it is here and all others as they were
 abbrev pub with_circuit : Circuits → ℕ → Circuit → Circuits

@@ -1,7 +1,7 @@
 -- A gateway with another configuration: the circuits that it changes begin as new, and all others go on.
 use Rattle.std.specs.Prelude.{◌≡◌, ◌≢◌, ◌⊎◌, ◌≤◌, ℕ, zero, suc, List, [], ◌∷◌, ◌++◌}
 use Rattle.gw_circuit.specs.declared.config.CircuitConfig.{CircuitConfig}
-use Rattle.gw_circuit.specs.Items.{Item}
+use Rattle.gw_circuit.specs.Items.{CircuitEvent}
 use Rattle.gw_switch.specs.declared.GatewayConfig.{GatewayConfig}
 use Rattle.gw_switch.specs.declared.gateway.Gateway.{Gateway}
 use Rattle.gw_switch.specs.Events.{Event, octets, view}
@@ -44,7 +44,7 @@ pub record SeesRenewal (c : ℕ) (old new : GatewayConfig) (before after : List 
   pub same : config_of old c ≡ config_of new c
       → (later : List Event) → view c (after ++ later) ≡ view c (before ++ later)
   pub other : config_of old c ≢ config_of new c
-      → view c after ≡ view c before ++ Item.Configure (config_of new c) ∷ []
+      → view c after ≡ view c before ++ CircuitEvent.Configure (config_of new c) ∷ []
 
 -- no octet of the trunk comes or goes by it, and each circuit sees its own renewal alone
 abbrev pub RenewalsAreApart : Type 0

@@ -6,7 +6,7 @@ use Rattle.g704_align.specs.Saved.{saved_aligner}
 use Rattle.g704_cas.specs.Saved.{saved_mf_aligner}
 use Rattle.e1_g711.specs.declared.Law.{Law}
 use Rattle.gw_circuit.specs.declared.config.CircuitConfig.{CircuitConfig}
-use Rattle.gw_circuit.specs.Items.{Item}
+use Rattle.gw_circuit.specs.Items.{CircuitEvent}
 use Rattle.gw_circuit.specs.Saved.{saved_circuit, CircuitFits}
 use Rattle.gw_circuit.specs.Lives.{config_after}
 use Rattle.gw_circuit.specs.Standing.{StandsSince}
@@ -14,7 +14,7 @@ use Rattle.gw_switch.specs.declared.GatewayConfig.{GatewayConfig}
 use Rattle.gw_switch.specs.Events.{Event, view}
 use Rattle.gw_switch.specs.Whole.{config_of}
 use Rattle.gw_switch.specs.Standing as gateway
-use Rattle.gw_switch.specs.declared.circuits.Channel.{Channel}
+use Rattle.gw_switch.specs.declared.circuits.BoxedCircuit.{BoxedCircuit}
 use Rattle.gw_switch.specs.declared.gateway.Gateway.{Gateway}
 use Rattle.gw_switch.specs.declared.trunk.Trunk.{Trunk}
 use Rattle.gw_switch.specs.declared.trunk.signalling.Signalling.{Signalling}
@@ -45,12 +45,14 @@ saved_alarms frame multiframe = flag_octet frame ∷ flag_octet multiframe ∷ [
 -- the multiframe, the ABCD bits that are fresh, and the alarms of the other end
 unfoldable pub saved_signalling : Signalling → List ℕ
 saved_signalling s =
-    saved_mf_aligner s.multiframe ++ saved_nibbles s.nibbles ++ saved_alarms s.remote_frame s.remote_multiframe
+    saved_mf_aligner s.multiframe ++ saved_nibbles s.nibbles ++ saved_alarms s.remote_frame
+    s.remote_multiframe
 
 -- the frame alignment and how many octets were sent, the frame buffer, what is heard in the slots 0 and 16
 unfoldable pub saved_trunk : Trunk → List ℕ
 saved_trunk t =
-    (saved_aligner t.aligner ++ two_octets t.position) ++ saved_slots t.octets ++ saved_signalling t.signalling
+    (saved_aligner t.aligner ++ two_octets t.position) ++ saved_slots t.octets ++ saved_signalling
+    t.signalling
 
 -- each array has its length, and each number its width, as in every trunk
 pub record TrunkFits (t : Trunk) : Type 0 where
@@ -59,18 +61,18 @@ pub record TrunkFits (t : Trunk) : Type 0 where
   pub nibbles : length t.signalling.nibbles ≡ 30
   pub each : All IsNibble t.signalling.nibbles
 
-abbrev pub saved_channel : Channel → List ℕ
+abbrev pub saved_channel : BoxedCircuit → List ℕ
 saved_channel channel = saved_circuit channel.circuit
 
 -- the circuits, the first one first
-abbrev pub saved_circuits : List Channel → List ℕ
+abbrev pub saved_circuits : List BoxedCircuit → List ℕ
 saved_circuits channels = flat_map saved_channel channels
 
 -- the trunk, then the circuits
 unfoldable pub saved_gateway : Gateway → List ℕ
 saved_gateway g = saved_trunk g.trunk ++ saved_circuits g.circuits.channels.items
 
-abbrev pub ChannelFits : Channel → Type 0
+abbrev pub ChannelFits : BoxedCircuit → Type 0
 ChannelFits channel = CircuitFits channel.circuit
 
 -- each number of the trunk and of the circuits has its width, as in every gateway
@@ -99,17 +101,17 @@ SameStatesHaveOneHistory = (config : GatewayConfig) (g other : Gateway) (events 
     → gateway.HasHistory config other events → gateway.HasHistory config g events
 
 -- A saved circuit has the law and the configuration of the one that reads it.
-pub record IsAlike (mine saved : Channel) : Type 0 where
+pub record IsAlike (mine saved : BoxedCircuit) : Type 0 where
   pub law : Law
   pub config : CircuitConfig
-  pub items : List Item
-  pub before : List Item
+  pub items : List CircuitEvent
+  pub before : List CircuitEvent
   pub theirs : StandsSince saved.circuit law config items
   pub ours : StandsSince mine.circuit law config before
   pub fits : ChannelFits saved
 
 -- so does each of the saved circuits
-pub record AreAlike (mine saved : List Channel) : Type 0 where
+pub record AreAlike (mine saved : List BoxedCircuit) : Type 0 where
   pub many : length saved ≡ length mine
-  pub each : (i : ℕ) (d e : Channel) → i < length mine
+  pub each : (i : ℕ) (d e : BoxedCircuit) → i < length mine
       → IsAlike (slice_index_or mine i d) (slice_index_or saved i e)

@@ -11,8 +11,8 @@ use Rattle.gw_switch.specs.Standing.{HasHistory}
 use Rattle.gw_records.specs.declared.outcome.Totals.{Totals}
 use Rattle.gw_records.specs.declared.outcome.RunFault.{RunFault}
 use Rattle.gw_records.specs.declared.outcome.RunFault.TheVariants as faults
-use Rattle.gw_records.specs.declared.records.EndOfRecords.{EndOfRecords}
-use Rattle.gw_records.specs.declared.records.EndOfRecords.TheVariants as endings
+use Rattle.gw_records.specs.declared.records.EndReason.{EndReason}
+use Rattle.gw_records.specs.declared.records.EndReason.TheVariants as endings
 use Rattle.gw_records.specs.Records.{Record, Reads, IsGood, spelled, end_of}
 use Rattle.gw_records.specs.Streams.{AppendsBut}
 use Rattle.gw_records.specs.Outcome.{SessionTo, FailsToWrite}
@@ -20,17 +20,18 @@ use Rattle.gw_records.proofs.Readings.{one_reading, more_keeps}
 use Rattle.gw_session.specs.Answers.{events, events_of}
 use Rattle.gw_session.specs.ServeLaws.{without_datagrams}
 use Rattle.gw_session.specs.Serve as session
-use Rattle.gw_session.specs.Serve.{Around, SessionTrace, ServesAll, ServesUntil, Served, written, events_through}
+use Rattle.gw_session.specs.Serve.{SessionStreams, SessionTrace, ServesAll, ServesUntil, Served, written}
+use Rattle.gw_session.specs.Serve.{events_through}
 use Rattle.gw_session.specs.Serve.{served_kinds}
 use Rattle.gw_session.specs.Tape.{TapeState}
-use Rattle.gw_session.specs.World.{State}
+use Rattle.gw_session.specs.World.{SessionState}
 use Rattle.gw_session.proofs.ServeLaws.{events_are_told}
 use Rattle.gw_trunk.specs.declared.sink.RecordPosition.TheVariants.{Kind}
 use Rattle.gw_trunk.specs.Bodies.{bodies, others, passed, answered, place_after}
 use Rattle.gw_trunk.specs.Pieces.{Woven, GivesWoven, IsGiven, trunk_part, client_part, from_clients}
 use Rattle.gw_trunk.specs.Serving.{Carries, CarriesUntilWrite, CarriesUntil, Carried, commands_in, traffic}
 use Rattle.gw_trunk.proofs.Passing.{passed-append, answered-append}
-use Rattle.gw_trunk.proofs.Written.{acts-pass}
+use Rattle.gw_trunk.proofs.Written.{inputs-pass}
 
 -- A record that is given is read in service.
 given-good : (r : Record) → IsGiven r → IsGood served_kinds r
@@ -115,33 +116,34 @@ appends-first : (old new : Option (List ℕ)) (all more : List ℕ) → old ≡ 
 appends-first old new all more e f p = rw (e, f) at p
 
 -- Records that are given were served by a gateway to which this had happened.
-carried-records : {s s' : State} {tape tape' : TapeState} {Took : List ℕ → List ℕ → Type 0} {records : List Record}
+carried-records : {s s' : SessionState} {tape tape' : TapeState} {Took : List ℕ → List ℕ
+    → Type 0} {records : List Record}
     (config : GatewayConfig) (before : List Event) (heard asked sent told : List ℕ)
     → (p : SessionTrace written s s' tape tape' Took records) → HasHistory config s.gateway before
     → Woven heard asked records → AllByRecursion (IsGood served_kinds) records
-    → sent ≡ bodies (written config before p.acts) → told ≡ others (written config before p.acts)
+    → sent ≡ bodies (written config before p.inputs) → told ≡ others (written config before p.inputs)
     → Carries config before s'.gateway tape tape' (traffic heard asked sent told)
 carried-records {records = records} config before heard asked sent told p new woven good is tells =
-    let all : AllByRecursion (IsGood served_kinds) (map session.told p.acts) = rw (p.told_are) good in
-    let weave : without_datagrams (events_through p.acts) ≡ events records
-    = events_are_told p.acts all ∙ ap events (p.told_are) in
+    let all : AllByRecursion (IsGood served_kinds) (map session.told p.inputs) = rw (p.told_are) good in
+    let weave : without_datagrams (events_through p.inputs) ≡ events records
+    = events_are_told p.inputs all ∙ ap events (p.told_are) in
     record {
-      happened = events_through p.acts;
+      happened = events_through p.inputs;
       stands = (p.follows.goes.hears config before new).stands;
       records = records;
       woven = woven;
       weave_is = weave;
-      heard_are = sym (octets-without (events_through p.acts)) ∙ ap octets weave ∙ octets-given records
+      heard_are = sym (octets-without (events_through p.inputs)) ∙ ap octets weave ∙ octets-given records
           ∙ sym (woven.came_are);
-      asked_are = sym (commands-without (events_through p.acts)) ∙ ap commands_in weave
+      asked_are = sym (commands-without (events_through p.inputs)) ∙ ap commands_in weave
           ∙ commands-given records woven.good;
-      sent_are = is ∙ (acts-pass config before p.acts all).1;
-      told_are = tells ∙ (acts-pass config before p.acts all).2;
+      sent_are = is ∙ (inputs-pass config before p.inputs all).1;
+      told_are = tells ∙ (inputs-pass config before p.inputs all).2;
       recorded = p.follows.recorded;
     }
 
 -- Around a session of a trunk: nothing was given or taken before it, and these octets were in it.
-pub record Around-trunk (a a' : Around) (given taken : List ℕ) : Type 0 where
+pub record SessionStreams-trunk (a a' : SessionStreams) (given taken : List ℕ) : Type 0 where
   pub unread : a.source.given ≡ Some []
   pub read : a'.source.given ≡ Some given
   pub untaken : a.sink.taken ≡ Some []
@@ -154,8 +156,8 @@ pub record Trunked (came asked went told given taken : List ℕ) : Type 0 where
   pub told_are : told ≡ others taken
 
 -- A session in which no write failed: it came to the end of the records, and carried all.
-pub whole-session : {a a' : Around} {gateway gateway' : Gateway} {ending : EndOfRecords} (config : GatewayConfig)
-    (before : List Event) (came asked went told given taken : List ℕ) → Around-trunk a a' given taken
+pub whole-session : {a a' : SessionStreams} {gateway gateway' : Gateway} {ending : EndReason} (config : GatewayConfig)
+    (before : List Event) (came asked went told given taken : List ℕ) → SessionStreams-trunk a a' given taken
     → Trunked came asked went told given taken → HasHistory config gateway before
     → SessionTo served_kinds a.source a'.source a.sink a'.sink
     (Served a a' gateway gateway' (λ first. Appends a.sink.taken a'.sink.taken)) ending
@@ -176,8 +178,8 @@ whole-session {ending = ending} config before came asked went told given taken a
     )
 
 -- A session in which a write failed: it carried the first records, and some of the octets did not go.
-pub cut-session : {a a' : Around} {gateway gateway' : Gateway} (config : GatewayConfig) (before : List Event)
-    (came asked went told given taken : List ℕ) → Around-trunk a a' given taken
+pub cut-session : {a a' : SessionStreams} {gateway gateway' : Gateway} (config : GatewayConfig) (before : List Event)
+    (came asked went told given taken : List ℕ) → SessionStreams-trunk a a' given taken
     → Trunked came asked went told given taken → HasHistory config gateway before
     → FailsToWrite served_kinds a.source a'.source a.sink a'.sink (λ records. (totals : Totals)
     × Served a a' gateway gateway' (AppendsBut 0 a.sink.taken a'.sink.taken) totals records)
@@ -231,8 +233,9 @@ none-given came asked given w none =
     no-records (Record.Codec circuit codec payload_type ∷ records) none = cc
 
 -- A session of a trunk until a fault.
-until : {a a' : Around} (gateway gateway' : Gateway) (config : GatewayConfig) (before : List Event) (fault : RunFault)
-    (came asked went told given taken : List ℕ) → Around-trunk a a' given taken
+until : {a a' : SessionStreams} (gateway gateway' : Gateway) (config : GatewayConfig) (before : List Event)
+    (fault : RunFault)
+    (came asked went told given taken : List ℕ) → SessionStreams-trunk a a' given taken
     → Trunked came asked went told given taken → HasHistory config gateway before
     → ServesUntil a a' gateway gateway' fault
     → CarriesUntil config before gateway' a.tape a'.tape (traffic came asked went told) fault
@@ -251,16 +254,16 @@ until gateway gateway' config before faults.Write came asked went told given tak
     cut-session config before came asked went told given taken around t new s
 until {a = a} {a' = a'} gateway gateway' config before faults.OutOfMemory came asked went told given taken around t new
     s =
-    let unread : a'.source.given ≡ Some [] = ap (λ (b : Around). b.source.given) s.0 ∙ around.unread in
-    let untaken : a'.sink.taken ≡ Some [] = ap (λ (b : Around). b.sink.taken) s.0 ∙ around.untaken in
+    let unread : a'.source.given ≡ Some [] = ap (λ (b : SessionStreams). b.source.given) s.0 ∙ around.unread in
+    let untaken : a'.sink.taken ≡ Some [] = ap (λ (b : SessionStreams). b.sink.taken) s.0 ∙ around.untaken in
     let none : given ≡ [] = let e = around.read in cc in
     let nothing : taken ≡ [] = let e = around.took in cc in
     let n = none-given came asked given t.gives none in
     rw (n.0, n.1, t.went_are ∙ ap bodies nothing, t.told_are ∙ ap others nothing) refl
 
 -- A session of a trunk, however it ended.
-pub carried : {a a' : Around} (gateway gateway' : Gateway) (config : GatewayConfig) (before : List Event)
-    (end : Result Totals RunFault) (came asked went told given taken : List ℕ) → Around-trunk a a' given taken
+pub carried : {a a' : SessionStreams} (gateway gateway' : Gateway) (config : GatewayConfig) (before : List Event)
+    (end : Result Totals RunFault) (came asked went told given taken : List ℕ) → SessionStreams-trunk a a' given taken
     → Trunked came asked went told given taken → HasHistory config gateway before
     → IfOk end (ServesAll a a' gateway gateway')
     → IfErr end (ServesUntil a a' gateway gateway')

@@ -29,12 +29,12 @@ number-more : (ms : List Multiframe) (m : Multiframe)
 number-more [] m = omega arith
 number-more (n ∷ ms) m = let e = number-more ms m in omega (arith, e)
 
--- The course if octets do not complete the multiframe.
+-- The position if octets do not complete the multiframe.
 position-goes : (position : MultiframePosition) (n : ℕ) → position.place + n ≢ 512
     → position_after position n ≡ record position { place = position.place + n }
 position-goes position n more = grind (arith, nat_tests)
 
--- The course if octets complete the multiframe.
+-- The position if octets complete the multiframe.
 position-ends : (position : MultiframePosition) (n : ℕ) → position.place + n ≡ 512
     → position_after position n ≡ record position { place = 0; discards = false }
 position-ends position n all = grind (arith, nat_tests)
@@ -94,9 +94,9 @@ rest-of position sent left left' xs t all e =
 passes : (position position' : MultiframePosition) (sent left left' xs : List ℕ) → IsThinned position sent left
     → PassesOn position position' left left' xs → IsThinned position' (sent ++ xs) left'
 passes position position' sent left left' xs t p = elim (cases_eq (position.place + length xs) 512) [
-  | inl all ↦ rw (p.course_is, position-ends position (length xs) all)
+  | inl all ↦ rw (p.position_is, position-ends position (length xs) all)
       (rest-of position sent left left' xs t all p.left_is)
-  | inr more ↦ rw (p.course_is, position-goes position (length xs) more)
+  | inr more ↦ rw (p.position_is, position-goes position (length xs) more)
       (more-of position sent left left' xs t (omega (arith, p.fits, more)) p.left_is)
 ]
 

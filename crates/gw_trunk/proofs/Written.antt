@@ -10,7 +10,7 @@ use Rattle.gw_switch.specs.Whole.{whole_from, reply_to}
 use Rattle.gw_records.specs.Records.{IsGood, record_of}
 use Rattle.gw_session.specs.Answers.{octets_in}
 use Rattle.gw_session.specs.Serve as session
-use Rattle.gw_session.specs.Serve.{Act, Turn, octet_of, events_in, events_through, events_of_turns, octets_for}
+use Rattle.gw_session.specs.Serve.{SessionInput, Turn, octet_of, events_in, events_through, events_of_turns, octets_for}
 use Rattle.gw_session.specs.Serve.{given_by, written, served_kinds, coming, arrivals}
 use Rattle.gw_session.proofs.Turns.{given_by-append, turns_have_octets}
 use Rattle.gw_trunk.specs.declared.sink.RecordPosition.TheVariants.{Kind}
@@ -83,36 +83,37 @@ as-many : (config : GatewayConfig) (before : List Event) (ts : List Turn)
 unfolding given_by
 as-many config before ts = one-for-each config before (events_of_turns ts) ∙ turns_have_octets ts
 
--- What answers an act passes the octets that are sent with it and the answers to it, and the next record begins
+-- What answers an input passes the octets that are sent with it and the answers to it, and the next record begins
 -- behind it.
-act-passes : (config : GatewayConfig) (before : List Event) (act : Act) → IsGood served_kinds (session.told act)
-    → (place_after Kind (session.answer_to config before act) ≡ Kind)
-    × (passed Kind (session.answer_to config before act) ≡ octets_for config before (events_in act))
-    × (answered Kind (session.answer_to config before act) ≡ answers_for config before (events_in act))
+input-passes : (config : GatewayConfig) (before : List Event) (input : SessionInput)
+    → IsGood served_kinds (session.input_record input)
+    → (place_after Kind (session.answer_to config before input) ≡ Kind)
+    × (passed Kind (session.answer_to config before input) ≡ octets_for config before (events_in input))
+    × (answered Kind (session.answer_to config before input) ≡ answers_for config before (events_in input))
 unfolding place_after passed answered session.answer_to given_by
-act-passes config before (Act.Trunk ts) good =
+input-passes config before (SessionInput.Trunk ts) good =
     let body = octets_for config before (events_of_turns ts) in
     let passes = record-passes body (omega (arith, as-many config before ts, good.1, length-map ts octet_of)) in
     (passes.0, passes.1, passes.2 ∙ sym (turns-unanswered config ts before))
-act-passes config before (Act.Datagram circuit bytes) good = cc (good.0)
-act-passes config before (Act.Command circuit command) good = (refl, refl, refl)
-act-passes config before (Act.Codec circuit codec payload_type) good = (refl, refl, refl)
+input-passes config before (SessionInput.Datagram circuit bytes) good = cc (good.0)
+input-passes config before (SessionInput.Command circuit command) good = (refl, refl, refl)
+input-passes config before (SessionInput.Codec circuit codec payload_type) good = (refl, refl, refl)
 
--- What answers acts passes the octets that are sent with them and the answers to them, and the next record begins
+-- What answers inputs passes the octets that are sent with them and the answers to them, and the next record begins
 -- behind it.
-pub acts-pass : (config : GatewayConfig) (before : List Event) (acts : List Act)
-    → AllByRecursion (IsGood served_kinds) (map session.told acts)
-    → (place_after Kind (written config before acts) ≡ Kind)
-    × (passed Kind (written config before acts) ≡ octets_for config before (events_through acts))
-    × (answered Kind (written config before acts) ≡ answers_for config before (events_through acts))
+pub inputs-pass : (config : GatewayConfig) (before : List Event) (inputs : List SessionInput)
+    → AllByRecursion (IsGood served_kinds) (map session.input_record inputs)
+    → (place_after Kind (written config before inputs) ≡ Kind)
+    × (passed Kind (written config before inputs) ≡ octets_for config before (events_through inputs))
+    × (answered Kind (written config before inputs) ≡ answers_for config before (events_through inputs))
 unfolding place_after passed answered given_by
-acts-pass config before [] good = (refl, refl, refl)
-acts-pass config before (act ∷ acts) good =
-    let one = act-passes config before act good.0 in
-    let more = acts-pass config (before ++ events_in act) acts good.1 in (
-      place-append Kind (session.answer_to config before act) _ ∙ rw (one.0) more.0,
-      passed-append Kind (session.answer_to config before act) _ ∙ rw (one.0, one.1, more.1)
-          (sym (given_by-append octets_in config before (events_in act) (events_through acts))),
-      answered-append Kind (session.answer_to config before act) _ ∙ rw (one.0, one.2, more.2)
-          (sym (answers-append config before (events_in act) (events_through acts))),
+inputs-pass config before [] good = (refl, refl, refl)
+inputs-pass config before (input ∷ inputs) good =
+    let one = input-passes config before input good.0 in
+    let more = inputs-pass config (before ++ events_in input) inputs good.1 in (
+      place-append Kind (session.answer_to config before input) _ ∙ rw (one.0) more.0,
+      passed-append Kind (session.answer_to config before input) _ ∙ rw (one.0, one.1, more.1)
+          (sym (given_by-append octets_in config before (events_in input) (events_through inputs))),
+      answered-append Kind (session.answer_to config before input) _ ∙ rw (one.0, one.2, more.2)
+          (sym (answers-append config before (events_in input) (events_through inputs))),
     )

@@ -43,19 +43,19 @@ pub record IsThinned (position : MultiframePosition) (sent left : List ℕ) : Ty
   pub place_is : position.place ≡ length thinned.last.octets
   pub discards_is : position.discards ≡ thinned.last.is_discarded
 
--- the course after so many octets of the multiframe
+-- the position after so many octets of the multiframe
 abbrev pub position_after : MultiframePosition → ℕ → MultiframePosition
 position_after position n = if position.place + n == 512 then record position { place = 0; discards = false }
     else record position { place = position.place + n }
 
--- the course if a multiframe is discarded
+-- the position if a multiframe is discarded
 abbrev pub position_discarding : MultiframePosition → MultiframePosition
 position_discarding p = record p { discards = true; discarded = at_most (p.discarded + 1) }
 
 -- octets of a multiframe passed: they are left, or discarded
 pub record PassesOn (position position' : MultiframePosition) (left left' octets : List ℕ) : Type 0 where
   pub fits : position.place + length octets ≤ 512
-  pub course_is : position' ≡ position_after position (length octets)
+  pub position_is : position' ≡ position_after position (length octets)
   pub left_is : left' ≡ left ++ (if position.discards then [] else octets)
 
 -- octets of a multiframe passed, or it is discarded from its first octet on, of which these are the first

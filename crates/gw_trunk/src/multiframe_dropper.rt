@@ -32,7 +32,7 @@ struct MultiframePosition {
     discarded: u64,
 }
 
-// The course after so many octets of the multiframe.
+// The position after so many octets of the multiframe.
 fn position_after(position: MultiframePosition, n: usize) -> MultiframePosition
     requires { position.place + n ≤ 512 }
     ensures { result ≡ position_after position n }
@@ -51,7 +51,7 @@ fn position_after(position: MultiframePosition, n: usize) -> MultiframePosition
     }
 }
 
-// The course if this multiframe is discarded.
+// The position if this multiframe is discarded.
 fn position_discarding(position: MultiframePosition) -> MultiframePosition
     ensures { result ≡ position_discarding position }
 {

@@ -109,7 +109,7 @@ fn imitated(place: usize) -> u8 {
 }
 
 // Nothing is counted.
-const NO_TALLY: ReceiverCounts = ReceiverCounts {
+const NO_COUNTS: ReceiverCounts = ReceiverCounts {
     submultiframes: 0,
     errored: 0,
     far_end_errored: 0,
@@ -131,7 +131,7 @@ fn checked(turned: &[(usize, u8)]) -> ReceiverCounts {
         }
         checker.octet(octet);
     }
-    checker.tally()
+    checker.receiver_counts()
 }
 
 // Frame alignment begins at octet 0 and is found at 64. The 8 ms end before octet 2112, where CRC multiframe
@@ -142,7 +142,7 @@ fn trunk_is_checked(rt: HostRuntime) {
     let right = ReceiverCounts {
         submultiframes: 5,
         found: 1,
-        ..NO_TALLY
+        ..NO_COUNTS
     };
     assert!(rt; checked(&[]) == right);
     // a bit of the second submultiframe; then the first E bit of the multiframe that begins at 3072, which is
@@ -170,7 +170,7 @@ fn multiframes_are_lost_with_alignment(rt: HostRuntime) {
         submultiframes: 1,
         found: 1,
         lost: 1,
-        ..NO_TALLY
+        ..NO_COUNTS
     };
     assert!(rt; checked(&[(3072, 0x04), (3136, 0x04), (3200, 0x04)]) == lost);
 }
@@ -191,9 +191,9 @@ fn false_alignment_is_given_up(rt: HostRuntime) {
     let right = ReceiverCounts {
         submultiframes: 3,
         found: 1,
-        ..NO_TALLY
+        ..NO_COUNTS
     };
-    assert!(rt; checker.tally() == right);
+    assert!(rt; checker.receiver_counts() == right);
 }
 
 // Three errored submultiframes are reported by the next three E bits, frames 13 and 15 of the first multiframe

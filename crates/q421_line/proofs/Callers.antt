@@ -6,7 +6,7 @@ use Rattle.q421_line.specs.declared.LineFault.{LineFault}
 use Rattle.q421_line.specs.Recognition.{recognised}
 use Rattle.q421_line.specs.Tables.{sent_pair}
 use Rattle.q421_line.specs.Commands.{command_outcome, told_of}
-use Rattle.q421_line.specs.Signalling.{Signalling, signalling, command, wait, after_outcome}
+use Rattle.q421_line.specs.Signalling.{LineState, signalling, command, wait, after_outcome}
 use Rattle.q421_line.specs.Laws.{PairsAreRecognisedByTen, SeizuresAreReleased}
 use Rattle.q421_line.specs.Laws.{SeizuresAreReleasedByTheHundredth, RefusedCommandsChangeNothing}
 use Rattle.q421_line.specs.Laws.{WaitsChangeNothingElse, SentPairsFit, IncomingIsNeverSeized}
@@ -29,7 +29,7 @@ pub seizure-released_by_the_hundredth : SeizuresAreReleasedByTheHundredth
 seizure-released_by_the_hundredth = seizure-hundredth
 
 -- an outcome that is answered by a fault changes nothing
-outcome-refused : (line : Signalling) (led : Result State LineFault) (fault : LineFault) → told_of led ≡ Err fault
+outcome-refused : (line : LineState) (led : Result State LineFault) (fault : LineFault) → told_of led ≡ Err fault
     → after_outcome line led ≡ line
 outcome-refused line (Ok state) fault refused = cc
 outcome-refused line (Err other) fault refused = refl

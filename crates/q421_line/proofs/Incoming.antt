@@ -11,7 +11,7 @@ use Rattle.q421_line.specs.declared.LineFault.{LineFault}
 use Rattle.q421_line.specs.Recognition.{recognised}
 use Rattle.q421_line.specs.Tables.{by_pair, next_state, next_incoming}
 use Rattle.q421_line.specs.Commands.{command_outcome}
-use Rattle.q421_line.specs.Signalling.{Item, signal, command, wait, Signalling, signalling, at_first}
+use Rattle.q421_line.specs.Signalling.{LineEvent, signal, command, wait, LineState, signalling, at_first}
 use Rattle.q421_line.specs.Signalling.{after_item, after_outcome}
 use Rattle.q421_line.specs.Signalling.{with_heard, next_by, after_count}
 
@@ -77,13 +77,13 @@ outcome-of Unblock Blocked = tt
 outcome-of Unblock state = tt
 
 -- obeyed or refused
-after-of : (line : Signalling) (led : Result State LineFault) → IsOfIncoming line.state → IfOk led IsOfIncoming
+after-of : (line : LineState) (led : Result State LineFault) → IsOfIncoming line.state → IfOk led IsOfIncoming
     → IsOfIncoming (after_outcome line led).state
 after-of line (Ok state) h o = o
 after-of line (Err fault) h o = h
 
 -- nor does an item
-item-of : (line : Signalling) (item : Item) → IsOfIncoming line.state
+item-of : (line : LineState) (item : LineEvent) → IsOfIncoming line.state
     → IsOfIncoming (after_item Incoming line item).state
 item-of line (signal heard) h =
     let pairs : List ℕ = with_heard line.pairs heard in
@@ -93,13 +93,13 @@ item-of line (command asked) h =
 item-of line (wait signals) h = h
 
 -- nor do many
-items-of : (line : Signalling) (items : List Item) → IsOfIncoming line.state
+items-of : (line : LineState) (items : List LineEvent) → IsOfIncoming line.state
     → IsOfIncoming (fold (after_item Incoming) line items).state
 items-of line [] h = h
 items-of line (item ∷ items) h = items-of (after_item Incoming line item) items (item-of line item h)
 
 -- an incoming line is never Seized or Releasing
-pub incoming-never : (items : List Item)
+pub incoming-never : (items : List LineEvent)
     → ((signalling Incoming items).state ≢ Seized) × ((signalling Incoming items).state ≢ Releasing)
 unfolding signalling
 incoming-never items =

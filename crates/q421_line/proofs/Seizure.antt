@@ -10,20 +10,20 @@ use Rattle.q421_line.specs.declared.State.TheVariants.{ClearedBack, Releasing, B
 use Rattle.q421_line.specs.declared.LineFault.{LineFault}
 use Rattle.q421_line.specs.Recognition.{recognised}
 use Rattle.q421_line.specs.Commands.{command_outcome}
-use Rattle.q421_line.specs.Signalling.{Item, signal, command, wait, Signalling, signalling, at_first, with_count}
+use Rattle.q421_line.specs.Signalling.{LineEvent, signal, command, wait, LineState, signalling, at_first, with_count}
 use Rattle.q421_line.specs.Signalling.{after_item, after_outcome, with_heard, next_by, after_count}
 use Rattle.q421_line.specs.Laws.{IsSeizedThrough, waits, wait_after}
 use Rattle.q421_line.specs.Laws.{SeizuresAreReleased, SeizuresAreReleasedByTheHundredth}
 use Rattle.q421_line.proofs.Steps.{signalling-push, most-counted}
 
 -- a command keeps the wait
-most-obeyed : (line : Signalling) (led : Result State LineFault)
+most-obeyed : (line : LineState) (led : Result State LineFault)
     → (after_outcome line led).released_after ≡ line.released_after
 most-obeyed line (Ok state) = refl
 most-obeyed line (Err fault) = refl
 
 -- the wait of a line after items is the last one among them, or the former one
-most-last : (role : Role) (line : Signalling) (items : List Item)
+most-last : (role : Role) (line : LineState) (items : List LineEvent)
     → (fold (after_item role) line items).released_after
     ≡ fold (λ earlier latest. latest) line.released_after (waits items)
 most-last role line [] = refl
@@ -38,12 +38,12 @@ most-last role line (command asked ∷ items) =
 most-last role line (wait signals ∷ items) = most-last role (after_item role line (wait signals)) items
 
 -- so it is the wait in force
-pub most-is : (role : Role) (items : List Item) → (signalling role items).released_after ≡ wait_after items
+pub most-is : (role : Role) (items : List LineEvent) → (signalling role items).released_after ≡ wait_after items
 unfolding signalling
 most-is role items = most-last role at_first items
 
 -- a line that stays Seized with one more signal: its count rises by one, and has not reached the wait
-pub record GoesUp (most seized_for : ℕ) (line : Signalling) : Type 0 where
+pub record GoesUp (most seized_for : ℕ) (line : LineState) : Type 0 where
   pub up : line.seized_for ≡ seized_for + 1
   pub below : seized_for + 1 < most
   pub same : line.released_after ≡ most
@@ -55,9 +55,9 @@ count-up : (most : ℕ) (pairs : List ℕ) (after : State) (seized_for : ℕ)
 count-up most pairs Seized seized_for stays = go (nat_le most (seized_for + 1)) refl stays
   where
     go : (released : Bool) → nat_le most (seized_for + 1) ≡ released
-        → (cond {A = Signalling} released (with_count most pairs Releasing 0)
+        → (cond {A = LineState} released (with_count most pairs Releasing 0)
         (with_count most pairs Seized (seized_for + 1))).state ≡ Seized
-        → GoesUp most seized_for (cond {A = Signalling} released (with_count most pairs Releasing 0)
+        → GoesUp most seized_for (cond {A = LineState} released (with_count most pairs Releasing 0)
         (with_count most pairs Seized (seized_for + 1)))
     go true is stays = cc
     go false is stays =
@@ -80,20 +80,20 @@ count-up-from most pairs before after seized_for was = subst
     (sym was) (count-up most pairs after seized_for)
 
 -- the same for a line
-signal-up : (role : Role) (items : List Item) (heard : Option ℕ) → (signalling role items).state ≡ Seized
+signal-up : (role : Role) (items : List LineEvent) (heard : Option ℕ) → (signalling role items).state ≡ Seized
     → (signalling role (items ++ signal heard ∷ [])).state ≡ Seized
     → GoesUp (signalling role items).released_after (signalling role items).seized_for
     (signalling role (items ++ signal heard ∷ []))
 signal-up role items heard was stays =
-    let line : Signalling = signalling role items in
+    let line : LineState = signalling role items in
     let pairs : List ℕ = with_heard line.pairs heard in
     let push = signalling-push role items (signal heard) in
     subst (λ z. GoesUp line.released_after line.seized_for z) (sym push)
     (count-up-from line.released_after pairs line.state (next_by role line.state (recognised pairs)) line.seized_for was
-    (sym (ap (λ (z : Signalling). z.state) push) ∙ stays))
+    (sym (ap (λ (z : LineState). z.state) push) ∙ stays))
 
 -- a line that stays Seized through signals does so through the first
-first-up : (role : Role) (items : List Item) (heard : Option ℕ) (signals : List (Option ℕ))
+first-up : (role : Role) (items : List LineEvent) (heard : Option ℕ) (signals : List (Option ℕ))
     → IsSeizedThrough role items (heard ∷ signals)
     → GoesUp (signalling role items).released_after (signalling role items).seized_for
     (signalling role (items ++ signal heard ∷ []))
@@ -103,14 +103,14 @@ first-up role items heard signals through =
     (through 1 (omega arith))
 
 -- and the others do
-others-through : (role : Role) (items : List Item) (heard : Option ℕ) (signals : List (Option ℕ))
+others-through : (role : Role) (items : List LineEvent) (heard : Option ℕ) (signals : List (Option ℕ))
     → IsSeizedThrough role items (heard ∷ signals) → IsSeizedThrough role (items ++ signal heard ∷ []) signals
 others-through role items heard signals through count within =
     ap (λ z. (signalling role z).state) (append_assoc items (signal heard ∷ []) (map signal (take count signals)))
     ∙ through (suc count) (omega arith)
 
 -- so the count of a line that stays Seized through signals has not reached the wait at the last of them
-signals-up : (role : Role) (items : List Item) (heard : Option ℕ) (signals : List (Option ℕ))
+signals-up : (role : Role) (items : List LineEvent) (heard : Option ℕ) (signals : List (Option ℕ))
     → IsSeizedThrough role items (heard ∷ signals)
     → (signalling role items).seized_for + length (heard ∷ signals) < (signalling role items).released_after
 signals-up role items heard [] through =

@@ -10,7 +10,7 @@ use Rattle.q421_line.specs.declared.LineFault.{LineFault}
 use Rattle.q421_line.specs.Recognition.{run_of, recognised}
 use Rattle.q421_line.specs.Tables.{sent_pair, sent_nibble}
 use Rattle.q421_line.specs.Commands.{command_outcome, told_of}
-use Rattle.q421_line.specs.Signalling.{Item, signal, command, wait, signalling}
+use Rattle.q421_line.specs.Signalling.{LineEvent, signal, command, wait, signalling}
 
 -- A pair is recognised after ten equal known pairs, until another is. At first none is.
 abbrev pub PairsAreRecognisedByTen : Type 0
@@ -21,39 +21,39 @@ PairsAreRecognisedByTen = (recognised [] ≡ None)
 
 -- a refused command changes nothing of a line's signalling
 abbrev pub RefusedCommandsChangeNothing : Type 0
-RefusedCommandsChangeNothing = (role : Role) (items : List Item) (asked : Cmd) (fault : LineFault)
+RefusedCommandsChangeNothing = (role : Role) (items : List LineEvent) (asked : Cmd) (fault : LineFault)
     → told_of (command_outcome role asked (signalling role items).state) ≡ Err fault
     → signalling role (items ++ command asked ∷ []) ≡ signalling role items
 
 -- the line is Seized after these items, and with each of these signals
-abbrev pub IsSeizedThrough : Role → List Item → List (Option ℕ) → Type 0
+abbrev pub IsSeizedThrough : Role → List LineEvent → List (Option ℕ) → Type 0
 IsSeizedThrough role items signals = (count : ℕ) → count ≤ length signals
     → (signalling role (items ++ map signal (take count signals))).state ≡ Seized
 
 -- the waits among items
-abbrev pub waits : List Item → List ℕ
+abbrev pub waits : List LineEvent → List ℕ
 waits [] = []
 waits (wait signals ∷ items) = signals ∷ waits items
 waits (item ∷ items) = waits items
 
 -- the wait after items: the last one among them, or 100 signals
-abbrev pub wait_after : List Item → ℕ
+abbrev pub wait_after : List LineEvent → ℕ
 wait_after items = fold (λ earlier latest. latest) 100 (waits items)
 
 -- A seizure lasts fewer signals than the wait, whatever is received. If the wait is 0 or 1, the next signal
 -- releases it.
 abbrev pub SeizuresAreReleased : Type 0
-SeizuresAreReleased = (role : Role) (items : List Item) (signals : List (Option ℕ))
+SeizuresAreReleased = (role : Role) (items : List LineEvent) (signals : List (Option ℕ))
     → IsSeizedThrough role items signals → length signals < max 1 (wait_after items)
 
 -- so if no wait was given, a seizure lasts fewer than a hundred signals
 abbrev pub SeizuresAreReleasedByTheHundredth : Type 0
-SeizuresAreReleasedByTheHundredth = (role : Role) (items : List Item) (signals : List (Option ℕ))
+SeizuresAreReleasedByTheHundredth = (role : Role) (items : List LineEvent) (signals : List (Option ℕ))
     → waits items ≡ [] → IsSeizedThrough role items signals → length signals < 100
 
 -- a wait changes only the release of a seizure
 abbrev pub WaitsChangeNothingElse : Type 0
-WaitsChangeNothingElse = (role : Role) (items : List Item) (signals : ℕ)
+WaitsChangeNothingElse = (role : Role) (items : List LineEvent) (signals : ℕ)
     → signalling role (items ++ wait signals ∷ [])
     ≡ record (signalling role items) { released_after = signals }
 
@@ -63,5 +63,5 @@ SentPairsFit = (role : Role) (state : State) → sent_nibble (sent_pair role sta
 
 -- only an outgoing line seizes and releases
 abbrev pub IncomingIsNeverSeized : Type 0
-IncomingIsNeverSeized = (items : List Item)
+IncomingIsNeverSeized = (items : List LineEvent)
     → ((signalling Incoming items).state ≢ Seized) × ((signalling Incoming items).state ≢ Releasing)

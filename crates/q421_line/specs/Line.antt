@@ -4,7 +4,7 @@ use Rattle.q421_line.specs.declared.Role.{Role}
 use Rattle.q421_line.specs.declared.recognition.Recognition.{Recognition}
 use Rattle.q421_line.specs.declared.signalling.Line.{Line}
 use Rattle.q421_line.specs.Recognition.{run_of, recognised}
-use Rattle.q421_line.specs.Signalling.{Item, signalling}
+use Rattle.q421_line.specs.Signalling.{LineEvent, signalling}
 
 -- the fields after these known pairs: the last one, the number of equal ones at the end, up to ten, and the
 -- recognised pair
@@ -14,7 +14,7 @@ pub record HasHeard (recognition : Recognition) (pairs : List ℕ) : Type 0 wher
   pub recognised_is : recognition.recognised ≡ recognised pairs
 
 -- A line in this role has this history: its fields are those of its signalling.
-pub record HasHistory (line : Line) (role : Role) (items : List Item) : Type 0 where
+pub record HasHistory (line : Line) (role : Role) (items : List LineEvent) : Type 0 where
   pub role_is : line.role ≡ role
   pub state_is : line.state ≡ (signalling role items).state
   pub seized_for_is : line.seized_for ≡ (signalling role items).seized_for

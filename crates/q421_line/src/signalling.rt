@@ -4,7 +4,7 @@ ghost use Rattle.std.specs.Prelude.{◌≡◌, ℕ, ◌<◌, List, [], ◌∷◌
 ghost use Rattle.q421_line.specs.Recognition.{recognised};
 ghost use Rattle.q421_line.specs.Tables.{sent_pair, sent_nibble, is_open};
 ghost use Rattle.q421_line.specs.Commands.{command_outcome, told_of};
-ghost use Rattle.q421_line.specs.Signalling.{Item, signal, command, wait};
+ghost use Rattle.q421_line.specs.Signalling.{LineEvent, signal, command, wait};
 ghost use Rattle.q421_line.specs.Signalling.{signalling, next_by, after_count};
 ghost use Rattle.q421_line.specs.Line.{HasHistory};
 ghost use Rattle.q421_line.specs.Laws.{wait_after};
@@ -62,9 +62,9 @@ impl Line {
     /// This is the line's turn, once in a multiframe of 2 ms. With every signal the recognised pair gives the
     /// next state. A seizure that is not acknowledged within its wait is released.
     pub fn signal(&mut self, heard: Option<Nibble>) -> Nibble
-        ensures sent { (role : Role) (items : List Item) → HasHistory self.old role items
+        ensures sent { (role : Role) (items : List LineEvent) → HasHistory self.old role items
             → result ≡ sent_nibble (sent_pair role (signalling role (items ++ signal heard ∷ [])).state) }
-        ensures stands { (role : Role) (items : List Item) → HasHistory self.old role items
+        ensures stands { (role : Role) (items : List LineEvent) → HasHistory self.old role items
             → HasHistory self.new role (items ++ signal heard ∷ []) }
         ensures in_range { result < 16 }
     {
@@ -86,9 +86,9 @@ impl Line {
     /// `WrongRole` if the command is for the other role; otherwise the command's own fault if it is not
     /// possible in the state. A refused command changes nothing.
     pub fn command(&mut self, asked: Cmd) -> Result<(), LineFault>
-        ensures answer { (role : Role) (items : List Item) → HasHistory self.old role items
+        ensures answer { (role : Role) (items : List LineEvent) → HasHistory self.old role items
             → result ≡ told_of (command_outcome role asked (signalling role items).state) }
-        ensures stands { (role : Role) (items : List Item) → HasHistory self.old role items
+        ensures stands { (role : Role) (items : List LineEvent) → HasHistory self.old role items
             → HasHistory self.new role (items ++ command asked ∷ []) }
         ensures err { OnErr result (self.new ≡ self.old) }
     {
@@ -102,7 +102,7 @@ impl Line {
     /// From now on a seizure is released at this number of signals, or at the next signal if it has lasted
     /// longer already. One signal comes every 2 ms.
     pub fn release_after(&mut self, signals: u16)
-        ensures { (role : Role) (items : List Item) → HasHistory self.old role items
+        ensures { (role : Role) (items : List LineEvent) → HasHistory self.old role items
             → HasHistory self.new role (items ++ wait signals ∷ []) }
     {
         self.released_after = signals;
@@ -110,7 +110,7 @@ impl Line {
 
     /// The wait for an acknowledgement: at how many signals a seizure is released.
     pub fn released_after(&self) -> u16
-        ensures { (role : Role) (items : List Item) → HasHistory self.now role items
+        ensures { (role : Role) (items : List LineEvent) → HasHistory self.now role items
             → result ≡ wait_after items }
     {
         self.released_after
@@ -118,7 +118,7 @@ impl Line {
 
     /// The state.
     pub fn state(&self) -> State
-        ensures { (role : Role) (items : List Item) → HasHistory self.now role items
+        ensures { (role : Role) (items : List LineEvent) → HasHistory self.now role items
             → result ≡ (signalling role items).state }
     {
         self.state
@@ -126,7 +126,7 @@ impl Line {
 
     /// The pair sent in the present state, also between a command and the next signal.
     pub fn sent(&self) -> Pair
-        ensures { (role : Role) (items : List Item) → HasHistory self.now role items
+        ensures { (role : Role) (items : List LineEvent) → HasHistory self.now role items
             → result ≡ sent_pair role (signalling role items).state }
     {
         tables::sent_pair(self.role, self.state)
@@ -134,7 +134,7 @@ impl Line {
 
     /// The recognised pair, `None` until the first is recognised.
     pub fn recognised(&self) -> Option<Pair>
-        ensures { (role : Role) (items : List Item) → HasHistory self.now role items
+        ensures { (role : Role) (items : List LineEvent) → HasHistory self.now role items
             → result ≡ recognised (signalling role items).pairs }
     {
         self.recognition.recognised()
@@ -142,7 +142,7 @@ impl Line {
 
     /// Whether the speech path is open: from the acknowledgement of a seizure to the end of the call.
     pub fn open(&self) -> bool
-        ensures { (role : Role) (items : List Item) → HasHistory self.now role items
+        ensures { (role : Role) (items : List LineEvent) → HasHistory self.now role items
             → result ≡ is_open (signalling role items).state }
     {
         tables::is_open(self.state)

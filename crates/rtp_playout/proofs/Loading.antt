@@ -3,7 +3,7 @@ use Rattle.std.proofs.Common.{◌≡◌, ℕ, zero, suc, ◌-◌, ◌≤◌, ◌
 use Rattle.std.proofs.Common.{Option, Some, None, refl, sym, ap, ◌∙◌, arith, append_assoc, slice_index_or}
 use Rattle.std.proofs.Common.{All, IfSome}
 use Rattle.rtp_playout.specs.declared.playout.Playout.{Playout}
-use Rattle.rtp_playout.specs.declared.playout.Stream.{Stream}
+use Rattle.rtp_playout.specs.declared.playout.RtpStream.{RtpStream}
 use Rattle.circular_buffer.specs.Buffer.{Buffer, buffer, keep_last}
 use Rattle.rtp_playout.specs.Saved.{saved_place}
 use Rattle.saved_octets.proofs.Items.{Tells}

@@ -3,7 +3,7 @@
 use Rattle.std.specs.Prelude.{◌<◌, ◌^◌, ℕ, List, [], ◌∷◌, ◌++◌, Option, Some, None, flat_map}
 use Rattle.saved_octets.specs.Numbers.{four_octets}
 use Rattle.rtp_playout.specs.declared.playout.Playout.{Playout}
-use Rattle.rtp_playout.specs.declared.playout.Stream.{Stream}
+use Rattle.rtp_playout.specs.declared.playout.RtpStream.{RtpStream}
 
 -- a place: 0 if it is empty, otherwise 1 and the word
 abbrev pub saved_place : Option ℕ → List ℕ

@@ -12,9 +12,9 @@ use Rattle.satop_playout.specs.declared.ArrivalFault.{ArrivalFault}
 use Rattle.satop_playout.specs.declared.Settings.{Settings}
 use Rattle.satop_playout.specs.declared.playout.SatopPlayout.{SatopPlayout}
 use Rattle.satop_playout.specs.declared.slot.Slot.{Slot}
-use Rattle.satop_playout.specs.Calls.{Call, Begins, Arrives, Plays}
+use Rattle.satop_playout.specs.Calls.{PlayoutCall, Begins, Arrives, Plays}
 use Rattle.satop_playout.specs.Replacement.{fill_of}
-use Rattle.satop_playout.specs.Plays.{Placed, Stream, at_first, packet_at, number_after, ahead, refusal}
+use Rattle.satop_playout.specs.Plays.{PlacedPacket, PlayoutState, at_first, packet_at, number_after, ahead, refusal}
 use Rattle.satop_playout.specs.Plays.{after_beginning, after_play, due_now, octets_or_fill, octets_now, filled_for}
 use Rattle.satop_playout.specs.Plays.{stream, is_there, play_octets}
 use Rattle.satop_playout.specs.Standing.{Wraps, packet_in, packet_from, packet_of, IsNext, Keeps, HasHistory}
@@ -24,7 +24,7 @@ use Rattle.satop_playout.proofs.Turns.{accepted}
 use Rattle.satop_playout.proofs.Rings.{holds-put, holds-next}
 
 -- what holds at the settings of the playout holds at those of its history
-pub at_own : (playout : SatopPlayout) (calls : List Call) (P : Settings → Type 0)
+pub at_own : (playout : SatopPlayout) (calls : List PlayoutCall) (P : Settings → Type 0)
     → (HasHistory playout playout.settings calls → P playout.settings) → (settings : Settings)
     → HasHistory playout settings calls → P settings
 unfolding HasHistory
@@ -32,7 +32,7 @@ at_own playout calls P own settings k =
     subst P k.settings_are (own (subst (λ (t : Settings). Keeps playout t (stream t calls)) (sym k.settings_are) k))
 
 -- .. and of its state
-pub keeps_own : (playout : SatopPlayout) (s : Stream) (P : Settings → Type 0)
+pub keeps_own : (playout : SatopPlayout) (s : PlayoutState) (P : Settings → Type 0)
     → (Keeps playout playout.settings s → P playout.settings) → (settings : Settings)
     → Keeps playout settings s → P settings
 keeps_own playout s P own settings k =
@@ -75,7 +75,7 @@ rewritten count slots was size =
     ∙ take-append_seam slots (drop (length slots) was)
 
 -- a playout whose stream begins with this number
-pub keeps-begun : (playout after : SatopPlayout) (s : Stream) (sequence : ℕ) → Keeps playout playout.settings s
+pub keeps-begun : (playout after : SatopPlayout) (s : PlayoutState) (sequence : ℕ) → Keeps playout playout.settings s
     → after.settings ≡ playout.settings → length after.slots.items ≡ playout.settings.window
     → AllEmpty after.slots.items → after.head ≡ playout.head → sequence < 2 ^ 16 → after.next ≡ Some sequence
     → after.reach ≡ 0 → after.given ≡ playout.given → after.filled ≡ playout.filled
@@ -115,13 +115,14 @@ keeps-new playout room empty start next reach given filled = record {
 }
 
 -- a packet more leaves the number of the next one
-next-kept : (was next first : Option ℕ) (placed : List Placed) (now : ℕ) (q : Placed) → IsNext was first placed now
+next-kept : (was next first : Option ℕ) (placed : List PlacedPacket) (now : ℕ) (q : PlacedPacket)
+    → IsNext was first placed now
     → next ≡ was → is_some first ≡ true → IsNext next first (placed ++ q ∷ []) now
 next-kept was next None placed now q is e begun = cc
 next-kept was next (Some first) placed now q is e begun = e ∙ is
 
 -- a playout with a packet more
-pub keeps-put : (playout after : SatopPlayout) (s : Stream) (place p : ℕ) (slot : Slot) (octets : List ℕ)
+pub keeps-put : (playout after : SatopPlayout) (s : PlayoutState) (place p : ℕ) (slot : Slot) (octets : List ℕ)
     → Keeps playout playout.settings s → after.settings ≡ playout.settings
     → after.slots.items ≡ slice_set playout.slots.items p slot → after.head ≡ playout.head
     → after.next ≡ playout.next → after.reach ≡ max playout.reach (place + 1) → after.given ≡ playout.given
@@ -154,7 +155,7 @@ keeps-put playout after s place p slot octets k settings slots head next reach g
     }
 
 -- the number of the next packet after a play
-next-moved : (next first : Option ℕ) (placed : List Placed) (now : ℕ) → IsNext next first placed now
+next-moved : (next first : Option ℕ) (placed : List PlacedPacket) (now : ℕ) → IsNext next first placed now
     → IsNext (number_after next) first placed (now + 1)
 next-moved next None placed now is = (ap number_after is.0, is.1)
 next-moved next (Some first) placed now is =
@@ -179,7 +180,7 @@ keep-more n xs ys =
     ∙ drop-append-add before (kept ++ ys) (length (kept ++ ys) - n))
 
 -- a playout after a play
-pub keeps-play : (playout after : SatopPlayout) (s : Stream) (slot : Slot) → Keeps playout playout.settings s
+pub keeps-play : (playout after : SatopPlayout) (s : PlayoutState) (slot : Slot) → Keeps playout playout.settings s
     → after.settings ≡ playout.settings → after.slots.items ≡ slice_set playout.slots.items playout.head slot
     → packet_in playout.settings.size slot ≡ None → Wraps playout.head 1 playout.settings.window after.head
     → after.next ≡ number_after playout.next → after.reach ≡ playout.reach - 1
@@ -212,7 +213,7 @@ keeps-play playout after s slot k settings slots empty moved next reach given fi
     }
 
 -- after a beginning the playout has the longer history
-pub stands-begun : (playout after : SatopPlayout) (settings : Settings) (calls : List Call) (sequence : ℕ)
+pub stands-begun : (playout after : SatopPlayout) (settings : Settings) (calls : List PlayoutCall) (sequence : ℕ)
     → HasHistory playout settings calls → after.settings ≡ playout.settings
     → length after.slots.items ≡ playout.settings.window → AllEmpty after.slots.items → after.head ≡ playout.head
     → sequence < 2 ^ 16 → after.next ≡ Some sequence → after.reach ≡ 0 → after.given ≡ playout.given
@@ -220,26 +221,26 @@ pub stands-begun : (playout after : SatopPlayout) (settings : Settings) (calls :
 unfolding HasHistory
 stands-begun playout after settings calls sequence k is room empty head fits next reach given filled =
     at_own playout calls (λ (t : Settings). HasHistory after t (calls ++ Begins sequence ∷ []))
-    (λ own. subst (λ (s : Stream). Keeps after playout.settings s)
+    (λ own. subst (λ (s : PlayoutState). Keeps after playout.settings s)
     (sym (stream-push playout.settings calls (Begins sequence)))
     (keeps-begun playout after (stream playout.settings calls) sequence own is room empty head fits next reach given
     filled)) settings k
 
 -- .. and after a packet that is refused
-pub stands-refused : (playout : SatopPlayout) (settings : Settings) (calls : List Call) (sequence : ℕ)
+pub stands-refused : (playout : SatopPlayout) (settings : Settings) (calls : List PlayoutCall) (sequence : ℕ)
     (octets : List ℕ) (fault : ArrivalFault) → HasHistory playout settings calls
     → refusal settings (stream settings calls) sequence octets ≡ Some fault
     → HasHistory playout settings (calls ++ Arrives sequence octets ∷ [])
 unfolding HasHistory
 stands-refused playout settings calls sequence octets fault k why =
-    subst (λ (s : Stream). Keeps playout settings s)
+    subst (λ (s : PlayoutState). Keeps playout settings s)
     (sym (stream-push settings calls (Arrives sequence octets)
     ∙ after-refused settings (stream settings calls) sequence octets fault why)) k
 
 -- .. and after one that is accepted and put into its slot
-pub stands-put : (playout after : SatopPlayout) (settings : Settings) (calls : List Call) (sequence : ℕ)
+pub stands-put : (playout after : SatopPlayout) (settings : Settings) (calls : List PlayoutCall) (sequence : ℕ)
     (octets : List ℕ) (place p : ℕ) (slot : Slot) → HasHistory playout settings calls
-    → ((s : Stream) → Keeps playout playout.settings s
+    → ((s : PlayoutState) → Keeps playout playout.settings s
     → (refusal playout.settings s sequence octets ≡ None) × (place ≡ ahead s sequence))
     → after.settings ≡ playout.settings → after.slots.items ≡ slice_set playout.slots.items p slot
     → after.head ≡ playout.head → after.next ≡ playout.next → after.reach ≡ max playout.reach (place + 1)
@@ -256,7 +257,7 @@ stands-put playout after settings calls sequence octets place p slot k told is s
     let a = accepted playout.settings s sequence octets why.0 in
     let free : packet_at s.placed (s.now + place) ≡ None =
     ap (λ (n : ℕ). packet_at s.placed (s.now + n)) why.1 ∙ a.free in
-    subst (λ (t : Stream). Keeps after playout.settings t)
+    subst (λ (t : PlayoutState). Keeps after playout.settings t)
     (sym (stream-push playout.settings calls (Arrives sequence octets)
     ∙ after-accepted playout.settings s sequence octets why.0
     ∙ ap (λ (n : ℕ). with_packet s (s.now + n) octets) (sym why.1)))
@@ -264,7 +265,7 @@ stands-put playout after settings calls sequence octets place p slot k told is s
     settings k
 
 -- the packet whose turn it is, in the slot of the next one
-due-in : (playout : SatopPlayout) (s : Stream) (slot : Slot) → Keeps playout playout.settings s
+due-in : (playout : SatopPlayout) (s : PlayoutState) (slot : Slot) → Keeps playout playout.settings s
     → slot ≡ get_or playout.slots.items playout.head slot → packet_in playout.settings.size slot ≡ due_now s
 due-in playout s slot k is =
     let room = k.room in
@@ -300,13 +301,13 @@ pub record Played (playout : SatopPlayout) (slot : Slot) (there : Bool) (given :
       → filled ≡ min (cond there 0 (count + length taken)) 2048
 
 -- whether the packet was there
-played-there : (playout : SatopPlayout) (slot : Slot) (there : Bool) (given : List ℕ) (filled : ℕ) (s : Stream)
+played-there : (playout : SatopPlayout) (slot : Slot) (there : Bool) (given : List ℕ) (filled : ℕ) (s : PlayoutState)
     → Played playout slot there given filled → Keeps playout playout.settings s → there ≡ is_some (due_now s)
 played-there playout slot there given filled s p k =
     p.told ∙ ap (λ (n : ℕ). is_some (packet_in n slot)) p.size ∙ ap is_some (due-in playout s slot k p.read)
 
 -- .. and the octets of the play
-played-octets : (playout : SatopPlayout) (slot : Slot) (there : Bool) (given : List ℕ) (filled : ℕ) (s : Stream)
+played-octets : (playout : SatopPlayout) (slot : Slot) (there : Bool) (given : List ℕ) (filled : ℕ) (s : PlayoutState)
     → Played playout slot there given filled → Keeps playout playout.settings s
     → given ≡ octets_now playout.settings s
 played-octets playout slot there given filled s p k =
@@ -320,7 +321,8 @@ played-octets playout slot there given filled s p k =
     ∙ ap (λ (n : ℕ). cond there p.taken (fill_of playout.settings.fill n s.given s.filled)) (p.taken_size ∙ p.size))
 
 -- what a play answers
-pub there-answer : (playout : SatopPlayout) (settings : Settings) (calls : List Call) (slot : Slot) (there : Bool)
+pub there-answer : (playout : SatopPlayout) (settings : Settings) (calls : List PlayoutCall) (slot : Slot)
+    (there : Bool)
     (given : List ℕ) (filled : ℕ) → Played playout slot there given filled → HasHistory playout settings calls
     → there ≡ is_there settings calls
 unfolding HasHistory is_there
@@ -329,7 +331,8 @@ there-answer playout settings calls slot there given filled p k =
     (λ own. played-there playout slot there given filled (stream playout.settings calls) p own) settings k
 
 -- what a play gives
-pub octets-answer : (playout : SatopPlayout) (settings : Settings) (calls : List Call) (slot : Slot) (there : Bool)
+pub octets-answer : (playout : SatopPlayout) (settings : Settings) (calls : List PlayoutCall) (slot : Slot)
+    (there : Bool)
     (given : List ℕ) (filled : ℕ) → Played playout slot there given filled → HasHistory playout settings calls
     → given ≡ play_octets settings calls
 unfolding HasHistory play_octets
@@ -338,7 +341,7 @@ octets-answer playout settings calls slot there given filled p k =
     (λ own. played-octets playout slot there given filled (stream playout.settings calls) p own) settings k
 
 -- after a play the playout has the longer history
-pub stands-play : (playout after : SatopPlayout) (settings : Settings) (calls : List Call) (slot emptied : Slot)
+pub stands-play : (playout after : SatopPlayout) (settings : Settings) (calls : List PlayoutCall) (slot emptied : Slot)
     (there : Bool) (given : List ℕ) (filled : ℕ) → Played playout slot there given filled
     → HasHistory playout settings calls → after.settings ≡ playout.settings
     → after.slots.items ≡ slice_set playout.slots.items playout.head emptied
@@ -353,7 +356,7 @@ stands-play playout after settings calls slot emptied there given filled p k is 
     let s = stream playout.settings calls in
     let octets = played-octets playout slot there given filled s p own in
     let here = played-there playout slot there given filled s p own in
-    subst (λ (t : Stream). Keeps after playout.settings t) (sym (stream-push playout.settings calls Plays))
+    subst (λ (t : PlayoutState). Keeps after playout.settings t) (sym (stream-push playout.settings calls Plays))
     (keeps-play playout after s emptied own is slots (empty playout.settings.size) moved next reach
     (kept ∙ ap (λ (xs : List ℕ). buffer (keep_last playout.given.capacity (playout.given.items ++ xs))
     playout.given.capacity) octets)

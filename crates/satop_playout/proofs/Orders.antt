@@ -8,9 +8,10 @@ use Rattle.std.proofs.lemmas.List.Elements.{All-nil, All-cons, All-append, All-h
 use Rattle.std.proofs.lemmas.List.Sorted.{IsPermutation-map, IsPermutation-append_right, IsPermutation-sym}
 use Rattle.std.proofs.lemmas.List.Sorted.{All-permutation}
 use Rattle.satop_playout.specs.declared.Settings.{Settings}
-use Rattle.satop_playout.specs.Calls.{Call, Begins, Arrives, Plays}
+use Rattle.satop_playout.specs.Calls.{PlayoutCall, Begins, Arrives, Plays}
 use Rattle.satop_playout.specs.Replacement.{fill_of}
-use Rattle.satop_playout.specs.Plays.{Placed, Stream, at_first, packet_at, ahead_of, ahead, refusal, after_arrival}
+use Rattle.satop_playout.specs.Plays.{PlacedPacket, PlayoutState, at_first, packet_at, ahead_of, ahead, refusal}
+use Rattle.satop_playout.specs.Plays.{after_arrival}
 use Rattle.satop_playout.specs.Plays.{after_beginning, after_play, after_call, octets_or_fill, filled_for, stream}
 use Rattle.satop_playout.specs.Plays.{arrival_answer, given_octets}
 use Rattle.satop_playout.specs.Laws.{plays_in, NoBeginning, arrivals_of, AllAccepted, OrderDoesNotMatter}
@@ -19,7 +20,7 @@ use Rattle.satop_playout.proofs.Placing.{with_packet, after-accepted, after-refu
 use Rattle.satop_playout.proofs.Turns.{accepted, after, now-arrival}
 
 -- each packet that arrives in calls is accepted, from a state on
-abbrev AcceptsIn : Settings → Stream → List Call → Type 0
+abbrev AcceptsIn : Settings → PlayoutState → List PlayoutCall → Type 0
 AcceptsIn settings s [] = Unit {0}
 AcceptsIn settings s (Begins sequence ∷ calls) = AcceptsIn settings (after_beginning s sequence) calls
 AcceptsIn settings s (Arrives sequence octets ∷ calls) =
@@ -27,31 +28,31 @@ AcceptsIn settings s (Arrives sequence octets ∷ calls) =
 AcceptsIn settings s (Plays ∷ calls) = AcceptsIn settings (after_play settings s) calls
 
 -- calls whose packets are accepted after other calls accept them from the state that those led to
-accepts-in : (settings : Settings) (before calls : List Call) → AllAccepted settings before calls
+accepts-in : (settings : Settings) (before calls : List PlayoutCall) → AllAccepted settings before calls
     → AcceptsIn settings (stream settings before) calls
 unfolding arrival_answer
 accepts-in settings before [] all = tt
 accepts-in settings before (Begins sequence ∷ calls) all =
-    subst (λ (s : Stream). AcceptsIn settings s calls) (stream-push settings before (Begins sequence))
+    subst (λ (s : PlayoutState). AcceptsIn settings s calls) (stream-push settings before (Begins sequence))
     (accepts-in settings (before ++ Begins sequence ∷ []) calls all)
 accepts-in settings before (Arrives sequence octets ∷ calls) all = (
   not-refused (refusal settings (stream settings before) sequence octets) all.0,
-  subst (λ (s : Stream). AcceptsIn settings s calls) (stream-push settings before (Arrives sequence octets))
+  subst (λ (s : PlayoutState). AcceptsIn settings s calls) (stream-push settings before (Arrives sequence octets))
       (accepts-in settings (before ++ Arrives sequence octets ∷ []) calls all.1),
 )
 accepts-in settings before (Plays ∷ calls) all =
-    subst (λ (s : Stream). AcceptsIn settings s calls) (stream-push settings before Plays)
+    subst (λ (s : PlayoutState). AcceptsIn settings s calls) (stream-push settings before Plays)
     (accepts-in settings (before ++ Plays ∷ []) calls all)
 
 -- Each accepted packet is the one of its place: no two have one place.
-abbrev IsFound : List Placed → Placed → Type 0
+abbrev IsFound : List PlacedPacket → PlacedPacket → Type 0
 IsFound placed p = packet_at placed p.place ≡ Some p.octets
 
-abbrev AllFound : List Placed → Type 0
+abbrev AllFound : List PlacedPacket → Type 0
 AllFound placed = All (λ p. IsFound placed p) placed
 
 -- what was found is found still if one packet more is accepted
-found-kept : (placed among : List Placed) (q : Placed) → All (λ p. IsFound placed p) among
+found-kept : (placed among : List PlacedPacket) (q : PlacedPacket) → All (λ p. IsFound placed p) among
     → All (λ p. IsFound (placed ++ q ∷ []) p) among
 found-kept placed [] q all = All-nil (λ p. IsFound (placed ++ q ∷ []) p)
 found-kept placed (p ∷ among) q all =
@@ -60,7 +61,8 @@ found-kept placed (p ∷ among) q all =
     (found-kept placed among q (All-tail (λ p. IsFound placed p) p among all))
 
 -- a packet at a free place is found beside those before it
-found-push : (placed : List Placed) (place : ℕ) (octets : List ℕ) → AllFound placed → packet_at placed place ≡ None
+found-push : (placed : List PlacedPacket) (place : ℕ) (octets : List ℕ) → AllFound placed
+    → packet_at placed place ≡ None
     → AllFound (placed ++ placed_at place octets ∷ [])
 found-push placed place octets all free =
     let q = placed_at place octets in
@@ -69,7 +71,7 @@ found-push placed place octets all free =
     (All-nil (λ p. IsFound (placed ++ q ∷ []) p)))
 
 -- after any calls
-found-after : (settings : Settings) (s : Stream) (calls : List Call) → AllFound s.placed
+found-after : (settings : Settings) (s : PlayoutState) (calls : List PlayoutCall) → AllFound s.placed
     → AllFound (after settings s calls).placed
 found-after settings s [] all = all
 found-after settings s (Begins sequence ∷ calls) all =
@@ -81,14 +83,15 @@ found-after settings s (Arrives sequence octets ∷ calls) all =
     by_refusal : (r : Option _) → refusal settings s sequence octets ≡ r
         → AllFound (after_arrival settings s sequence octets).placed
     by_refusal None e =
-        subst (λ (t : Stream). AllFound t.placed) (sym (after-accepted settings s sequence octets e))
+        subst (λ (t : PlayoutState). AllFound t.placed) (sym (after-accepted settings s sequence octets e))
         (found-push s.placed (s.now + ahead s sequence) octets all (accepted settings s sequence octets e).free)
     by_refusal (Some fault) e =
-        subst (λ (t : Stream). AllFound t.placed) (sym (after-refused settings s sequence octets fault e)) all
+        subst (λ (t : PlayoutState). AllFound t.placed) (sym (after-refused settings s sequence octets fault e)) all
 found-after settings s (Plays ∷ calls) all = found-after settings (after_play settings s) calls all
 
 -- .. the first of them, or one of the others
-found-first : (placed : List Placed) (p : Placed) (k : ℕ) (rest : Option (List ℕ)) (octets : List ℕ) (b : Bool)
+found-first : (placed : List PlacedPacket) (p : PlacedPacket) (k : ℕ) (rest : Option (List ℕ)) (octets : List ℕ)
+    (b : Bool)
     → (p.place == k) ≡ b → IsFound placed p → (rest ≡ Some octets → packet_at placed k ≡ Some octets)
     → cond b (Some p.octets) rest ≡ Some octets → packet_at placed k ≡ Some octets
 found-first placed p k rest octets true at found others e =
@@ -96,7 +99,7 @@ found-first placed p k rest octets true at found others e =
 found-first placed p k rest octets false at found others e = others e
 
 -- a packet that is the one of its place among some is the one among others of the same packets
-found-among : (placed among : List Placed) (k : ℕ) (octets : List ℕ) → All (λ p. IsFound placed p) among
+found-among : (placed among : List PlacedPacket) (k : ℕ) (octets : List ℕ) → All (λ p. IsFound placed p) among
     → packet_at among k ≡ Some octets → packet_at placed k ≡ Some octets
 found-among placed [] k octets all e = cc
 found-among placed (p ∷ among) k octets all e =
@@ -111,7 +114,7 @@ same-option None (Some o) there back = back o refl
 same-option (Some o) b there back = sym (there o refl)
 
 -- the same packets in any order have the same one at each place
-same-packets : (one other : List Placed) (k : ℕ) → IsPermutation one other → AllFound one → AllFound other
+same-packets : (one other : List PlacedPacket) (k : ℕ) → IsPermutation one other → AllFound one → AllFound other
     → packet_at one k ≡ packet_at other k
 same-packets one other k moved all-one all-other =
     let there = All-permutation (λ p. IsFound other p) other one (IsPermutation-sym one other moved) all-other in
@@ -120,7 +123,7 @@ same-packets one other k moved all-one all-other =
     (λ o e. found-among one other k o back e)
 
 -- what plays give if all packets are known at first
-abbrev ran : Settings → List Placed → ℕ → List ℕ → ℕ → ℕ → List ℕ
+abbrev ran : Settings → List PlacedPacket → ℕ → List ℕ → ℕ → ℕ → List ℕ
 ran settings placed now given filled zero = given
 ran settings placed now given filled (suc count) =
     ran settings placed (now + 1)
@@ -128,7 +131,7 @@ ran settings placed now given filled (suc count) =
     (filled_for (packet_at placed now) settings.size filled) count
 
 -- they give the same of the same packets
-ran-same : (settings : Settings) (one other : List Placed) (now : ℕ) (given : List ℕ) (filled count : ℕ)
+ran-same : (settings : Settings) (one other : List PlacedPacket) (now : ℕ) (given : List ℕ) (filled count : ℕ)
     → ((k : ℕ) → packet_at one k ≡ packet_at other k)
     → ran settings one now given filled count ≡ ran settings other now given filled count
 ran-same settings one other now given filled zero same = refl
@@ -141,14 +144,14 @@ ran-same settings one other now given filled (suc count) same =
     (filled_for (packet_at other now) settings.size filled) count same
 
 module _ (settings : Settings) where
-  either-past : (b : Bool) (s : Stream) (place k : ℕ) (octets : List ℕ) → k < place
+  either-past : (b : Bool) (s : PlayoutState) (place k : ℕ) (octets : List ℕ) → k < place
       → packet_at (cond b s (with_packet s place octets)).placed k ≡ packet_at s.placed k
   either-past true s place k octets h = refl
   either-past false s place k octets h =
       packet_at-apart s.placed (placed_at place octets) k (λ e. omega (arith, e, h))
 
   -- packets that arrive later change nothing at the places of earlier plays
-  past-after : (s : Stream) (calls : List Call) (k : ℕ) → NoBeginning calls → k < s.now
+  past-after : (s : PlayoutState) (calls : List PlayoutCall) (k : ℕ) → NoBeginning calls → k < s.now
       → packet_at (after settings s calls).placed k ≡ packet_at s.placed k
   past-after s [] k none h = refl
   past-after s (Begins sequence ∷ calls) k none h = absurd none
@@ -158,16 +161,16 @@ module _ (settings : Settings) where
       ∙ either-past (is_some (refusal settings s sequence octets)) s (s.now + ahead s sequence) k octets (omega arith)
   past-after s (Plays ∷ calls) k none h = past-after (after_play settings s) calls k none (omega arith)
 
-  abbrev ran_from : Stream → List Placed → ℕ → List ℕ
+  abbrev ran_from : PlayoutState → List PlacedPacket → ℕ → List ℕ
   ran_from s placed count = ran settings placed s.now s.given s.filled count
 
-  either-ran : (b : Bool) (s : Stream) (place : ℕ) (octets : List ℕ) (placed : List Placed) (count : ℕ)
+  either-ran : (b : Bool) (s : PlayoutState) (place : ℕ) (octets : List ℕ) (placed : List PlacedPacket) (count : ℕ)
       → ran_from (cond b s (with_packet s place octets)) placed count ≡ ran_from s placed count
   either-ran true s place octets placed count = refl
   either-ran false s place octets placed count = refl
 
   -- what plays among calls give is what they give of all packets, also those still to come
-  given-ran : (s : Stream) (calls : List Call) → NoBeginning calls
+  given-ran : (s : PlayoutState) (calls : List PlayoutCall) → NoBeginning calls
       → (after settings s calls).given ≡ ran_from s (after settings s calls).placed (plays_in calls)
   given-ran s [] none = refl
   given-ran s (Begins sequence ∷ calls) none = absurd none
@@ -185,7 +188,7 @@ module _ (settings : Settings) where
       (filled_for o settings.size s.filled) (plays_in calls)) now
 
 -- a packet at the place of its number, for a stream whose next place is this one
-abbrev by_number : Option ℕ → ℕ → ℕ × List ℕ → Placed
+abbrev by_number : Option ℕ → ℕ → ℕ × List ℕ → PlacedPacket
 by_number first now packet = placed_at (now + ahead_of first now packet.0) packet.1
 
 -- in 2^15 plays the place of an accepted packet follows from its number alone
@@ -196,7 +199,8 @@ number-fixed None now plays sequence begun few on_time = cc
 number-fixed (Some first) now plays sequence begun few on_time = omega arith
 
 -- each accepted packet is put behind those before it, at the place of its number
-placed-by_number : (settings : Settings) (first : Option ℕ) (now plays : ℕ) (s : Stream) (calls : List Call)
+placed-by_number : (settings : Settings) (first : Option ℕ) (now plays : ℕ) (s : PlayoutState)
+    (calls : List PlayoutCall)
     → s.first ≡ first → s.now ≡ now + plays → NoBeginning calls → AcceptsIn settings s calls
     → plays + plays_in calls ≤ 2 ^ 15
     → (after settings s calls).placed ≡ s.placed ++ map (by_number first now) (arrivals_of calls)
@@ -215,9 +219,9 @@ placed-by_number settings first now plays s (Arrives sequence octets ∷ calls) 
     ≡ with_packet s (now + ahead_of first now sequence) octets =
     after-accepted settings s sequence octets all.0 ∙ ap (λ (n : ℕ). with_packet s n octets) place in
     let next = with_packet s (now + ahead_of first now sequence) octets in
-    ap (λ (t : Stream). (after settings t calls).placed) same
+    ap (λ (t : PlayoutState). (after settings t calls).placed) same
     ∙ placed-by_number settings first now plays next calls f at none
-    (subst (λ (t : Stream). AcceptsIn settings t calls) same all.1) few
+    (subst (λ (t : PlayoutState). AcceptsIn settings t calls) same all.1) few
     ∙ append_assoc s.placed (by_number first now (sequence, octets) ∷ []) rest
 placed-by_number settings first now plays s (Plays ∷ calls) f at none all few =
     placed-by_number settings first now (plays + 1) (after_play settings s) calls f (omega arith) none all (omega arith)
@@ -238,14 +242,14 @@ order_does_not_matter settings lead one other none-one none-other moved as_many 
     (accepts-in settings lead other all-other) (omega arith) in
     let among = IsPermutation-append_right s.placed (map f (arrivals_of one)) (map f (arrivals_of other))
     (IsPermutation-map f (arrivals_of one) (arrivals_of other) moved) in
-    let one-found = subst (λ (ps : List Placed). AllFound ps) was-one (found-after settings s one found) in
-    let other-found = subst (λ (ps : List Placed). AllFound ps) was-other (found-after settings s other found) in
+    let one-found = subst (λ (ps : List PlacedPacket). AllFound ps) was-one (found-after settings s one found) in
+    let other-found = subst (λ (ps : List PlacedPacket). AllFound ps) was-other (found-after settings s other found) in
     let same : (k : ℕ) → packet_at (after settings s one).placed k ≡ packet_at (after settings s other).placed k =
-    λ k. ap (λ (ps : List Placed). packet_at ps k) was-one
+    λ k. ap (λ (ps : List PlacedPacket). packet_at ps k) was-one
     ∙ same-packets (s.placed ++ map f (arrivals_of one)) (s.placed ++ map f (arrivals_of other)) k among one-found
-    other-found ∙ ap (λ (ps : List Placed). packet_at ps k) (sym was-other) in
-    ap (λ (t : Stream). t.given) whole-one ∙ given-ran settings s one none-one
+    other-found ∙ ap (λ (ps : List PlacedPacket). packet_at ps k) (sym was-other) in
+    ap (λ (t : PlayoutState). t.given) whole-one ∙ given-ran settings s one none-one
     ∙ ran-same settings (after settings s one).placed (after settings s other).placed s.now s.given s.filled
     (plays_in one) same
     ∙ ap (λ (n : ℕ). ran_from settings s (after settings s other).placed n) as_many
-    ∙ sym (given-ran settings s other none-other) ∙ sym (ap (λ (t : Stream). t.given) whole-other)
+    ∙ sym (given-ran settings s other none-other) ∙ sym (ap (λ (t : PlayoutState). t.given) whole-other)

@@ -5,7 +5,7 @@ use Rattle.std.proofs.lemmas.Bool.{lt-leb}
 use Rattle.satop_playout.specs.declared.ArrivalFault.TheVariants.{Repeat}
 use Rattle.satop_playout.specs.declared.playout.SatopPlayout.{SatopPlayout}
 use Rattle.satop_playout.specs.declared.slot.Slot.{Slot}
-use Rattle.satop_playout.specs.Plays.{Placed, Stream, packet_at, ahead_of, ahead, refusal}
+use Rattle.satop_playout.specs.Plays.{PlacedPacket, PlayoutState, packet_at, ahead_of, ahead, refusal}
 use Rattle.satop_playout.specs.Standing.{Wraps, packet_in, IsNext, Keeps}
 use Rattle.satop_playout.proofs.Placing.{told}
 use Rattle.satop_playout.proofs.Keeping.{slot-read}
@@ -16,7 +16,7 @@ told-last : (o n l t r : Bool) → o ≡ false → n ≡ false → l ≡ false �
 told-last o n l t r a b c d = rw (a, b, c, d) refl
 
 -- a number so far behind that of the next packet is so many places ahead
-ahead-is : (number first : Option ℕ) (placed : List Placed) (now next sequence place : ℕ)
+ahead-is : (number first : Option ℕ) (placed : List PlacedPacket) (now next sequence place : ℕ)
     → IsNext number first placed now → number ≡ Some next → place ≡ (sequence + (2 ^ 16 - next)) % 2 ^ 16
     → (is_some first ≡ true) × (place ≡ ahead_of first now sequence)
 ahead-is number None placed now next sequence place is e d = cc (is.0, e)
@@ -25,7 +25,7 @@ ahead-is number (Some first) placed now next sequence place is e d =
     (refl, omega arith)
 
 -- what was asked of a packet that arrives: its number of octets, its place and its slot
-pub record Asked (playout : SatopPlayout) (s : Stream) (sequence : ℕ) (octets : List ℕ) (place : ℕ) : Type 0 where
+pub record Asked (playout : SatopPlayout) (s : PlayoutState) (sequence : ℕ) (octets : List ℕ) (place : ℕ) : Type 0 where
   pub size_is : length octets ≡ playout.settings.size
   pub begun : is_some s.first ≡ true
   pub place_is : place ≡ ahead s sequence
@@ -33,7 +33,7 @@ pub record Asked (playout : SatopPlayout) (s : Stream) (sequence : ℕ) (octets 
   pub near : place < playout.settings.window
 
 -- .. as the playout finds them
-pub asked : (playout : SatopPlayout) (s : Stream) (sequence : ℕ) (octets : List ℕ) (next place : ℕ)
+pub asked : (playout : SatopPlayout) (s : PlayoutState) (sequence : ℕ) (octets : List ℕ) (next place : ℕ)
     → Keeps playout playout.settings s → length octets ≡ playout.settings.size → playout.next ≡ Some next
     → place ≡ (sequence + (2 ^ 16 - next)) % 2 ^ 16 → place < 2 ^ 15 → place < playout.settings.window
     → Asked playout s sequence octets place
@@ -42,7 +42,7 @@ asked playout s sequence octets next place k size number is on_time near =
     record { size_is = size; begun = at.0; place_is = at.1; on_time = on_time; near = near }
 
 -- whether the packet of the place is held says whether it is a repeat
-pub repeats : (playout : SatopPlayout) (s : Stream) (sequence : ℕ) (octets : List ℕ) (place p : ℕ) (slot : Slot)
+pub repeats : (playout : SatopPlayout) (s : PlayoutState) (sequence : ℕ) (octets : List ℕ) (place p : ℕ) (slot : Slot)
     → Keeps playout playout.settings s → Asked playout s sequence octets place
     → Wraps playout.head place playout.settings.window p → slot ≡ get_or playout.slots.items p slot
     → refusal playout.settings s sequence octets

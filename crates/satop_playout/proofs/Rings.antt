@@ -4,7 +4,7 @@ use Rattle.std.proofs.Common.{Some, None, slice_set, sym, ap, ◌∙◌, arith}
 use Rattle.std.proofs.lemmas.Bool.{cases_eq, cases_lt}
 use Rattle.circular_buffer.proofs.Places.{slice_get-set_same, slice_get-set_other}
 use Rattle.satop_playout.specs.declared.slot.Slot.{Slot}
-use Rattle.satop_playout.specs.Plays.{Placed, packet_at}
+use Rattle.satop_playout.specs.Plays.{PlacedPacket, packet_at}
 use Rattle.satop_playout.specs.Standing.{Wraps, packet_in, packet_from, packet_of}
 use Rattle.satop_playout.proofs.Placing.{placed_at, packet_at-free, packet_at-apart}
 
@@ -48,12 +48,12 @@ pub packet-other : (size : ℕ) (slots : List Slot) (p q : ℕ) (slot : Slot) �
 packet-other size slots p q slot other = ap (packet_from size) (slice_get-set_other slots p q slot other)
 
 -- The slots hold the packets of the places from one on.
-abbrev pub Holds : ℕ → ℕ → ℕ → List Slot → List Placed → ℕ → Type 0
+abbrev pub Holds : ℕ → ℕ → ℕ → List Slot → List PlacedPacket → ℕ → Type 0
 Holds size window head slots placed now = (k p : ℕ) → k < window → Wraps head k window p
     → packet_of size slots p ≡ packet_at placed (now + k)
 
 -- a packet is put into the slot of its place, which is free
-pub holds-put : (size window head now d p : ℕ) (slots : List Slot) (placed : List Placed) (slot : Slot)
+pub holds-put : (size window head now d p : ℕ) (slots : List Slot) (placed : List PlacedPacket) (slot : Slot)
     (octets : List ℕ) → Holds size window head slots placed now → length slots ≡ window → d < window
     → Wraps head d window p → packet_in size slot ≡ Some octets → packet_at placed (now + d) ≡ None
     → Holds size window head (slice_set slots p slot) (placed ++ placed_at (now + d) octets ∷ []) now
@@ -74,7 +74,7 @@ holds-put size window head now d p slots placed slot octets held room near at is
     ]
 
 -- the slot of the next packet is emptied, and the places move on by one
-pub holds-next : (size window head next now : ℕ) (slots : List Slot) (placed : List Placed) (slot : Slot)
+pub holds-next : (size window head next now : ℕ) (slots : List Slot) (placed : List PlacedPacket) (slot : Slot)
     → Holds size window head slots placed now → length slots ≡ window → head < window
     → Wraps head 1 window next → packet_in size slot ≡ None → packet_at placed (now + window) ≡ None
     → Holds size window next (slice_set slots head slot) placed (now + 1)

@@ -3,7 +3,7 @@ use Rattle.std.proofs.Common.{◌≡◌, ℕ, List, [], ◌∷◌, ◌++◌, fal
 use Rattle.satop_playout.specs.declared.ArrivalFault.TheVariants.{OtherSize, NotBegun, Late, TooFar, Repeat}
 use Rattle.satop_playout.specs.declared.Replacement.TheVariants.{Again, Ones}
 use Rattle.satop_playout.specs.declared.Settings.{Settings}
-use Rattle.satop_playout.specs.Calls.{Call, Begins, Arrives, Plays}
+use Rattle.satop_playout.specs.Calls.{PlayoutCall, Begins, Arrives, Plays}
 use Rattle.satop_playout.specs.Replacement.{again, fill_of}
 use Rattle.satop_playout.specs.Plays.{stream, arrival_answer, is_there, given_octets, reach_after}
 
@@ -22,7 +22,7 @@ abbrev of : ℕ → List ℕ
 of octet = replicate 32 octet
 
 -- the second packet comes before the first, and the first number is the last before 0
-abbrev swapped : List Call
+abbrev swapped : List PlayoutCall
 swapped = Begins 65535 ∷ Arrives 0 (of 3) ∷ Arrives 65535 (of 1) ∷ []
 
 -- both are played in order

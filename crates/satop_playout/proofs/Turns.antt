@@ -4,9 +4,9 @@ use Rattle.std.proofs.Common.{length, Option, Some, None, is_some, fold, nat_le,
 use Rattle.std.proofs.lemmas.Bool.{cases_lt, leb-false}
 use Rattle.std.proofs.lemmas.List.Sums.{fold-append}
 use Rattle.satop_playout.specs.declared.Settings.{Settings}
-use Rattle.satop_playout.specs.Calls.{Call, Begins, Arrives, Plays}
+use Rattle.satop_playout.specs.Calls.{PlayoutCall, Begins, Arrives, Plays}
 use Rattle.satop_playout.specs.Replacement.{fill_of}
-use Rattle.satop_playout.specs.Plays.{Stream, at_first, packet_at, ahead_of, ahead, refusal, after_arrival}
+use Rattle.satop_playout.specs.Plays.{PlayoutState, at_first, packet_at, ahead_of, ahead, refusal, after_arrival}
 use Rattle.satop_playout.specs.Plays.{after_play, after_call, octets_or_fill, stream, arrival_answer, is_there}
 use Rattle.satop_playout.specs.Plays.{play_octets, given_octets}
 use Rattle.satop_playout.specs.Laws.{plays_in, NoBeginning, AcceptedIsPlayed, NothingIsAcceptedTwice}
@@ -24,7 +24,7 @@ refusals_change_nothing settings calls sequence octets fault e =
     ∙ after-refused settings s sequence octets fault (refused-by (refusal settings s sequence octets) fault e)
 
 -- what an accepted packet is
-pub record Accepted (settings : Settings) (s : Stream) (sequence : ℕ) (octets : List ℕ) : Type 0 where
+pub record Accepted (settings : Settings) (s : PlayoutState) (sequence : ℕ) (octets : List ℕ) : Type 0 where
   pub begun : is_some s.first ≡ true
   pub on_time : ahead s sequence < 2 ^ 15
   pub near : ahead s sequence < settings.window
@@ -41,7 +41,7 @@ none-from None e = refl
 none-from (Some v) e = cc
 
 -- a packet that nothing refuses is accepted
-pub accepted : (settings : Settings) (s : Stream) (sequence : ℕ) (octets : List ℕ)
+pub accepted : (settings : Settings) (s : PlayoutState) (sequence : ℕ) (octets : List ℕ)
     → refusal settings s sequence octets ≡ None → Accepted settings s sequence octets
 accepted settings s sequence octets e =
     let t = none-told (not (length octets == settings.size)) (not (is_some s.first))
@@ -55,37 +55,37 @@ accepted settings s sequence octets e =
     }
 
 module _ (settings : Settings) where
-  abbrev pub after : Stream → List Call → Stream
+  abbrev pub after : PlayoutState → List PlayoutCall → PlayoutState
   after s calls = fold (after_call settings) s calls
 
   -- a packet that arrives changes only which are accepted
-  either-now : (b : Bool) (s : Stream) (place : ℕ) (octets : List ℕ)
+  either-now : (b : Bool) (s : PlayoutState) (place : ℕ) (octets : List ℕ)
       → (cond b s (with_packet s place octets)).now ≡ s.now
   either-now true s place octets = refl
   either-now false s place octets = refl
 
-  either-first : (b : Bool) (s : Stream) (place : ℕ) (octets : List ℕ)
+  either-first : (b : Bool) (s : PlayoutState) (place : ℕ) (octets : List ℕ)
       → (cond b s (with_packet s place octets)).first ≡ s.first
   either-first true s place octets = refl
   either-first false s place octets = refl
 
-  either-kept : (b : Bool) (s : Stream) (place k : ℕ) (octets packet : List ℕ)
+  either-kept : (b : Bool) (s : PlayoutState) (place k : ℕ) (octets packet : List ℕ)
       → packet_at s.placed k ≡ Some packet → packet_at (cond b s (with_packet s place octets)).placed k ≡ Some packet
   either-kept true s place k octets packet e = e
   either-kept false s place k octets packet e = packet_at-kept s.placed (placed_at place octets) k packet e
 
-  pub now-arrival : (s : Stream) (sequence : ℕ) (octets : List ℕ)
+  pub now-arrival : (s : PlayoutState) (sequence : ℕ) (octets : List ℕ)
       → (after_arrival settings s sequence octets).now ≡ s.now
   now-arrival s sequence octets =
       either-now (is_some (refusal settings s sequence octets)) s (s.now + ahead s sequence) octets
 
-  pub first-arrival : (s : Stream) (sequence : ℕ) (octets : List ℕ)
+  pub first-arrival : (s : PlayoutState) (sequence : ℕ) (octets : List ℕ)
       → (after_arrival settings s sequence octets).first ≡ s.first
   first-arrival s sequence octets =
       either-first (is_some (refusal settings s sequence octets)) s (s.now + ahead s sequence) octets
 
   -- within a stream the place of the next play is counted by the plays
-  pub now-after : (s : Stream) (calls : List Call) → NoBeginning calls
+  pub now-after : (s : PlayoutState) (calls : List PlayoutCall) → NoBeginning calls
       → (after s calls).now ≡ s.now + plays_in calls
   now-after s [] none = omega arith
   now-after s (Begins sequence ∷ calls) none = absurd none
@@ -98,7 +98,7 @@ module _ (settings : Settings) where
       omega arith
 
   -- .. and its first number stays
-  pub first-after : (s : Stream) (calls : List Call) → NoBeginning calls → (after s calls).first ≡ s.first
+  pub first-after : (s : PlayoutState) (calls : List PlayoutCall) → NoBeginning calls → (after s calls).first ≡ s.first
   first-after s [] none = refl
   first-after s (Begins sequence ∷ calls) none = absurd none
   first-after s (Arrives sequence octets ∷ calls) none =
@@ -106,7 +106,7 @@ module _ (settings : Settings) where
   first-after s (Plays ∷ calls) none = first-after (after_play settings s) calls none
 
   -- .. and an accepted packet stays accepted
-  pub kept-after : (s : Stream) (calls : List Call) (k : ℕ) (packet : List ℕ) → NoBeginning calls
+  pub kept-after : (s : PlayoutState) (calls : List PlayoutCall) (k : ℕ) (packet : List ℕ) → NoBeginning calls
       → packet_at s.placed k ≡ Some packet → packet_at (after s calls).placed k ≡ Some packet
   kept-after s [] k packet none e = e
   kept-after s (Begins sequence ∷ calls) k packet none e = absurd none
@@ -116,12 +116,12 @@ module _ (settings : Settings) where
   kept-after s (Plays ∷ calls) k packet none e = kept-after (after_play settings s) calls k packet none e
 
   -- the state after calls in which a packet was accepted
-  module _ (before later : List Call) (sequence : ℕ) (octets : List ℕ)
+  module _ (before later : List PlayoutCall) (sequence : ℕ) (octets : List ℕ)
       (is : refusal settings (stream settings before) sequence octets ≡ None) (none : NoBeginning later) where
-    abbrev start : Stream
+    abbrev start : PlayoutState
     start = stream settings before
 
-    abbrev begun : Stream
+    abbrev begun : PlayoutState
     begun = with_packet (stream settings before)
         ((stream settings before).now + ahead (stream settings before) sequence) octets
 
@@ -129,21 +129,21 @@ module _ (settings : Settings) where
     unfolding stream
     whole =
         fold-append (after_call settings) at_first before (Arrives sequence octets ∷ later)
-        ∙ ap (λ (s : Stream). after s later) (after-accepted settings start sequence octets is)
+        ∙ ap (λ (s : PlayoutState). after s later) (after-accepted settings start sequence octets is)
 
     pub place-later : packet_at (stream settings (before ++ Arrives sequence octets ∷ later)).placed
         (start.now + ahead start sequence) ≡ Some octets
     place-later =
-        ap (λ (s : Stream). packet_at s.placed (start.now + ahead start sequence)) whole
+        ap (λ (s : PlayoutState). packet_at s.placed (start.now + ahead start sequence)) whole
         ∙ kept-after begun later (start.now + ahead start sequence) octets none
         (packet_at-free start.placed (start.now + ahead start sequence) octets
         (accepted settings start sequence octets is).free)
 
     pub now-later : (stream settings (before ++ Arrives sequence octets ∷ later)).now ≡ start.now + plays_in later
-    now-later = ap (λ (s : Stream). s.now) whole ∙ now-after begun later none
+    now-later = ap (λ (s : PlayoutState). s.now) whole ∙ now-after begun later none
 
     pub first-later : (stream settings (before ++ Arrives sequence octets ∷ later)).first ≡ start.first
-    first-later = ap (λ (s : Stream). s.first) whole ∙ first-after begun later none
+    first-later = ap (λ (s : PlayoutState). s.first) whole ∙ first-after begun later none
 
 -- the law of turns
 pub accepted_is_played : AcceptedIsPlayed
@@ -206,7 +206,7 @@ unfolding given_octets stream
 nothing_is_given settings = refl
 
 -- a packet that arrives changes nothing of what was given
-either-given : (b : Bool) (s : Stream) (place : ℕ) (octets : List ℕ)
+either-given : (b : Bool) (s : PlayoutState) (place : ℕ) (octets : List ℕ)
     → (cond b s (with_packet s place octets)).given ≡ s.given
 either-given true s place octets = refl
 either-given false s place octets = refl
@@ -215,17 +215,17 @@ either-given false s place octets = refl
 pub beginnings_give_nothing : BeginningsGiveNothing
 unfolding given_octets
 beginnings_give_nothing settings calls sequence =
-    ap (λ (s : Stream). s.given) (stream-push settings calls (Begins sequence))
+    ap (λ (s : PlayoutState). s.given) (stream-push settings calls (Begins sequence))
 
 -- .. nor does a packet that arrives
 pub arrivals_give_nothing : ArrivalsGiveNothing
 unfolding given_octets
 arrivals_give_nothing settings calls sequence octets =
     let s = stream settings calls in
-    ap (λ (s : Stream). s.given) (stream-push settings calls (Arrives sequence octets))
+    ap (λ (s : PlayoutState). s.given) (stream-push settings calls (Arrives sequence octets))
     ∙ either-given (is_some (refusal settings s sequence octets)) s (s.now + ahead s sequence) octets
 
 -- a play gives its octets
 pub plays_give_their_octets : PlaysGiveTheirOctets
 unfolding given_octets play_octets
-plays_give_their_octets settings calls = ap (λ (s : Stream). s.given) (stream-push settings calls Plays)
+plays_give_their_octets settings calls = ap (λ (s : PlayoutState). s.given) (stream-push settings calls Plays)

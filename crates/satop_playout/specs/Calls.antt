@@ -14,10 +14,10 @@ IsWindow window = (1 ≤ window) × (window ≤ 1024)
 
 -- A stream begins, and the packet with this number is played next; a packet with this number and these octets
 -- arrives; or the next packet is played.
-pub data Call : Type 0 where
-  Begins : ℕ → Call
-  Arrives : ℕ → List ℕ → Call
-  Plays : Call
+pub data PlayoutCall : Type 0 where
+  Begins : ℕ → PlayoutCall
+  Arrives : ℕ → List ℕ → PlayoutCall
+  Plays : PlayoutCall
 
 -- the number of a fault, in order of precedence
 abbrev pub fault_number : ArrivalFault → ℕ

@@ -5,8 +5,8 @@ use Rattle.circular_buffer.specs.Buffer.{keep_last}
 use Rattle.satop_playout.specs.declared.Settings.{Settings}
 use Rattle.satop_playout.specs.declared.playout.SatopPlayout.{SatopPlayout}
 use Rattle.satop_playout.specs.declared.slot.Slot.{Slot}
-use Rattle.satop_playout.specs.Calls.{Call}
-use Rattle.satop_playout.specs.Plays.{Placed, Stream, stream, packet_at, reach_from}
+use Rattle.satop_playout.specs.Calls.{PlayoutCall}
+use Rattle.satop_playout.specs.Plays.{PlacedPacket, PlayoutState, stream, packet_at, reach_from}
 
 -- p is so many places behind a start, round the end of n places
 abbrev pub Wraps : ℕ → ℕ → ℕ → ℕ → Type 0
@@ -26,11 +26,11 @@ abbrev pub packet_of : ℕ → List Slot → ℕ → Option (List ℕ)
 packet_of size slots p = packet_from size (slice_get slots p)
 
 -- the number of the next packet, if a stream has begun
-abbrev pub IsNext : Option ℕ → Option ℕ → List Placed → ℕ → Type 0
+abbrev pub IsNext : Option ℕ → Option ℕ → List PlacedPacket → ℕ → Type 0
 IsNext next None placed now = (next ≡ None) × (placed ≡ [])
 IsNext next (Some first) placed now = next ≡ Some ((first + now) % 2 ^ 16)
 
-pub record Keeps (playout : SatopPlayout) (settings : Settings) (s : Stream) : Type 0 where
+pub record Keeps (playout : SatopPlayout) (settings : Settings) (s : PlayoutState) : Type 0 where
   pub settings_are : playout.settings ≡ settings
   pub room : length playout.slots.items ≡ settings.window
   pub start : playout.head < settings.window
@@ -46,5 +46,5 @@ pub record Keeps (playout : SatopPlayout) (settings : Settings) (s : Stream) : T
   pub filled_is : playout.filled ≡ min s.filled 2048
 
 -- the playout has these settings and this history of calls
-unfoldable pub HasHistory : SatopPlayout → Settings → List Call → Type 0
+unfoldable pub HasHistory : SatopPlayout → Settings → List PlayoutCall → Type 0
 HasHistory playout settings calls = Keeps playout settings (stream settings calls)

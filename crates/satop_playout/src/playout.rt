@@ -40,8 +40,8 @@ impl SatopPlayout {
     ghost use Rattle.std.specs.Prelude.{◌≡◌, ◌≤◌, ◌<◌, ◌+◌, ◌++◌, ◌∷◌, [], ℕ, List, length, None, Some};
     ghost use Rattle.std.specs.Prelude.{IfOk, OnErr, MatchResult, min, if◌then◌else◌};
     ghost use Rattle.satop_playout.specs.declared.Settings.{Settings};
-    ghost use Rattle.satop_playout.specs.Calls.{Call, Begins, Arrives, Plays};
-    ghost use Rattle.satop_playout.specs.Plays.{Stream, refusal, ahead};
+    ghost use Rattle.satop_playout.specs.Calls.{PlayoutCall, Begins, Arrives, Plays};
+    ghost use Rattle.satop_playout.specs.Plays.{PlayoutState, refusal, ahead};
     ghost use Rattle.satop_playout.specs.Plays.{arrival_answer, is_there, play_octets, reach_after};
     ghost use Rattle.satop_playout.specs.Standing.{HasHistory, Keeps, Wraps};
     ghost use Rattle.satop_playout.specs.Replacement.{fill_of};
@@ -72,7 +72,7 @@ impl SatopPlayout {
     /// A stream begins: the packet with this number is played next, and none is held.
     pub fn begin(&mut self, sequence: u16)
         ensures settings { self.new.settings ≡ self.old.settings }
-        ensures stands { (settings : Settings) (calls : List Call) → HasHistory self.old settings calls
+        ensures stands { (settings : Settings) (calls : List PlayoutCall) → HasHistory self.old settings calls
             → HasHistory self.new settings (calls ++ Begins sequence ∷ []) }
     {
         for slot in self.slots.iter_mut() {
@@ -89,9 +89,9 @@ impl SatopPlayout {
     /// The first fault that applies; the playout is then unchanged.
     pub fn arrive(&mut self, sequence: u16, octets: &[u8]) -> Result<(), ArrivalFault>
         ensures settings { self.new.settings ≡ self.old.settings }
-        ensures reply { (settings : Settings) (calls : List Call) → HasHistory self.old settings calls
+        ensures reply { (settings : Settings) (calls : List PlayoutCall) → HasHistory self.old settings calls
             → result ≡ arrival_answer settings calls sequence octets.now }
-        ensures stands { (settings : Settings) (calls : List Call) → HasHistory self.old settings calls
+        ensures stands { (settings : Settings) (calls : List PlayoutCall) → HasHistory self.old settings calls
             → HasHistory self.new settings (calls ++ Arrives sequence octets.now ∷ []) }
         ensures err { OnErr result (self.new ≡ self.old) }
     {
@@ -104,7 +104,8 @@ impl SatopPlayout {
 
     // The place of a packet behind the next one, or why it is refused.
     fn admission(&self, sequence: u16, octets: &[u8]) -> Result<usize, ArrivalFault>
-        ensures why { (settings : Settings) (s : Stream) → Keeps self.now settings s → MatchResult result
+        ensures why { (settings : Settings) (s : PlayoutState) → Keeps self.now settings s
+            → MatchResult result
             (λ place. (refusal settings s sequence octets.now ≡ None) × (place ≡ ahead s sequence))
             (λ fault. refusal settings s sequence octets.now ≡ Some fault) }
         ensures size { IfOk result (λ _. length octets.now ≡ self.now.settings.size) }
@@ -149,11 +150,11 @@ impl SatopPlayout {
     pub fn play(&mut self, room: &mut [u8]) -> bool
         requires { length room.old ≡ self.old.settings.size }
         ensures settings { self.new.settings ≡ self.old.settings }
-        ensures there { (settings : Settings) (calls : List Call) → HasHistory self.old settings calls
+        ensures there { (settings : Settings) (calls : List PlayoutCall) → HasHistory self.old settings calls
             → result ≡ is_there settings calls }
-        ensures octets { (settings : Settings) (calls : List Call) → HasHistory self.old settings calls
+        ensures octets { (settings : Settings) (calls : List PlayoutCall) → HasHistory self.old settings calls
             → room.new ≡ play_octets settings calls }
-        ensures stands { (settings : Settings) (calls : List Call) → HasHistory self.old settings calls
+        ensures stands { (settings : Settings) (calls : List PlayoutCall) → HasHistory self.old settings calls
             → HasHistory self.new settings (calls ++ Plays ∷ []) }
     {
         let is_there = self.slots[self.head].take(room);
@@ -195,7 +196,7 @@ impl SatopPlayout {
 
     /// How many packets there are from the next one to the last one held, both counted; 0 if none is held.
     pub fn reach(&self) -> u16
-        ensures { (settings : Settings) (calls : List Call) → HasHistory self.now settings calls
+        ensures { (settings : Settings) (calls : List PlayoutCall) → HasHistory self.now settings calls
             → result ≡ reach_after settings calls }
     {
         self.reach as u16

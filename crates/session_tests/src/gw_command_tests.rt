@@ -2,7 +2,7 @@ use clap::error::ErrorKind;
 use e1_g711::Law;
 use g726_codec::CodecKind;
 use gw_command::{
-    Filter, Request, Session, SpeechJob, asks_check, asks_live, job_of, matches, path_of,
+    Filter, Request, SessionKind, SpeechJob, asks_check, asks_live, job_of, matches, path_of,
     reports_of, request_of, seizure_wait_of, senders_of, session_of, wants_totals,
 };
 use gw_session::StreamSpec;
@@ -122,7 +122,7 @@ fn subcommands_are_named(rt: HostRuntime) -> Result<(), Fail> {
         ("e1gw satop 192.0.2.1:5000 trunk:5000", Request::Satop),
         (
             "e1gw check --config align",
-            Request::Session(Session::Check),
+            Request::Session(SessionKind::Check),
         ),
     ] {
         let words = words(rt.alloc(), line)?;
@@ -157,26 +157,26 @@ fn waits_are_read(rt: HostRuntime) -> Result<(), Fail> {
 #[test]
 fn sessions_are_named(rt: HostRuntime) -> Result<(), Fail> {
     for (line, session, senders) in [
-        ("e1gw replay --config x", Session::Replay, None),
-        ("e1gw check --config x", Session::Check, None),
+        ("e1gw replay --config x", SessionKind::Replay, None),
+        ("e1gw check --config x", SessionKind::Check, None),
         (
             "e1gw serve --config x",
-            Session::Serve,
+            SessionKind::Serve,
             Some(SourceFilter::Any),
         ),
         (
             "e1gw serve --config x --senders any",
-            Session::Serve,
+            SessionKind::Serve,
             Some(SourceFilter::Any),
         ),
         (
             "e1gw serve --config x --senders host",
-            Session::Serve,
+            SessionKind::Serve,
             Some(SourceFilter::Host),
         ),
         (
             "e1gw serve --config x --senders peer",
-            Session::Serve,
+            SessionKind::Serve,
             Some(SourceFilter::Peer),
         ),
     ] {

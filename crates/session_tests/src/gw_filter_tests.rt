@@ -204,7 +204,7 @@ fn a_checked_trunk_passes(rt: HostRuntime) {
             octets: 600,
             ..NO_TOTALS
         },
-        tally: ReceiverCounts {
+        receiver_counts: ReceiverCounts {
             submultiframes: 0,
             errored: 0,
             far_end_errored: 0,

@@ -1,4 +1,4 @@
-use gw_config::{ConfigFault, Kind};
+use gw_config::{ConfigFault, FaultKind};
 use gw_program::{ProgramFault, Skipped};
 use gw_session::RunFault;
 use std::test::Fail;
@@ -43,7 +43,7 @@ fn prints_troubles(rt: HostRuntime) -> Result<(), Fail> {
         ),
         (
             ProgramFault::Config(ConfigFault::Refused {
-                kind: Kind::LawCodec,
+                kind: FaultKind::LawCodec,
                 at: 2,
             }),
             "config 7 LawCodec at 2",

@@ -8,7 +8,7 @@ ghost use Rattle.q421_line.specs.Line as line;
 ghost use Rattle.q421_line.specs.Saved.{saved_line, LineFits};
 ghost use Rattle.gw_circuit.specs.declared.config.CircuitConfig.{CircuitConfig};
 ghost use Rattle.gw_circuit.specs.declared.circuit.Circuit.{Circuit};
-ghost use Rattle.gw_circuit.specs.Items.{Item};
+ghost use Rattle.gw_circuit.specs.Items.{CircuitEvent};
 ghost use Rattle.gw_circuit.specs.Saved.{saved_circuit, saved_clocks, saved_counts, saved_numbers};
 ghost use Rattle.gw_circuit.specs.Saved.{NumbersFit, CircuitFits};
 ghost use Rattle.gw_circuit.specs.Standing.{StandsSince};
@@ -61,7 +61,7 @@ impl Circuit {
 
     /// Puts the circuit back to what it was before its first item. It takes no memory.
     pub fn clear(&mut self)
-        ensures stands { (law : Law) (config : CircuitConfig) (items : List Item)
+        ensures stands { (law : Law) (config : CircuitConfig) (items : List CircuitEvent)
             → StandsSince self.old law config items → StandsSince self.new law config [] }
         ensures config { (self.new.law ≡ self.old.law) × (self.new.config ≡ self.old.config) }
     {
@@ -85,12 +85,13 @@ impl Circuit {
     /// Reads a saved circuit into this one, which keeps its law and its configuration. None if the octets are
     /// not those of a circuit; then it is as it was before its first item. It takes no memory.
     pub fn load(&mut self, octets: &mut Octets<'_>) -> Option<()>
-        ensures loaded { (other : Circuit) (law : Law) (config : CircuitConfig) (items before : List Item)
+        ensures loaded { (other : Circuit) (law : Law) (config : CircuitConfig)
+            (items before : List CircuitEvent)
             (rest : List ℕ) → StandsSince other law config items → CircuitFits other
             → StandsSince self.old law config before → octets.old ≡ saved_circuit other ++ rest
             → (result ≡ Some tt) × (self.new ≡ other) × (octets.new ≡ rest) }
         ensures read { IfSome result (λ done. octets.old ≡ saved_circuit self.new ++ octets.new) }
-        ensures none { (law : Law) (config : CircuitConfig) (items : List Item)
+        ensures none { (law : Law) (config : CircuitConfig) (items : List CircuitEvent)
             → StandsSince self.old law config items → IfNone result (StandsSince self.new law config []) }
         ensures config { (self.new.law ≡ self.old.law) × (self.new.config ≡ self.old.config) }
     {

@@ -7,9 +7,9 @@ ghost use Rattle.e1_g711.specs.declared.Law.{Law};
 ghost use Rattle.g726_codec.specs.declared.CodecKind.{CodecKind};
 ghost use Rattle.g726_codec.specs.Kinds.{CodecState, bits_of};
 ghost use Rattle.g726_codec.specs.Saved.{CodecFits};
-ghost use Rattle.rtp_playout.specs.Calls.{Call};
+ghost use Rattle.rtp_playout.specs.Calls.{PlayoutCall};
 ghost use Rattle.gw_circuit.specs.declared.speech.Speech.{Speech};
-ghost use Rattle.gw_circuit.specs.Coding.{Coding};
+ghost use Rattle.gw_circuit.specs.Coding.{PayloadFormat};
 ghost use Rattle.gw_circuit.specs.Saved.{kind_number, saved_coding, saved_packet, saved_speech, SpeechFits};
 ghost use Rattle.gw_circuit.specs.Speech.{Speaks};
 
@@ -42,13 +42,15 @@ impl Speech {
     // Reads saved speech of this law into this one, with its size of packets and its prefill. None if the
     // octets are not those of speech; then it begins anew.
     pub(crate) fn load(&mut self, law: Law, octets: &mut Octets<'_>) -> Option<()>
-        ensures loaded { (other : Speech) (coding mine : Coding) (size prefill : ℕ) (heard before : List ℕ)
-            (calls asked : List Call) (rest : List ℕ) → Speaks other law coding size prefill heard calls
+        ensures loaded { (other : Speech) (coding mine : PayloadFormat) (size prefill : ℕ)
+            (heard before : List ℕ)
+            (calls asked : List PlayoutCall) (rest : List ℕ)
+            → Speaks other law coding size prefill heard calls
             → SpeechFits other → Speaks self.old law mine size prefill before asked
             → octets.old ≡ saved_speech other ++ rest
             → (result ≡ Some tt) × (self.new ≡ other) × (octets.new ≡ rest) }
         ensures read { IfSome result (λ done. octets.old ≡ saved_speech self.new ++ octets.new) }
-        ensures none { (coding : Coding) (size prefill : ℕ) (heard : List ℕ) (calls : List Call)
+        ensures none { (coding : PayloadFormat) (size prefill : ℕ) (heard : List ℕ) (calls : List PlayoutCall)
             → Speaks self.old law coding size prefill heard calls
             → IfNone result (Speaks self.new law coding size prefill [] []) }
     {

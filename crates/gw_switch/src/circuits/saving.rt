@@ -1,12 +1,12 @@
 //! The circuits saved as octets, and loaded from them.
 
-use super::{CIRCUITS, Channel, Circuits};
+use super::{BoxedCircuit, CIRCUITS, Circuits};
 use saved_octets::Octets;
 use std::alloc::AllocError;
 
 impl Circuits {
     ghost use Rattle.std.specs.Prelude.{◌≡◌, ◌++◌, ℕ, List, OnOk, Ok, All};
-    ghost use Rattle.gw_switch.specs.declared.circuits.Channel.{Channel};
+    ghost use Rattle.gw_switch.specs.declared.circuits.BoxedCircuit.{BoxedCircuit};
     ghost use Rattle.gw_switch.specs.Saved.{saved_circuits, ChannelFits, AreAlike};
 
     /// Appends the octets of the circuits, the first one first.
@@ -24,7 +24,7 @@ impl Circuits {
     /// Reads saved circuits into these, each of which keeps its law and its configuration. The error is the
     /// number of the first circuit whose octets are not those of one; then they are not to be used.
     pub(crate) fn load(&mut self, octets: &mut Octets<'_>) -> Result<(), u8>
-        ensures loaded { (saved : List Channel) (rest : List ℕ) → AreAlike self.old.channels.items saved
+        ensures loaded { (saved : List BoxedCircuit) (rest : List ℕ) → AreAlike self.old.channels.items saved
             → octets.old ≡ saved_circuits saved ++ rest
             → (result ≡ Ok tt) × (self.new.channels.items ≡ saved) × (octets.new ≡ rest) }
         ensures read { OnOk result (octets.old ≡ saved_circuits self.new.channels.items ++ octets.new) }
@@ -43,8 +43,8 @@ ghost use Rattle.std.specs.Prelude.{◌≡◌, ◌++◌, ℕ, List, true};
 ghost use Rattle.gw_switch.specs.Saved.{saved_channel, IsAlike};
 
 // Reads a saved circuit into this one, and returns whether the octets are those of one.
-fn load_channel(channel: &mut Channel, octets: &mut Octets<'_>) -> bool
-    ensures loaded { (saved : Channel) (rest : List ℕ) → IsAlike channel.old saved
+fn load_channel(channel: &mut BoxedCircuit, octets: &mut Octets<'_>) -> bool
+    ensures loaded { (saved : BoxedCircuit) (rest : List ℕ) → IsAlike channel.old saved
         → octets.old ≡ saved_channel saved ++ rest
         → (result ≡ true) × (channel.new ≡ saved) × (octets.new ≡ rest) }
     ensures read { result ≡ true → octets.old ≡ saved_channel channel.new ++ octets.new }

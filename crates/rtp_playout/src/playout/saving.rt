@@ -4,13 +4,13 @@ ghost use Rattle.std.specs.Prelude.{◌≡◌, ◌<◌, ◌≤◌, ◌++◌, [],
 ghost use Rattle.std.specs.Prelude.{Some};
 ghost use Rattle.std.specs.List.{All};
 ghost use Rattle.circular_buffer.specs.Buffer.{buffer};
-ghost use Rattle.rtp_playout.specs.Calls.{Call};
+ghost use Rattle.rtp_playout.specs.Calls.{PlayoutCall};
 ghost use Rattle.rtp_playout.specs.Saved.{saved_playout, saved_place, saved_places, saved_stream, StreamFits};
 ghost use Rattle.rtp_playout.specs.declared.playout.Playout.{Playout};
-ghost use Rattle.rtp_playout.specs.declared.playout.Stream.{Stream};
+ghost use Rattle.rtp_playout.specs.declared.playout.RtpStream.{RtpStream};
 ghost use Rattle.rtp_playout.specs.Standing.{HasHistory, IsBelow};
 
-use crate::playout::{Playout, Stream};
+use crate::playout::{Playout, RtpStream};
 use crate::window::empty;
 use circular_buffer::HeapCircularBuffer;
 use saved_octets::{Octets, append_u8, append_u32};
@@ -32,14 +32,14 @@ impl Playout {
     /// None if the octets are not those of a playout whose words are below the bound; then it is empty, as
     /// after `clear`.
     pub fn load(&mut self, bound: u16, octets: &mut Octets<'_>) -> Option<()>
-        ensures loaded { (other : Playout) (prefill : ℕ) (calls before : List Call) (rest : List ℕ)
+        ensures loaded { (other : Playout) (prefill : ℕ) (calls before : List PlayoutCall) (rest : List ℕ)
             → HasHistory other prefill calls → IsBelow bound other → StreamFits other.stream
             → HasHistory self.old prefill before
             → octets.old ≡ saved_playout other ++ rest
             → (result ≡ Some tt) × (self.new ≡ other) × (octets.new ≡ rest) }
         ensures read { IfSome result (λ done. octets.old ≡ saved_playout self.new ++ octets.new) }
         ensures below { IfSome result (λ done. IsBelow bound self.new) }
-        ensures none { (prefill : ℕ) (before : List Call) → HasHistory self.old prefill before
+        ensures none { (prefill : ℕ) (before : List PlayoutCall) → HasHistory self.old prefill before
             → IfNone result (HasHistory self.new prefill []) }
         ensures none_below { (any : ℕ) → IfNone result (IsBelow any self.new) }
     {
@@ -52,7 +52,7 @@ impl Playout {
     }
 }
 
-fn save_stream(stream: Option<Stream>, out: &mut Vec<u8>) -> Result<(), AllocError>
+fn save_stream(stream: Option<RtpStream>, out: &mut Vec<u8>) -> Result<(), AllocError>
     ensures octets { OnOk result (out.new.items ≡ out.old.items ++ saved_stream stream) }
     ensures fits { StreamFits stream }
 {
@@ -78,8 +78,8 @@ fn save_place(place: Option<u8>, out: &mut Vec<u8>) -> Result<(), AllocError>
     }
 }
 
-fn load_stream(octets: &mut Octets<'_>) -> Option<Option<Stream>>
-    ensures loaded { (stream : Option Stream) (rest : List ℕ) → StreamFits stream
+fn load_stream(octets: &mut Octets<'_>) -> Option<Option<RtpStream>>
+    ensures loaded { (stream : Option RtpStream) (rest : List ℕ) → StreamFits stream
         → octets.old ≡ saved_stream stream ++ rest → (result ≡ Some stream) × (octets.new ≡ rest) }
     ensures read { IfSome result (λ stream. octets.old ≡ saved_stream stream ++ octets.new) }
 {
@@ -88,7 +88,7 @@ fn load_stream(octets: &mut Octets<'_>) -> Option<Option<Stream>>
         1 => {
             let ssrc = octets.read_u32()?;
             let next = octets.read_u32()?;
-            Some(Some(Stream { ssrc, next }))
+            Some(Some(RtpStream { ssrc, next }))
         }
         _ => None,
     }
@@ -148,7 +148,7 @@ fn load_places(
 
 impl Playout {
     fn load_parts(&mut self, bound: u16, octets: &mut Octets<'_>) -> Option<()>
-        ensures loaded { (stream : Option Stream) (places : List (Option ℕ)) (rest : List ℕ)
+        ensures loaded { (stream : Option RtpStream) (places : List (Option ℕ)) (rest : List ℕ)
             → StreamFits stream → length places ≡ self.old.window.capacity
             → All (λ place. IfSome place (λ word. word < bound)) places
             → octets.old ≡ (saved_stream stream ++ saved_places places) ++ rest

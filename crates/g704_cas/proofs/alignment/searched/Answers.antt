@@ -2,7 +2,7 @@ use Rattle.std.proofs.Common.{◌≡◌, false, refl, sym, ◌∙◌}
 use Rattle.std.specs.Prelude.{◌&&◌}
 use Rattle.std.proofs.lemmas.Bool.{and_left, and_right}
 use Rattle.g704_cas.specs.Search.{is_mfas, is_not_zero}
-use Rattle.g704_cas.proofs.Steps.{first_octet, IsOver-other}
+use Rattle.g704_cas.proofs.Steps.{first_octet, RestartsAfter-other}
 use Rattle.g704_cas.proofs.alignment.searched.Goals as goal
 use Rattle.g704_cas.proofs.alignment.searched.Goals.{else-after_nonzero-via-else-after_nonzero}
 use Rattle.g704_cas.proofs.alignment.searched.Goals.{else-after_nonzero-via-then-after_nonzero+else-is_mfas}
@@ -18,4 +18,4 @@ returns-else-after_nonzero c before h =
       | else-after_nonzero-via-then-after_nonzero+else-is_mfas w ↦ and_left _ _
           (sym w.is_mfas.ensures ∙ w.if-is_mfas.false)
     ]) in
-    (IsOver-other before c.args.octet passed, refl)
+    (RestartsAfter-other before c.args.octet passed, refl)

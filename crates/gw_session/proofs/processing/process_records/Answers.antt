@@ -3,7 +3,7 @@ use Rattle.gw_session.proofs.Common.{goes_up, starts, first_held, record_taken, 
 use Rattle.gw_session.proofs.Common.{ended, gives_up, ends_so}
 use Rattle.gw_records.specs.declared.outcome.RunFault.TheVariants as faults
 use Rattle.gw_session.proofs.Attending.{record_is, good_in_all, through_none, through_done, through_all, through_on}
-use Rattle.gw_session.proofs.Attending.{waiting_failed, some_records, act_failed}
+use Rattle.gw_session.proofs.Attending.{waiting_failed, some_records, input_failed}
 use Rattle.gw_session.proofs.Watching.{none_shown, shown_more}
 use Rattle.gw_session.proofs.processing.process_records.Goals as goal
 
@@ -34,8 +34,8 @@ returns-in_err-handle_record-in-Ok-clause-fault g c =
     let f = c.in-Ok.first in
     let found = first_held f c.held.ensures c.in-Ok.ensures.good in
     let q = rw (record_is f (held c.attending.reader) _ found.more c.held-in-Ok.ensures) at
-    c.in_err-handle_record-in-Ok.ensures.acts in
-    let stopped = act_failed _ _ _ w.2.few w.2.through q.2 in
+    c.in_err-handle_record-in-Ok.ensures.inputs in
+    let stopped = input_failed _ _ _ w.2.few w.2.through q.2 in
     goes_up _ _ faults.Write c.from_residual.ensures.1 q.0 (stops_in f w.2.stage found q.1 (_, stopped))
 
 pub attending-preserved-in-Ok : goal.attending-preserved-in-Ok
@@ -44,7 +44,7 @@ attending-preserved-in-Ok g c =
     let f = c.in-Ok.first in
     let found = first_held f c.held.ensures c.in-Ok.ensures.good in
     let q = rw (record_is f (held c.attending.reader) _ found.more c.held-in-Ok.ensures) at
-    c.in_ok-handle_record-in-Ok.ensures.acts in
+    c.in_ok-handle_record-in-Ok.ensures.inputs in
     let code = rw (record_is f (held c.attending.reader) _ found.more c.held-in-Ok.ensures) at
     c.in_ok-handle_record-in-Ok.ensures.code in
     let shown = rw (record_is f (held c.attending.reader) _ found.more c.held-in-Ok.ensures) at c.after.ensures in
@@ -53,7 +53,7 @@ attending-preserved-in-Ok g c =
       w.1 ++ record_at f (held c.attending.reader) ∷ [],
       record {
         stage = record_taken f w.2.stage found c.pass.ensures.holds c.pass.ensures.turns q.1;
-        through = through_done _ _ _ w.2.through q.0 (λ acts. shown_more q.0.acts code shown);
+        through = through_done _ _ _ w.2.through q.0 (λ inputs. shown_more q.0.inputs code shown);
         none_waits = λ none. absurd (omega (arith, none, more));
         few = rw w.2.at_once at c.in_ok-handle_record-in-Ok.ensures.few;
         at_once = c.handle_record.ensures.at_once ∙ w.2.at_once;

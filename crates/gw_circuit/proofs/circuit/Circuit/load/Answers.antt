@@ -2,7 +2,7 @@ use Rattle.std.proofs.Common.{◌++◌, [], refl, sym, ap, ◌∙◌}
 use Rattle.q421_line.specs.Saved.{saved_line}
 use Rattle.gw_circuit.specs.declared.config.CircuitConfig.{CircuitConfig}
 use Rattle.gw_circuit.specs.declared.circuit.Circuit.{Circuit}
-use Rattle.gw_circuit.specs.Coding.{coding_after}
+use Rattle.gw_circuit.specs.Coding.{format_after}
 use Rattle.gw_circuit.specs.Replies.{packet_size, heard_in, calls_in}
 use Rattle.gw_circuit.specs.Saved.{saved_circuit, saved_clocks, saved_counts, saved_speech}
 use Rattle.gw_circuit.proofs.Loading.{circuit-octets, numbers-told, same-circuit, stands-reset, none-holds, none-says}
@@ -54,7 +54,7 @@ returns-then-is_none-clause-loaded c = λ other law config items before rest sta
     (saved_speech other.speech ++ rest) role fits.line first.1 in
     let law_is = ap (λ (k : Circuit). k.law) c.in_ok-load_line.ensures.rest ∙ ours.law_is in
     let speech_is = ap (λ (k : Circuit). k.speech) c.in_ok-load_line.ensures.rest in
-    let third = c.load.ensures.loaded other.speech (coding_after law config items) (coding_after law config [])
+    let third = c.load.ensures.loaded other.speech (format_after law config items) (format_after law config [])
     (packet_size config) config.prefill (heard_in law config items) (heard_in law config [])
     (calls_in law config items) (calls_in law config []) rest (rw law_is theirs.speech)
     fits.speech (rw (speech_is, law_is) ours.speech) second.2 in
@@ -69,7 +69,7 @@ returns-then-is_none-clause-none c = λ law config items stands.
     stands-reset c.load_line.new.self c.clear.new.self law config c.new-self.result c.load.new.self
     c.in_ok-load_line.ensures.rest cleared c.new-self.ensures
     (none-says c.load.result _ c.is_none.result
-    (c.load.ensures.none (coding_after law config []) (packet_size config) config.prefill (heard_in law config [])
+    (c.load.ensures.none (format_after law config []) (packet_size config) config.prefill (heard_in law config [])
     (calls_in law config []) (rw (speech_is, law_is) ours.speech)) c.is_none.ensures c.if-is_none.true)
 
 pub returns-clause-loaded : goal.returns-clause-loaded
@@ -84,7 +84,7 @@ returns-clause-loaded c = λ other law config items before rest stands fits mine
     (saved_speech other.speech ++ rest) role fits.line first.1 in
     let law_is = ap (λ (k : Circuit). k.law) c.in_ok-load_line.ensures.rest ∙ ours.law_is in
     let speech_is = ap (λ (k : Circuit). k.speech) c.in_ok-load_line.ensures.rest in
-    let third = c.load.ensures.loaded other.speech (coding_after law config items) (coding_after law config [])
+    let third = c.load.ensures.loaded other.speech (format_after law config items) (format_after law config [])
     (packet_size config) config.prefill (heard_in law config items) (heard_in law config [])
     (calls_in law config items) (calls_in law config []) rest (rw law_is theirs.speech)
     fits.speech (rw (speech_is, law_is) ours.speech) second.2 in

@@ -4,7 +4,8 @@ use Rattle.gw_filter.proofs.checking.ReportingChecker.report.Goals as goal
 
 pub returns-then-send : goal.returns-then-send
 returns-then-send g c octets returned s =
-    report_sent _ _ _ c.min-count.result _ _ octets returned c.tally.result s (c.tally.ensures octets s.checks)
+    report_sent _ _ _ c.min-count.result _ _ octets returned c.receiver_counts.result s
+    (c.receiver_counts.ensures octets s.checks)
     (omega (arith, c.min-count.ensures, c.saturating_sub-unreported.ensures))
     (rw c.if-send.true at c.send.ensures)
     (omega (arith, c.saturating_add-self.ensures, c.min-count.ensures, c.saturating_sub-unreported.ensures))

@@ -1,12 +1,12 @@
 use Rattle.std.proofs.Common.{◌≡◌, ◌++◌, ◌∷◌, [], List, ◌∙◌, append_assoc}
-use Rattle.satop_playout.specs.Calls.{Call, Begins, Arrives}
+use Rattle.satop_playout.specs.Calls.{PlayoutCall, Begins, Arrives}
 use Rattle.satop_playout.specs.Plays.{given_octets}
 use Rattle.gw_satop.proofs.line.Receiver.begin.Goals as goal
 
 pub returns-clause-given : goal.returns-clause-given
 returns-clause-given c calls =
     let settings = c.args.self.now.settings in
-    let begun : List Call = calls ++ Begins c.args.first ∷ [] in
+    let begun : List PlayoutCall = calls ++ Begins c.args.first ∷ [] in
     let all : begun ++ Arrives c.args.sequence c.args.octets.now ∷ []
     ≡ calls ++ Begins c.args.first ∷ Arrives c.args.sequence c.args.octets.now ∷ [] =
     append_assoc calls (Begins c.args.first ∷ []) (Arrives c.args.sequence c.args.octets.now ∷ []) in
@@ -16,7 +16,7 @@ returns-clause-given c calls =
 pub returns-clause-stands : goal.returns-clause-stands
 returns-clause-stands c calls h =
     let settings = c.args.self.now.settings in
-    let begun : List Call = calls ++ Begins c.args.first ∷ [] in
+    let begun : List PlayoutCall = calls ++ Begins c.args.first ∷ [] in
     let all : begun ++ Arrives c.args.sequence c.args.octets.now ∷ []
     ≡ calls ++ Begins c.args.first ∷ Arrives c.args.sequence c.args.octets.now ∷ [] =
     append_assoc calls (Begins c.args.first ∷ []) (Arrives c.args.sequence c.args.octets.now ∷ []) in

@@ -1,5 +1,5 @@
 use Rattle.std.proofs.Common.{◌≡◌, ◌≤◌, ℕ, slice_index_or}
-use Rattle.gw_switch.specs.declared.circuits.Channel.{Channel}
+use Rattle.gw_switch.specs.declared.circuits.BoxedCircuit.{BoxedCircuit}
 use Rattle.gw_switch.specs.Circuits.{TakesWait}
 use Rattle.gw_switch.proofs.circuits.Circuits.release_after.Given as goal
 
@@ -8,6 +8,6 @@ abbrev pub invariant-loop-number : goal.invariant-loop-number
 invariant-loop-number l = record {
   given : (c : ℕ) → 1 ≤ c → c ≤ l.number
       → TakesWait l.signals c l.initial.self.channels.items l.self.channels.items;
-  later : (k : ℕ) (d : Channel) → l.number ≤ k
+  later : (k : ℕ) (d : BoxedCircuit) → l.number ≤ k
       → slice_index_or l.self.channels.items k d ≡ slice_index_or l.initial.self.channels.items k d;
 }

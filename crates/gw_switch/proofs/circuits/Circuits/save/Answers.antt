@@ -1,5 +1,5 @@
 use Rattle.std.proofs.Common.{List, slice_index_or, ap, ◌∙◌, arith}
-use Rattle.gw_switch.specs.declared.circuits.Channel.{Channel}
+use Rattle.gw_switch.specs.declared.circuits.BoxedCircuit.{BoxedCircuit}
 use Rattle.gw_switch.specs.Saved.{saved_channel, ChannelFits}
 use Rattle.gw_switch.proofs.Loading.{one-saved, one-fits}
 use Rattle.gw_switch.proofs.circuits.Circuits.save.Goals as goal
@@ -9,7 +9,7 @@ loop-channel-preserved c =
     let inv = c.loop-channel.invariant in
     let before = c.loop-channel-test.true in
     let is = c.channel-item.is
-    ∙ ap (λ (cs : List Channel). slice_index_or cs c.loop-channel.channel-index c.channel-item.result)
+    ∙ ap (λ (cs : List BoxedCircuit). slice_index_or cs c.loop-channel.channel-index c.channel-item.result)
     c.deref-channel-items.ensures.value in
     record {
       octets = one-saved saved_channel c.args.self.now.channels.items c.loop-channel.channel-index c.channel-item.result

@@ -1,5 +1,5 @@
 use Rattle.std.proofs.Common.{refl}
-use Rattle.gw_circuit.specs.Items.{Item}
+use Rattle.gw_circuit.specs.Items.{CircuitEvent}
 use Rattle.gw_switch.specs.Events.{Event}
 use Rattle.gw_switch.proofs.Views.{stands_given}
 use Rattle.gw_switch.proofs.gateway.Gateway.configure.Goals as goal
@@ -7,5 +7,6 @@ use Rattle.gw_switch.proofs.gateway.Gateway.configure.Goals as goal
 pub returns-clause-stands : goal.returns-clause-stands
 returns-clause-stands c = λ config events h.
     stands_given config c.args.self.now events (Event.Configure c.args.c c.args.config.now) c.args.c
-    (Item.Configure c.args.config.now) c.at.result.now c.configure.new.self h c.at.ensures.number refl (λ i. refl)
+    (CircuitEvent.Configure c.args.config.now) c.at.result.now c.configure.new.self h c.at.ensures.number refl
+    (λ i. refl)
     c.at.ensures.value c.in_ok-configure.ensures.stands

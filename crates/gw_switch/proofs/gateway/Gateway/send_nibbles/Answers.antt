@@ -1,6 +1,6 @@
 use Rattle.std.proofs.Common.{◌≡◌, ℕ, ◌+◌, ◌-◌, ◌≤◌, ◌/◌, ◌%◌, List, Option, ◌++◌, ◌∷◌, [], length}
 use Rattle.std.proofs.Common.{refl, sym, ap, ◌∙◌, arith}
-use Rattle.gw_circuit.specs.Items.{Item}
+use Rattle.gw_circuit.specs.Items.{CircuitEvent}
 use Rattle.gw_circuit.specs.Replies as alone
 use Rattle.g704_cas.specs.Numbers.{frame_with}
 use Rattle.gw_switch.specs.declared.GatewayConfig.{GatewayConfig}
@@ -63,7 +63,7 @@ returns c = λ config events o h sixteen j-is room.
         trunk = rw (octets-append events (Event.Octet o ∷ [])) (heard.sent s n h.trunk sixteen j-is);
         circuits = CircuitsStand-push config _ _ events (Event.Octet o) h.circuits (λ i one most.
             both_go config _ _ _ events (Event.Octet o) j k
-            (Item.Signal (signalled j s n)) (Item.Signal (signalled k s n))
+            (CircuitEvent.Signal (signalled j s n)) (CircuitEvent.Signal (signalled k s n))
             (left_stands circuits j _ _ _ _ is (rw (sym high_is) (high.stands _ _ _ first_stood))) first_others
             (left_stands between k _ _ _ _ is2 (rw (sym low_is) (low.stands _ _ _ second_stood))) second_others
             (sees_abcd j s n sixteen (slot_of-not16 j) j-frame) (sees_abcd k s n sixteen (slot_of-not16 k) k-frame)
@@ -73,7 +73,8 @@ returns c = λ config events o h sixteen j-is room.
       };
       others = λ i one most nothing d.
           let unseen = λ (e : f ≡ frame_with i).
-          sees_some i s n (Item.Signal (signalled i s n)) (sees_abcd i s n sixteen (slot_of-not16 i) e) nothing in
+          sees_some i s n (CircuitEvent.Signal (signalled i s n)) (sees_abcd i s n sixteen
+          (slot_of-not16 i) e) nothing in
           second_others (i - 1) d (λ e.
           let same : i ≡ k = omega (arith, e, one, is2.0) in
           unseen (k-frame ∙ ap frame_with (sym same)))

@@ -1,5 +1,5 @@
 use Rattle.std.proofs.Common.{◌≡◌, ◌-◌, ◌%◌, ◌++◌, ◌∷◌, [], length, sym, ap, ◌∙◌, arith}
-use Rattle.gw_circuit.specs.Items.{Item}
+use Rattle.gw_circuit.specs.Items.{CircuitEvent}
 use Rattle.gw_circuit.specs.Replies as alone
 use Rattle.g704_cas.specs.Numbers.{slot_of, circuit_in}
 use Rattle.gw_switch.specs.Hearing.{heard}
@@ -35,7 +35,7 @@ returns c = λ config events o h.
       stands = record {
         trunk = rw (octets-append events (Event.Octet o ∷ [])) (c.take_speech-heard.ensures.sent s n h.trunk place);
         circuits = CircuitsStand-push config _ _ events (Event.Octet o) h.circuits (λ i low high.
-            goes_by config _ _ events (Event.Octet o) k (Item.Slot (heard k s n))
+            goes_by config _ _ events (Event.Octet o) k (CircuitEvent.Slot (heard k s n))
             (left_stands circuits k _ _ _ left is
             (rw (sym hears) (c.send_speech.ensures.stands config.law (config_of config k) (view k events) stood)))
             (others_kept circuits k left) (sees_slot k s n place) is.0 i low
@@ -45,5 +45,5 @@ returns c = λ config events o h.
       };
       others = λ i low high nothing d. others_kept circuits k left (i - 1) d (λ e.
           let same : i ≡ k = omega (arith, e, low, is.0) in
-          sees_some i s n (Item.Slot (heard i s n)) (sees_slot i s n (place ∙ ap slot_of (sym same))) nothing);
+          sees_some i s n (CircuitEvent.Slot (heard i s n)) (sees_slot i s n (place ∙ ap slot_of (sym same))) nothing);
     }

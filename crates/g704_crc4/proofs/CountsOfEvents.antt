@@ -1,0 +1,58 @@
+-- What is counted, one octet more.
+use Rattle.std.proofs.Common.{◌≡◌, ℕ, ◌+◌, ◌-◌, ◌^◌, Bool, true, false, List, [], ◌∷◌, ◌++◌, Option, None, sym, ap, ◌∙◌}
+use Rattle.std.proofs.Common.{arith, append_assoc, append-nil}
+use Rattle.std.specs.Prelude.{min}
+use Rattle.g704_crc4.specs.declared.receiving.ReceiverEvent.{ReceiverEvent}
+use Rattle.g704_crc4.specs.declared.counting.ReceiverCounts.{ReceiverCounts}
+use Rattle.g704_crc4.specs.Remainder.{bit_number}
+use Rattle.g704_crc4.specs.Aligning.{learned}
+use Rattle.g704_crc4.specs.ReceiverCounts.{tells_block, tells_errored, tells_far_end, tells_found, tells_lost}
+use Rattle.g704_crc4.specs.ReceiverCounts.{tells_given_up, times_after, times, count_with, receiver_counts_with}
+use Rattle.g704_crc4.specs.ReceiverCounts.{receiver_counts_of}
+
+-- How many octets have an event, with one more octet.
+times-push : (passes : Option ReceiverEvent → Bool) (before octets : List ℕ) (x : ℕ)
+    → times_after passes before (octets ++ x ∷ [])
+    ≡ times_after passes before octets + bit_number (passes (learned (before ++ octets) x))
+unfolding times_after
+times-push passes before [] x =
+    omega (arith, ap (λ (xs : List ℕ). bit_number (passes (learned xs x))) (append-nil before))
+times-push passes before (y ∷ octets) x =
+    omega (
+      arith,
+      times-push passes (before ++ y ∷ []) octets x,
+      ap (λ (xs : List ℕ). bit_number (passes (learned xs x))) (append_assoc before (y ∷ []) octets),
+    )
+
+-- The same as a count.
+counted-is : (passes : Option ReceiverEvent → Bool) (history : List ℕ) (x : ℕ)
+    → count_with (times passes history) (passes (learned history x)) ≡ times passes (history ++ x ∷ [])
+counted-is passes history x =
+    clamped (times_after passes [] history) (passes (learned history x))
+    ∙ ap (λ n. min n (2 ^ 64 - 1)) (sym (times-push passes [] history x))
+  where
+    clamped : (n : ℕ) (more : Bool) → count_with (min n (2 ^ 64 - 1)) more ≡ min (n + bit_number more) (2 ^ 64 - 1)
+    clamped n true = omega arith
+    clamped n false = omega arith
+
+-- Counts are the same that are so one by one.
+same_counts : (a b c d e f a' b' c' d' e' f' : ℕ) → a ≡ a' → b ≡ b' → c ≡ c' → d ≡ d' → e ≡ e' → f ≡ f'
+    → ◌≡◌ {A = ReceiverCounts}
+    (record { submultiframes = a; errored = b; far_end_errored = c; found = d; lost = e; given_up = f })
+    (record { submultiframes = a'; errored = b'; far_end_errored = c'; found = d'; lost = e'; given_up = f' })
+same_counts a b c d e f a' b' c' d' e' f' p q r s t u = cc
+
+-- All counts take the next octet.
+pub receiver_counts-more : (history : List ℕ) (x : ℕ)
+    → receiver_counts_with (receiver_counts_of history) (learned history x)
+    ≡ receiver_counts_of (history ++ x ∷ [])
+receiver_counts-more history x =
+    same_counts _ _ _ _ _ _ _ _ _ _ _ _ (counted-is tells_block history x) (counted-is tells_errored history x)
+    (counted-is tells_far_end history x) (counted-is tells_found history x) (counted-is tells_lost history x)
+    (counted-is tells_given_up history x)
+
+-- Where nothing is learned they stay.
+pub receiver_counts-same : (history : List ℕ) (x : ℕ) → None ≡ learned history x
+    → receiver_counts_of history ≡ receiver_counts_of (history ++ x ∷ [])
+receiver_counts-same history x e = ap (receiver_counts_with (receiver_counts_of history)) e
+    ∙ receiver_counts-more history x

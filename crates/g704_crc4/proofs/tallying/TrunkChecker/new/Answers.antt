@@ -1,7 +1,0 @@
-use Rattle.std.proofs.Common.{refl}
-use Rattle.g704_crc4.specs.ReceiverCounts.{times_after}
-use Rattle.g704_crc4.proofs.tallying.TrunkChecker.new.Goals as goal
-
-pub returns : goal.returns
-unfolding times_after
-returns c = record { receives = c.new.ensures; tally = refl }

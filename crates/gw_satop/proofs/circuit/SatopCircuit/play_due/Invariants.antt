@@ -1,0 +1,7 @@
+use Rattle.gw_satop.specs.Session.{HasSettings}
+use Rattle.gw_satop.proofs.circuit.SatopCircuit.play_due.Given as goal
+
+-- Both halves and the pace are set up as they were.
+abbrev pub invariant-loop-play : goal.invariant-loop-play
+invariant-loop-play g l = HasSettings l.initial.self.receiver l.self.receiver l.initial.self.sender l.self.sender
+    l.initial.self.pace l.self.pace

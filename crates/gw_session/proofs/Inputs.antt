@@ -1,0 +1,133 @@
+-- Records that are acted on.
+use Rattle.gw_session.proofs.Common.{◌≡◌, inl, ◌+◌, ◌-◌, ◌^◌, ◌<◌, ℕ, min, List, [], ◌∷◌, ◌++◌, length, Result, Ok, Err}
+use Rattle.gw_session.proofs.Common.{refl, sym, ap, ◌∙◌, append_assoc, arith, length-map, big_bytes, GatewayConfig}
+use Rattle.gw_session.proofs.Common.{Gateway, Event, HasHistory, reply_to, Totals, RunFault, Record, TakesAllBut}
+use Rattle.gw_session.proofs.Common.{at_most, Appends-none, TakesAllBut-join, AppendsPrefix-behind, PacketOutput}
+use Rattle.gw_session.proofs.Common.{counted, Written, written_out, code_of, SessionInput, input_record, turns_of}
+use Rattle.gw_session.proofs.Common.{events_in}
+use Rattle.gw_session.proofs.Common.{events_of_turns, octet_of, answer_to, packets_for, dropped_for, TakesEvent}
+use Rattle.gw_session.proofs.Common.{spelled_for}
+use Rattle.gw_session.proofs.Common.{written_for, Exchanges, ActsOn, TapeState, Recorded, Output, World, state_of, Puts}
+use Rattle.gw_session.proofs.Common.{TakesAllBut-same, AppendsPrefix-same, sent_with_octets, Inputs, OnOk}
+use Rattle.gw_session.specs.declared.tape.OnTape.{OnTape}
+use Rattle.gw_session.proofs.Turns.{PortTrace-none, counted_is}
+
+-- an input was done, and behind what passes the rest of all that is put for it was put, or a write failed
+inputs_put : (spells : PacketOutput) (w w' : World) (o : Output) (out : List ℕ) {r : Record}
+    (result : Result (Unit {0}) RunFault) (on : ActsOn w.state w'.state w.tape w'.tape r)
+    → ((config : GatewayConfig) (before : List Event) → HasHistory config w.state.gateway before → (first : List ℕ)
+    × TakesAllBut w.output.sink.taken o.sink.taken o.waiting first
+    × (first ++ out ≡ w.output.waiting ++ written_for spells config before on.input))
+    → o.sink.failures ≡ w.output.sink.failures
+    → Puts o.sink w'.output.sink w'.output.waiting (o.waiting ++ out) result → Inputs spells w w' r result
+inputs_put spells w w' o out (Ok u) on first kept puts = (
+  record {
+    inputs = on;
+    took = λ config before h.
+        let f = first config before h in
+        TakesAllBut-same _ _ _ _ _ f.2 (TakesAllBut-join _ _ _ _ _ _ _ f.1 puts.0);
+  },
+  puts.1 ∙ kept,
+)
+inputs_put spells w w' o out (Err e) on first kept puts = (
+  puts.0,
+  omega (arith, kept, puts.1.counted),
+  inl (record {
+    inputs = on;
+    took = λ config before h.
+        let f = first config before h in
+        AppendsPrefix-same _ _ _ _ f.2 (AppendsPrefix-behind _ _ _ _ _ _ f.1 puts.1.took);
+  }),
+)
+
+-- octets were exchanged, and the record of them was put
+pub trunk_inputs : {spells : PacketOutput} (w w' : World) (r n : ℕ) (o : Output) {body front answer out : List ℕ}
+    (result : Result (Unit {0}) RunFault)
+    → (sent : List ℕ) × (x : Exchanges spells
+    (record w.state { totals = record w.state.totals { records = r; octets = n } }) w'.state w.output o body sent)
+    × (answer ≡ front ++ sent) × Recorded w.tape w'.tape (events_of_turns x.turns)
+    → front ≡ 84 ∷ 0 ∷ big_bytes 2 (length body) → out ≡ answer
+    → r ≡ min (w.state.totals.records + 1) (2 ^ 64 - 1)
+    → n ≡ min (w.state.totals.octets + length body) (2 ^ 64 - 1) → w.state.totals.octets < 2 ^ 64
+    → Puts o.sink w'.output.sink w'.output.waiting (o.waiting ++ out) result
+    → Inputs spells w w' (Record.Trunk body) result
+unfolding written_for answer_to
+trunk_inputs w w' r n o result x fronts same counts trunk fits puts =
+    let p = x.1 in
+    let len = sym (length-map p.turns octet_of) ∙ ap length p.heard in
+    inputs_put _ w w' o _ result (record {
+      input = SessionInput.Trunk p.turns;
+      told_is = ap (λ (xs : List ℕ). Record.Trunk xs) p.heard;
+      goes = record {
+        trades = p.goes.trades;
+        datagrams = p.goes.datagrams;
+        faults = p.goes.faults;
+        hears = λ config before h.
+            let heard = p.goes.hears config before h in
+            record {
+              stands = heard.stands;
+              in_turn = heard.in_turn;
+              packets = heard.packets;
+              sends = heard.sends;
+              dropped = heard.dropped;
+            };
+      };
+      records = p.kept.0 ∙ counts;
+      octets = p.kept.1 ∙ trunk ∙ rw len (counted_is w.state.totals.octets _ fits);
+      recorded = x.3;
+    }) (λ config before h. (
+      _,
+      p.passes config before h,
+      rw (append_assoc, same, x.2, fronts, p.sent_are config before h, p.lengths),
+    )) p.no_failure puts
+
+-- an input of one event was done, and the one answer of its circuit, whose record is on the tape, was put
+pub one_inputs : (input : SessionInput) (event : Event) (u : Totals) (spells : PacketOutput) (w : World) (g : Gateway)
+    (t : Totals)
+    (tape : TapeState) (o : Output) {circuit kind code : ℕ} (result : Result (Unit {0}) RunFault)
+    → turns_of input ≡ [] → events_in input ≡ event ∷ []
+    → ((config : GatewayConfig) (before : List Event) → packets_for config before (event ∷ []) ≡ [])
+    → ((config : GatewayConfig) (before : List Event) → sent_with_octets config before (event ∷ []) ≡ [])
+    → ((config : GatewayConfig) (before : List Event) → answer_to config before input
+    ≡ written_out (Written.Answered circuit kind (code_of (reply_to config before event))))
+    → TakesEvent w.state.gateway g event code → {on_tape : OnTape} → on_tape ≡ record { kind = kind; circuit = circuit }
+    → u ≡ record w.state.totals { dropped = u.dropped } → t ≡ record u { records = at_most (u.records + 1) }
+    → ((config : GatewayConfig) (before : List Event) → HasHistory config w.state.gateway before
+    → u.dropped ≡ counted w.state.totals.dropped (dropped_for config before (event ∷ [])))
+    → Puts w.output.sink o.sink o.waiting
+    (w.output.waiting ++ written_out (Written.Answered on_tape.circuit on_tape.kind code)) result
+    → Recorded w.tape tape (events_in input)
+    → Inputs spells w (record { state = state_of w.state.ports g t; tape = tape; output = o })
+    (input_record input) result
+unfolding PortTrace-none written_for spelled_for
+one_inputs input event u spells w g t tape o result none one packets places answer takes taped others counts dropped
+    puts
+    recorded =
+    inputs_put _ w (record { state = state_of w.state.ports g t; tape = tape; output = o }) w.output _ result (record {
+      input = input;
+      told_is = refl;
+      goes = rw (none, one) (record {
+        trades = PortTrace-none _;
+        datagrams = rw (counts, others);
+        faults = rw (counts, others);
+        hears = λ config before h. record {
+          stands = (takes config before h).0;
+          in_turn = tt;
+          packets = rw (packets config before) (refl, refl);
+          sends = sym (places config before);
+          dropped = rw counts (dropped config before h);
+        };
+      });
+      records = rw (counts, others);
+      octets = rw (none, counts, others);
+      recorded = recorded;
+    }) (λ config before h. (
+      w.output.waiting,
+      record { written = []; whole = refl; appended = Appends-none _ },
+      rw (one, packets config before, answer config before, (takes config before h).1),
+    )) refl (rw taped at puts)
+
+-- what always holds holds where a result is Ok
+pub on_ok_always : {P : Type 0} (result : Result (Unit {0}) RunFault) → P → OnOk result P
+on_ok_always (Ok x) p = p
+on_ok_always (Err e) p = tt
