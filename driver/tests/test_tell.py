@@ -14,6 +14,7 @@ from e1gw.session import Command, Kind, Reader, command_record, datagram_record,
 
 CONFIG = 'law = "A"\n' + ''.join(f'[[circuit]]\nnumber = {c}\nrole = "outgoing"\n' for c in range(1, 31))
 SECONDS = 20
+LOOK = 4                    # multiframes from one look at clients to the next, where there are some
 NOT_OPEN = 20               # the path of a circuit without a call is not open
 SIGNALS = len('line ') + 29    # the columns of a line up to its pairs
 RTP = bytes([0x80, 8, 0, 17]) + (2720).to_bytes(4, 'big') + (0xDEADBEEF).to_bytes(4, 'big') + bytes(160)
@@ -179,13 +180,13 @@ class TellTests(support.FolderCase):
         self.multiframes(60)
         first.lines()
         second = self.client()
-        self.multiframes(1)
-        whole = ['e1gw tell 1 A', f'at {32 + 61 * 512}', 'alarms 0 0 0 0',
+        self.multiframes(LOOK)
+        whole = ['e1gw tell 1 A', f'at {32 + 64 * 512}', 'alarms 0 0 0 0',
                  *(row(c, 'idle', '10 10') for c in range(1, 31)), seizures(), 'now']
         self.assertEqual((first.lines(), second.lines()), ([], whole))
         self.replay.passes(command_record(9, Command.SEIZE))
         change = ['command 9 1 0', row(9, 'seized', '00 10')]
-        self.assertEqual((first.lines(), second.lines()), ([f'at {32 + 61 * 512}', *change], change))
+        self.assertEqual((first.lines(), second.lines()), ([f'at {32 + 64 * 512}', *change], change))
 
     def test_one_that_never_reads(self) -> None:
         never, one = self.client(), self.client()
@@ -198,7 +199,7 @@ class TellTests(support.FolderCase):
         self.assertNotIn('end', never.lines())
         self.assertTrue(never.has_gone())
         again = self.client()
-        self.multiframes(1)
+        self.multiframes(LOOK)
         self.assertEqual(again.lines()[-1], 'now')
         self.assertEqual(self.replay.ends(), 0)
         plain = support.run('replay', '--config', self.config, given=self.replay.given)
@@ -213,21 +214,21 @@ class TellTests(support.FolderCase):
             told += one.lines()
         got = late.lines()
         self.assertLess(len(got), len(told))
-        self.multiframes(1)
+        self.multiframes(LOOK)
         self.assertEqual(got + late.lines(), told + one.lines())
 
     def test_more_clients_than_there_are_places(self) -> None:
         clients = [self.client() for _ in range(9)]
         clients[0].socket.sendall(b'what is this\n' * 1000)
-        self.multiframes(2)
+        self.multiframes(LOOK)
         for client in clients[:8]:
             self.assertIn('now', client.lines())
         self.assertTrue(clients[8].has_gone())
         clients[7].socket.close()
         self.replay.passes(datagram_record(2, RTP))
-        self.multiframes(1)
+        self.multiframes(LOOK)
         after = self.client()
-        self.multiframes(1)
+        self.multiframes(LOOK)
         self.assertEqual(after.lines()[0], 'e1gw tell 1 A')
 
     def test_a_socket_that_is_taken(self) -> None:

@@ -92,6 +92,13 @@ each-reported arrivals le =
 pub none-reported : NoneIsReported
 none-reported arrivals e = omega (arith, each-reported arrivals (omega (arith, e)), e)
 
+-- An octet that begins no frame has no E bit.
+pub e-bit-frame : (place : ℕ) → place % 32 ≢ 0 → has_e_bit place ≡ false
+unfolding has_e_bit
+e-bit-frame place ne =
+    rw (ne_eqb (place % 512) 416 (λ e. ne (omega (arith, e))), ne_eqb (place % 512) 480 (λ e. ne (omega (arith, e))))
+    refl
+
 -- The first E bit of a multiframe.
 pub e-bit-first : (place : ℕ) → place % 512 ≡ 416 → has_e_bit place ≡ true
 unfolding has_e_bit
@@ -108,34 +115,27 @@ unfolding has_e_bit
 e-bit-place p n e = let same : p % 512 ≡ n % 512 = omega (arith, e) in rw same refl
 
 -- One octet more that has no E bit.
-pub without-bit : (bits : EBitReporter) (h : List Arrival) (x : ℕ) → ReportsAfter bits h → has_e_bit bits.place ≡ false
-    → (x ≡ octet_with_e h x)
-    × ReportsAfter (record { place = (bits.place + 1) % 65536; unreported = bits.unreported }) (h ++ Octet x ∷ [])
+pub without-bit : (bits : EBitReporter) (h : List Arrival) (x : ℕ) → ReportsAfter bits h
+    → has_e_bit (octet_count h) ≡ false → (x ≡ octet_with_e h x) × ReportsAfter bits (h ++ Octet x ∷ [])
 unfolding octet_with_e
-without-bit bits h x s other =
-    let p = s.place in
-    let none = sym (e-bit-place bits.place (octet_count h) p) ∙ other in (
-      rw none refl,
-      record {
-        place = omega (arith, octets-octet h x);
-        unreported = s.unreported
-            ∙ sym (unreported-octet h x ∙ ap (λ b. cond b (unreported h - 1) (unreported h)) none);
-      },
-    )
+without-bit bits h x s none = (
+  rw none refl,
+  record {
+    unreported = s.unreported
+        ∙ sym (unreported-octet h x ∙ ap (λ b. cond b (unreported h - 1) (unreported h)) none);
+  },
+)
 
 -- One octet more that has one.
-pub with-bit : (bits : EBitReporter) (h : List Arrival) (x left : ℕ) → ReportsAfter bits h → has_e_bit bits.place ≡ true
-    → left ≡ bits.unreported - 1
+pub with-bit : (bits : EBitReporter) (h : List Arrival) (x left : ℕ) → ReportsAfter bits h
+    → has_e_bit (octet_count h) ≡ true → left ≡ bits.unreported - 1
     → (with_si (bits.unreported == 0) x ≡ octet_with_e h x)
-    × ReportsAfter (record { place = (bits.place + 1) % 65536; unreported = left }) (h ++ Octet x ∷ [])
+    × ReportsAfter (record { unreported = left }) (h ++ Octet x ∷ [])
 unfolding octet_with_e
-with-bit bits h x left s has less =
-    let p = s.place in
-    let one = sym (e-bit-place bits.place (octet_count h) p) ∙ has in (
-      rw one (ap (λ n. with_si (n == 0) x) s.unreported),
-      record {
-        place = omega (arith, octets-octet h x);
-        unreported = less ∙ ap (λ n. n - 1) s.unreported
-            ∙ sym (unreported-octet h x ∙ ap (λ b. cond b (unreported h - 1) (unreported h)) one);
-      },
-    )
+with-bit bits h x left s one less = (
+  rw one (ap (λ n. with_si (n == 0) x) s.unreported),
+  record {
+    unreported = less ∙ ap (λ n. n - 1) s.unreported
+        ∙ sym (unreported-octet h x ∙ ap (λ b. cond b (unreported h - 1) (unreported h)) one);
+  },
+)

@@ -66,7 +66,6 @@ EachIsReported = (arrivals : List Arrival) → errored_in_all arrivals ≤ 2 ^ 3
 abbrev pub NoneIsReported : Type 0
 NoneIsReported = (arrivals : List Arrival) → errored_in_all arrivals ≡ 0 → unreported arrivals ≡ 0
 
--- A sender of E bits after these: the octets modulo 2^16, and the errored submultiframes not yet reported.
+-- A sender of E bits after these: the errored submultiframes not yet reported.
 pub record ReportsAfter (bits : EBitReporter) (history : List Arrival) : Type 0 where
-  pub place : bits.place ≡ octet_count history % 65536
   pub unreported : bits.unreported ≡ unreported_after 0 0 history

@@ -4,10 +4,11 @@ ghost use Rattle.std.specs.Prelude.{◌≡◌, ◌+◌, ◌%◌, ◌/◌, ◌<�
 ghost use Rattle.g704_crc4.specs.declared.remainder.Remainder.{Remainder};
 ghost use Rattle.g704_crc4.specs.Remainder.{no_remainder, crc_number};
 ghost use Rattle.g704_crc4.specs.Multiframe.{check_bit, signal_bit, si_at, with_si, sent_octet};
+ghost use Rattle.g704_crc4.specs.Reporting.{has_e_bit};
 ghost use Rattle.g704_crc4.specs.States.{SendsAfter, SendsNext};
 
 use crate::remainder::{check_bit, number_after};
-use crate::{BIT_1, FRAME, SUBMULTIFRAME};
+use crate::{BIT_1, FRAME, MULTIFRAME, SUBMULTIFRAME};
 
 /// Puts CRC-4 multiframes into bit 1 of time slot 0.
 ///
@@ -33,6 +34,13 @@ impl Crc4Inserter {
             before: 0,
             running: 0,
         }
+    }
+
+    /// Whether the next octet has an E bit.
+    pub fn next_has_e_bit(&self) -> bool
+        ensures { (history : List ℕ) → SendsAfter self.now history → result ≡ has_e_bit (length history) }
+    {
+        has_e_bit(self.place)
     }
 
     /// Takes the next octet and returns it as sent.
@@ -77,6 +85,17 @@ impl Crc4Inserter {
             self.running = 0;
         }
     }
+}
+
+// Whether the octet at a place has an E bit. Thirty-one of thirty-two octets are answered by the first test.
+fn has_e_bit(place: u16) -> bool
+    ensures { result ≡ has_e_bit place }
+{
+    if place % FRAME != 0 {
+        return false;
+    }
+    let within = place % MULTIFRAME;
+    within == 13 * FRAME || within == 15 * FRAME
 }
 
 // The Si bit of a frame of a multiframe, by the one that comes.

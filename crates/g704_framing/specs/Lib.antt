@@ -1,5 +1,5 @@
 pub mod Least
-pub mod FoundAlignment
+pub mod Alignment
 pub mod Age
 pub mod Restart
 pub mod Laws

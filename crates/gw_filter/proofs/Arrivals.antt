@@ -1,5 +1,5 @@
 -- Octets and reports that arrive, one part after another.
-use Rattle.std.proofs.Common.{◌≡◌, ◌+◌, ◌<◌, ℕ, suc, List, [], ◌∷◌, ◌++◌, length, take, get_or, map, Option, Some, None}
+use Rattle.std.proofs.Common.{◌≡◌, ◌+◌, ◌<◌, ℕ, suc, Bool, List, [], ◌∷◌, ◌++◌, length, take, get_or, map, Option, Some, None}
 use Rattle.std.proofs.Common.{refl, sym, ap, ◌∙◌, arith, append_assoc, append-nil}
 use Rattle.std.proofs.lemmas.List.{map-append}
 use Rattle.std.proofs.Math.Seq.{take-suc}
@@ -7,7 +7,7 @@ use Rattle.std.specs.Io.KnownBytes.{Appends}
 use Rattle.g704_framing.specs.Replies.{replies_after}
 use Rattle.g704_framing.proofs.Replies.{replies-append}
 use Rattle.g704_crc4.specs.Multiframe.{sent_octet, sent_octets}
-use Rattle.g704_crc4.specs.Reporting.{Arrival, Octet, Errored, octet_with_e}
+use Rattle.g704_crc4.specs.Reporting.{Arrival, Octet, Errored, octet_count, has_e_bit, octet_with_e}
 use Rattle.gw_filter.specs.Crc4.{trunk_octets_in, reports_in, with_e_bits}
 
 -- The octets of arrivals, and of others after them.
@@ -48,6 +48,18 @@ with-e-octet a x = with-e-append [] a (Octet x ∷ [])
 pub with-e-report : (a : List Arrival) (n : ℕ) → with_e_bits [] (a ++ Errored n ∷ []) ≡ with_e_bits [] a
 unfolding with_e_bits
 with-e-report a n = with-e-append [] a (Errored n ∷ []) ∙ append-nil (with_e_bits [] a)
+
+-- An octet with its E bit goes for each that arrives.
+with-e-length : (before arrivals : List Arrival) → length (with_e_bits before arrivals) ≡ octet_count arrivals
+unfolding with_e_bits octet_count
+with-e-length before [] = refl
+with-e-length before (Octet x ∷ arrivals) = omega (arith, with-e-length (before ++ Octet x ∷ []) arrivals)
+with-e-length before (Errored n ∷ arrivals) = with-e-length (before ++ Errored n ∷ []) arrivals
+
+-- The next octet has an E bit if the next that is sent has one.
+pub same-e-bit : (arrivals : List Arrival) (has : Bool) → has ≡ has_e_bit (length (with_e_bits [] arrivals))
+    → has ≡ has_e_bit (octet_count arrivals)
+same-e-bit arrivals has e = e ∙ ap has_e_bit (with-e-length [] arrivals)
 
 -- What is sent, one octet more.
 pub sent-more : (octets : List ℕ) (x : ℕ) → sent_octets (octets ++ x ∷ [])

@@ -38,10 +38,9 @@ abbrev pub IsOther : Record → Type 0
 IsOther (Record.Trunk octets) = ⊥
 IsOther _ = ⊤
 
--- A Teller was shown a record, with the code of its answer and the gateway behind it. It counted seizures,
--- and
--- its clients were told what changed. Behind a record of the trunk those who have gone were let go, and then
--- new ones were let in.
+-- A Teller was shown a record, with the code of its answer and the gateway behind it. It counted seizures, and
+-- wrote to its clients what changed. Behind a record of the trunk it may then have closed the connections of
+-- clients that had gone, and accepted new ones.
 pub record TellsRecord (t t' : Teller) (r : Record) (code : ℕ) (gateway : Gateway) : Type 0 where
   pub law_is : t'.law ≡ t.law
   pub place_is : t'.place ≡ place_after t.place r

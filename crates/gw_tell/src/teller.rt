@@ -27,6 +27,9 @@ use std::io;
 // How many clients there may be at once.
 const MOST_CLIENTS: usize = 8;
 
+// The octets of the trunk from one look at clients to the next.
+const LOOK: u64 = 2048;
+
 /// Tells the clients of a Unix socket how a trunk stands and what changes, as lines of text (e1gw-tell(5)).
 /// What a client does not take at once waits for it: 64 KiB at most, in room that is taken at the beginning.
 /// A client that goes, or for whom there is no room, loses its connection, and nothing else happens.
@@ -187,6 +190,12 @@ impl Teller {
         }
     }
 
+    // Whether clients are looked at behind a record that began at this place: with each record if there is
+    // none, else each 8 ms, since a look costs two system calls.
+    fn looks_at_clients(&self, before: u64) -> bool {
+        are_free(&self.places) || before / LOOK != self.place / LOOK
+    }
+
     // Lets go who has gone.
     fn listen(&mut self)
         ensures clients { (k : ℕ) → Gets (at self.old.places k) (at self.new.places k) [] }
@@ -230,11 +239,15 @@ impl Watch for Teller {
     ghost shows = { λ old new r code gateway. TellsRecord old new r code gateway };
 
     fn after(&mut self, head: &RecordKind, body: &[u8], code: u8, gateway: &Gateway) {
+        let before = self.place;
         self.tell(head, body, code, gateway);
         self.place = place_after(self.place, head, body);
-        if let RecordKind::Trunk = head {
-            self.listen();
-            self.let_in(gateway);
+        match head {
+            RecordKind::Trunk if self.looks_at_clients(before) => {
+                self.listen();
+                self.let_in(gateway);
+            }
+            _ => {}
         }
     }
 }

@@ -24,7 +24,8 @@ impl Sender {
     }
 
     fn octet(&mut self, octet: u8) -> u8 {
-        let with_bit = self.error_bits.octet(octet);
+        let has_bit = self.multiframer.next_has_e_bit();
+        let with_bit = self.error_bits.octet(octet, has_bit);
         self.multiframer.octet(with_bit)
     }
 }

@@ -1,7 +1,7 @@
 pub mod Recognition
 pub mod Tables
 pub mod Commands
-pub mod LineState
+pub mod Signalling
 pub mod Line
 pub mod Laws
 pub mod Saved
