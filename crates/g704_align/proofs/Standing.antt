@@ -14,8 +14,8 @@ use Rattle.g704_framing.proofs.Standings.{place-history, place-over, alarm-since
 use Rattle.g704_framing.proofs.Standings.{since-nothing, since-more, since-anew}
 use Rattle.g704_align.specs.declared.alignment.Place.{Place}
 use Rattle.g704_align.specs.declared.alignment.Place.TheVariants.{Hunting, Slot}
-use Rattle.g704_align.specs.declared.alignment.Phase.{Phase}
-use Rattle.g704_align.specs.declared.alignment.Phase.TheVariants.{Searching, Candidate, Aligned}
+use Rattle.g704_align.specs.declared.alignment.SyncState.{SyncState}
+use Rattle.g704_align.specs.declared.alignment.SyncState.TheVariants.{Searching, Candidate, Aligned}
 use Rattle.g704_align.specs.Loss.{frame_alignment, is_third_wrong}
 use Rattle.g704_align.specs.Placing.{place_of, number_of, frames, place, alarm_after}
 use Rattle.g704_align.specs.Aligner.{IsAlignment, Describes, Follows, HasHistory}
@@ -79,7 +79,7 @@ place-signal b c x age ws wd h e = elim (cases_Bool (is_third_wrong (c ++ x ∷ 
 ]
 
 -- without alignment after the octet, it has no place
-pub place-unless_after : (after : Phase) (b : Option ℕ) (c : List ℕ) (x : ℕ) → Follows after b (c ++ x ∷ [])
+pub place-unless_after : (after : SyncState) (b : Option ℕ) (c : List ℕ) (x : ℕ) → Follows after b (c ++ x ∷ [])
     → ((a s d : ℕ) → after ≡ Aligned a s d → ⊥) → Hunting ≡ place_since frames b (c ++ x ∷ []) (length c)
 place-unless_after Searching b c x f unless = place-over frames b c x f
 place-unless_after (Candidate age) b c x f unless =
@@ -88,7 +88,7 @@ place-unless_after (Candidate age) b c x f unless =
 place-unless_after (Aligned a s d) b c x f unless = absurd (unless a s d refl)
 
 -- nor without one before
-pub place-unless_before : (before : Phase) (b : Option ℕ) (c : List ℕ) (x : ℕ) → Describes before c
+pub place-unless_before : (before : SyncState) (b : Option ℕ) (c : List ℕ) (x : ℕ) → Describes before c
     → ((a s d : ℕ) → before ≡ Aligned a s d → ⊥) → Hunting ≡ place_since frames b (c ++ x ∷ []) (length c)
 place-unless_before Searching b c x f unless = place-early b (c ++ x ∷ []) (length c) (rw f (omega arith))
 place-unless_before (Candidate age) b c x f unless =
@@ -96,19 +96,19 @@ place-unless_before (Candidate age) b c x f unless =
 place-unless_before (Aligned a s d) b c x f unless = absurd (unless a s d refl)
 
 -- nor is there one before alignment is found
-pub place-unless_aligned : (phase : Phase) (b : Option ℕ) (c : List ℕ) (x : ℕ) → Describes phase c
+pub place-unless_aligned : (phase : SyncState) (b : Option ℕ) (c : List ℕ) (x : ℕ) → Describes phase c
     → ((a s d : ℕ) → phase ≡ Aligned a s d → ⊥) → IsNoSpeech (place_since frames b (c ++ x ∷ []) (length c))
 place-unless_aligned phase b c x f unless = subst IsNoSpeech (place-unless_before phase b c x f unless) refl
 
 -- the same in the whole history
-pub place-left : (phase : Phase) (history : List ℕ) (octet : ℕ) (h : HasHistory (record { phase = phase }) history)
+pub place-left : (phase : SyncState) (history : List ℕ) (octet : ℕ) (h : HasHistory (record { phase = phase }) history)
     → IsNoSpeech (place_since frames (last_of None h.earlier) (h.since ++ octet ∷ []) (length h.since))
     → number_of (place (history ++ octet ∷ []) (length history)) % 16 ≡ 0
 place-left phase history octet h is =
     subst IsNoSpeech (place-history frames history h.earlier h.since octet h.whole h.over) is
 
 -- the aligner has the history with one more octet
-pub stands-follows : (phase : Phase) (history earlier since : List ℕ) (x : ℕ) → history ≡ earlier ++ since
+pub stands-follows : (phase : SyncState) (history earlier since : List ℕ) (x : ℕ) → history ≡ earlier ++ since
     → RestartsAfter frame_alignment None earlier → Follows phase (last_of None earlier) (since ++ x ∷ [])
     → HasHistory (record { phase = phase }) (history ++ x ∷ [])
 stands-follows Searching history earlier since x e over f =
@@ -123,13 +123,13 @@ pub stands-new : HasHistory (record { phase = Searching }) []
 stands-new = since-nothing frame_alignment _ refl
 
 -- the alarm, by the phase
-abbrev pub alarm_of : Phase → Bool
+abbrev pub alarm_of : SyncState → Bool
 alarm_of Searching = true
 alarm_of (Candidate age) = true
 alarm_of (Aligned age ws wd) = false
 
 -- the alarm, by the octets since the last restart
-alarm-after : (phase : Phase) (earlier since : List ℕ) → RestartsAfter frame_alignment None earlier
+alarm-after : (phase : SyncState) (earlier since : List ℕ) → RestartsAfter frame_alignment None earlier
     → Describes phase since
     → alarm_of phase ≡ alarm_after (earlier ++ since)
 alarm-after Searching earlier since over f = rw f (alarm-over frames earlier over)
@@ -143,11 +143,11 @@ alarm-after (Aligned age ws wd) earlier since over f =
     ∙ alarm-since frames earlier since over (omega arith)
 
 -- the alarm, in each phase
-alarm-stands : (phase : Phase) (history : List ℕ) → HasHistory (record { phase = phase }) history
+alarm-stands : (phase : SyncState) (history : List ℕ) → HasHistory (record { phase = phase }) history
     → alarm_of phase ≡ alarm_after history
 alarm-stands phase history h = rw h.whole (alarm-after phase h.earlier h.since h.over h.fields)
 
 -- the same, if the phase is known
-pub alarm-in : (phase is : Phase) (history : List ℕ) → phase ≡ is → HasHistory (record { phase = phase }) history
+pub alarm-in : (phase is : SyncState) (history : List ℕ) → phase ≡ is → HasHistory (record { phase = phase }) history
     → alarm_of is ≡ alarm_after history
 alarm-in phase is history e h = sym (ap alarm_of e) ∙ alarm-stands phase history h

@@ -3,8 +3,8 @@ use Rattle.std.specs.Prelude.{◌≡◌, ℕ, ◌+◌, ◌-◌, ◌%◌, ◌<◌
 use Rattle.std.specs.Prelude.{nat_lt, if◌then◌else◌, List, [], length, slice_index, Option, Some, None}
 use Rattle.g704_framing.specs.Restart.{RestartsAfter, HoldsSince}
 use Rattle.g704_align.specs.declared.alignment.Aligner.{Aligner}
-use Rattle.g704_align.specs.declared.alignment.Phase.{Phase}
-use Rattle.g704_align.specs.declared.alignment.Phase.TheVariants.{Searching, Candidate, Aligned}
+use Rattle.g704_align.specs.declared.alignment.SyncState.{SyncState}
+use Rattle.g704_align.specs.declared.alignment.SyncState.TheVariants.{Searching, Candidate, Aligned}
 use Rattle.g704_align.specs.Search.{is_fas, is_nfas}
 use Rattle.g704_align.specs.Loss.{is_wrong, is_third_wrong, frame_alignment}
 
@@ -48,13 +48,13 @@ pub record IsAlignment (age wrong_fas wrong_nfas : ℕ) (octets : List ℕ) : Ty
   pub nfas_count : CountsWrong 32 wrong_nfas octets
 
 -- the octets since the last restart, by the phase
-abbrev pub Describes : Phase → List ℕ → Type 0
+abbrev pub Describes : SyncState → List ℕ → Type 0
 Describes Searching octets = octets ≡ []
 Describes (Candidate age) octets = IsCandidate age octets
 Describes (Aligned age wrong_fas wrong_nfas) octets = IsAlignment age wrong_fas wrong_nfas octets
 
 -- the phase fits these octets, or is the search that follows them
-abbrev pub Follows : Phase → Option ℕ → List ℕ → Type 0
+abbrev pub Follows : SyncState → Option ℕ → List ℕ → Type 0
 Follows Searching before octets = RestartsAfter frame_alignment before octets
 Follows (Candidate age) before octets = IsCandidate age octets
 Follows (Aligned age wrong_fas wrong_nfas) before octets = IsAlignment age wrong_fas wrong_nfas octets

@@ -46,7 +46,7 @@ pub enum Place {
 //
 // An age counts the octets from the first FAS octet, which is included.
 #[derive(Clone, Copy, Debug, PartialEq, Eq)]
-enum Phase {
+enum SyncState {
     // No FAS octet has been found.
     Searching,
     // A FAS octet has been found.
@@ -76,7 +76,7 @@ enum Phase {
 /// ```
 #[derive(Clone, Copy, Debug, PartialEq, Eq)]
 pub struct Aligner {
-    phase: Phase,
+    phase: SyncState,
 }
 
 impl Aligner {
@@ -85,7 +85,7 @@ impl Aligner {
         ensures { HasHistory result [] }
     {
         Aligner {
-            phase: Phase::Searching,
+            phase: SyncState::Searching,
         }
     }
 
@@ -119,7 +119,7 @@ impl Aligner {
         ensures in_frame { IfSome result (λ p. number_of p < 32) }
         ensures speech { IfSome result (λ p. number_of p % 16 ≢ 0) }
     {
-        if let Phase::Aligned { age, .. } = &mut self.phase {
+        if let SyncState::Aligned { age, .. } = &mut self.phase {
             let now = *age;
             if now % HALF_FRAME != 0 {
                 *age = next_age(now);
@@ -147,8 +147,8 @@ impl Aligner {
         ensures { (history : List ℕ) → HasHistory self.now history → result ≡ alarm_after history }
     {
         match self.phase {
-            Phase::Searching | Phase::Candidate { .. } => true,
-            Phase::Aligned { .. } => false,
+            SyncState::Searching | SyncState::Candidate { .. } => true,
+            SyncState::Aligned { .. } => false,
         }
     }
 }
@@ -172,14 +172,14 @@ pub fn is_nfas(octet: u8) -> bool
 }
 
 // The phase after an octet.
-fn phase_after(phase: Phase, octet: u8) -> Phase
+fn phase_after(phase: SyncState, octet: u8) -> SyncState
     ensures { (before : Option ℕ) (octets : List ℕ) → Describes phase octets
         → Follows result before (octets ++ octet ∷ []) }
 {
     match phase {
-        Phase::Searching => searched(octet),
-        Phase::Candidate { age } => after_candidate(age, octet),
-        Phase::Aligned {
+        SyncState::Searching => searched(octet),
+        SyncState::Candidate { age } => after_candidate(age, octet),
+        SyncState::Aligned {
             age,
             wrong_fas,
             wrong_nfas,
@@ -188,27 +188,27 @@ fn phase_after(phase: Phase, octet: u8) -> Phase
 }
 
 // The phase after an octet read by a search.
-fn searched(octet: u8) -> Phase
+fn searched(octet: u8) -> SyncState
     ensures { (before : Option ℕ) → Follows result before (octet ∷ []) }
 {
     if is_fas(octet) {
-        Phase::Candidate { age: 1 }
+        SyncState::Candidate { age: 1 }
     } else {
-        Phase::Searching
+        SyncState::Searching
     }
 }
 
 // The phase after an octet `age` octets after a FAS octet.
-fn after_candidate(age: u8, octet: u8) -> Phase
+fn after_candidate(age: u8, octet: u8) -> SyncState
     ensures { (before : Option ℕ) (octets : List ℕ) → IsCandidate age octets
         → Follows result before (octets ++ octet ∷ []) }
 {
     if refutes(age, octet) {
-        Phase::Searching
+        SyncState::Searching
     } else if age < TWO_FRAMES {
-        Phase::Candidate { age: age + 1 }
+        SyncState::Candidate { age: age + 1 }
     } else {
-        Phase::Aligned {
+        SyncState::Aligned {
             age: 1,
             wrong_fas: 0,
             wrong_nfas: 0,
@@ -224,31 +224,31 @@ fn refutes(age: u8, octet: u8) -> bool
 }
 
 // The phase after an octet in alignment.
-fn after_aligned(age: u8, wrong_fas: u8, wrong_nfas: u8, octet: u8) -> Phase
+fn after_aligned(age: u8, wrong_fas: u8, wrong_nfas: u8, octet: u8) -> SyncState
     ensures { (before : Option ℕ) (octets : List ℕ) → IsAlignment age wrong_fas wrong_nfas octets
         → Follows result before (octets ++ octet ∷ []) }
 {
     let next = next_age(age);
     if age == 0 {
         match count_after(wrong_fas, is_fas(octet)) {
-            Some(wrong_fas) => Phase::Aligned {
+            Some(wrong_fas) => SyncState::Aligned {
                 age: next,
                 wrong_fas,
                 wrong_nfas,
             },
-            None => Phase::Searching,
+            None => SyncState::Searching,
         }
     } else if age == FRAME {
         match count_after(wrong_nfas, is_nfas(octet)) {
-            Some(wrong_nfas) => Phase::Aligned {
+            Some(wrong_nfas) => SyncState::Aligned {
                 age: next,
                 wrong_fas,
                 wrong_nfas,
             },
-            None => Phase::Searching,
+            None => SyncState::Searching,
         }
     } else {
-        Phase::Aligned {
+        SyncState::Aligned {
             age: next,
             wrong_fas,
             wrong_nfas,
@@ -289,14 +289,14 @@ pub fn count_after(count: u8, right: bool) -> Option<u8>
 }
 
 // The place of the octet between two phases.
-fn place_between(before: Phase, after: Phase) -> Place
+fn place_between(before: SyncState, after: SyncState) -> Place
     ensures placed { (earlier : Option ℕ) (octets : List ℕ) (octet : ℕ) → Describes before octets
         → Follows after earlier (octets ++ octet ∷ [])
         → result ≡ place_since frames earlier (octets ++ octet ∷ []) (length octets) }
     ensures in_frame { number_of result < 32 }
 {
     match (before, after) {
-        (Phase::Aligned { age, .. }, Phase::Aligned { .. }) => slot_at(age),
+        (SyncState::Aligned { age, .. }, SyncState::Aligned { .. }) => slot_at(age),
         _ => Place::Hunting,
     }
 }

@@ -9,8 +9,8 @@ use Rattle.g704_framing.proofs.Standings.{since-nothing, since-more, since-anew}
 use Rattle.g704_bits.specs.Search.{is_confirmed}
 use Rattle.g704_bits.specs.Loss.{is_lost_at, bit_alignment}
 use Rattle.g704_bits.specs.Bits.{offset_of, offset_after}
-use Rattle.g704_bits.specs.declared.aligner.Phase.{Phase}
-use Rattle.g704_bits.specs.declared.aligner.Phase.TheVariants.{Hunting, Aligned}
+use Rattle.g704_bits.specs.declared.aligner.SyncState.{SyncState}
+use Rattle.g704_bits.specs.declared.aligner.SyncState.TheVariants.{Hunting, Aligned}
 use Rattle.g704_bits.specs.Aligner.{IsHunting, IsAlignment, Describes, FollowsAlignment, HasHistory}
 use Rattle.g704_bits.specs.Aligner.{next_seen, confirms}
 use Rattle.g704_bits.proofs.Framing.{confirmed-append}
@@ -117,7 +117,7 @@ stands-found seen o bit memory history x s sure at =
     }
 
 -- an alignment goes on, or is lost
-pub stands-aligned : (age ws wd o : ℕ) (memory history : List ℕ) (x : ℕ) (after : Phase)
+pub stands-aligned : (age ws wd o : ℕ) (memory history : List ℕ) (x : ℕ) (after : SyncState)
     → HasHistory (record { phase = Aligned age ws wd; offset = o; memory = memory }) history
     → ((windows : List ℕ) → IsAlignment age ws wd windows → FollowsAlignment after windows x)
     → HasHistory (record { phase = after; offset = o; memory = memory }) (history ++ x ∷ [])

@@ -3,8 +3,8 @@ use Rattle.std.specs.Prelude.{◌≡◌, ℕ, ◌+◌, ◌%◌, ◌<◌, ◌≤�
 use Rattle.std.specs.Prelude.{if◌then◌else◌, List, [], ◌∷◌, ◌++◌, length, slice_index}
 use Rattle.g704_framing.specs.Restart.{HoldsSince}
 use Rattle.g704_bits.specs.declared.aligner.Aligner.{Aligner}
-use Rattle.g704_bits.specs.declared.aligner.Phase.{Phase}
-use Rattle.g704_bits.specs.declared.aligner.Phase.TheVariants.{Hunting, Aligned}
+use Rattle.g704_bits.specs.declared.aligner.SyncState.{SyncState}
+use Rattle.g704_bits.specs.declared.aligner.SyncState.TheVariants.{Hunting, Aligned}
 use Rattle.g704_align.specs.Search.{is_fas, is_nfas}
 use Rattle.g704_align.specs.Aligner as frames
 use Rattle.g704_bits.specs.Search.{is_confirmed}
@@ -49,12 +49,12 @@ pub record IsAligned (age wrong_fas wrong_nfas : ℕ) (windows : List ℕ) : Typ
   pub fields : IsAlignment age wrong_fas wrong_nfas aligned
 
 -- the windows since the last restart, by the phase, and the memory without alignment
-abbrev pub Describes : Phase → List ℕ → List ℕ → Type 0
+abbrev pub Describes : SyncState → List ℕ → List ℕ → Type 0
 Describes (Hunting seen) memory windows = IsHunting seen memory windows
 Describes (Aligned age wrong_fas wrong_nfas) memory windows = IsAligned age wrong_fas wrong_nfas windows
 
 -- the phase is that of the alignment with one more window, or the search after a loss by that window
-abbrev pub FollowsAlignment : Phase → List ℕ → ℕ → Type 0
+abbrev pub FollowsAlignment : SyncState → List ℕ → ℕ → Type 0
 FollowsAlignment (Hunting seen) windows window =
     (seen ≡ 0) × (is_lost_at (windows ++ window ∷ []) (length windows) ≡ true)
 FollowsAlignment (Aligned age wrong_fas wrong_nfas) windows window =

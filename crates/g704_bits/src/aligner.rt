@@ -18,7 +18,7 @@ const UNMOVED: u8 = 7;
 
 // The state of the search.
 #[derive(Clone, Copy, Debug, PartialEq, Eq)]
-pub(crate) enum Phase {
+pub(crate) enum SyncState {
     // No alignment since so many windows, counted up to two frames and from there modulo two frames.
     Hunting {
         seen: u16,
@@ -39,7 +39,7 @@ pub(crate) enum Phase {
 // It takes the window that ends at each bit.
 #[derive(Debug, Drop)]
 pub(crate) struct Aligner {
-    phase: Phase,
+    phase: SyncState,
     // The last bit of windows in the last alignment.
     offset: u8,
     // Without alignment: the last windows of two frames, each at its number modulo two frames.
@@ -52,7 +52,7 @@ impl Aligner {
         ensures { HasHistory result [] }
     {
         Aligner {
-            phase: Phase::Hunting { seen: 0 },
+            phase: SyncState::Hunting { seen: 0 },
             offset: UNMOVED,
             memory: [0; 512],
         }
@@ -71,8 +71,8 @@ impl Aligner {
             → HasHistory self.new (history ++ window ∷ []) }
     {
         match self.phase {
-            Phase::Hunting { seen } => self.hunt(seen, window, bit),
-            Phase::Aligned {
+            SyncState::Hunting { seen } => self.hunt(seen, window, bit),
+            SyncState::Aligned {
                 age,
                 wrong_fas,
                 wrong_nfas,
@@ -82,20 +82,20 @@ impl Aligner {
 
     // Takes a window without alignment.
     fn hunt(&mut self, seen: u16, window: u8, bit: u8)
-        requires { self.old.phase ≡ Phase.Hunting seen }
+        requires { self.old.phase ≡ SyncState.Hunting seen }
         ensures stands { (history : List ℕ) → HasHistory self.old history → bit ≡ length history % 8
             → HasHistory self.new (history ++ window ∷ []) }
     {
         if self.confirms(seen, window) {
             self.offset = bit;
-            self.phase = Phase::Aligned {
+            self.phase = SyncState::Aligned {
                 age: 1,
                 wrong_fas: 0,
                 wrong_nfas: 0,
             };
         } else {
             self.memory[usize::from(seen % TWO_FRAMES)] = window;
-            self.phase = Phase::Hunting {
+            self.phase = SyncState::Hunting {
                 seen: next_seen(seen),
             };
         }
@@ -124,31 +124,31 @@ fn next_seen(seen: u16) -> u16
 }
 
 // The phase after a window in alignment.
-fn after_aligned(age: u16, wrong_fas: u8, wrong_nfas: u8, window: u8) -> Phase
+fn after_aligned(age: u16, wrong_fas: u8, wrong_nfas: u8, window: u8) -> SyncState
     ensures { (windows : List ℕ) → IsAlignment age wrong_fas wrong_nfas windows
         → FollowsAlignment result windows window }
 {
     let next = next_age(age);
     if age == 0 {
         match count_after(wrong_fas, is_fas(window)) {
-            Some(wrong_fas) => Phase::Aligned {
+            Some(wrong_fas) => SyncState::Aligned {
                 age: next,
                 wrong_fas,
                 wrong_nfas,
             },
-            None => Phase::Hunting { seen: 0 },
+            None => SyncState::Hunting { seen: 0 },
         }
     } else if age == FRAME {
         match count_after(wrong_nfas, is_nfas(window)) {
-            Some(wrong_nfas) => Phase::Aligned {
+            Some(wrong_nfas) => SyncState::Aligned {
                 age: next,
                 wrong_fas,
                 wrong_nfas,
             },
-            None => Phase::Hunting { seen: 0 },
+            None => SyncState::Hunting { seen: 0 },
         }
     } else {
-        Phase::Aligned {
+        SyncState::Aligned {
             age: next,
             wrong_fas,
             wrong_nfas,

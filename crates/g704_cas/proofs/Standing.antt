@@ -10,8 +10,8 @@ use Rattle.g704_framing.proofs.Ends.{alignments-standing, last_of-append}
 use Rattle.g704_framing.proofs.Ages.{age-standing}
 use Rattle.g704_framing.proofs.Standings.{alarm-since, alarm-over, since-nothing, since-more, since-anew}
 use Rattle.g704_cas.specs.declared.alignment.MfPlace.TheVariants.{Frame}
-use Rattle.g704_cas.specs.declared.alignment.Phase.{Phase}
-use Rattle.g704_cas.specs.declared.alignment.Phase.TheVariants.{Searching, Aligned}
+use Rattle.g704_cas.specs.declared.alignment.SyncState.{SyncState}
+use Rattle.g704_cas.specs.declared.alignment.SyncState.TheVariants.{Searching, Aligned}
 use Rattle.g704_cas.specs.Search.{is_not_zero}
 use Rattle.g704_cas.specs.Loss.{multiframe_alignment}
 use Rattle.g704_cas.specs.Placing.{multiframes, alarm_after}
@@ -44,7 +44,7 @@ place-next b c x frame frame' wrong wrong' h g =
     rw (age-aligned b (c ++ x ∷ []) (length c) frame' wrong' g) (ap Frame e)
 
 -- the aligner has the history with one more octet
-pub stands-follows : (phase : Phase) (history earlier since : List ℕ) (x : ℕ) → history ≡ earlier ++ since
+pub stands-follows : (phase : SyncState) (history earlier since : List ℕ) (x : ℕ) → history ≡ earlier ++ since
     → RestartsAfter multiframe_alignment None earlier → Follows phase (last_of None earlier) (since ++ x ∷ [])
     → HasHistory (record { phase = phase }) (history ++ x ∷ [])
 stands-follows (Searching after) history earlier since x e over f =
@@ -58,7 +58,7 @@ pub stands-new : HasHistory (record { phase = Searching false }) []
 stands-new = since-nothing multiframe_alignment _ (refl, refl)
 
 -- the alarm while it hunts
-pub alarm-searching : (phase : Phase) (history : List ℕ) (after : Bool) → phase ≡ Searching after
+pub alarm-searching : (phase : SyncState) (history : List ℕ) (after : Bool) → phase ≡ Searching after
     → HasHistory (record { phase = phase }) history → true ≡ alarm_after history
 alarm-searching phase history after e h =
     let d : Describes (Searching after) (last_of None h.earlier) h.since
@@ -66,7 +66,7 @@ alarm-searching phase history after e h =
     rw (h.whole, d.0) (alarm-over multiframes h.earlier h.over)
 
 -- and while it is aligned
-pub alarm-aligned : (phase : Phase) (history : List ℕ) (frame : ℕ) (wrong : Bool) → phase ≡ Aligned frame wrong
+pub alarm-aligned : (phase : SyncState) (history : List ℕ) (frame : ℕ) (wrong : Bool) → phase ≡ Aligned frame wrong
     → HasHistory (record { phase = phase }) history → false ≡ alarm_after history
 alarm-aligned phase history frame wrong e h =
     let d : IsAlignment (last_of None h.earlier) frame wrong h.since

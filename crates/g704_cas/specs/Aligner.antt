@@ -3,8 +3,8 @@ use Rattle.std.specs.Prelude.{◌≡◌, ℕ, ◌+◌, ◌-◌, ◌%◌, ◌<◌
 use Rattle.std.specs.Prelude.{slice_index, Option}
 use Rattle.g704_framing.specs.Restart.{RestartsAfter, last_of, HoldsSince}
 use Rattle.g704_cas.specs.declared.alignment.MfAligner.{MfAligner}
-use Rattle.g704_cas.specs.declared.alignment.Phase.{Phase}
-use Rattle.g704_cas.specs.declared.alignment.Phase.TheVariants.{Searching, Aligned}
+use Rattle.g704_cas.specs.declared.alignment.SyncState.{SyncState}
+use Rattle.g704_cas.specs.declared.alignment.SyncState.TheVariants.{Searching, Aligned}
 use Rattle.g704_cas.specs.Search.{is_mfas, is_not_zero}
 use Rattle.g704_cas.specs.Loss.{is_wrong, is_second_wrong, multiframe_alignment}
 
@@ -20,12 +20,12 @@ pub record IsAlignment (before : Option ℕ) (frame : ℕ) (wrong : Bool) (octet
       → wrong ≡ is_wrong octets (next - 16)
 
 -- the octets since the last restart, and the one before them, by the phase
-abbrev pub Describes : Phase → Option ℕ → List ℕ → Type 0
+abbrev pub Describes : SyncState → Option ℕ → List ℕ → Type 0
 Describes (Searching after_nonzero) before octets = (octets ≡ []) × (after_nonzero ≡ is_not_zero before)
 Describes (Aligned frame wrong) before octets = IsAlignment before frame wrong octets
 
 -- the phase fits these octets, or is the search that follows them
-abbrev pub Follows : Phase → Option ℕ → List ℕ → Type 0
+abbrev pub Follows : SyncState → Option ℕ → List ℕ → Type 0
 Follows (Searching after_nonzero) before octets =
     RestartsAfter multiframe_alignment before octets × (after_nonzero ≡ is_not_zero (last_of before octets))
 Follows (Aligned frame wrong) before octets = IsAlignment before frame wrong octets

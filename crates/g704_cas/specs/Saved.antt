@@ -2,10 +2,10 @@
 use Rattle.std.specs.Prelude.{ℕ, List, [], ◌∷◌}
 use Rattle.saved_octets.specs.Numbers.{flag_octet}
 use Rattle.g704_cas.specs.declared.alignment.MfAligner.{MfAligner}
-use Rattle.g704_cas.specs.declared.alignment.Phase.{Phase}
-use Rattle.g704_cas.specs.declared.alignment.Phase.TheVariants.{Searching, Aligned}
+use Rattle.g704_cas.specs.declared.alignment.SyncState.{SyncState}
+use Rattle.g704_cas.specs.declared.alignment.SyncState.TheVariants.{Searching, Aligned}
 
-abbrev pub saved_mf_phase : Phase → List ℕ
+abbrev pub saved_mf_phase : SyncState → List ℕ
 saved_mf_phase (Searching after_nonzero) = 0 ∷ flag_octet after_nonzero ∷ []
 saved_mf_phase (Aligned frame wrong) = 1 ∷ frame ∷ flag_octet wrong ∷ []
 

@@ -23,7 +23,7 @@ pub enum MfPlace {
 }
 
 #[derive(Clone, Copy, Debug, PartialEq, Eq)]
-enum Phase {
+enum SyncState {
     // No alignment: whether there is an octet before, and it is not 0.
     Searching { after_nonzero: bool },
     // Multiframes are aligned: the frame of the next octet, and whether the last octet of a frame 0 was
@@ -32,7 +32,7 @@ enum Phase {
 }
 
 // The search at the start of a stream.
-const AT_FIRST: Phase = Phase::Searching {
+const AT_FIRST: SyncState = SyncState::Searching {
     after_nonzero: false,
 };
 
@@ -41,7 +41,7 @@ const AT_FIRST: Phase = Phase::Searching {
 /// It returns the frame of each octet.
 #[derive(Clone, Copy, Debug, PartialEq, Eq)]
 pub struct MfAligner {
-    phase: Phase,
+    phase: SyncState,
 }
 
 impl MfAligner {
@@ -77,8 +77,8 @@ impl MfAligner {
         ensures { (history : List ℕ) → HasHistory self.now history → result ≡ alarm_after history }
     {
         match self.phase {
-            Phase::Searching { .. } => true,
-            Phase::Aligned { .. } => false,
+            SyncState::Searching { .. } => true,
+            SyncState::Aligned { .. } => false,
         }
     }
 }
@@ -92,51 +92,51 @@ fn is_mfas(octet: u8) -> bool
 }
 
 // The phase after an octet.
-fn phase_after(phase: Phase, octet: u8) -> Phase
+fn phase_after(phase: SyncState, octet: u8) -> SyncState
     ensures { (before : Option ℕ) (octets : List ℕ) → Describes phase before octets
         → Follows result before (octets ++ octet ∷ []) }
 {
     match phase {
-        Phase::Searching { after_nonzero } => searched(after_nonzero, octet),
-        Phase::Aligned { frame, wrong } => after_aligned(frame, wrong, octet),
+        SyncState::Searching { after_nonzero } => searched(after_nonzero, octet),
+        SyncState::Aligned { frame, wrong } => after_aligned(frame, wrong, octet),
     }
 }
 
 // The phase after an octet read by a search.
-fn searched(after_nonzero: bool, octet: u8) -> Phase
+fn searched(after_nonzero: bool, octet: u8) -> SyncState
     ensures { (before : Option ℕ) → after_nonzero ≡ is_not_zero before → Follows result before (octet ∷ []) }
 {
     if after_nonzero && is_mfas(octet) {
-        Phase::Aligned {
+        SyncState::Aligned {
             frame: 1,
             wrong: false,
         }
     } else {
-        Phase::Searching {
+        SyncState::Searching {
             after_nonzero: octet != 0,
         }
     }
 }
 
 // The phase after an octet in alignment.
-fn after_aligned(frame: u8, wrong: bool, octet: u8) -> Phase
+fn after_aligned(frame: u8, wrong: bool, octet: u8) -> SyncState
     ensures { (before : Option ℕ) (octets : List ℕ) → IsAlignment before frame wrong octets
         → Follows result before (octets ++ octet ∷ []) }
 {
     if frame == 0 {
         let right = is_mfas(octet);
         if wrong && !right {
-            Phase::Searching {
+            SyncState::Searching {
                 after_nonzero: true,
             }
         } else {
-            Phase::Aligned {
+            SyncState::Aligned {
                 frame: 1,
                 wrong: !right,
             }
         }
     } else {
-        Phase::Aligned {
+        SyncState::Aligned {
             frame: next_frame(frame),
             wrong,
         }
@@ -151,15 +151,17 @@ fn next_frame(frame: u8) -> u8
 }
 
 // The place of the octet between two phases.
-fn place_between(before: Phase, after: Phase) -> MfPlace
+fn place_between(before: SyncState, after: SyncState) -> MfPlace
     ensures placed { (earlier : Option ℕ) (octets : List ℕ) (octet : ℕ) → Describes before earlier octets
         → Follows after earlier (octets ++ octet ∷ [])
         → result ≡ place_since multiframes earlier (octets ++ octet ∷ []) (length octets) }
     ensures in_multiframe { frame_of result < 16 }
 {
     match (before, after) {
-        (_, Phase::Searching { .. }) => MfPlace::Hunting,
-        (Phase::Searching { .. }, Phase::Aligned { .. }) => MfPlace::Frame(0),
-        (Phase::Aligned { frame, .. }, Phase::Aligned { .. }) => MfPlace::Frame(frame % FRAMES),
+        (_, SyncState::Searching { .. }) => MfPlace::Hunting,
+        (SyncState::Searching { .. }, SyncState::Aligned { .. }) => MfPlace::Frame(0),
+        (SyncState::Aligned { frame, .. }, SyncState::Aligned { .. }) => MfPlace::Frame(
+            frame % FRAMES,
+        ),
     }
 }

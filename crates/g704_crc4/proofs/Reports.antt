@@ -6,26 +6,26 @@ use Rattle.std.proofs.lemmas.Bool.{cases_eq, eq-eqb, ne_eqb}
 use Rattle.g704_crc4.specs.declared.reporting.EBitReporter.{EBitReporter}
 use Rattle.g704_crc4.specs.Remainder.{bit_number}
 use Rattle.g704_crc4.specs.Multiframe.{with_si}
-use Rattle.g704_crc4.specs.Reporting.{Arrival, Octet, Errored, octet_count, errored_in_all, has_e_bit}
+use Rattle.g704_crc4.specs.Reporting.{SenderInput, Octet, Errored, octet_count, errored_in_all, has_e_bit}
 use Rattle.g704_crc4.specs.Reporting.{unreported_after, unreported, octet_with_e, is_reported_by, zeros_after}
 use Rattle.g704_crc4.specs.Reporting.{EachIsReported, NoneIsReported, ReportsAfter}
 
 -- One octet more is one place more.
-pub octets-octet : (h : List Arrival) (x : ℕ) → octet_count (h ++ Octet x ∷ []) ≡ octet_count h + 1
+pub octets-octet : (h : List SenderInput) (x : ℕ) → octet_count (h ++ Octet x ∷ []) ≡ octet_count h + 1
 unfolding octet_count
 octets-octet [] x = refl
 octets-octet (Octet y ∷ h) x = omega (arith, octets-octet h x)
 octets-octet (Errored n ∷ h) x = octets-octet h x
 
 -- A report takes no place.
-pub octets-errored : (h : List Arrival) (n : ℕ) → octet_count (h ++ Errored n ∷ []) ≡ octet_count h
+pub octets-errored : (h : List SenderInput) (n : ℕ) → octet_count (h ++ Errored n ∷ []) ≡ octet_count h
 unfolding octet_count
 octets-errored [] n = refl
 octets-errored (Octet y ∷ h) n = omega (arith, octets-errored h n)
 octets-errored (Errored m ∷ h) n = octets-errored h n
 
 -- What is left after one octet more.
-left-octet : (left place : ℕ) (h : List Arrival) (x : ℕ) → unreported_after left place (h ++ Octet x ∷ [])
+left-octet : (left place : ℕ) (h : List SenderInput) (x : ℕ) → unreported_after left place (h ++ Octet x ∷ [])
     ≡ cond (has_e_bit (place + octet_count h)) (unreported_after left place h - 1) (unreported_after left place h)
 unfolding octet_count unreported_after
 left-octet left place [] x =
@@ -39,7 +39,7 @@ left-octet left place (Octet y ∷ h) x =
 left-octet left place (Errored n ∷ h) x = left-octet (min (left + n) (2 ^ 32 - 1)) place h x
 
 -- What is left after one report more.
-left-errored : (left place : ℕ) (h : List Arrival) (n : ℕ) → unreported_after left place (h ++ Errored n ∷ [])
+left-errored : (left place : ℕ) (h : List SenderInput) (n : ℕ) → unreported_after left place (h ++ Errored n ∷ [])
     ≡ min (unreported_after left place h + n) (2 ^ 32 - 1)
 unfolding unreported_after
 left-errored left place [] n = refl
@@ -47,14 +47,14 @@ left-errored left place (Octet y ∷ h) n = left-errored (cond (has_e_bit place)
 left-errored left place (Errored m ∷ h) n = left-errored (min (left + m) (2 ^ 32 - 1)) place h n
 
 -- What is not yet reported after one octet more: an E bit reports one.
-pub unreported-octet : (h : List Arrival) (x : ℕ) → unreported (h ++ Octet x ∷ [])
+pub unreported-octet : (h : List SenderInput) (x : ℕ) → unreported (h ++ Octet x ∷ [])
     ≡ cond (has_e_bit (octet_count h)) (unreported h - 1) (unreported h)
 unreported-octet h x =
     let none : 0 + octet_count h ≡ octet_count h = omega arith in
     left-octet 0 0 h x ∙ ap (λ p. cond (has_e_bit p) (unreported h - 1) (unreported h)) none
 
 -- What is not yet reported with more to report.
-pub unreported-errored : (h : List Arrival) (n : ℕ) → unreported (h ++ Errored n ∷ [])
+pub unreported-errored : (h : List SenderInput) (n : ℕ) → unreported (h ++ Errored n ∷ [])
     ≡ min (unreported h + n) (2 ^ 32 - 1)
 unreported-errored h n = left-errored 0 0 h n
 
@@ -67,7 +67,7 @@ one-less true left = elim (cases_eq left 0) [
 ]
 
 -- Reports and what is left, after more arrivals.
-reported-from : (before rest : List Arrival) → unreported before + errored_in_all rest ≤ 2 ^ 32 - 1
+reported-from : (before rest : List SenderInput) → unreported before + errored_in_all rest ≤ 2 ^ 32 - 1
     → zeros_after before rest + unreported (before ++ rest) ≡ unreported before + errored_in_all rest
 unfolding zeros_after errored_in_all is_reported_by
 reported-from before [] le = omega (arith, ap unreported (append-nil before))
@@ -115,7 +115,7 @@ unfolding has_e_bit
 e-bit-place p n e = let same : p % 512 ≡ n % 512 = omega (arith, e) in rw same refl
 
 -- One octet more that has no E bit.
-pub without-bit : (bits : EBitReporter) (h : List Arrival) (x : ℕ) → ReportsAfter bits h
+pub without-bit : (bits : EBitReporter) (h : List SenderInput) (x : ℕ) → ReportsAfter bits h
     → has_e_bit (octet_count h) ≡ false → (x ≡ octet_with_e h x) × ReportsAfter bits (h ++ Octet x ∷ [])
 unfolding octet_with_e
 without-bit bits h x s none = (
@@ -127,7 +127,7 @@ without-bit bits h x s none = (
 )
 
 -- One octet more that has one.
-pub with-bit : (bits : EBitReporter) (h : List Arrival) (x left : ℕ) → ReportsAfter bits h
+pub with-bit : (bits : EBitReporter) (h : List SenderInput) (x left : ℕ) → ReportsAfter bits h
     → has_e_bit (octet_count h) ≡ true → left ≡ bits.unreported - 1
     → (with_si (bits.unreported == 0) x ≡ octet_with_e h x)
     × ReportsAfter (record { unreported = left }) (h ++ Octet x ∷ [])

@@ -6,7 +6,7 @@ use Rattle.g704_crc4.specs.Remainder.{remainder_of, sent_bits}
 use Rattle.g704_crc4.specs.Submultiframes.{each_at, submultiframe}
 use Rattle.g704_crc4.specs.Receiving.{si_of, remainder_in}
 use Rattle.g704_crc4.specs.Searching.{has_signal, begins_multiframe}
-use Rattle.g704_crc4.specs.Reporting.{Arrival, Octet, Errored, octet_count, has_e_bit}
+use Rattle.g704_crc4.specs.Reporting.{SenderInput, Octet, Errored, octet_count, has_e_bit}
 use Rattle.g704_crc4.specs.Reporting.{unreported_after, unreported, octet_with_e}
 use Rattle.g704_crc4.specs.Aligning.{searched_octets, multiframe_in, count_in}
 
@@ -50,7 +50,7 @@ unfolding count_in
 counted = refl
 
 -- Octets without a report.
-octets_only : ℕ → List Arrival
+octets_only : ℕ → List SenderInput
 octets_only zero = []
 octets_only (suc count) = Octet 223 ∷ octets_only count
 

@@ -1,7 +1,8 @@
 //! E bits that report errored submultiframes.
 
 ghost use Rattle.std.specs.Prelude.{◌≡◌, ◌∷◌, ◌++◌, List, []};
-ghost use Rattle.g704_crc4.specs.Reporting.{Arrival, Octet, Errored, octet_count, has_e_bit, octet_with_e};
+ghost use Rattle.g704_crc4.specs.Reporting.{SenderInput, Octet, Errored, octet_count, has_e_bit};
+ghost use Rattle.g704_crc4.specs.Reporting.{octet_with_e};
 ghost use Rattle.g704_crc4.specs.Reporting.{ReportsAfter};
 
 use crate::sending::with_si;
@@ -26,7 +27,7 @@ impl EBitReporter {
 
     /// Takes a number of errored submultiframes to report; at most 2^32 - 1 of them wait.
     pub fn report(&mut self, count: u32)
-        ensures { (history : List Arrival) → ReportsAfter self.old history
+        ensures { (history : List SenderInput) → ReportsAfter self.old history
             → ReportsAfter self.new (history ++ Errored count ∷ []) }
     {
         self.unreported = self.unreported.saturating_add(count);
@@ -36,9 +37,9 @@ impl EBitReporter {
     ///
     /// The caller knows whether it has: see [`crate::Crc4Inserter::next_has_e_bit`].
     pub fn octet(&mut self, octet: u8, has_bit: bool) -> u8
-        ensures reply { (history : List Arrival) → ReportsAfter self.old history
+        ensures reply { (history : List SenderInput) → ReportsAfter self.old history
             → has_bit ≡ has_e_bit (octet_count history) → result ≡ octet_with_e history octet }
-        ensures stands { (history : List Arrival) → ReportsAfter self.old history
+        ensures stands { (history : List SenderInput) → ReportsAfter self.old history
             → has_bit ≡ has_e_bit (octet_count history)
             → ReportsAfter self.new (history ++ Octet octet ∷ []) }
     {

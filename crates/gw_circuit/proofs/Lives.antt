@@ -8,7 +8,7 @@ use Rattle.gw_circuit.specs.declared.circuit.Circuit.{Circuit}
 use Rattle.gw_circuit.specs.Items.{CircuitEvent, Wait, Configure}
 use Rattle.gw_circuit.specs.Lives.{next_config, config_after, next_since, items_since}
 use Rattle.gw_circuit.specs.Spells.{line_items}
-use Rattle.gw_circuit.specs.Standing.{HasHistory, StandsSince}
+use Rattle.gw_circuit.specs.Standing.{HasHistory, HistorySince}
 
 -- the items since the circuit began as new, after one item more
 since-next : (items : List CircuitEvent) (item : CircuitEvent)
@@ -23,7 +23,7 @@ config-next config items item = fold-append next_config config items (item ∷ [
 -- a circuit stands by what came since it was configured last
 pub since-of : (c : Circuit) (law : Law) (config : CircuitConfig) (items : List CircuitEvent)
     → HasHistory c law config items
-    → StandsSince c law (config_after config items) (items_since items)
+    → HistorySince c law (config_after config items) (items_since items)
 unfolding HasHistory
 since-of c law config items stands = stands
 
@@ -32,8 +32,8 @@ since-of c law config items stands = stands
 pub lifts : (old new : Circuit) (item : CircuitEvent)
     → ((before : List CircuitEvent) → next_since before item ≡ before ++ item ∷ [])
     → ((config : CircuitConfig) → next_config config item ≡ config)
-    → ((law : Law) (config : CircuitConfig) (items : List CircuitEvent) → StandsSince old law config items
-    → StandsSince new law config (items ++ item ∷ []))
+    → ((law : Law) (config : CircuitConfig) (items : List CircuitEvent) → HistorySince old law config items
+    → HistorySince new law config (items ++ item ∷ []))
     → (law : Law) (config : CircuitConfig) (items : List CircuitEvent) → HasHistory old law config items
     → HasHistory new law config (items ++ item ∷ [])
 unfolding HasHistory
@@ -43,7 +43,7 @@ lifts old new item more same goes law config items stands =
     (goes law (config_after config items) (items_since items) stands)
 
 -- a circuit that begins stands before its first item
-pub begins-anew : (c : Circuit) (law : Law) (config : CircuitConfig) → StandsSince c law config []
+pub begins-anew : (c : Circuit) (law : Law) (config : CircuitConfig) → HistorySince c law config []
     → HasHistory c law config []
 unfolding HasHistory
 begins-anew c law config stands = stands

@@ -1,5 +1,6 @@
 -- Octets and reports that arrive, one part after another.
-use Rattle.std.proofs.Common.{◌≡◌, ◌+◌, ◌<◌, ℕ, suc, Bool, List, [], ◌∷◌, ◌++◌, length, take, get_or, map, Option, Some, None}
+use Rattle.std.proofs.Common.{◌≡◌, ◌+◌, ◌<◌, ℕ, suc, Bool, List, [], ◌∷◌, ◌++◌, length, take, get_or, map, Option, Some}
+use Rattle.std.proofs.Common.{None}
 use Rattle.std.proofs.Common.{refl, sym, ap, ◌∙◌, arith, append_assoc, append-nil}
 use Rattle.std.proofs.lemmas.List.{map-append}
 use Rattle.std.proofs.Math.Seq.{take-suc}
@@ -7,25 +8,25 @@ use Rattle.std.specs.Io.KnownBytes.{Appends}
 use Rattle.g704_framing.specs.Replies.{replies_after}
 use Rattle.g704_framing.proofs.Replies.{replies-append}
 use Rattle.g704_crc4.specs.Multiframe.{sent_octet, sent_octets}
-use Rattle.g704_crc4.specs.Reporting.{Arrival, Octet, Errored, octet_count, has_e_bit, octet_with_e}
+use Rattle.g704_crc4.specs.Reporting.{SenderInput, Octet, Errored, octet_count, has_e_bit, octet_with_e}
 use Rattle.gw_filter.specs.Crc4.{trunk_octets_in, reports_in, with_e_bits}
 
 -- The octets of arrivals, and of others after them.
-pub octets-append : (a b : List Arrival) → trunk_octets_in (a ++ b) ≡ trunk_octets_in a ++ trunk_octets_in b
+pub octets-append : (a b : List SenderInput) → trunk_octets_in (a ++ b) ≡ trunk_octets_in a ++ trunk_octets_in b
 unfolding trunk_octets_in
 octets-append [] b = refl
 octets-append (Octet x ∷ a) b = ap (λ xs. x ∷ xs) (octets-append a b)
 octets-append (Errored n ∷ a) b = octets-append a b
 
 -- The reports of arrivals, and of others after them.
-pub reports-append : (a b : List Arrival) → reports_in (a ++ b) ≡ reports_in a ++ reports_in b
+pub reports-append : (a b : List SenderInput) → reports_in (a ++ b) ≡ reports_in a ++ reports_in b
 unfolding reports_in
 reports-append [] b = refl
 reports-append (Octet x ∷ a) b = reports-append a b
 reports-append (Errored n ∷ a) b = ap (λ xs. n ∷ xs) (reports-append a b)
 
 -- The octets with E bits of arrivals, and of others after them.
-with-e-append : (before a b : List Arrival) → with_e_bits before (a ++ b)
+with-e-append : (before a b : List SenderInput) → with_e_bits before (a ++ b)
     ≡ with_e_bits before a ++ with_e_bits (before ++ a) b
 unfolding with_e_bits
 with-e-append before [] b = ap (λ h. with_e_bits h b) (sym (append-nil before))
@@ -39,25 +40,25 @@ with-e-append before (Errored n ∷ a) b =
     ∙ ap (λ h. with_e_bits more a ++ with_e_bits h b) (append_assoc before (Errored n ∷ []) a)
 
 -- One octet more has its E bit.
-pub with-e-octet : (a : List Arrival) (x : ℕ) → with_e_bits [] (a ++ Octet x ∷ [])
+pub with-e-octet : (a : List SenderInput) (x : ℕ) → with_e_bits [] (a ++ Octet x ∷ [])
     ≡ with_e_bits [] a ++ octet_with_e a x ∷ []
 unfolding with_e_bits
 with-e-octet a x = with-e-append [] a (Octet x ∷ [])
 
 -- A report is no octet.
-pub with-e-report : (a : List Arrival) (n : ℕ) → with_e_bits [] (a ++ Errored n ∷ []) ≡ with_e_bits [] a
+pub with-e-report : (a : List SenderInput) (n : ℕ) → with_e_bits [] (a ++ Errored n ∷ []) ≡ with_e_bits [] a
 unfolding with_e_bits
 with-e-report a n = with-e-append [] a (Errored n ∷ []) ∙ append-nil (with_e_bits [] a)
 
 -- An octet with its E bit goes for each that arrives.
-with-e-length : (before arrivals : List Arrival) → length (with_e_bits before arrivals) ≡ octet_count arrivals
+with-e-length : (before arrivals : List SenderInput) → length (with_e_bits before arrivals) ≡ octet_count arrivals
 unfolding with_e_bits octet_count
 with-e-length before [] = refl
 with-e-length before (Octet x ∷ arrivals) = omega (arith, with-e-length (before ++ Octet x ∷ []) arrivals)
 with-e-length before (Errored n ∷ arrivals) = with-e-length (before ++ Errored n ∷ []) arrivals
 
 -- The next octet has an E bit if the next that is sent has one.
-pub same-e-bit : (arrivals : List Arrival) (has : Bool) → has ≡ has_e_bit (length (with_e_bits [] arrivals))
+pub same-e-bit : (arrivals : List SenderInput) (has : Bool) → has ≡ has_e_bit (length (with_e_bits [] arrivals))
     → has ≡ has_e_bit (octet_count arrivals)
 same-e-bit arrivals has e = e ∙ ap has_e_bit (with-e-length [] arrivals)
 
@@ -92,7 +93,7 @@ reports-of-reports [] = refl
 reports-of-reports (x ∷ xs) = ap (λ ys. x ∷ ys) (reports-of-reports xs)
 
 -- Arrivals of the first items, and of one more.
-pub arrives-next : (arrive : ℕ → Arrival) (a : List Arrival) (xs : List ℕ) (i : ℕ) → i < length xs
+pub arrives-next : (arrive : ℕ → SenderInput) (a : List SenderInput) (xs : List ℕ) (i : ℕ) → i < length xs
     → (a ++ map arrive (take i xs)) ++ arrive (get_or xs i 0) ∷ [] ≡ a ++ map arrive (take (i + 1) xs)
 arrives-next arrive a xs i lt =
     let one : suc i ≡ i + 1 = omega arith in

@@ -1,11 +1,12 @@
 -- A sender of CRC-4 multiframes, one arrival more.
-use Rattle.std.proofs.Common.{◌≡◌, ◌+◌, ◌<◌, ◌≤◌, ℕ, suc, List, [], ◌∷◌, ◌++◌, length, take, drop, get_or, slice_set, map}
+use Rattle.std.proofs.Common.{◌≡◌, ◌+◌, ◌<◌, ◌≤◌, ℕ, suc, List, [], ◌∷◌, ◌++◌, length, take, drop, get_or, slice_set}
+use Rattle.std.proofs.Common.{map}
 use Rattle.std.proofs.Common.{Option, Some, refl, sym, ap, ◌∙◌, arith, subst, append_assoc, append-nil, length-append}
 use Rattle.std.proofs.Math.Seq.{drop-cons, set-append_seam, get_or-append_seam}
 use Rattle.std.proofs.lemmas.List.{length-set, take_all, drop_all}
 use Rattle.std.specs.Io.KnownBytes.{Appends}
 use Rattle.g704_crc4.specs.Multiframe.{sent_octet, sent_octets}
-use Rattle.g704_crc4.specs.Reporting.{Arrival, Octet, Errored, ReportsAfter, octet_with_e}
+use Rattle.g704_crc4.specs.Reporting.{SenderInput, Octet, Errored, ReportsAfter, octet_with_e}
 use Rattle.g704_crc4.specs.States.{SendsAfter}
 use Rattle.gw_filter.specs.declared.sending.Crc4Sender.{Crc4Sender}
 use Rattle.gw_filter.specs.Crc4.{with_e_bits, sent_for, trunk_octets_in, reports_in, SendsCrc4, HasSent, IsSent}
@@ -14,12 +15,12 @@ use Rattle.gw_filter.proofs.Arrivals.{octets-append, reports-append, octets-of-o
 use Rattle.gw_filter.proofs.Arrivals.{octets-of-reports, reports-of-reports}
 
 -- The same arrivals, and the same octets sent.
-pub sends-same : (s : Crc4Sender) (a b : List Arrival) (xs ys : List ℕ) → a ≡ b → xs ≡ ys → SendsCrc4 s a xs
+pub sends-same : (s : Crc4Sender) (a b : List SenderInput) (xs ys : List ℕ) → a ≡ b → xs ≡ ys → SendsCrc4 s a xs
     → SendsCrc4 s b ys
 sends-same s a b xs ys e f p = rw (← e, ← f) p
 
 -- After one octet more.
-pub octet-sent : (a b : Crc4Sender) (arrivals : List Arrival) (sent : List ℕ) (x with_bit y : ℕ)
+pub octet-sent : (a b : Crc4Sender) (arrivals : List SenderInput) (sent : List ℕ) (x with_bit y : ℕ)
     → SendsCrc4 a arrivals sent → with_bit ≡ octet_with_e arrivals x
     → ReportsAfter b.error_bits (arrivals ++ Octet x ∷ []) → y ≡ sent_octet (with_e_bits [] arrivals) with_bit
     → SendsAfter b.multiframer (with_e_bits [] arrivals ++ with_bit ∷ [])
@@ -34,7 +35,7 @@ octet-sent a b arrivals sent x with_bit y s is bits reply multiframer =
     }
 
 -- After one report more.
-pub report-taken : (a b : Crc4Sender) (arrivals : List Arrival) (sent : List ℕ) (n : ℕ) → SendsCrc4 a arrivals sent
+pub report-taken : (a b : Crc4Sender) (arrivals : List SenderInput) (sent : List ℕ) (n : ℕ) → SendsCrc4 a arrivals sent
     → ReportsAfter b.error_bits (arrivals ++ Errored n ∷ []) → b.multiframer ≡ a.multiframer
     → SendsCrc4 b (arrivals ++ Errored n ∷ []) sent
 report-taken a b arrivals sent n s bits same = record {
@@ -50,7 +51,7 @@ pub record IsSentTo (first sender : Crc4Sender) (old now : List ℕ) (i : ℕ) :
   pub within : i ≤ length old
   pub len : length now ≡ length old
   pub now_is : now ≡ done ++ drop i old
-  pub sends : (arrivals : List Arrival) (sent : List ℕ) → SendsCrc4 first arrivals sent
+  pub sends : (arrivals : List SenderInput) (sent : List ℕ) → SendsCrc4 first arrivals sent
       → SendsCrc4 sender (arrivals ++ map Octet (take i old)) (sent ++ done)
 
 -- So far none is.
@@ -67,7 +68,7 @@ none_sent first old = record {
 -- The next octet of the slice is sent.
 pub one_sent : (first sender after : Crc4Sender) (old now : List ℕ) (i y : ℕ) → IsSentTo first sender old now i
     → i < length now
-    → ((arrivals : List Arrival) (sent : List ℕ) → SendsCrc4 sender arrivals sent
+    → ((arrivals : List SenderInput) (sent : List ℕ) → SendsCrc4 sender arrivals sent
     → SendsCrc4 after (arrivals ++ Octet (get_or now i 0) ∷ []) (sent ++ y ∷ []))
     → IsSentTo first after old (slice_set now i y) (i + 1)
 one_sent first sender after old now i y so lt step = record {
@@ -101,7 +102,7 @@ one_sent first sender after old now i y so lt step = record {
 
 -- All of them are sent.
 pub all_sent : (first sender : Crc4Sender) (old now : List ℕ) (i : ℕ) → IsSentTo first sender old now i
-    → length now ≤ i → (arrivals : List Arrival) (sent : List ℕ) → SendsCrc4 first arrivals sent
+    → length now ≤ i → (arrivals : List SenderInput) (sent : List ℕ) → SendsCrc4 first arrivals sent
     → SendsCrc4 sender (arrivals ++ map Octet old) (sent ++ now)
 all_sent first sender old now i so end arrivals sent s =
     sends-same sender _ _ _ _
@@ -122,11 +123,13 @@ more_sent a b given given' reports taken returned old new s came sends =
       octets_are = ap (λ xs. xs ++ old) (s.octets_are ∙ sym (append-nil (trunk_octets_in s.arrivals))
           ∙ ap (λ xs. trunk_octets_in s.arrivals ++ xs) (sym (octets-of-reports reports))
           ∙ sym (octets-append s.arrivals (map Errored reports)))
-          ∙ ap (λ xs. trunk_octets_in first ++ xs) (sym (octets-of-octets old)) ∙ sym (octets-append first (map Octet old));
+          ∙ ap (λ xs. trunk_octets_in first ++ xs) (sym (octets-of-octets old))
+          ∙ sym (octets-append first (map Octet old));
       reports_are = given-after given given' (reports_in s.arrivals) reports s.reports_are came
           ∙ ap Some (ap (λ xs. reports_in s.arrivals ++ xs) (sym (reports-of-reports reports))
           ∙ sym (reports-append s.arrivals (map Errored reports)) ∙ sym (append-nil (reports_in first))
-          ∙ ap (λ xs. reports_in first ++ xs) (sym (reports-of-octets old)) ∙ sym (reports-append first (map Octet old)));
+          ∙ ap (λ xs. reports_in first ++ xs) (sym (reports-of-octets old))
+          ∙ sym (reports-append first (map Octet old)));
       sends = sends;
     }
 

@@ -2,7 +2,7 @@
 
 ghost use Rattle.std.specs.Prelude.{◌≡◌, ◌≤◌, ◌∷◌, ◌++◌, ℕ, List, [], length, map, take, Some, IfOk, IfErr};
 ghost use Rattle.std.specs.Io.KnownBytes.{Appends};
-ghost use Rattle.g704_crc4.specs.Reporting.{Arrival, Octet, Errored};
+ghost use Rattle.g704_crc4.specs.Reporting.{SenderInput, Octet, Errored};
 ghost use Rattle.gw_records.specs.Streams.{CanBegin};
 ghost use Rattle.gw_filter.specs.Crc4.{SendsCrc4, HasSent, SendsMultiframes, SendsMultiframesUntil};
 
@@ -33,7 +33,7 @@ impl Crc4Sender {
 
     // Takes the next octet and returns it as sent.
     fn octet(&mut self, octet: u8) -> u8
-        ensures { (arrivals : List Arrival) (sent : List ℕ) → SendsCrc4 self.old arrivals sent
+        ensures { (arrivals : List SenderInput) (sent : List ℕ) → SendsCrc4 self.old arrivals sent
             → SendsCrc4 self.new (arrivals ++ Octet octet ∷ []) (sent ++ result ∷ []) }
     {
         let has_bit = self.multiframer.next_has_e_bit();
@@ -43,7 +43,7 @@ impl Crc4Sender {
 
     // Takes reports, each a number of errored submultiframes.
     fn report_all(&mut self, counts: &[u8])
-        ensures { (arrivals : List Arrival) (sent : List ℕ) → SendsCrc4 self.old arrivals sent
+        ensures { (arrivals : List SenderInput) (sent : List ℕ) → SendsCrc4 self.old arrivals sent
             → SendsCrc4 self.new (arrivals ++ map Errored counts.now) sent }
     {
         for count in counts.iter() {
@@ -54,7 +54,7 @@ impl Crc4Sender {
     // Replaces the next octets by those that are sent.
     fn send_all(&mut self, octets: &mut [u8])
         ensures len { length octets.new ≡ length octets.old }
-        ensures sent { (arrivals : List Arrival) (sent : List ℕ) → SendsCrc4 self.old arrivals sent
+        ensures sent { (arrivals : List SenderInput) (sent : List ℕ) → SendsCrc4 self.old arrivals sent
             → SendsCrc4 self.new (arrivals ++ map Octet octets.old) (sent ++ octets.new) }
     {
         for octet in octets.iter_mut() {
@@ -77,8 +77,9 @@ fn take_reports<R: Source>(reports: &mut R, room: &mut [u8]) -> usize
 
 /// Puts CRC-4 multiframes into a trunk, and reports errored submultiframes by E bits.
 ///
-/// Each octet that `reports` gives is a number of errored submultiframes that were received. Reports are taken
-/// before each buffer of the trunk; so this source must never wait, and may fail where nothing has come.
+/// Each octet that `reports` gives is a number of errored submultiframes that were received. Reports are
+/// taken before each buffer of the trunk; so this source must never wait, and may fail where nothing has
+/// come.
 #[derive(Drop)]
 pub struct ReportingSender<R> {
     sender: Crc4Sender,
@@ -111,10 +112,10 @@ impl<R: Source> BufferFilter for ReportingSender<R> {
 
 /// Writes a trunk's octets with CRC-4 multiframes.
 ///
-/// It writes one octet for each octet of the source, as `g704_crc4::Crc4Inserter` returns it. An E bit is 0 for
-/// each errored submultiframe that is reported, as `g704_crc4::EBitReporter` has it, otherwise 1. The frames
-/// begin at the first octet, as those of a gateway. All are written before the source is read again. The
-/// octets are counted. No memory is taken.
+/// It writes one octet for each octet of the source, as `g704_crc4::Crc4Inserter` returns it. An E bit is 0
+/// for each errored submultiframe that is reported, as `g704_crc4::EBitReporter` has it, otherwise 1. The
+/// frames begin at the first octet, as those of a gateway. All are written before the source is read again.
+/// The octets are counted. No memory is taken.
 ///
 /// # Errors
 ///

@@ -18,7 +18,7 @@ use Rattle.gw_program.specs.declared.program_fault.ProgramFault.TheVariants as p
 use Rattle.gw_program.specs.Filters.{DoesFilter, DoesFilterUntil, HasChecked, HasCheckedUntil}
 use Rattle.gw_program.specs.Jobs.{Does, DoesUntil}
 use Rattle.gw_program.specs.Performing.{Ended, EndedSaved, NotBegun, HasConfig, by_session}
-use Rattle.gw_program.specs.Satop.{Command, DoesSatop}
+use Rattle.gw_program.specs.Satop.{CommandLine, DoesSatop}
 use Rattle.gw_program.specs.Sessions.{HasGateway, Runs, Serves, Checks}
 use Rattle.gw_program.specs.State.{BeginsWaiting, IsSaved}
 use Rattle.gw_trunk.specs.Serving.{Traffic}
@@ -26,7 +26,7 @@ use Rattle.gw_program.specs.Trunks.{CarriesTrunk}
 use Rattle.gw_trunk.specs.Multiframes.{GoesInTime}
 
 -- CRC-4 multiframes are to be checked
-abbrev pub AsksCheck : Command → Type 0
+abbrev pub AsksCheck : CommandLine → Type 0
 AsksCheck command = text_in (codes "check") command ≡ Some (codes "true")
 
 -- what a request does, of what jobs, filters, the check of CRC-4 multiframes, sessions, the trunk and the
@@ -34,7 +34,7 @@ AsksCheck command = text_in (codes "check") command ≡ Some (codes "true")
 -- do
 abbrev pub by_request : (SpeechJob → Type 0) → (Filter → Type 0) → Type 0 → (SessionKind → Type 0) → Type 0
     → Type 0
-    → Command → Request → Type 0
+    → CommandLine → Request → Type 0
 by_request jobs filters checks sessions trunk satop command (requests.SpeechJob job) = jobs job
 by_request jobs filters checks sessions trunk satop command (requests.Filter Align) = filters Align
 by_request jobs filters checks sessions trunk satop command (requests.Filter Crc4) =
@@ -44,13 +44,13 @@ by_request jobs filters checks sessions trunk satop command requests.Trunk = tru
 by_request jobs filters checks sessions trunk satop command requests.Satop = satop
 
 -- what the command asks for was done
-pub record HasRequest (command : Command) (does : Command → Request → Type 0) : Type 0 where
+pub record HasRequest (command : CommandLine) (does : CommandLine → Request → Type 0) : Type 0 where
   pub request : Request
   pub asked : IsRequest command request
   pub done : does command request
 
 -- the command asks for nothing, and this is told
-pub record NoRequest (command : Command) (told : Result Totals ProgramFault) : Type 0 where
+pub record NoRequest (command : CommandLine) (told : Result Totals ProgramFault) : Type 0 where
   pub nothing : (request : Request) → ¬ IsRequest command request
   pub told_is : told ≡ Err program_faults.Nothing
 
@@ -74,7 +74,7 @@ DoesJob job told = OnNewStreams (λ a a'. Ended (λ end. MatchResult end
     (Does job a.source a'.source a.sink a'.sink) (DoesUntil job a.source a'.source a.sink a'.sink)) told)
 
 -- the file of reports that the command names
-abbrev pub reports_in : Command → Option (List ℕ)
+abbrev pub reports_in : CommandLine → Option (List ℕ)
 reports_in command = text_in (codes "reports") command
 
 -- a file of reports is named and can't be opened, and this is told
@@ -139,18 +139,18 @@ ServesTrunk load save asks told = OnNewStreams (λ a a'. ByGateway a a' told loa
     (IsSaved save) told)))
 
 -- the state to load and the state to save that the command names
-abbrev pub load_in : Command → Option (List ℕ)
+abbrev pub load_in : CommandLine → Option (List ℕ)
 load_in command = text_in (codes "load") command
 
-abbrev pub save_in : Command → Option (List ℕ)
+abbrev pub save_in : CommandLine → Option (List ℕ)
 save_in command = text_in (codes "save") command
 
 -- the wait of a seizure that the command asks for, in signals; none if it asks for none
-abbrev pub AsksWait : Command → Option ℕ → Type 0
+abbrev pub AsksWait : CommandLine → Option ℕ → Type 0
 AsksWait command wait = MatchOption wait ((signals : ℕ) → ¬ SaysWait command signals) (SaysWait command)
 
 -- what the command asks for was done, and this is told
-abbrev pub Performs : Command → Result Totals ProgramFault → Type 0
+abbrev pub Performs : CommandLine → Result Totals ProgramFault → Type 0
 Performs command told = HasRequest command (by_request (λ job. DoesJob job told)
     (λ filter. RunsFilter (reports_in command) filter told) (ChecksCrc4 (reports_in command) told)
     (λ session. DoesSession (load_in command) (save_in command) (AsksWait command) session told)

@@ -9,7 +9,7 @@ use Rattle.gw_records.specs.declared.outcome.RunFault.TheVariants as faults
 use Rattle.gw_command.specs.Command.{SaysNumberIn, text_in}
 use Rattle.gw_satop.specs.declared.counts.Counts.{Counts}
 use Rattle.gw_satop.specs.declared.line.Receiver.{Receiver}
-use Rattle.gw_satop.specs.declared.pace.Pace.{Pace}
+use Rattle.gw_satop.specs.declared.pace.PlayClock.{PlayClock}
 use Rattle.gw_satop.specs.declared.sender.Sender.{Sender}
 use Rattle.gw_satop.specs.Opening.{FailsToJoin, SystemRefusesTrunk}
 use Rattle.gw_satop.specs.Session.{PlaysAll, SendsAll}
@@ -19,8 +19,8 @@ use Rattle.gw_program.specs.declared.program_fault.ProgramFault.{ProgramFault}
 use Rattle.gw_program.specs.declared.program_fault.ProgramFault.TheVariants as program_faults
 
 -- a subcommand with its options
-abbrev pub Command : Type 0
-Command = Option (List ℕ × List Row)
+abbrev pub CommandLine : Type 0
+CommandLine = Option (List ℕ × List Row)
 
 -- a read of the trunk failed, and all that was played had gone; or a write failed
 abbrev pub IsDeviceFault : List ℕ → ProgramFault → Type 0
@@ -34,7 +34,7 @@ IsDeviceFault left _ = ⊥
 pub record CircuitTraffic : Type 0 where
   pub receiver : Receiver
   pub sender : Sender
-  pub pace : Pace
+  pub pace : PlayClock
   pub counts : Counts
   pub received : List (List ℕ)
   pub sent : List (List ℕ)
@@ -58,7 +58,8 @@ abbrev pub window_for : ℕ → ℕ → ℕ
 window_for jitter size = min (max (max (2 * jitter) (32000 / size)) 1) 1024
 
 -- both halves and the pace are set up as the command says
-pub record IsSetUp (command : Command) (receiver : Receiver) (sender : Sender) (pace : Pace) : Type 0 where
+pub record IsSetUp (command : CommandLine) (receiver : Receiver) (sender : Sender)
+    (pace : PlayClock) : Type 0 where
   pub size : SaysNumberIn 16 (codes "size") command receiver.settings.size
   pub sizes : sender.start.size ≡ receiver.settings.size
   pub rtp : MatchOption sender.start.rtp ((n : ℕ) → ¬ SaysNumberIn 8 (codes "rtp") command n)
@@ -73,19 +74,19 @@ pub record IsSetUp (command : Command) (receiver : Receiver) (sender : Sender) (
   pub by_packets : pace.timing.own_clock ≡ true → text_in (codes "clock") command ≡ Some (codes "own")
 
 -- the command does not say one of these: the size, the jitter, and both ends
-abbrev pub LacksWord : Command → Type 0
+abbrev pub LacksWord : CommandLine → Type 0
 LacksWord command = (((n : ℕ) → ¬ SaysNumberIn 16 (codes "size") command n)
     ⊎ ((n : ℕ) → ¬ SaysNumberIn 16 (codes "jitter") command n))
     ⊎ ((text_in (codes "local") command ≡ None) ⊎ (text_in (codes "peer") command ≡ None))
 
 -- the command says a size of packets that are no 1 to 40 whole frames
-pub record SaysOtherSize (command : Command) : Type 0 where
+pub record SaysOtherSize (command : CommandLine) : Type 0 where
   pub size : ℕ
   pub says : SaysNumberIn 16 (codes "size") command size
   pub other : ¬ IsSize size
 
 -- the command says both ends, and there is no socket between them
-pub record LacksSocket (command : Command) : Type 0 where
+pub record LacksSocket (command : CommandLine) : Type 0 where
   pub local : List ℕ
   pub peer : List ℕ
   pub error : Error
@@ -102,7 +103,7 @@ LacksStream _ = ⊥
 -- Why the circuit is not opened: a word is missing, the size is no size of a packet, there is no socket, the
 -- system
 -- refused to wait for a stream of the trunk, or memory was refused.
-abbrev pub FailsToOpen : Command → ProgramFault → Type 0
+abbrev pub FailsToOpen : CommandLine → ProgramFault → Type 0
 FailsToOpen command program_faults.Nothing = LacksWord command
 FailsToOpen command program_faults.PacketSize = SaysOtherSize command
 FailsToOpen command program_faults.FarEnd = LacksSocket command
@@ -111,11 +112,11 @@ FailsToOpen command program_faults.OutOfMemory = ⊤
 FailsToOpen command _ = ⊥
 
 -- the circuit that the command asks for was carried
-pub record HasCircuit (command : Command) (told : Result Totals ProgramFault) : Type 0 where
+pub record HasCircuit (command : CommandLine) (told : Result Totals ProgramFault) : Type 0 where
   pub traffic : CircuitTraffic
   pub set_up : IsSetUp command traffic.receiver traffic.sender traffic.pace
   pub carried : CarriesSatop traffic told
 
 -- what was told: why the circuit was not opened, or it was carried
-abbrev pub DoesSatop : Command → Result Totals ProgramFault → Type 0
+abbrev pub DoesSatop : CommandLine → Result Totals ProgramFault → Type 0
 DoesSatop command told = IsErrAnd told (FailsToOpen command) ⊎ HasCircuit command told

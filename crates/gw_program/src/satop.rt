@@ -7,10 +7,10 @@ use crate::program_fault::ProgramFault;
 use gw_records::NO_TOTALS;
 use gw_satop::{Clock, Peer, SatopCircuit, carry_satop};
 use gw_session::{RunFault, Totals};
-use gw_trunk::{Incoming, Outgoing};
+use gw_trunk::{TrunkInput, TrunkOutput};
 
 /// Carries an emulated circuit until no octet comes from the trunk any more.
-pub fn perform_satop<I: Incoming, O: Outgoing, P: Peer, M: Clock>(
+pub fn perform_satop<I: TrunkInput, O: TrunkOutput, P: Peer, M: Clock>(
     circuit: &mut SatopCircuit<I, O, P>,
     moments: &mut M,
 ) -> Result<Totals, ProgramFault>

@@ -12,13 +12,13 @@ use crate::program_fault::ProgramFault;
 use gw_config::Config;
 use gw_session::{Ports, RunFault, Sink, Source, Tape, Totals};
 use gw_switch::Gateway;
-use gw_trunk::{Incoming, Outgoing, TrunkRecordSink, TrunkRecordSource, serve_trunk};
+use gw_trunk::{TrunkInput, TrunkOutput, TrunkRecordSink, TrunkRecordSource, serve_trunk};
 use std::alloc::Global;
 
 // Serves a trunk and its clients with a gateway, sends and receives its datagrams through ports, and records
 // on a tape what the gateway receives.
 #[inline(never)]
-fn carry_trunk<I: Incoming, O: Outgoing, A: Outgoing, P: Ports, T: Tape>(
+fn carry_trunk<I: TrunkInput, O: TrunkOutput, A: TrunkOutput, P: Ports, T: Tape>(
     alloc: Global,
     gateway: &mut Gateway,
     ports: &mut P,
@@ -43,7 +43,7 @@ fn carry_trunk<I: Incoming, O: Outgoing, A: Outgoing, P: Ports, T: Tape>(
 
 // Serves a trunk with a configuration and a gateway, on ports and a tape of the system. The tape is begun
 // before the ports are opened.
-fn perform_carry<Y: System, I: Incoming, O: Outgoing, A: Outgoing>(
+fn perform_carry<Y: System, I: TrunkInput, O: TrunkOutput, A: TrunkOutput>(
     system: &Y,
     alloc: Global,
     config: &Config,
@@ -77,7 +77,7 @@ fn perform_carry<Y: System, I: Incoming, O: Outgoing, A: Outgoing>(
 
 /// Serves a trunk and its clients with the configuration, the gateway, the ports and the tape of the system,
 /// and saves the gateway's state.
-pub fn perform_trunk<Y: System, I: Incoming, O: Outgoing, A: Outgoing>(
+pub fn perform_trunk<Y: System, I: TrunkInput, O: TrunkOutput, A: TrunkOutput>(
     system: &Y,
     alloc: Global,
     source: &mut TrunkRecordSource<I>,

@@ -7,7 +7,7 @@ use Rattle.gw_records.specs.declared.outcome.RunFault.TheVariants as faults
 use Rattle.gw_records.specs.declared.records.AcceptedKinds.{AcceptedKinds}
 use Rattle.gw_records.specs.declared.records.EndReason.{EndReason}
 use Rattle.gw_records.specs.declared.records.EndReason.TheVariants as endings
-use Rattle.gw_records.specs.Records.{Record, Begins, Reads, is_open}
+use Rattle.gw_records.specs.Records.{Record, BeginsWith, Reads, is_open}
 use Rattle.gw_records.specs.Streams.{SourceState, SinkState, Yields, GivesUp}
 
 -- the number of a fault
@@ -62,7 +62,7 @@ pub record FailsToWrite (kinds : AcceptedKinds) (source source' : SourceState) (
   pub octets : List ℕ
   pub gives : Yields source source' octets
   pub records : List Record
-  pub begins : Begins kinds octets records
+  pub begins : BeginsWith kinds octets records
   pub begun : Begun records
   pub counted : sink.failures < sink'.failures
   pub no_read : source'.failures ≡ source.failures

@@ -95,7 +95,7 @@ is_open endings.Truncated = true
 is_open _ = false
 
 -- the octets begin with these good records
-pub record Begins (kinds : AcceptedKinds) (octets : List ℕ) (records : List Record) : Type 0 where
+pub record BeginsWith (kinds : AcceptedKinds) (octets : List ℕ) (records : List Record) : Type 0 where
   pub rest : List ℕ
   pub whole : octets ≡ flat_map spelled records ++ rest
   pub good : AllByRecursion (IsGood kinds) records

@@ -6,7 +6,7 @@ use Rattle.satop_playout.specs.Plays.{given_octets, is_there, reach_after}
 use Rattle.gw_satop.specs.declared.counts.Counts.{Counts}
 use Rattle.gw_satop.specs.declared.line.DatagramOutcome.{DatagramOutcome}
 use Rattle.gw_satop.specs.declared.line.Receiver.{Receiver}
-use Rattle.gw_satop.specs.declared.pace.Pace.{Pace}
+use Rattle.gw_satop.specs.declared.pace.PlayClock.{PlayClock}
 use Rattle.gw_satop.specs.Counts.{counts_by_bits, counts_by_outcome, counts_by_play, counts_by_sending, more_if}
 use Rattle.gw_satop.specs.Line.{HasPlayed, calls_for, played, receipt_of}
 use Rattle.gw_satop.specs.Pace.{after_listening, after_outcome, after_plan, after_play, at_time, falls_silent, is_due}
@@ -18,7 +18,7 @@ use Rattle.gw_satop.specs.Turns.{state_of}
 use Rattle.gw_satop.proofs.Arriving.{arrivals-append, arrivals-for, arrivals-more}
 
 -- A turn begins.
-pub turned : (receiver : Receiver) (pace pace' : Pace) (counts : Counts) (flags : List Bool)
+pub turned : (receiver : Receiver) (pace pace' : PlayClock) (counts : Counts) (flags : List Bool)
     (received : List (List ℕ)) (went : List ℕ) (now : ℕ) → pace' ≡ at_time pace now
     → pace'.timing ≡ pace.timing → PlaysAll receiver pace counts flags received went
     → PlaysAll receiver pace' counts flags received went
@@ -29,7 +29,7 @@ turned receiver pace pace' counts flags received went now is timing k = record {
   rtp_is = k.rtp_is;
   timing_is = timing ∙ k.timing_is;
   stands = k.stands;
-  pace_is = is ∙ ap (λ (p : Pace). at_time p now) k.pace_is;
+  pace_is = is ∙ ap (λ (p : PlayClock). at_time p now) k.pace_is;
   flags_are = k.flags_are;
   counts_are = k.counts_are;
   due = (tt, k.due);
@@ -39,7 +39,7 @@ turned receiver pace pace' counts flags received went now is timing k = record {
 }
 
 -- All that came was read.
-pub listened : (receiver : Receiver) (pace pace' : Pace) (counts counts' : Counts) (flags : List Bool)
+pub listened : (receiver : Receiver) (pace pace' : PlayClock) (counts counts' : Counts) (flags : List Bool)
     (received : List (List ℕ)) (went : List ℕ) → pace' ≡ after_listening pace pace.counted
     → counts' ≡ record counts { silences = more_if (falls_silent pace pace.counted) counts.silences }
     → pace'.timing ≡ pace.timing → PlaysAll receiver pace counts flags received went
@@ -51,7 +51,7 @@ listened receiver pace pace' counts counts' flags received went is counted timin
   rtp_is = k.rtp_is;
   timing_is = timing ∙ k.timing_is;
   stands = k.stands;
-  pace_is = is ∙ ap (λ (p : Pace). after_listening p p.counted) k.pace_is;
+  pace_is = is ∙ ap (λ (p : PlayClock). after_listening p p.counted) k.pace_is;
   flags_are = k.flags_are;
   counts_are = counted ∙ rw (k.counts_are, k.pace_is) refl;
   due = (tt, k.due);
@@ -61,7 +61,7 @@ listened receiver pace pace' counts counts' flags received went is counted timin
 }
 
 -- The next turn is planned.
-pub planned : (receiver : Receiver) (pace pace' : Pace) (counts : Counts) (flags : List Bool)
+pub planned : (receiver : Receiver) (pace pace' : PlayClock) (counts : Counts) (flags : List Bool)
     (received : List (List ℕ)) (went : List ℕ) (reach : ℕ)
     → ((calls : List PlayoutCall) → HasPlayed receiver calls → reach ≡ reach_after receiver.settings calls)
     → pace' ≡ after_plan pace pace.counted reach → pace'.timing ≡ pace.timing
@@ -83,7 +83,7 @@ planned receiver pace pace' counts flags received went reach reach-is is timing 
 }
 
 -- A packet is sent.
-pub sent-more : (receiver : Receiver) (pace : Pace) (counts counts' : Counts) (flags flags' : List Bool)
+pub sent-more : (receiver : Receiver) (pace : PlayClock) (counts counts' : Counts) (flags flags' : List Bool)
     (received : List (List ℕ)) (went : List ℕ) (taken : Bool) → flags' ≡ flags ++ pace.silent ∷ []
     → counts' ≡ counts_by_sending counts taken → PlaysAll receiver pace counts flags received went
     → PlaysAll receiver pace counts' flags' received went
@@ -104,7 +104,7 @@ sent-more receiver pace counts counts' flags flags' received went taken flagged 
 }
 
 -- One more packet is played, which is due.
-pub played-more : (receiver receiver' : Receiver) (pace pace' : Pace) (counts counts' : Counts) (flags : List Bool)
+pub played-more : (receiver receiver' : Receiver) (pace pace' : PlayClock) (counts counts' : Counts) (flags : List Bool)
     (received : List (List ℕ)) (went octets : List ℕ) (read_all there later : Bool)
     → receiver'.settings ≡ receiver.settings → receiver'.rtp ≡ receiver.rtp
     → ((calls : List PlayoutCall) → HasPlayed receiver calls → HasPlayed receiver' (calls ++ PlayoutCall.Plays ∷ []))
@@ -141,7 +141,7 @@ played-more receiver receiver' pace pace' counts counts' flags received went oct
     }
 
 -- One more datagram is received.
-pub heard : (receiver receiver' : Receiver) (pace pace' : Pace) (counts counts' : Counts) (flags : List Bool)
+pub heard : (receiver receiver' : Receiver) (pace pace' : PlayClock) (counts counts' : Counts) (flags : List Bool)
     (received : List (List ℕ)) (datagram went : List ℕ) (outcome : DatagramOutcome)
     → receiver'.settings ≡ receiver.settings → receiver'.rtp ≡ receiver.rtp
     → ((calls : List PlayoutCall) → HasPlayed receiver calls → outcome ≡ receipt_of receiver.settings calls pace

@@ -13,7 +13,7 @@ use Rattle.gw_satop.specs.declared.line.DatagramOutcome.{DatagramOutcome}
 use Rattle.gw_satop.specs.declared.line.Receiver.{Receiver}
 use Rattle.gw_satop.specs.declared.line.DatagramOutcome.TheVariants as receipts
 use Rattle.gw_satop.specs.declared.packet.PacketFault.{PacketFault}
-use Rattle.gw_satop.specs.declared.pace.Pace.{Pace}
+use Rattle.gw_satop.specs.declared.pace.PlayClock.{PlayClock}
 use Rattle.gw_satop.specs.Packets.{octets_to_play}
 use Rattle.gw_satop.specs.Pace.{beginning}
 
@@ -28,7 +28,8 @@ receipt_by (Ok _) begins = receipts.Accepted
 receipt_by (Err fault) begins = receipt_refused fault (begins fault)
 
 -- what becomes of a datagram at a time, after these calls
-abbrev pub receipt_of : Settings → List PlayoutCall → Pace → ℕ → Result Content PacketFault → DatagramOutcome
+abbrev pub receipt_of : Settings → List PlayoutCall → PlayClock → ℕ → Result Content PacketFault
+    → DatagramOutcome
 receipt_of settings calls pace now (Err fault) = receipts.PacketFault fault
 receipt_of settings calls pace now (Ok p) = receipt_by
     (arrival_answer settings calls p.control.sequence (octets_to_play settings.size p))

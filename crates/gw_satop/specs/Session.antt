@@ -3,7 +3,7 @@ use Rattle.std.specs.Prelude.{◌≡◌, ◌<◌, ℕ, Bool, List, length}
 use Rattle.satop_playout.specs.Laws.{arrivals_of}
 use Rattle.gw_satop.specs.declared.counts.Counts.{Counts}
 use Rattle.gw_satop.specs.declared.line.Receiver.{Receiver}
-use Rattle.gw_satop.specs.declared.pace.Pace.{Pace}
+use Rattle.gw_satop.specs.declared.pace.PlayClock.{PlayClock}
 use Rattle.gw_satop.specs.declared.sender.Sender.{Sender}
 use Rattle.gw_satop.specs.Line.{HasPlayed, played}
 use Rattle.gw_satop.specs.Packets.{arrivals_in}
@@ -14,7 +14,7 @@ use Rattle.gw_satop.specs.Turns.{AllDue, Past, datagrams_in, state_at_first, sta
 -- streams began and packets were played between them, each when it was due. What went to the trunk are the
 -- octets of the time slots for the octets of the plays. The pace, bit R of each packet that was sent and the
 -- counts follow from what happened.
-pub record PlaysAll (receiver : Receiver) (pace : Pace) (counts : Counts) (flags : List Bool)
+pub record PlaysAll (receiver : Receiver) (pace : PlayClock) (counts : Counts) (flags : List Bool)
     (received : List (List ℕ)) (went : List ℕ) : Type 0 where
   pub past : Past
   pub settings_are : receiver.settings ≡ past.settings
@@ -37,7 +37,7 @@ pub record SendsAll (sender : Sender) (sent : List (List ℕ)) (came : List ℕ)
   pub rest : length sender.held.items < sender.start.size
 
 -- both halves and the pace are set up as they were
-pub record HasSettings (receiver receiver' : Receiver) (sender sender' : Sender) (pace pace' : Pace)
+pub record HasSettings (receiver receiver' : Receiver) (sender sender' : Sender) (pace pace' : PlayClock)
     : Type 0 where
   pub settings_are : receiver'.settings ≡ receiver.settings
   pub rtp_is : receiver'.rtp ≡ receiver.rtp

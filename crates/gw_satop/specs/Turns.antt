@@ -7,7 +7,7 @@ use Rattle.satop_playout.specs.Calls.{PlayoutCall}
 use Rattle.satop_playout.specs.Plays.{is_there, reach_after}
 use Rattle.gw_satop.specs.declared.counts.Counts.{Counts}
 use Rattle.gw_satop.specs.declared.line.DatagramOutcome.{DatagramOutcome}
-use Rattle.gw_satop.specs.declared.pace.Pace.{Pace}
+use Rattle.gw_satop.specs.declared.pace.PlayClock.{PlayClock}
 use Rattle.gw_satop.specs.declared.packet.PacketFault.{PacketFault}
 use Rattle.gw_satop.specs.declared.timing.Timing.{Timing}
 use Rattle.gw_satop.specs.Counts.{counts_by_bits, counts_by_outcome, counts_by_play, counts_by_sending}
@@ -32,7 +32,7 @@ pub data TurnEvent : Type 0 where
 -- packet that was sent; and the counts.
 pub record CircuitState : Type 0 where
   pub calls : List PlayoutCall
-  pub pace : Pace
+  pub pace : PlayClock
   pub flags : List Bool
   pub counts : Counts
 

@@ -6,7 +6,7 @@ ghost use Rattle.gw_satop.specs.Session.{HasSettings, PlaysAll, SendsAll};
 use crate::circuit::SatopCircuit;
 use crate::counts::Counts;
 use crate::peer::Peer;
-use gw_trunk::{DeviceFault, Incoming, Outgoing};
+use gw_trunk::{DeviceFault, TrunkInput, TrunkOutput};
 
 // Counts are reported so often at most.
 const REPORT_US: u64 = 1_000_000;
@@ -47,7 +47,7 @@ fn report_changes<M: Clock>(
 ///
 /// [`DeviceFault`] if a device of the trunk fails. All clauses hold then too, and what the trunk did not take
 /// is left.
-pub fn carry_satop<I: Incoming, O: Outgoing, P: Peer, M: Clock>(
+pub fn carry_satop<I: TrunkInput, O: TrunkOutput, P: Peer, M: Clock>(
     circuit: &mut SatopCircuit<I, O, P>,
     moments: &mut M,
 ) -> Result<(), DeviceFault>

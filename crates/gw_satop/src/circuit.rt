@@ -2,7 +2,7 @@
 
 ghost use Rattle.std.specs.Prelude.{◌≡◌, ◌++◌, ◌<◌, ◌≤◌, [], ℕ, Bool, List, length, drop, true, nat_lt, IfOk};
 ghost use Rattle.gw_satop.specs.declared.line.Receiver.{Receiver};
-ghost use Rattle.gw_satop.specs.declared.pace.Pace.{Pace};
+ghost use Rattle.gw_satop.specs.declared.pace.PlayClock.{PlayClock};
 ghost use Rattle.gw_satop.specs.Session.{HasSettings, PlaysAll, SendsAll};
 ghost use Rattle.gw_satop.specs.Counts.{counts_by_play, no_counts};
 ghost use Rattle.gw_satop.specs.Line.{HasPlayed};
@@ -13,11 +13,11 @@ ghost use Rattle.satop_playout.specs.Plays.{is_there, reach_after};
 
 use crate::counts::Counts;
 use crate::line::Receiver;
-use crate::pace::Pace;
+use crate::pace::PlayClock;
 use crate::peer::Peer;
 use crate::sender::Sender;
 use arrayvec::ArrayVec;
-use gw_trunk::{DeviceFault, DeviceRead, Incoming, Outgoing};
+use gw_trunk::{DeviceFault, DeviceRead, TrunkInput, TrunkOutput};
 use satop_playout::MAX_SIZE;
 
 // Room for a datagram, and for a read of the trunk: 8 ms.
@@ -31,13 +31,13 @@ const MOST_PLAYS: usize = 8_192;
 
 /// An emulated circuit: the octets of a trunk on one side, packets to and from the far end on the other.
 #[derive(Drop)]
-pub struct SatopCircuit<I: Incoming, O: Outgoing, P: Peer> {
+pub struct SatopCircuit<I: TrunkInput, O: TrunkOutput, P: Peer> {
     incoming: I,
     outgoing: O,
     peer: P,
     receiver: Receiver,
     sender: Sender,
-    pace: Pace,
+    pace: PlayClock,
     counts: Counts,
     // played, and not taken by the trunk yet
     left: ArrayVec<u8, 1280>,
@@ -57,7 +57,10 @@ fn drop_first(left: &mut ArrayVec<u8, 1280>, len: usize)
 }
 
 // Gives the trunk what is left for it, all of it; it waits until the trunk takes it.
-fn put_out<O: Outgoing>(outgoing: &mut O, left: &mut ArrayVec<u8, 1280>) -> Result<(), DeviceFault>
+fn put_out<O: TrunkOutput>(
+    outgoing: &mut O,
+    left: &mut ArrayVec<u8, 1280>,
+) -> Result<(), DeviceFault>
     ensures went { O.went outgoing.new ++ left.new.items ≡ O.went outgoing.old ++ left.old.items }
     ensures all { IfOk result (λ _. left.new.items ≡ []) }
 {
@@ -78,7 +81,7 @@ fn put_out<O: Outgoing>(outgoing: &mut O, left: &mut ArrayVec<u8, 1280>) -> Resu
 // whether all that came was read.
 fn play_into(
     receiver: &mut Receiver,
-    pace: &mut Pace,
+    pace: &mut PlayClock,
     counts: &mut Counts,
     _read_all: bool,
     room: &mut [u8],
@@ -120,7 +123,7 @@ fn send_all<P: Peer>(
     ensures came { sender.new.came.octets ≡ sender.old.came.octets ++ octets.now }
     ensures received { P.received peer.new ≡ P.received peer.old }
     ensures start { sender.new.start ≡ sender.old.start }
-    ensures plays { (receiver : Receiver) (pace : Pace) (received : List (List ℕ)) (went : List ℕ)
+    ensures plays { (receiver : Receiver) (pace : PlayClock) (received : List (List ℕ)) (went : List ℕ)
         → missing ≡ pace.silent
         → PlaysAll receiver pace counts.old sender.old.log.flags received went
         → PlaysAll receiver pace counts.new sender.new.log.flags received went }
@@ -135,7 +138,7 @@ fn send_all<P: Peer>(
     }
 }
 
-impl<I: Incoming, O: Outgoing, P: Peer> SatopCircuit<I, O, P> {
+impl<I: TrunkInput, O: TrunkOutput, P: Peer> SatopCircuit<I, O, P> {
     /// A circuit before any octet and datagram.
     pub fn new(
         incoming: I,
@@ -143,7 +146,7 @@ impl<I: Incoming, O: Outgoing, P: Peer> SatopCircuit<I, O, P> {
         peer: P,
         receiver: Receiver,
         sender: Sender,
-        pace: Pace,
+        pace: PlayClock,
     ) -> SatopCircuit<I, O, P>
         requires came { I.came incoming ≡ [] }
         requires went { O.went outgoing ≡ [] }

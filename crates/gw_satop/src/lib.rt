@@ -18,7 +18,7 @@ pub use carrying::{Clock, carry_satop};
 pub use circuit::SatopCircuit;
 pub use counts::Counts;
 pub use line::{DatagramOutcome, Receiver};
-pub use pace::Pace;
+pub use pace::PlayClock;
 pub use packet::PacketFault;
 pub use peer::{Peer, UdpPeer};
 pub use ready::{WhenReady, open_input, open_output};

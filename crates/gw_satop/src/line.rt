@@ -2,7 +2,7 @@
 
 ghost use Rattle.std.specs.Prelude.{◌≡◌};
 
-use crate::pace::Pace;
+use crate::pace::PlayClock;
 use crate::packet::{PacketFault, octets_to_play, packet_in};
 use g704_bits::BitAligner;
 use gw_filter::filter_all;
@@ -65,7 +65,7 @@ impl Receiver {
     }
 
     /// A datagram comes. Says what became of it.
-    pub fn receive(&mut self, pace: &mut Pace, now: u64, datagram: &[u8]) -> DatagramOutcome
+    pub fn receive(&mut self, pace: &mut PlayClock, now: u64, datagram: &[u8]) -> DatagramOutcome
         ensures receipt { (calls : List PlayoutCall) → HasPlayed self.old calls
             → result ≡ receipt_of self.old.settings calls pace.old now
             (packet_in self.old.rtp self.old.settings.size datagram.now) }
@@ -102,7 +102,13 @@ impl Receiver {
     }
 
     // A packet arrives. If it is refused a stream may begin with it.
-    fn arrive(&mut self, pace: &mut Pace, now: u64, sequence: u16, octets: &[u8]) -> DatagramOutcome
+    fn arrive(
+        &mut self,
+        pace: &mut PlayClock,
+        now: u64,
+        sequence: u16,
+        octets: &[u8],
+    ) -> DatagramOutcome
         ensures receipt { (calls : List PlayoutCall) → HasPlayed self.old calls
             → result ≡ receipt_by (arrival_answer self.old.settings calls sequence octets.now)
             (λ fault. beginning pace.old fault sequence now) }

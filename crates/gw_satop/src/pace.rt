@@ -82,7 +82,7 @@ fn is_in_step(packet: u64, run: Run, now: u64) -> bool
 /// The time of an emulated circuit: when packets are due, and when a stream begins. All times are in
 /// microseconds of one clock, and come with the calls.
 #[derive(Clone, Copy, Debug, PartialEq, Eq)]
-pub struct Pace {
+pub struct PlayClock {
     timing: Timing,
     // the time of the last packet of the stream
     heard: u64,
@@ -100,12 +100,12 @@ pub struct Pace {
     run: Option<Run>,
 }
 
-impl Pace {
+impl PlayClock {
     /// The pace from now on.
-    pub fn new(timing: Timing, now: u64) -> Pace
+    pub fn new(timing: Timing, now: u64) -> PlayClock
         ensures { result ≡ new_pace timing now }
     {
-        Pace {
+        PlayClock {
             timing,
             heard: now,
             reached: now,

@@ -3,7 +3,7 @@
 ghost use Rattle.std.specs.Prelude.{◌≡◌, [], IfOk, IfErr};
 ghost use Rattle.gw_satop.specs.Opening.{SystemRefusesTrunk};
 
-use gw_trunk::{DeviceFault, DeviceRead, FromDevice, Incoming, ToDevice, Waiting};
+use gw_trunk::{DeviceFault, DeviceRead, FromDevice, ToDevice, TrunkInput, Waiting};
 use mio::Interest;
 use std::io;
 use std::io::Read;
@@ -12,12 +12,12 @@ use std::time::Duration;
 /// Octets of a trunk from a descriptor, which is read only if the system says that something has come; so a
 /// read that would wait keeps no packet waiting. It has no clients.
 #[derive(Drop)]
-pub struct WhenReady<I: Incoming> {
+pub struct WhenReady<I: TrunkInput> {
     incoming: I,
     waiting: Waiting,
 }
 
-impl<I: Incoming + Drop> WhenReady<I> {
+impl<I: TrunkInput + Drop> WhenReady<I> {
     /// What comes from `incoming`, whose descriptor this is. The error is the system's.
     #[tactic(auto, unfolding(crate::specs::Opening::SystemRefusesTrunk))]
     pub fn open(rt: &HostRuntime, incoming: I, descriptor: i32) -> io::Result<WhenReady<I>>
@@ -62,7 +62,7 @@ pub fn open_output<W: Drop>(rt: &HostRuntime, writer: W, descriptor: i32) -> io:
     ToDevice::open(rt, writer, descriptor)
 }
 
-impl<I: Incoming> Incoming for WhenReady<I> {
+impl<I: TrunkInput> TrunkInput for WhenReady<I> {
     ghost came = { λ r. I.came r.incoming };
 
     ghost asked = { λ r. I.asked r.incoming };

@@ -16,7 +16,7 @@ use Rattle.gw_state.specs.declared.fault.StateKind.TheVariants as kinds
 use Rattle.gw_state.specs.declared.loading.Loaded.{Loaded}
 use Rattle.gw_state.specs.Layout.{mark, law_octet, summed, saved_config, state_head, state_file}
 use Rattle.gw_state.specs.Loaded.{ReadsAs, IsLoaded}
-use Rattle.gw_state.specs.Faults.{Begins, IsOutside, IsNotRead, Refuses}
+use Rattle.gw_state.specs.Faults.{BeginsWith, IsOutside, IsNotRead, Refuses}
 
 -- octets with their check sum are cut in one place alone
 pub summed-once : (front sum other : List ℕ) → length sum ≡ 32 → front ++ sum ≡ summed other
@@ -33,7 +33,7 @@ summed-once front sum other counted e =
     )
 
 -- the octets before a right check sum begin with the mark and the version
-pub inner-of : (octets front : List ℕ) → octets ≡ summed front → Begins (mark ++ 1 ∷ []) octets
+pub inner-of : (octets front : List ℕ) → octets ≡ summed front → BeginsWith (mark ++ 1 ∷ []) octets
     → (5 ≤ length front) × (front ≡ mark ++ 1 ∷ drop 5 front)
 inner-of octets front whole begins =
     let counted : length octets ≡ length front + length (sha256 front) =

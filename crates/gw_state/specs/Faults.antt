@@ -29,7 +29,7 @@ abbrev pub least_octets : ℕ
 least_octets = 518
 
 -- octets that are long enough begin so
-pub record Begins (front octets : List ℕ) : Type 0 where
+pub record BeginsWith (front octets : List ℕ) : Type 0 where
   pub long : least_octets ≤ length octets
   pub front_is : take (length front) octets ≡ front
 
@@ -40,12 +40,12 @@ pub record HasNoMark (octets : List ℕ) : Type 0 where
 
 -- the mark is there, and another version than 1
 pub record IsOfVersion (octets : List ℕ) : Type 0 where
-  pub begins : Begins mark octets
+  pub begins : BeginsWith mark octets
   pub other : slice_get octets 4 ≢ Some 1
 
 -- mark and version are right, and the last 32 octets are not the SHA-256 of those before
 pub record IsDamaged (octets : List ℕ) : Type 0 where
-  pub begins : Begins (mark ++ 1 ∷ []) octets
+  pub begins : BeginsWith (mark ++ 1 ∷ []) octets
   pub other : (front : List ℕ) → octets ≢ summed front
 
 -- what octets are refused for before their configuration is looked at

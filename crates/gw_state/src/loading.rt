@@ -8,7 +8,7 @@ ghost use Rattle.gw_switch.specs.Standing.{HasHistory};
 ghost use Rattle.gw_switch.specs.Saved.{saved_gateway};
 ghost use Rattle.gw_switch.specs.Reconfigured.{RenewalsConfigure};
 ghost use Rattle.gw_state.specs.Layout.{mark, summed, saved_config, ConfigFits};
-ghost use Rattle.gw_state.specs.Faults.{Begins, IsOutside, IsOther, IsOfValue, IsNoGateway, IsNotRead};
+ghost use Rattle.gw_state.specs.Faults.{BeginsWith, IsOutside, IsOther, IsOfValue, IsNoGateway, IsNotRead};
 ghost use Rattle.gw_state.specs.Faults.{Refuses};
 ghost use Rattle.gw_state.specs.Loaded.{GoesOn, ReadsAs, IsLoaded};
 
@@ -16,7 +16,7 @@ use crate::fault::{LoadFault, StateKind};
 use crate::head::law_octet;
 use crate::settings::read_circuits;
 use gw_switch::{Gateway, GatewayConfig, StateFault};
-use saved_octets::Octets;
+use saved_octets::OctetReader;
 use sha2::{Digest, Sha256};
 use std::alloc::Global;
 
@@ -44,7 +44,7 @@ fn summed_front(octets: &[u8]) -> Option<&[u8]>
 // The octets before the check sum of a state.
 fn front_of(octets: &[u8]) -> Result<&[u8], LoadFault>
     ensures front { IfOk result (λ front. octets.now ≡ summed front.now) }
-    ensures begins { IfOk result (λ front. Begins (mark ++ 1 ∷ []) octets.now) }
+    ensures begins { IfOk result (λ front. BeginsWith (mark ++ 1 ∷ []) octets.now) }
     ensures err { IfErr result (IsOutside octets.now) }
 {
     if octets.len() < LEAST {
@@ -84,7 +84,7 @@ fn inner_of(octets: &[u8]) -> Result<&[u8], LoadFault>
 
 // How the circuits of a trunk of this law were configured. The error is the number of the circuit that is not
 // configured, or 0 for the law.
-fn read_config(config: &GatewayConfig, octets: &mut Octets<'_>) -> Result<GatewayConfig, u8>
+fn read_config(config: &GatewayConfig, octets: &mut OctetReader<'_>) -> Result<GatewayConfig, u8>
     ensures next { (old : configs.GatewayConfig) (rest : List ℕ) → ConfigFits old → old.law ≡ config.now.law
         → octets.old ≡ saved_config old ++ rest → (result ≡ Ok old) × (octets.new ≡ rest) }
     ensures read { IfOk result (λ old. octets.old ≡ saved_config old ++ octets.new) }
@@ -104,7 +104,7 @@ fn read_config(config: &GatewayConfig, octets: &mut Octets<'_>) -> Result<Gatewa
 }
 
 // The gateway whose octets these are, read into one that was opened.
-fn gateway_of(opened: Gateway, octets: &mut Octets<'_>) -> Result<Gateway, LoadFault>
+fn gateway_of(opened: Gateway, octets: &mut OctetReader<'_>) -> Result<Gateway, LoadFault>
     ensures loaded { IfOk result (λ gateway. octets.old ≡ saved_gateway gateway) }
     ensures stands { (old : configs.GatewayConfig) → HasHistory old opened []
         → IfOk result (GoesOn old octets.old) }
@@ -127,7 +127,7 @@ fn gateway_of(opened: Gateway, octets: &mut Octets<'_>) -> Result<Gateway, LoadF
 fn read_gateway(
     alloc: Global,
     config: &GatewayConfig,
-    octets: &mut Octets<'_>,
+    octets: &mut OctetReader<'_>,
 ) -> Result<Loaded, LoadFault>
     ensures ok { IfOk result (ReadsAs config.now octets.old) }
     ensures err { IfErr result (IsNotRead config.now octets.old) }
@@ -178,5 +178,5 @@ pub fn load_gateway(
     gw_switch::laws::renewals_configure();
     gw_switch::laws::renewals_are_apart();
     let inner = inner_of(octets)?;
-    read_gateway(alloc, config, &mut Octets::new(inner))
+    read_gateway(alloc, config, &mut OctetReader::new(inner))
 }

@@ -13,7 +13,7 @@ ghost use Rattle.gw_state.specs.Faults.{HasNoSettings};
 use g726_codec::CodecKind;
 use gw_circuit::CircuitConfig;
 use q421_line::Role;
-use saved_octets::Octets;
+use saved_octets::OctetReader;
 
 const CIRCUITS: u8 = 30;
 
@@ -25,7 +25,7 @@ struct Start {
     timestamp: u32,
 }
 
-fn read_role(octets: &mut Octets<'_>) -> Option<Role>
+fn read_role(octets: &mut OctetReader<'_>) -> Option<Role>
     ensures next { (role : Role) (rest : List ℕ) → octets.old ≡ role_octet role ∷ rest
         → (result ≡ Some role) × (octets.new ≡ rest) }
     ensures read { IfSome result (λ role. octets.old ≡ role_octet role ∷ octets.new) }
@@ -37,7 +37,7 @@ fn read_role(octets: &mut Octets<'_>) -> Option<Role>
     }
 }
 
-fn read_kind(octets: &mut Octets<'_>) -> Option<CodecKind>
+fn read_kind(octets: &mut OctetReader<'_>) -> Option<CodecKind>
     ensures next { (kind : CodecKind) (rest : List ℕ) → octets.old ≡ kind_number kind ∷ rest
         → (result ≡ Some kind) × (octets.new ≡ rest) }
     ensures read { IfSome result (λ kind. octets.old ≡ kind_number kind ∷ octets.new) }
@@ -52,7 +52,7 @@ fn read_kind(octets: &mut Octets<'_>) -> Option<CodecKind>
     }
 }
 
-fn read_start(octets: &mut Octets<'_>) -> Option<Start>
+fn read_start(octets: &mut OctetReader<'_>) -> Option<Start>
     ensures next { (ssrc sequence timestamp : ℕ) (rest : List ℕ) → ssrc < 2 ^ 32 → sequence < 2 ^ 16
         → timestamp < 2 ^ 32 → octets.old ≡ saved_start ssrc sequence timestamp ++ rest
         → (result ≡ Some (record { ssrc = ssrc; sequence = sequence; timestamp = timestamp }))
@@ -78,7 +78,7 @@ struct Coding {
     ptime: u8,
 }
 
-fn read_coding(octets: &mut Octets<'_>) -> Option<Coding>
+fn read_coding(octets: &mut OctetReader<'_>) -> Option<Coding>
     ensures next { (role : Role) (kind : CodecKind) (type ptime : ℕ) (rest : List ℕ)
         → octets.old ≡ role_octet role ∷ kind_number kind ∷ type ∷ ptime ∷ rest
         → (result ≡ Some (record { role = role; kind = kind; payload_type = type; ptime = ptime }))
@@ -99,7 +99,7 @@ fn read_coding(octets: &mut Octets<'_>) -> Option<Coding>
 }
 
 // How many samples the playout waits, and what the circuit sends at first.
-fn read_numbers(octets: &mut Octets<'_>) -> Option<(u16, Start)>
+fn read_numbers(octets: &mut OctetReader<'_>) -> Option<(u16, Start)>
     ensures next { (prefill ssrc sequence timestamp : ℕ) (rest : List ℕ) → prefill < 2 ^ 16 → ssrc < 2 ^ 32
         → sequence < 2 ^ 16 → timestamp < 2 ^ 32
         → octets.old ≡ two_octets prefill ++ (saved_start ssrc sequence timestamp ++ rest)
@@ -115,7 +115,7 @@ fn read_numbers(octets: &mut Octets<'_>) -> Option<(u16, Start)>
 
 // How a circuit is set up; None if the octets are those of no circuit.
 #[tactic(auto, unfolding(crate::specs::Layout::saved_settings))]
-fn read_settings(octets: &mut Octets<'_>) -> Option<CircuitConfig>
+fn read_settings(octets: &mut OctetReader<'_>) -> Option<CircuitConfig>
     ensures next { (c : settings.CircuitConfig) (rest : List ℕ) → SettingsFit c
         → octets.old ≡ saved_settings c ++ rest → (result ≡ Some c) × (octets.new ≡ rest) }
     ensures read { IfSome result (λ c. octets.old ≡ saved_settings c ++ octets.new) }
@@ -136,7 +136,7 @@ fn read_settings(octets: &mut Octets<'_>) -> Option<CircuitConfig>
 }
 
 // How a circuit is set up, and that the octets are those of one; else the other one, and false.
-fn read_or(other: &CircuitConfig, octets: &mut Octets<'_>) -> (CircuitConfig, bool)
+fn read_or(other: &CircuitConfig, octets: &mut OctetReader<'_>) -> (CircuitConfig, bool)
     ensures next { (c : settings.CircuitConfig) (rest : List ℕ) → SettingsFit c
         → octets.old ≡ saved_settings c ++ rest
         → (result.0 ≡ c) × (result.1 ≡ true) × (octets.new ≡ rest) }
@@ -153,7 +153,7 @@ fn read_or(other: &CircuitConfig, octets: &mut Octets<'_>) -> (CircuitConfig, bo
 // of no circuit.
 pub(crate) fn read_circuits(
     circuits: &mut [CircuitConfig; 30],
-    octets: &mut Octets<'_>,
+    octets: &mut OctetReader<'_>,
 ) -> Result<(), u8>
     ensures next { (saved : List settings.CircuitConfig) (rest : List ℕ) → length saved ≡ 30
         → All SettingsFit saved → octets.old ≡ flat_map saved_settings saved ++ rest

@@ -9,7 +9,7 @@ use Rattle.gw_circuit.specs.declared.config.CircuitConfig.{CircuitConfig}
 use Rattle.gw_circuit.specs.Items.{CircuitEvent}
 use Rattle.gw_circuit.specs.Saved.{saved_circuit, CircuitFits}
 use Rattle.gw_circuit.specs.Lives.{config_after}
-use Rattle.gw_circuit.specs.Standing.{StandsSince}
+use Rattle.gw_circuit.specs.Standing.{HistorySince}
 use Rattle.gw_switch.specs.declared.GatewayConfig.{GatewayConfig}
 use Rattle.gw_switch.specs.Events.{Event, view}
 use Rattle.gw_switch.specs.Whole.{config_of}
@@ -106,8 +106,8 @@ pub record IsAlike (mine saved : BoxedCircuit) : Type 0 where
   pub config : CircuitConfig
   pub items : List CircuitEvent
   pub before : List CircuitEvent
-  pub theirs : StandsSince saved.circuit law config items
-  pub ours : StandsSince mine.circuit law config before
+  pub theirs : HistorySince saved.circuit law config items
+  pub ours : HistorySince mine.circuit law config before
   pub fits : ChannelFits saved
 
 -- so does each of the saved circuits

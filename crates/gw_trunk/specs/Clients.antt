@@ -34,10 +34,10 @@ Replies Gone client client' room =
     Stays client client' × (HasNoRecord client'.held.items ⊎ (length room < 64))
 
 -- the client at a place stays, with what it gave and got, or is let go
-abbrev pub Keeps : Option Client → Option Client → Type 0
-Keeps place None = ⊤
-Keeps None (Some client') = ⊥
-Keeps (Some client) (Some client') = Stays client client'
+abbrev pub KeepsClient : Option Client → Option Client → Type 0
+KeepsClient place None = ⊤
+KeepsClient None (Some client') = ⊥
+KeepsClient (Some client) (Some client') = Stays client client'
 
 -- the client at a place gave one more record
 abbrev pub GaveAt : Option Client → Option Client → List ℕ → Type 0
@@ -69,8 +69,8 @@ IsAwake (Some client) = client.ready ≡ true
 -- what the client at a place did that was asked: one that is to be let go is
 abbrev pub Answers : ClientPoll → Option Client → Option Client → List ℕ → Type 0
 Answers (Command n) place place' room = (n ≤ length room) × GaveAt place place' (take n room)
-Answers Nothing place place' room = Keeps place place' × (is_quiet place' ≡ true)
-Answers End place place' room = Keeps place place'
+Answers Nothing place place' room = KeepsClient place place' × (is_quiet place' ≡ true)
+Answers End place place' room = KeepsClient place place'
 Answers Gone place place' room = place' ≡ None
 
 -- the client at a place
@@ -94,7 +94,7 @@ pub record HasAnswered (asker : Option ℕ) (places places' : List (Option Clien
 
 -- all clients stay or are let go
 abbrev pub AllKeep : List (Option Client) → List (Option Client) → Type 0
-AllKeep places places' = (k : ℕ) → Keeps (at places k) (at places' k)
+AllKeep places places' = (k : ℕ) → KeepsClient (at places k) (at places' k)
 
 -- A client gave one more record: the answer to it is for this client. The others stay or are let go.
 pub record HasGiven (places places' : List (Option Client)) (asker : Option ℕ)
@@ -102,7 +102,7 @@ pub record HasGiven (places places' : List (Option Client)) (asker : Option ℕ)
   pub place : ℕ
   pub asker_is : asker ≡ Some place
   pub gives : GaveAt (at places place) (at places' place) octets
-  pub others : (k : ℕ) → k ≢ place → Keeps (at places k) (at places' k)
+  pub others : (k : ℕ) → k ≢ place → KeepsClient (at places k) (at places' k)
 
 -- What clients did that were asked in turn: one of them gave a record, or none has anything, or one asks for
 -- the end. Who is to be let go is, and that ends nothing.

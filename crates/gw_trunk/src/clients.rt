@@ -3,7 +3,8 @@
 ghost use Rattle.std.specs.Prelude.{◌≡◌, ◌⊎◌, ◌==◌, ◌||◌, ◌-◌, ◌<◌, ◌≤◌, Some, None, true, false, length};
 ghost use Rattle.std.specs.Prelude.{IfSome};
 ghost use Rattle.std.specs.List.{list_all};
-ghost use Rattle.gw_trunk.specs.Clients.{Answers, Asks, AllKeep, Gets, HasAnswered, IsAwake, Keeps, OnlyAt};
+ghost use Rattle.gw_trunk.specs.Clients.{Answers, Asks, AllKeep, Gets, HasAnswered, IsAwake, KeepsClient};
+ghost use Rattle.gw_trunk.specs.Clients.{OnlyAt};
 ghost use Rattle.gw_trunk.specs.Clients.{at};
 ghost use Rattle.gw_trunk.specs.Clients.{is_quiet};
 
@@ -93,7 +94,7 @@ fn answer_one(place: &mut Option<Client>, answer: &[u8])
 
 // Wakes the client at a place, who may have left.
 fn wake_one(place: &mut Option<Client>, has_left: bool)
-    ensures keeps { Keeps place.old place.new }
+    ensures keeps { KeepsClient place.old place.new }
     ensures awake { IsAwake place.new }
 {
     if let Some(client) = place {

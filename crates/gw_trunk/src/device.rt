@@ -36,7 +36,7 @@ pub enum DeviceRead {
 ///
 /// What it is at a time is the type's own: a caller that knows nothing of the type has it only of the calls
 /// that say it.
-pub trait Incoming {
+pub trait TrunkInput {
     /// The octets of the trunk that have come.
     ghost came: { Self → List ℕ };
 
@@ -83,7 +83,7 @@ pub trait Incoming {
 }
 
 /// What the octets of a trunk go to.
-pub trait Outgoing {
+pub trait TrunkOutput {
     /// The octets that went.
     ghost went: { Self → List ℕ };
 
@@ -175,7 +175,7 @@ pub fn is_for_later(error: &io::Error) -> bool {
     matches!(error.kind(), ErrorKind::WouldBlock | ErrorKind::Interrupted)
 }
 
-impl<R: Read> Incoming for FromDevice<R> {
+impl<R: Read> TrunkInput for FromDevice<R> {
     ghost came = { λ d. d.log.octets };
 
     ghost asked = { λ _. [] };
@@ -201,7 +201,7 @@ impl<R: Read> Incoming for FromDevice<R> {
     }
 }
 
-impl<W: Write> Outgoing for ToDevice<W> {
+impl<W: Write> TrunkOutput for ToDevice<W> {
     ghost went = { λ d. d.log.octets };
 
     ghost was_slow = { λ d. d.was_slow };
@@ -233,7 +233,7 @@ impl<W: Write> Outgoing for ToDevice<W> {
     }
 }
 
-impl Outgoing for NoClients {
+impl TrunkOutput for NoClients {
     ghost went = { λ d. d.log.octets };
 
     fn write(&mut self, octets: &[u8]) -> Result<Option<usize>, DeviceFault> {

@@ -13,7 +13,9 @@ mod source;
 mod waiting;
 mod with_clients;
 
-pub use device::{DeviceFault, DeviceRead, FromDevice, Incoming, NoClients, Outgoing, ToDevice};
+pub use device::{
+    DeviceFault, DeviceRead, FromDevice, NoClients, ToDevice, TrunkInput, TrunkOutput,
+};
 pub use door::open_door;
 pub use multiframe_dropper::MultiframeDropper;
 pub use serving::serve_trunk;

@@ -7,7 +7,7 @@ ghost use Rattle.gw_trunk.specs.Device.{written_of};
 ghost use Rattle.gw_trunk.specs.Multiframes.{IsThinned, IsPrompt, HasRoom, Steps, GoesInTime};
 ghost use Rattle.gw_trunk.specs.Multiframes.{position_after, position_discarding};
 
-use crate::device::{DeviceFault, Outgoing};
+use crate::device::{DeviceFault, TrunkOutput};
 use arrayvec::ArrayVec;
 use gw_records::Log;
 use std::io::Write;
@@ -63,7 +63,7 @@ fn position_discarding(position: MultiframePosition) -> MultiframePosition
 }
 
 // Gives octets to a device, and returns how many it took; None if it was slow to take any.
-fn give<O: Outgoing>(outgoing: &mut O, octets: &[u8]) -> Result<Option<usize>, DeviceFault>
+fn give<O: TrunkOutput>(outgoing: &mut O, octets: &[u8]) -> Result<Option<usize>, DeviceFault>
     ensures bound { IfOk result (λ n. IfSome n (λ m. m ≤ length octets.now)) }
     ensures went { O.went outgoing.new ≡ O.went outgoing.old ++ written_of result octets.now }
     ensures slow { IfOk result (λ n. IfNone n (O.was_slow outgoing.new ≡ true)) }
@@ -94,7 +94,7 @@ fn drop_first(held: &mut Held, len: usize)
 }
 
 // Gives a device what is held for it, and returns whether it took all; false if it was slow.
-fn give_held<O: Outgoing>(outgoing: &mut O, held: &mut Held) -> Result<bool, DeviceFault>
+fn give_held<O: TrunkOutput>(outgoing: &mut O, held: &mut Held) -> Result<bool, DeviceFault>
     ensures all { IfOk result (λ all. all ≡ true → held.new.items ≡ []) }
     ensures went { O.went outgoing.new ++ held.new.items ≡ O.went outgoing.old ++ held.old.items }
     ensures shorter { length held.new.items ≤ length held.old.items }
@@ -116,7 +116,7 @@ fn give_held<O: Outgoing>(outgoing: &mut O, held: &mut Held) -> Result<bool, Dev
 
 // Gives a device what is held for it and then octets, and returns how many of these it took; None if it was
 // slow.
-fn give_behind<O: Outgoing>(
+fn give_behind<O: TrunkOutput>(
     outgoing: &mut O,
     held: &mut Held,
     octets: &[u8],
@@ -155,7 +155,7 @@ fn take_slow(held: &mut Held, position: &mut MultiframePosition, octets: &[u8])
 }
 
 // Takes octets of the current multiframe, and returns how many.
-fn pass<O: Outgoing>(
+fn pass<O: TrunkOutput>(
     outgoing: &mut O,
     held: &mut Held,
     position: &mut MultiframePosition,
@@ -192,7 +192,7 @@ fn pass<O: Outgoing>(
 /// multiframes are discarded until it takes some again, counted from the first octet. The rest of a
 /// multiframe that has begun to go is held for it. The first discarded multiframe is reported once.
 #[derive(Drop)]
-pub struct MultiframeDropper<O: Outgoing, E> {
+pub struct MultiframeDropper<O: TrunkOutput, E> {
     outgoing: O,
     // Where the first discarded multiframe is reported.
     notes: E,
@@ -205,7 +205,7 @@ pub struct MultiframeDropper<O: Outgoing, E> {
     ghost prompt: { O.was_slow outgoing ≡ false → IsPrompt held.items position },
 }
 
-impl<O: Outgoing, E: Write> MultiframeDropper<O, E> {
+impl<O: TrunkOutput, E: Write> MultiframeDropper<O, E> {
     /// A device to which no octet went yet, and where it is reported that it is slow.
     pub fn new(outgoing: O, notes: E) -> MultiframeDropper<O, E>
         requires { O.went outgoing ≡ [] }
@@ -242,7 +242,7 @@ impl<O: Outgoing, E: Write> MultiframeDropper<O, E> {
     }
 }
 
-impl<O: Outgoing, E: Write> Outgoing for MultiframeDropper<O, E> {
+impl<O: TrunkOutput, E: Write> TrunkOutput for MultiframeDropper<O, E> {
     ghost went = { λ d. d.log.octets };
 
     fn write(&mut self, octets: &[u8]) -> Result<Option<usize>, DeviceFault> {

@@ -7,7 +7,7 @@ ghost use Rattle.gw_switch.specs.Standing.{HasHistory};
 ghost use Rattle.gw_session.specs.Serve.{ServesAll, ServesUntil, around};
 ghost use Rattle.gw_trunk.specs.Serving.{Carried, traffic};
 
-use crate::device::{Incoming, Outgoing};
+use crate::device::{TrunkInput, TrunkOutput};
 use crate::sink::TrunkRecordSink;
 use crate::source::TrunkRecordSource;
 use gw_session::{Ports, RunFault, Sink, Source, Tape, Totals, serve_recorded};
@@ -24,7 +24,7 @@ use std::alloc::Global;
 /// [`RunFault::Read`] where the device that octets come from fails: all that came is answered.
 /// [`RunFault::Write`] where the other fails. [`RunFault::OutOfMemory`] where memory was refused: nothing
 /// comes, is asked or goes.
-pub fn serve_trunk<I: Incoming, O: Outgoing, A: Outgoing, P: Ports, T: Tape>(
+pub fn serve_trunk<I: TrunkInput, O: TrunkOutput, A: TrunkOutput, P: Ports, T: Tape>(
     alloc: Global,
     gateway: &mut Gateway,
     ports: &mut P,

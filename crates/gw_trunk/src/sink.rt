@@ -4,7 +4,7 @@ ghost use Rattle.std.specs.Prelude.{◌≡◌, ◌≤◌, ◌<◌, ◌++◌, [],
 ghost use Rattle.std.specs.Prelude.{slice_index};
 ghost use Rattle.gw_trunk.specs.Bodies.{HasPassed, StepsOver, is_answer, place_next, body_place, body_after};
 
-use crate::device::Outgoing;
+use crate::device::TrunkOutput;
 use gw_records::{Log, Sink, SinkFault, TRUNK};
 
 /// Where in a record the next octet stands. A place behind the kind says whether the body goes to the trunk.
@@ -25,7 +25,7 @@ enum RecordPosition {
 /// Takes the records that answer. The bodies of T records go to the trunk, and nothing else does; records of
 /// other kinds go whole to clients. If the trunk takes none now, it waits until it does.
 #[derive(Drop)]
-pub struct TrunkRecordSink<O: Outgoing, A: Outgoing> {
+pub struct TrunkRecordSink<O: TrunkOutput, A: TrunkOutput> {
     outgoing: O,
     answers: A,
     failed: u64,
@@ -83,7 +83,7 @@ fn is_answer(place: RecordPosition, octet: u8) -> bool
 }
 
 // Puts octets out, and returns how many went: the first ones. It waits if none can go now.
-fn put_out<O: Outgoing>(outgoing: &mut O, octets: &[u8]) -> Result<usize, SinkFault>
+fn put_out<O: TrunkOutput>(outgoing: &mut O, octets: &[u8]) -> Result<usize, SinkFault>
     ensures bound { IfOk result (λ n. n ≤ length octets.now) }
     ensures went { IfOk result (λ n. O.went outgoing.new ≡ O.went outgoing.old ++ take n octets.now) }
     ensures err { OnErr result (O.went outgoing.new ≡ O.went outgoing.old) }
@@ -99,7 +99,7 @@ fn put_out<O: Outgoing>(outgoing: &mut O, octets: &[u8]) -> Result<usize, SinkFa
 }
 
 // Takes the first octet of these, which is of the front of a record: that of an answer goes to clients.
-fn put_front<A: Outgoing>(
+fn put_front<A: TrunkOutput>(
     answers: &mut A,
     place: RecordPosition,
     octets: &[u8],
@@ -117,7 +117,7 @@ fn put_front<A: Outgoing>(
 }
 
 // Takes octets of a body, and returns how many: those of a T record go to the trunk, others to clients.
-fn put_body<O: Outgoing, A: Outgoing>(
+fn put_body<O: TrunkOutput, A: TrunkOutput>(
     outgoing: &mut O,
     answers: &mut A,
     to_trunk: bool,
@@ -138,7 +138,7 @@ fn put_body<O: Outgoing, A: Outgoing>(
 }
 
 // Takes octets from this place on, and returns how many.
-fn pass<O: Outgoing, A: Outgoing>(
+fn pass<O: TrunkOutput, A: TrunkOutput>(
     outgoing: &mut O,
     answers: &mut A,
     place: &mut RecordPosition,
@@ -168,7 +168,7 @@ fn pass<O: Outgoing, A: Outgoing>(
     Ok(n)
 }
 
-impl<O: Outgoing, A: Outgoing> TrunkRecordSink<O, A> {
+impl<O: TrunkOutput, A: TrunkOutput> TrunkRecordSink<O, A> {
     /// What takes the records from now on, with no failure yet.
     pub fn new(outgoing: O, answers: A) -> TrunkRecordSink<O, A>
         requires went { O.went outgoing ≡ [] }
@@ -188,7 +188,7 @@ impl<O: Outgoing, A: Outgoing> TrunkRecordSink<O, A> {
     }
 }
 
-impl<O: Outgoing, A: Outgoing + Drop> TrunkRecordSink<O, A> {
+impl<O: TrunkOutput, A: TrunkOutput + Drop> TrunkRecordSink<O, A> {
     /// What the octets of the trunk go to.
     pub fn into_outgoing(self) -> O
         ensures { result ≡ self.outgoing }
@@ -198,7 +198,7 @@ impl<O: Outgoing, A: Outgoing + Drop> TrunkRecordSink<O, A> {
     }
 }
 
-impl<O: Outgoing, A: Outgoing> Sink for TrunkRecordSink<O, A> {
+impl<O: TrunkOutput, A: TrunkOutput> Sink for TrunkRecordSink<O, A> {
     ghost tells = { λ s. record { failures = s.failed; taken = Some s.log.octets } };
 
     fn write(&mut self, octets: &[u8]) -> Result<usize, SinkFault> {

@@ -5,7 +5,7 @@ ghost use Rattle.std.specs.Prelude.{Some, None, true, false};
 ghost use Rattle.byteorder.specs.Endian.{big_bytes};
 ghost use Rattle.gw_trunk.specs.Pieces.{GivesWoven, ReadsRecord, AsksRecord};
 
-use crate::device::{DeviceRead, Incoming};
+use crate::device::{DeviceRead, TrunkInput};
 use byteorder::{BigEndian, ByteOrder};
 use gw_records::{FRONT_LEN, Log, Source, SourceFault, TRUNK};
 
@@ -16,7 +16,7 @@ const MOST_OCTETS: usize = 2_048;
 /// record: the octets that have come, 2,048 of them at most, or a record of a client. Between two records of
 /// clients the trunk was read. If neither has anything it waits.
 #[derive(Drop)]
-pub struct TrunkRecordSource<I: Incoming> {
+pub struct TrunkRecordSource<I: TrunkInput> {
     incoming: I,
     // Whether clients are asked before the trunk is read.
     turn: bool,
@@ -38,7 +38,11 @@ fn front_of(len: usize) -> [u8; 4]
 }
 
 // The next record of a client, where it is their turn.
-fn command_in_turn<I: Incoming>(incoming: &mut I, turn: &mut bool, room: &mut [u8]) -> Option<usize>
+fn command_in_turn<I: TrunkInput>(
+    incoming: &mut I,
+    turn: &mut bool,
+    room: &mut [u8],
+) -> Option<usize>
     requires { turn.old ≡ true → I.is_turn incoming.old ≡ true }
     ensures bound { IfSome result (λ n. n ≤ length room.new) }
     ensures came { I.came incoming.new ≡ I.came incoming.old }
@@ -56,7 +60,7 @@ fn command_in_turn<I: Incoming>(incoming: &mut I, turn: &mut bool, room: &mut [u
 
 // The next record, whole, or 0 at the end of the trunk. It is a client's only if `turn` holds or the trunk
 // has none, and the source waits only if a client has none either.
-fn next_record<I: Incoming>(
+fn next_record<I: TrunkInput>(
     incoming: &mut I,
     turn: &mut bool,
     room: &mut [u8],
@@ -93,7 +97,7 @@ fn next_record<I: Incoming>(
     Err(SourceFault)
 }
 
-impl<I: Incoming> TrunkRecordSource<I> {
+impl<I: TrunkInput> TrunkRecordSource<I> {
     /// The records of what comes from now on, with no read yet.
     pub fn new(incoming: I) -> TrunkRecordSource<I>
         requires came { I.came incoming ≡ [] }
@@ -113,7 +117,7 @@ impl<I: Incoming> TrunkRecordSource<I> {
     }
 }
 
-impl<I: Incoming> Source for TrunkRecordSource<I> {
+impl<I: TrunkInput> Source for TrunkRecordSource<I> {
     ghost tells = { λ s. record {
       failures = s.failed;
       reads = s.reads;

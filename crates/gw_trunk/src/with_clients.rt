@@ -6,7 +6,7 @@ ghost use Rattle.gw_trunk.specs.Clients.{is_quiet};
 
 use crate::client::ClientPoll;
 use crate::clients::Clients;
-use crate::device::{DeviceFault, DeviceRead, Incoming, ToDevice, is_for_later};
+use crate::device::{DeviceFault, DeviceRead, ToDevice, TrunkInput, is_for_later};
 use crate::door::open_door;
 use gw_records::Log;
 use mio::net::{UnixListener, UnixStream};
@@ -91,7 +91,7 @@ impl<R: Read> WithClients<R> {
     }
 }
 
-impl<R: Read> Incoming for WithClients<R> {
+impl<R: Read> TrunkInput for WithClients<R> {
     ghost came = { λ d. d.log.octets };
 
     ghost asked = { λ d. d.asked.octets };

@@ -10,7 +10,7 @@ use Rattle.gw_config.specs.declared.config.Port.{Port}
 use Rattle.gw_udp.specs.declared.source_filter.SourceFilter.{SourceFilter}
 use Rattle.gw_udp.specs.Opening.{Blames, IsFaultOf, LacksSocket, FailsToOpen}
 use Rattle.gw_udp.specs.Names.{LookUp}
-use Rattle.gw_udp.specs.Socket.{Bound, Refused}
+use Rattle.gw_udp.specs.Socket.{Bound, BindRefused}
 use Rattle.gw_udp.specs.Udp.{IsEndpoint, HasEndpoints}
 use Rattle.gw_udp.specs.declared.udp.Endpoint.{Endpoint}
 use Rattle.gw_udp.specs.declared.udp.OpenFault.{OpenFault}
@@ -29,7 +29,7 @@ fault_of_call circuit kind why faults.OutOfMemory is since = tt
 fault_of_call circuit kind why (faults.Socket c) is since = (is.0, since)
 
 -- a fault of a circuit behind circuits that have their sockets is that of the first one without
-pub first_without : {S : Type 0} (is_bound : Bound S) (refuses : Refused) (looks_up : LookUp)
+pub first_without : {S : Type 0} (is_bound : Bound S) (refuses : BindRefused) (looks_up : LookUp)
     (host : List ℕ) (senders : SourceFilter) (ports : List (Option Port)) (earlier : List (Option (Endpoint S)))
     (circuit : ℕ) (f : OpenFault)
     → 1 ≤ circuit → circuit ≤ 30 → HasEndpoints is_bound looks_up host senders ports earlier (circuit - 1)

@@ -10,7 +10,7 @@ use Rattle.std.specs.Net.Socket.{socket_ip}
 use Rattle.gw_config.specs.declared.config.Port.{Port}
 use Rattle.gw_udp.specs.declared.source_filter.SourceFilter.{SourceFilter}
 use Rattle.gw_udp.specs.Names.{LookUp, IsAddressOf, LacksAddress}
-use Rattle.gw_udp.specs.Socket.{Bound, Refused}
+use Rattle.gw_udp.specs.Socket.{Bound, BindRefused}
 use Rattle.gw_udp.specs.Udp.{HasEndpoints}
 use Rattle.gw_udp.specs.declared.udp.Endpoint.{Endpoint}
 use Rattle.gw_udp.specs.declared.udp.OpenFault.{OpenFault}
@@ -31,7 +31,7 @@ pub record AreOfTwoFamilies (looks_up : LookUp) (host : List ℕ) (port : Port) 
   pub differ : is_ipv4 (socket_ip here) ≢ is_ipv4 (socket_ip peer)
 
 -- the system refused a socket at the host's address
-pub record IsRefused (refuses : Refused) (looks_up : LookUp) (host : List ℕ) (port : ℕ) : Type 0 where
+pub record IsRefused (refuses : BindRefused) (looks_up : LookUp) (host : List ℕ) (port : ℕ) : Type 0 where
   pub here : SocketAddr
   pub error : Error
   pub here_is : IsAddressOf looks_up host port here
@@ -39,7 +39,7 @@ pub record IsRefused (refuses : Refused) (looks_up : LookUp) (host : List ℕ) (
 
 -- A circuit with these ports has no socket: its host or its peer is a name without an address, their
 -- addresses are of different families, or the system refused a socket at the host's.
-abbrev pub LacksSocket : Refused → LookUp → List ℕ → Port → Type 0
+abbrev pub LacksSocket : BindRefused → LookUp → List ℕ → Port → Type 0
 LacksSocket refuses looks_up host port =
     (LacksAddress looks_up host port.local_port
     ⊎ LacksAddress looks_up (string_bytes port.peer_host) port.peer_port)
@@ -51,7 +51,7 @@ IsFaultOf circuit why faults.OutOfMemory = ⊤
 IsFaultOf circuit why (faults.Socket c) = (c ≡ circuit) × why
 
 -- the first circuit with ports that has no socket: all before it have theirs
-pub record IsFirstWithout {S : Type 0} (is_bound : Bound S) (refuses : Refused) (looks_up : LookUp)
+pub record IsFirstWithout {S : Type 0} (is_bound : Bound S) (refuses : BindRefused) (looks_up : LookUp)
     (host : List ℕ) (senders : SourceFilter) (ports : List (Option Port)) (circuit : ℕ) : Type 0 where
   pub least : 1 ≤ circuit
   pub most : circuit ≤ 30
@@ -61,7 +61,7 @@ pub record IsFirstWithout {S : Type 0} (is_bound : Bound S) (refuses : Refused) 
       → IsSomeAnd (slice_index_or ports (circuit - 1) d) (LacksSocket refuses looks_up host)
 
 -- the sockets cannot be opened for this reason: memory was refused, or this is the first circuit without one
-abbrev pub FailsToOpen : {S : Type 0} → Bound S → Refused → LookUp → List ℕ → SourceFilter
+abbrev pub FailsToOpen : {S : Type 0} → Bound S → BindRefused → LookUp → List ℕ → SourceFilter
     → List (Option Port)
     → OpenFault → Type 0
 FailsToOpen is_bound refuses looks_up host senders ports faults.OutOfMemory = ⊤

@@ -13,8 +13,8 @@ abbrev pub KeepsBound : {S : Type 0} → Bound S → S → S → Type 0
 KeepsBound is_bound old new = (a : SocketAddr) → is_bound old a → is_bound new a
 
 -- of an address at which the system gave no socket, and its error
-abbrev pub Refused : Type 1
-Refused = SocketAddr → Error → Type 0
+abbrev pub BindRefused : Type 1
+BindRefused = SocketAddr → Error → Type 0
 
 -- relates a socket before and after a receive, the answer, and the room afterwards
 abbrev pub Received : Type 0 → Type 1

@@ -2,7 +2,7 @@
 
 ghost use Rattle.std.specs.Prelude.{◌≡◌, ◌≤◌, ℕ, List, length, Ok, None, IfOk, IfErr, IfSome, IsTrue};
 ghost use Rattle.std.specs.Prelude.{IsFalse, ⊤};
-ghost use Rattle.gw_udp.specs.Socket.{Bound, KeepsBound, Refused, Received, ReceivesAny, Sent};
+ghost use Rattle.gw_udp.specs.Socket.{Bound, KeepsBound, BindRefused, Received, ReceivesAny, Sent};
 
 use crate::outcome::{received, sent, was_refused};
 use gw_records::PortFault;
@@ -20,7 +20,7 @@ pub trait Socket: Drop {
     ghost is_bound: { Bound Self } = { λ _ _. ⊤ };
 
     /// Relates an address at which the system refused a socket, and its error.
-    ghost refuses: { Refused } = { λ _ _. ⊤ };
+    ghost refuses: { BindRefused } = { λ _ _. ⊤ };
 
     /// Relates a socket before and after a receive, the answer, and the room afterwards.
     ghost receives: { Received Self } = { λ _ _ _ _. ⊤ };

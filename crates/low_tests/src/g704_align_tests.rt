@@ -1,5 +1,5 @@
 use g704_align::{Aligner, Place};
-use saved_octets::Octets;
+use saved_octets::OctetReader;
 use std::process::Abort;
 use std::test::Fail;
 
@@ -142,7 +142,10 @@ fn is_saved(
     room.clear();
     aligner.save(room)?;
     assert_eq!(rt; room.as_slice(), octets);
-    assert_eq!(rt; Aligner::load(&mut Octets::new(octets)), Some(*aligner));
+    assert_eq!(rt;
+        Aligner::load(&mut OctetReader::new(octets)),
+        Some(*aligner)
+    );
     Ok(())
 }
 
@@ -156,7 +159,7 @@ fn aligner_as_octets(rt: HostRuntime) -> Result<(), Fail> {
     let mut aligned = Aligner::new();
     hunts_over(&rt, &mut aligned, &three_frames());
     is_saved(&rt, &aligned, &[2, 1, 0, 0], &mut room)?;
-    assert_eq!(rt; Aligner::load(&mut Octets::new(&[2, 1, 0])), None);
-    assert_eq!(rt; Aligner::load(&mut Octets::new(&[3])), None);
+    assert_eq!(rt; Aligner::load(&mut OctetReader::new(&[2, 1, 0])), None);
+    assert_eq!(rt; Aligner::load(&mut OctetReader::new(&[3])), None);
     Ok(())
 }

@@ -1,5 +1,5 @@
 use g704_cas::{CircuitNo, MfAligner, MfPlace};
-use saved_octets::Octets;
+use saved_octets::OctetReader;
 use std::process::Abort;
 use std::test::Fail;
 
@@ -81,7 +81,10 @@ fn is_saved(
     room.clear();
     aligner.save(room)?;
     assert_eq!(rt; room.as_slice(), octets);
-    assert_eq!(rt; MfAligner::load(&mut Octets::new(octets)), Some(*aligner));
+    assert_eq!(rt;
+        MfAligner::load(&mut OctetReader::new(octets)),
+        Some(*aligner)
+    );
     Ok(())
 }
 
@@ -96,7 +99,7 @@ fn multiframe_aligner_as_octets(rt: HostRuntime) -> Result<(), Fail> {
     is_saved(&rt, &aligner, &[1, 1, 0], &mut room)?;
     let _place = next_multiframe(&mut aligner, 0x99);
     is_saved(&rt, &aligner, &[1, 1, 1], &mut room)?;
-    assert_eq!(rt; MfAligner::load(&mut Octets::new(&[1, 1, 2])), None);
-    assert_eq!(rt; MfAligner::load(&mut Octets::new(&[2, 0])), None);
+    assert_eq!(rt; MfAligner::load(&mut OctetReader::new(&[1, 1, 2])), None);
+    assert_eq!(rt; MfAligner::load(&mut OctetReader::new(&[2, 0])), None);
     Ok(())
 }

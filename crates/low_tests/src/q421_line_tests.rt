@@ -3,7 +3,7 @@ use Role::*;
 use State::*;
 use g704_cas::Nibble;
 use q421_line::{Cmd, Line, LineFault, Role, State};
-use saved_octets::Octets;
+use saved_octets::OctetReader;
 use std::process::Abort;
 use std::test::Fail;
 
@@ -326,18 +326,21 @@ fn line_as_octets(rt: HostRuntime) -> Result<(), Fail> {
         room.clear();
         line.save(&mut room)?;
         assert_eq!(rt; room.as_slice(), octets.as_slice());
-        assert_eq!(rt; Line::load(Outgoing, &mut Octets::new(&octets)), Some(line));
+        assert_eq!(rt;
+            Line::load(Outgoing, &mut OctetReader::new(&octets)),
+            Some(line)
+        );
     }
     assert_eq!(rt;
-        Line::load(Incoming, &mut Octets::new(&[8, 0, 0, 0, 100, 4, 0, 4])),
+        Line::load(Incoming, &mut OctetReader::new(&[8, 0, 0, 0, 100, 4, 0, 4])),
         None
     );
     assert_eq!(rt;
-        Line::load(Incoming, &mut Octets::new(&[7, 0, 0, 0, 100, 5, 0, 4])),
+        Line::load(Incoming, &mut OctetReader::new(&[7, 0, 0, 0, 100, 5, 0, 4])),
         None
     );
     assert_eq!(rt;
-        Line::load(Incoming, &mut Octets::new(&[7, 0, 0, 0, 100, 4, 0])),
+        Line::load(Incoming, &mut OctetReader::new(&[7, 0, 0, 0, 100, 4, 0])),
         None
     );
     Ok(())

@@ -1,4 +1,4 @@
-use saved_octets::{Octets, append_bool, append_u8, append_u16, append_u32};
+use saved_octets::{OctetReader, append_bool, append_u8, append_u16, append_u32};
 use std::test::Fail;
 
 #[test]
@@ -9,7 +9,7 @@ fn numbers_as_octets(rt: HostRuntime) -> Result<(), Fail> {
     append_u32(&mut out, 0x0405_0607)?;
     append_bool(&mut out, true)?;
     assert_eq!(rt; out.as_slice(), [1, 2, 3, 4, 5, 6, 7, 1].as_slice());
-    let mut octets = Octets::new(&out);
+    let mut octets = OctetReader::new(&out);
     assert_eq!(rt; octets.read_u8(), Some(1));
     assert_eq!(rt; octets.read_u16(), Some(0x0203));
     assert_eq!(rt; octets.read_u32(), Some(0x0405_0607));
@@ -21,7 +21,7 @@ fn numbers_as_octets(rt: HostRuntime) -> Result<(), Fail> {
 
 #[test]
 fn octets_as_a_slice(rt: HostRuntime) -> Result<(), Fail> {
-    let mut octets = Octets::new(&[1, 2, 3, 4]);
+    let mut octets = OctetReader::new(&[1, 2, 3, 4]);
     assert!(rt; octets.read_slice(5).is_none());
     let taken = octets.read_slice(3).ok_or("no octets")?;
     assert!(rt; taken == [1u8, 2, 3].as_slice());

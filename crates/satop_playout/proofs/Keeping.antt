@@ -11,13 +11,13 @@ use Rattle.circular_buffer.specs.Buffer.{Buffer, buffer, keep_last}
 use Rattle.satop_playout.specs.declared.ArrivalFault.{ArrivalFault}
 use Rattle.satop_playout.specs.declared.Settings.{Settings}
 use Rattle.satop_playout.specs.declared.playout.SatopPlayout.{SatopPlayout}
-use Rattle.satop_playout.specs.declared.slot.Slot.{Slot}
+use Rattle.satop_playout.specs.declared.slot.PacketSlot.{PacketSlot}
 use Rattle.satop_playout.specs.Calls.{PlayoutCall, Begins, Arrives, Plays}
 use Rattle.satop_playout.specs.Replacement.{fill_of}
 use Rattle.satop_playout.specs.Plays.{PlacedPacket, PlayoutState, at_first, packet_at, number_after, ahead, refusal}
 use Rattle.satop_playout.specs.Plays.{after_beginning, after_play, due_now, octets_or_fill, octets_now, filled_for}
 use Rattle.satop_playout.specs.Plays.{stream, is_there, play_octets}
-use Rattle.satop_playout.specs.Standing.{Wraps, packet_in, packet_from, packet_of, IsNext, Keeps, HasHistory}
+use Rattle.satop_playout.specs.Standing.{Wraps, packet_in, packet_from, packet_of, IsNext, Represents, HasHistory}
 use Rattle.satop_playout.proofs.Placing.{stream-push, with_packet, reach-push, reach-next, placed_at, packet_at-apart}
 use Rattle.satop_playout.proofs.Placing.{after-accepted, after-refused}
 use Rattle.satop_playout.proofs.Turns.{accepted}
@@ -29,26 +29,28 @@ pub at_own : (playout : SatopPlayout) (calls : List PlayoutCall) (P : Settings �
     → HasHistory playout settings calls → P settings
 unfolding HasHistory
 at_own playout calls P own settings k =
-    subst P k.settings_are (own (subst (λ (t : Settings). Keeps playout t (stream t calls)) (sym k.settings_are) k))
+    subst P k.settings_are (own (subst (λ (t : Settings). Represents playout t (stream t calls))
+    (sym k.settings_are) k))
 
 -- .. and of its state
 pub keeps_own : (playout : SatopPlayout) (s : PlayoutState) (P : Settings → Type 0)
-    → (Keeps playout playout.settings s → P playout.settings) → (settings : Settings)
-    → Keeps playout settings s → P settings
+    → (Represents playout playout.settings s → P playout.settings) → (settings : Settings)
+    → Represents playout settings s → P settings
 keeps_own playout s P own settings k =
-    subst P k.settings_are (own (subst (λ (t : Settings). Keeps playout t s) (sym k.settings_are) k))
+    subst P k.settings_are (own (subst (λ (t : Settings). Represents playout t s) (sym k.settings_are) k))
 
 -- the packet in a slot that was read
-pub slot-read : (size : ℕ) (slots : List Slot) (p : ℕ) (slot : Slot) → slot ≡ get_or slots p slot → p < length slots
+pub slot-read : (size : ℕ) (slots : List PacketSlot) (p : ℕ) (slot : PacketSlot) → slot ≡ get_or slots p slot
+    → p < length slots
     → packet_of size slots p ≡ packet_in size slot
 slot-read size slots p slot e h = ap (packet_from size) (slice_get-get_or slots p slot h ∙ ap Some (sym e))
 
 -- slots that hold nothing
-abbrev pub AllEmpty : List Slot → Type 0
+abbrev pub AllEmpty : List PacketSlot → Type 0
 AllEmpty slots = (size p : ℕ) → packet_of size slots p ≡ None
 
 -- as many slots as are asked for hold nothing
-pub empty-slots : (count : ℕ) (slot : Slot) → ((size : ℕ) → packet_in size slot ≡ None)
+pub empty-slots : (count : ℕ) (slot : PacketSlot) → ((size : ℕ) → packet_in size slot ≡ None)
     → AllEmpty (replicate count slot)
 empty-slots count slot none size p =
     let many = length-replicate count slot in
@@ -59,7 +61,7 @@ empty-slots count slot none size p =
     ]
 
 -- .. and so do those that were emptied one by one
-pub emptied-all : (slots : List Slot) (i : ℕ) → length slots ≤ i
+pub emptied-all : (slots : List PacketSlot) (i : ℕ) → length slots ≤ i
     → ((size p : ℕ) → p < i → packet_of size slots p ≡ None) → AllEmpty slots
 emptied-all slots i all before size p =
     elim (cases_lt p i) as (λ _. packet_of size slots p ≡ None) [
@@ -68,18 +70,19 @@ emptied-all slots i all before size p =
     ]
 
 -- slots that are all written anew are those that were written
-pub rewritten : (count : ℕ) (slots was : List Slot) → length slots ≡ count
+pub rewritten : (count : ℕ) (slots was : List PacketSlot) → length slots ≡ count
     → take count (slots ++ drop (length slots) was) ≡ slots
 rewritten count slots was size =
     ap (λ (n : ℕ). take n (slots ++ drop (length slots) was)) (sym size)
     ∙ take-append_seam slots (drop (length slots) was)
 
 -- a playout whose stream begins with this number
-pub keeps-begun : (playout after : SatopPlayout) (s : PlayoutState) (sequence : ℕ) → Keeps playout playout.settings s
+pub keeps-begun : (playout after : SatopPlayout) (s : PlayoutState) (sequence : ℕ)
+    → Represents playout playout.settings s
     → after.settings ≡ playout.settings → length after.slots.items ≡ playout.settings.window
     → AllEmpty after.slots.items → after.head ≡ playout.head → sequence < 2 ^ 16 → after.next ≡ Some sequence
     → after.reach ≡ 0 → after.given ≡ playout.given → after.filled ≡ playout.filled
-    → Keeps after playout.settings (after_beginning s sequence)
+    → Represents after playout.settings (after_beginning s sequence)
 keeps-begun playout after s sequence k settings room empty head fits next reach given filled =
     let start = k.start in
     let number : sequence ≡ (sequence + 0) % 2 ^ 16 = omega arith in
@@ -100,7 +103,7 @@ keeps-begun playout after s sequence k settings room empty head fits next reach 
 pub keeps-new : (playout : SatopPlayout) → length playout.slots.items ≡ playout.settings.window
     → AllEmpty playout.slots.items → playout.head < playout.settings.window → playout.next ≡ None
     → playout.reach ≡ 0 → playout.given ≡ buffer [] 512 → playout.filled ≡ 0
-    → Keeps playout playout.settings at_first
+    → Represents playout playout.settings at_first
 keeps-new playout room empty start next reach given filled = record {
   settings_are = refl;
   room = room;
@@ -122,14 +125,14 @@ next-kept was next None placed now q is e begun = cc
 next-kept was next (Some first) placed now q is e begun = e ∙ is
 
 -- a playout with a packet more
-pub keeps-put : (playout after : SatopPlayout) (s : PlayoutState) (place p : ℕ) (slot : Slot) (octets : List ℕ)
-    → Keeps playout playout.settings s → after.settings ≡ playout.settings
+pub keeps-put : (playout after : SatopPlayout) (s : PlayoutState) (place p : ℕ) (slot : PacketSlot) (octets : List ℕ)
+    → Represents playout playout.settings s → after.settings ≡ playout.settings
     → after.slots.items ≡ slice_set playout.slots.items p slot → after.head ≡ playout.head
     → after.next ≡ playout.next → after.reach ≡ max playout.reach (place + 1) → after.given ≡ playout.given
     → after.filled ≡ playout.filled → place < playout.settings.window
     → Wraps playout.head place playout.settings.window p → packet_in playout.settings.size slot ≡ Some octets
     → packet_at s.placed (s.now + place) ≡ None → is_some s.first ≡ true
-    → Keeps after playout.settings (with_packet s (s.now + place) octets)
+    → Represents after playout.settings (with_packet s (s.now + place) octets)
 keeps-put playout after s place p slot octets k settings slots head next reach given filled near at is free begun =
     let size = length-set playout.slots.items p slot in
     let room = k.room in
@@ -180,14 +183,15 @@ keep-more n xs ys =
     ∙ drop-append-add before (kept ++ ys) (length (kept ++ ys) - n))
 
 -- a playout after a play
-pub keeps-play : (playout after : SatopPlayout) (s : PlayoutState) (slot : Slot) → Keeps playout playout.settings s
+pub keeps-play : (playout after : SatopPlayout) (s : PlayoutState) (slot : PacketSlot)
+    → Represents playout playout.settings s
     → after.settings ≡ playout.settings → after.slots.items ≡ slice_set playout.slots.items playout.head slot
     → packet_in playout.settings.size slot ≡ None → Wraps playout.head 1 playout.settings.window after.head
     → after.next ≡ number_after playout.next → after.reach ≡ playout.reach - 1
     → after.given ≡ buffer (keep_last playout.given.capacity (playout.given.items ++ octets_now playout.settings s))
     playout.given.capacity
     → after.filled ≡ min (filled_for (due_now s) playout.settings.size s.filled) 2048
-    → Keeps after playout.settings (after_play playout.settings s)
+    → Represents after playout.settings (after_play playout.settings s)
 keeps-play playout after s slot k settings slots empty moved next reach given filled =
     let size = length-set playout.slots.items playout.head slot in
     let room = k.room in
@@ -221,7 +225,7 @@ pub stands-begun : (playout after : SatopPlayout) (settings : Settings) (calls :
 unfolding HasHistory
 stands-begun playout after settings calls sequence k is room empty head fits next reach given filled =
     at_own playout calls (λ (t : Settings). HasHistory after t (calls ++ Begins sequence ∷ []))
-    (λ own. subst (λ (s : PlayoutState). Keeps after playout.settings s)
+    (λ own. subst (λ (s : PlayoutState). Represents after playout.settings s)
     (sym (stream-push playout.settings calls (Begins sequence)))
     (keeps-begun playout after (stream playout.settings calls) sequence own is room empty head fits next reach given
     filled)) settings k
@@ -233,14 +237,14 @@ pub stands-refused : (playout : SatopPlayout) (settings : Settings) (calls : Lis
     → HasHistory playout settings (calls ++ Arrives sequence octets ∷ [])
 unfolding HasHistory
 stands-refused playout settings calls sequence octets fault k why =
-    subst (λ (s : PlayoutState). Keeps playout settings s)
+    subst (λ (s : PlayoutState). Represents playout settings s)
     (sym (stream-push settings calls (Arrives sequence octets)
     ∙ after-refused settings (stream settings calls) sequence octets fault why)) k
 
 -- .. and after one that is accepted and put into its slot
 pub stands-put : (playout after : SatopPlayout) (settings : Settings) (calls : List PlayoutCall) (sequence : ℕ)
-    (octets : List ℕ) (place p : ℕ) (slot : Slot) → HasHistory playout settings calls
-    → ((s : PlayoutState) → Keeps playout playout.settings s
+    (octets : List ℕ) (place p : ℕ) (slot : PacketSlot) → HasHistory playout settings calls
+    → ((s : PlayoutState) → Represents playout playout.settings s
     → (refusal playout.settings s sequence octets ≡ None) × (place ≡ ahead s sequence))
     → after.settings ≡ playout.settings → after.slots.items ≡ slice_set playout.slots.items p slot
     → after.head ≡ playout.head → after.next ≡ playout.next → after.reach ≡ max playout.reach (place + 1)
@@ -257,7 +261,7 @@ stands-put playout after settings calls sequence octets place p slot k told is s
     let a = accepted playout.settings s sequence octets why.0 in
     let free : packet_at s.placed (s.now + place) ≡ None =
     ap (λ (n : ℕ). packet_at s.placed (s.now + n)) why.1 ∙ a.free in
-    subst (λ (t : PlayoutState). Keeps after playout.settings t)
+    subst (λ (t : PlayoutState). Represents after playout.settings t)
     (sym (stream-push playout.settings calls (Arrives sequence octets)
     ∙ after-accepted playout.settings s sequence octets why.0
     ∙ ap (λ (n : ℕ). with_packet s (s.now + n) octets) (sym why.1)))
@@ -265,7 +269,7 @@ stands-put playout after settings calls sequence octets place p slot k told is s
     settings k
 
 -- the packet whose turn it is, in the slot of the next one
-due-in : (playout : SatopPlayout) (s : PlayoutState) (slot : Slot) → Keeps playout playout.settings s
+due-in : (playout : SatopPlayout) (s : PlayoutState) (slot : PacketSlot) → Represents playout playout.settings s
     → slot ≡ get_or playout.slots.items playout.head slot → packet_in playout.settings.size slot ≡ due_now s
 due-in playout s slot k is =
     let room = k.room in
@@ -287,7 +291,8 @@ either-filled None there size filled b = ap (λ (v : Bool). cond v 0 (filled + s
 either-filled (Some octets) there size filled b = ap (λ (v : Bool). cond v 0 (filled + size)) b
 
 -- What a play has given: whether the packet was in its slot, and its octets or those that replace it.
-pub record Played (playout : SatopPlayout) (slot : Slot) (there : Bool) (given : List ℕ) (filled : ℕ) : Type 0 where
+pub record Played (playout : SatopPlayout) (slot : PacketSlot) (there : Bool) (given : List ℕ)
+    (filled : ℕ) : Type 0 where
   pub room : List ℕ
   pub taken : List ℕ
   pub read : slot ≡ get_or playout.slots.items playout.head slot
@@ -301,14 +306,16 @@ pub record Played (playout : SatopPlayout) (slot : Slot) (there : Bool) (given :
       → filled ≡ min (cond there 0 (count + length taken)) 2048
 
 -- whether the packet was there
-played-there : (playout : SatopPlayout) (slot : Slot) (there : Bool) (given : List ℕ) (filled : ℕ) (s : PlayoutState)
-    → Played playout slot there given filled → Keeps playout playout.settings s → there ≡ is_some (due_now s)
+played-there : (playout : SatopPlayout) (slot : PacketSlot) (there : Bool) (given : List ℕ) (filled : ℕ)
+    (s : PlayoutState)
+    → Played playout slot there given filled → Represents playout playout.settings s → there ≡ is_some (due_now s)
 played-there playout slot there given filled s p k =
     p.told ∙ ap (λ (n : ℕ). is_some (packet_in n slot)) p.size ∙ ap is_some (due-in playout s slot k p.read)
 
 -- .. and the octets of the play
-played-octets : (playout : SatopPlayout) (slot : Slot) (there : Bool) (given : List ℕ) (filled : ℕ) (s : PlayoutState)
-    → Played playout slot there given filled → Keeps playout playout.settings s
+played-octets : (playout : SatopPlayout) (slot : PacketSlot) (there : Bool) (given : List ℕ) (filled : ℕ)
+    (s : PlayoutState)
+    → Played playout slot there given filled → Represents playout playout.settings s
     → given ≡ octets_now playout.settings s
 played-octets playout slot there given filled s p k =
     let due = due-in playout s slot k p.read in
@@ -321,7 +328,7 @@ played-octets playout slot there given filled s p k =
     ∙ ap (λ (n : ℕ). cond there p.taken (fill_of playout.settings.fill n s.given s.filled)) (p.taken_size ∙ p.size))
 
 -- what a play answers
-pub there-answer : (playout : SatopPlayout) (settings : Settings) (calls : List PlayoutCall) (slot : Slot)
+pub there-answer : (playout : SatopPlayout) (settings : Settings) (calls : List PlayoutCall) (slot : PacketSlot)
     (there : Bool)
     (given : List ℕ) (filled : ℕ) → Played playout slot there given filled → HasHistory playout settings calls
     → there ≡ is_there settings calls
@@ -331,7 +338,7 @@ there-answer playout settings calls slot there given filled p k =
     (λ own. played-there playout slot there given filled (stream playout.settings calls) p own) settings k
 
 -- what a play gives
-pub octets-answer : (playout : SatopPlayout) (settings : Settings) (calls : List PlayoutCall) (slot : Slot)
+pub octets-answer : (playout : SatopPlayout) (settings : Settings) (calls : List PlayoutCall) (slot : PacketSlot)
     (there : Bool)
     (given : List ℕ) (filled : ℕ) → Played playout slot there given filled → HasHistory playout settings calls
     → given ≡ play_octets settings calls
@@ -341,7 +348,8 @@ octets-answer playout settings calls slot there given filled p k =
     (λ own. played-octets playout slot there given filled (stream playout.settings calls) p own) settings k
 
 -- after a play the playout has the longer history
-pub stands-play : (playout after : SatopPlayout) (settings : Settings) (calls : List PlayoutCall) (slot emptied : Slot)
+pub stands-play : (playout after : SatopPlayout) (settings : Settings) (calls : List PlayoutCall)
+    (slot emptied : PacketSlot)
     (there : Bool) (given : List ℕ) (filled : ℕ) → Played playout slot there given filled
     → HasHistory playout settings calls → after.settings ≡ playout.settings
     → after.slots.items ≡ slice_set playout.slots.items playout.head emptied
@@ -356,7 +364,7 @@ stands-play playout after settings calls slot emptied there given filled p k is 
     let s = stream playout.settings calls in
     let octets = played-octets playout slot there given filled s p own in
     let here = played-there playout slot there given filled s p own in
-    subst (λ (t : PlayoutState). Keeps after playout.settings t) (sym (stream-push playout.settings calls Plays))
+    subst (λ (t : PlayoutState). Represents after playout.settings t) (sym (stream-push playout.settings calls Plays))
     (keeps-play playout after s emptied own is slots (empty playout.settings.size) moved next reach
     (kept ∙ ap (λ (xs : List ℕ). buffer (keep_last playout.given.capacity (playout.given.items ++ xs))
     playout.given.capacity) octets)

@@ -4,9 +4,9 @@ use Rattle.std.proofs.Common.{Some, None, is_some, get_or, refl, sym, ap, ◌∙
 use Rattle.std.proofs.lemmas.Bool.{lt-leb}
 use Rattle.satop_playout.specs.declared.ArrivalFault.TheVariants.{Repeat}
 use Rattle.satop_playout.specs.declared.playout.SatopPlayout.{SatopPlayout}
-use Rattle.satop_playout.specs.declared.slot.Slot.{Slot}
+use Rattle.satop_playout.specs.declared.slot.PacketSlot.{PacketSlot}
 use Rattle.satop_playout.specs.Plays.{PlacedPacket, PlayoutState, packet_at, ahead_of, ahead, refusal}
-use Rattle.satop_playout.specs.Standing.{Wraps, packet_in, IsNext, Keeps}
+use Rattle.satop_playout.specs.Standing.{Wraps, packet_in, IsNext, Represents}
 use Rattle.satop_playout.proofs.Placing.{told}
 use Rattle.satop_playout.proofs.Keeping.{slot-read}
 
@@ -34,7 +34,7 @@ pub record Asked (playout : SatopPlayout) (s : PlayoutState) (sequence : ℕ) (o
 
 -- .. as the playout finds them
 pub asked : (playout : SatopPlayout) (s : PlayoutState) (sequence : ℕ) (octets : List ℕ) (next place : ℕ)
-    → Keeps playout playout.settings s → length octets ≡ playout.settings.size → playout.next ≡ Some next
+    → Represents playout playout.settings s → length octets ≡ playout.settings.size → playout.next ≡ Some next
     → place ≡ (sequence + (2 ^ 16 - next)) % 2 ^ 16 → place < 2 ^ 15 → place < playout.settings.window
     → Asked playout s sequence octets place
 asked playout s sequence octets next place k size number is on_time near =
@@ -42,8 +42,9 @@ asked playout s sequence octets next place k size number is on_time near =
     record { size_is = size; begun = at.0; place_is = at.1; on_time = on_time; near = near }
 
 -- whether the packet of the place is held says whether it is a repeat
-pub repeats : (playout : SatopPlayout) (s : PlayoutState) (sequence : ℕ) (octets : List ℕ) (place p : ℕ) (slot : Slot)
-    → Keeps playout playout.settings s → Asked playout s sequence octets place
+pub repeats : (playout : SatopPlayout) (s : PlayoutState) (sequence : ℕ) (octets : List ℕ) (place p : ℕ)
+    (slot : PacketSlot)
+    → Represents playout playout.settings s → Asked playout s sequence octets place
     → Wraps playout.head place playout.settings.window p → slot ≡ get_or playout.slots.items p slot
     → refusal playout.settings s sequence octets
     ≡ cond (is_some (packet_in playout.settings.size slot)) (Some Repeat) None

@@ -3,7 +3,7 @@ use Rattle.std.proofs.Common.{◌≡◌, ◌≢◌, inl, inr, ℕ, ◌+◌, ◌<
 use Rattle.std.proofs.Common.{Some, None, slice_set, sym, ap, ◌∙◌, arith}
 use Rattle.std.proofs.lemmas.Bool.{cases_eq, cases_lt}
 use Rattle.circular_buffer.proofs.Places.{slice_get-set_same, slice_get-set_other}
-use Rattle.satop_playout.specs.declared.slot.Slot.{Slot}
+use Rattle.satop_playout.specs.declared.slot.PacketSlot.{PacketSlot}
 use Rattle.satop_playout.specs.Plays.{PlacedPacket, packet_at}
 use Rattle.satop_playout.specs.Standing.{Wraps, packet_in, packet_from, packet_of}
 use Rattle.satop_playout.proofs.Placing.{placed_at, packet_at-free, packet_at-apart}
@@ -38,22 +38,23 @@ wraps-last start next k n q s h (a, inr f) (b, inl g) = omega arith
 wraps-last start next k n q s h (a, inr f) (b, inr g) = omega arith
 
 -- the packet in a slot that was written
-pub packet-written : (size : ℕ) (slots : List Slot) (p : ℕ) (slot : Slot) → p < length slots
+pub packet-written : (size : ℕ) (slots : List PacketSlot) (p : ℕ) (slot : PacketSlot) → p < length slots
     → packet_of size (slice_set slots p slot) p ≡ packet_in size slot
 packet-written size slots p slot h = ap (packet_from size) (slice_get-set_same slots p slot h)
 
 -- .. and in another
-pub packet-other : (size : ℕ) (slots : List Slot) (p q : ℕ) (slot : Slot) → q ≢ p
+pub packet-other : (size : ℕ) (slots : List PacketSlot) (p q : ℕ) (slot : PacketSlot) → q ≢ p
     → packet_of size (slice_set slots p slot) q ≡ packet_of size slots q
 packet-other size slots p q slot other = ap (packet_from size) (slice_get-set_other slots p q slot other)
 
 -- The slots hold the packets of the places from one on.
-abbrev pub Holds : ℕ → ℕ → ℕ → List Slot → List PlacedPacket → ℕ → Type 0
+abbrev pub Holds : ℕ → ℕ → ℕ → List PacketSlot → List PlacedPacket → ℕ → Type 0
 Holds size window head slots placed now = (k p : ℕ) → k < window → Wraps head k window p
     → packet_of size slots p ≡ packet_at placed (now + k)
 
 -- a packet is put into the slot of its place, which is free
-pub holds-put : (size window head now d p : ℕ) (slots : List Slot) (placed : List PlacedPacket) (slot : Slot)
+pub holds-put : (size window head now d p : ℕ) (slots : List PacketSlot) (placed : List PlacedPacket)
+    (slot : PacketSlot)
     (octets : List ℕ) → Holds size window head slots placed now → length slots ≡ window → d < window
     → Wraps head d window p → packet_in size slot ≡ Some octets → packet_at placed (now + d) ≡ None
     → Holds size window head (slice_set slots p slot) (placed ++ placed_at (now + d) octets ∷ []) now
@@ -74,7 +75,8 @@ holds-put size window head now d p slots placed slot octets held room near at is
     ]
 
 -- the slot of the next packet is emptied, and the places move on by one
-pub holds-next : (size window head next now : ℕ) (slots : List Slot) (placed : List PlacedPacket) (slot : Slot)
+pub holds-next : (size window head next now : ℕ) (slots : List PacketSlot) (placed : List PlacedPacket)
+    (slot : PacketSlot)
     → Holds size window head slots placed now → length slots ≡ window → head < window
     → Wraps head 1 window next → packet_in size slot ≡ None → packet_at placed (now + window) ≡ None
     → Holds size window next (slice_set slots head slot) placed (now + 1)

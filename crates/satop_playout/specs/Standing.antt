@@ -4,7 +4,7 @@ use Rattle.std.specs.Prelude.{slice_get, if◌then◌else◌, Option, Some, None
 use Rattle.circular_buffer.specs.Buffer.{keep_last}
 use Rattle.satop_playout.specs.declared.Settings.{Settings}
 use Rattle.satop_playout.specs.declared.playout.SatopPlayout.{SatopPlayout}
-use Rattle.satop_playout.specs.declared.slot.Slot.{Slot}
+use Rattle.satop_playout.specs.declared.slot.PacketSlot.{PacketSlot}
 use Rattle.satop_playout.specs.Calls.{PlayoutCall}
 use Rattle.satop_playout.specs.Plays.{PlacedPacket, PlayoutState, stream, packet_at, reach_from}
 
@@ -13,16 +13,16 @@ abbrev pub Wraps : ℕ → ℕ → ℕ → ℕ → Type 0
 Wraps start k n p = (p < n) × ((p ≡ start + k) ⊎ (p + n ≡ start + k))
 
 -- the packet in a slot, if there is one
-abbrev pub packet_in : ℕ → Slot → Option (List ℕ)
+abbrev pub packet_in : ℕ → PacketSlot → Option (List ℕ)
 packet_in size slot = if slot.held then Some (take size slot.octets) else None
 
 -- the packet in a slot that may be there
-abbrev pub packet_from : ℕ → Option Slot → Option (List ℕ)
+abbrev pub packet_from : ℕ → Option PacketSlot → Option (List ℕ)
 packet_from size None = None
 packet_from size (Some slot) = packet_in size slot
 
 -- the packet in a slot of a list, if there is one
-abbrev pub packet_of : ℕ → List Slot → ℕ → Option (List ℕ)
+abbrev pub packet_of : ℕ → List PacketSlot → ℕ → Option (List ℕ)
 packet_of size slots p = packet_from size (slice_get slots p)
 
 -- the number of the next packet, if a stream has begun
@@ -30,7 +30,7 @@ abbrev pub IsNext : Option ℕ → Option ℕ → List PlacedPacket → ℕ → 
 IsNext next None placed now = (next ≡ None) × (placed ≡ [])
 IsNext next (Some first) placed now = next ≡ Some ((first + now) % 2 ^ 16)
 
-pub record Keeps (playout : SatopPlayout) (settings : Settings) (s : PlayoutState) : Type 0 where
+pub record Represents (playout : SatopPlayout) (settings : Settings) (s : PlayoutState) : Type 0 where
   pub settings_are : playout.settings ≡ settings
   pub room : length playout.slots.items ≡ settings.window
   pub start : playout.head < settings.window
@@ -47,4 +47,4 @@ pub record Keeps (playout : SatopPlayout) (settings : Settings) (s : PlayoutStat
 
 -- the playout has these settings and this history of calls
 unfoldable pub HasHistory : SatopPlayout → Settings → List PlayoutCall → Type 0
-HasHistory playout settings calls = Keeps playout settings (stream settings calls)
+HasHistory playout settings calls = Represents playout settings (stream settings calls)

@@ -4,7 +4,7 @@ ghost use Rattle.std.specs.Prelude.{◌≡◌, ◌≤◌, ◌<◌, length};
 ghost use Rattle.satop_playout.specs.Plays.{number_after};
 
 use crate::filling::{MOST_REPEATED, MULTIFRAME, replace};
-use crate::slot::Slot;
+use crate::slot::PacketSlot;
 use crate::{ArrivalFault, Settings};
 use circular_buffer::HeapCircularBuffer;
 use std::alloc::{AllocError, Global};
@@ -20,7 +20,7 @@ const HALF: u16 = 1 << 15;
 pub struct SatopPlayout {
     settings: Settings,
     // one for each packet of the window, in a ring
-    slots: Vec<Slot>,
+    slots: Vec<PacketSlot>,
     // the slot of the next packet
     head: usize,
     // the number of the next packet, once a stream has begun
@@ -43,7 +43,7 @@ impl SatopPlayout {
     ghost use Rattle.satop_playout.specs.Calls.{PlayoutCall, Begins, Arrives, Plays};
     ghost use Rattle.satop_playout.specs.Plays.{PlayoutState, refusal, ahead};
     ghost use Rattle.satop_playout.specs.Plays.{arrival_answer, is_there, play_octets, reach_after};
-    ghost use Rattle.satop_playout.specs.Standing.{HasHistory, Keeps, Wraps};
+    ghost use Rattle.satop_playout.specs.Standing.{HasHistory, Represents, Wraps};
     ghost use Rattle.satop_playout.specs.Replacement.{fill_of};
     ghost use Rattle.circular_buffer.specs.Buffer.{keep_last};
 
@@ -53,7 +53,7 @@ impl SatopPlayout {
     {
         Ok(SatopPlayout {
             settings,
-            slots: vec![in alloc; Slot::empty(); settings.window]?,
+            slots: vec![in alloc; PacketSlot::empty(); settings.window]?,
             head: 0,
             next: None,
             reach: 0,
@@ -104,7 +104,7 @@ impl SatopPlayout {
 
     // The place of a packet behind the next one, or why it is refused.
     fn admission(&self, sequence: u16, octets: &[u8]) -> Result<usize, ArrivalFault>
-        ensures why { (settings : Settings) (s : PlayoutState) → Keeps self.now settings s
+        ensures why { (settings : Settings) (s : PlayoutState) → Represents self.now settings s
             → MatchResult result
             (λ place. (refusal settings s sequence octets.now ≡ None) × (place ≡ ahead s sequence))
             (λ fault. refusal settings s sequence octets.now ≡ Some fault) }

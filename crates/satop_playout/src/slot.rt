@@ -8,17 +8,17 @@ use crate::MAX_SIZE;
 
 // The octets of a packet, if one is held.
 #[derive(Clone, Copy)]
-pub(crate) struct Slot {
+pub(crate) struct PacketSlot {
     held: bool,
     octets: [u8; MAX_SIZE],
 }
 
-impl Slot {
+impl PacketSlot {
     // A slot that holds nothing.
-    pub(crate) fn empty() -> Slot
+    pub(crate) fn empty() -> PacketSlot
         ensures { (size : ℕ) → packet_in size result ≡ None }
     {
-        Slot {
+        PacketSlot {
             held: false,
             octets: [0; MAX_SIZE],
         }

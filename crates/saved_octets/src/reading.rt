@@ -12,11 +12,11 @@ use std::marker::Model;
 ///
 /// Contracts see the list of them.
 #[derive(Debug, Drop)]
-pub struct Octets<'a> {
+pub struct OctetReader<'a> {
     left: &'a [u8],
 }
 
-impl<'a> Model for Octets<'a> {
+impl<'a> Model for OctetReader<'a> {
     ghost use Rattle.std.specs.Prelude.{List, ℕ};
 
     ghost Value = { List ℕ };
@@ -24,12 +24,12 @@ impl<'a> Model for Octets<'a> {
     ghost view = { λ o. o.left.now };
 }
 
-impl<'a> Octets<'a> {
+impl<'a> OctetReader<'a> {
     /// A reader at the first of these octets.
     pub fn new(octets: &'a [u8]) -> Self
         ensures { result ≡ octets.now }
     {
-        Octets { left: octets }
+        OctetReader { left: octets }
     }
 
     /// Whether all octets have been read.

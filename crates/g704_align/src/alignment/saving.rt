@@ -4,8 +4,8 @@ ghost use Rattle.std.specs.Prelude.{◌≡◌, ◌++◌, ℕ, List, OnOk, IfSome
 ghost use Rattle.g704_align.specs.declared.alignment.Aligner.{Aligner};
 ghost use Rattle.g704_align.specs.Saved.{saved_aligner};
 
-use crate::alignment::{Aligner, Phase};
-use saved_octets::Octets;
+use crate::alignment::{Aligner, SyncState};
+use saved_octets::OctetReader;
 use std::alloc::AllocError;
 
 impl Aligner {
@@ -14,9 +14,9 @@ impl Aligner {
         ensures { OnOk result (out.new.items ≡ out.old.items ++ saved_aligner self.now) }
     {
         match self.phase {
-            Phase::Searching => out.extend_from_slice(&[0]),
-            Phase::Candidate { age } => out.extend_from_slice(&[1, age]),
-            Phase::Aligned {
+            SyncState::Searching => out.extend_from_slice(&[0]),
+            SyncState::Candidate { age } => out.extend_from_slice(&[1, age]),
+            SyncState::Aligned {
                 age,
                 wrong_fas,
                 wrong_nfas,
@@ -25,17 +25,17 @@ impl Aligner {
     }
 
     /// Reads a saved aligner; None if the octets are not those of one.
-    pub fn load(octets: &mut Octets<'_>) -> Option<Aligner>
+    pub fn load(octets: &mut OctetReader<'_>) -> Option<Aligner>
         ensures loaded { (aligner : Aligner) (rest : List ℕ) → octets.old ≡ saved_aligner aligner ++ rest
             → (result ≡ Some aligner) × (octets.new ≡ rest) }
         ensures read { IfSome result (λ aligner. octets.old ≡ saved_aligner aligner ++ octets.new) }
     {
         let phase = match octets.read_u8()? {
-            0 => Phase::Searching,
-            1 => Phase::Candidate {
+            0 => SyncState::Searching,
+            1 => SyncState::Candidate {
                 age: octets.read_u8()?,
             },
-            2 => Phase::Aligned {
+            2 => SyncState::Aligned {
                 age: octets.read_u8()?,
                 wrong_fas: octets.read_u8()?,
                 wrong_nfas: octets.read_u8()?,

@@ -11,7 +11,7 @@ use crate::any::{AnyCodec, Codec};
 use crate::{CodecKind, Decoder, Encoder};
 use e1_g711::Law;
 use g726_quant::Rate;
-use saved_octets::Octets;
+use saved_octets::OctetReader;
 use std::alloc::AllocError;
 
 impl AnyCodec {
@@ -24,7 +24,7 @@ impl AnyCodec {
     }
 
     /// Reads a saved codec of this law and kind; None if the octets are not those of one.
-    pub fn load(law: Law, kind: CodecKind, octets: &mut Octets<'_>) -> Option<AnyCodec>
+    pub fn load(law: Law, kind: CodecKind, octets: &mut OctetReader<'_>) -> Option<AnyCodec>
         ensures loaded { (c : CodecState) (rest : List ℕ) → c.law ≡ law → c.kind ≡ kind → CodecFits c
             → octets.old ≡ saved_codec c ++ rest → (result ≡ Some c) × (octets.new ≡ rest) }
         ensures read { IfSome result (λ c. octets.old ≡ saved_codec c ++ octets.new) }
@@ -53,7 +53,7 @@ impl Codec {
     }
 
     #[tactic(auto, unfolding(crate::specs::Saved::saved_codec))]
-    fn load(kind: CodecKind, octets: &mut Octets<'_>) -> Option<Codec>
+    fn load(kind: CodecKind, octets: &mut OctetReader<'_>) -> Option<Codec>
         ensures loaded { (c : CodecState) (rest : List ℕ) → c.kind ≡ kind → CodecFits c
             → octets.old ≡ saved_codec c ++ rest
             → (option_map (state_of c.law) result ≡ Some c) × (octets.new ≡ rest) }
@@ -96,7 +96,7 @@ fn save_both<R: Rate>(
     decoder.save(out)
 }
 
-fn load_both<R: Rate>(octets: &mut Octets<'_>) -> Option<(Encoder<R>, Decoder<R>)>
+fn load_both<R: Rate>(octets: &mut OctetReader<'_>) -> Option<(Encoder<R>, Decoder<R>)>
     ensures loaded { (encoder decoder : Variables) (rest : List ℕ) → VariablesFit encoder
         → VariablesFit decoder
         → octets.old ≡ (saved_variables encoder ++ saved_variables decoder) ++ rest

@@ -7,7 +7,7 @@ ghost use Rattle.g726_codec.specs.Saved.{saved_variables, VariablesFit};
 use crate::encoder::Encoder;
 use crate::state::State;
 use g726_quant::Rate;
-use saved_octets::Octets;
+use saved_octets::OctetReader;
 use std::alloc::AllocError;
 use std::marker::PhantomData;
 
@@ -21,7 +21,7 @@ impl<R: Rate> Encoder<R> {
     }
 
     /// Reads a saved encoder; None if the octets are not those of one.
-    pub fn load(octets: &mut Octets<'_>) -> Option<Encoder<R>>
+    pub fn load(octets: &mut OctetReader<'_>) -> Option<Encoder<R>>
         ensures loaded { (s : Variables) (rest : List ℕ) → VariablesFit s
             → octets.old ≡ saved_variables s ++ rest
             → (result ≡ Some s) × (octets.new ≡ rest) }

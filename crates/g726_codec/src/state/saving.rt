@@ -7,7 +7,7 @@ ghost use Rattle.g726_codec.specs.Saved.{saved_variables, VariablesFit};
 use crate::state::State;
 use g726_predict::Predictor;
 use g726_tone::Adapt;
-use saved_octets::Octets;
+use saved_octets::OctetReader;
 use std::alloc::AllocError;
 
 impl State {
@@ -21,7 +21,7 @@ impl State {
     }
 
     #[tactic(auto, unfolding(crate::specs::Saved::saved_variables))]
-    pub(crate) fn load(octets: &mut Octets<'_>) -> Option<State>
+    pub(crate) fn load(octets: &mut OctetReader<'_>) -> Option<State>
         ensures loaded { (s : Variables) (rest : List ℕ) → VariablesFit s
             → octets.old ≡ saved_variables s ++ rest
             → (result ≡ Some s) × (octets.new ≡ rest) }

@@ -6,7 +6,7 @@ ghost use Rattle.g726_predict.specs.Predictor.{Prediction};
 ghost use Rattle.g726_predict.specs.Saved.{saved_numbers, saved_prediction, PredictionFits};
 
 use crate::filter::Filter;
-use saved_octets::{Octets, append_bool, append_u16s};
+use saved_octets::{OctetReader, append_bool, append_u16s};
 use std::alloc::AllocError;
 
 // A word is below this number.
@@ -24,7 +24,7 @@ impl Filter {
     }
 
     #[tactic(auto, unfolding(crate::specs::Saved::saved_prediction))]
-    pub(crate) fn load(octets: &mut Octets<'_>) -> Option<Filter>
+    pub(crate) fn load(octets: &mut OctetReader<'_>) -> Option<Filter>
         ensures loaded { (s : Prediction) (rest : List ℕ) → PredictionFits s
             → octets.old ≡ saved_prediction s ++ rest
             → (result ≡ Some s) × (octets.new ≡ rest) }

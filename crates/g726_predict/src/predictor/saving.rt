@@ -6,7 +6,7 @@ ghost use Rattle.g726_predict.specs.Saved.{saved_prediction, PredictionFits};
 
 use crate::filter::Filter;
 use crate::predictor::Predictor;
-use saved_octets::Octets;
+use saved_octets::OctetReader;
 use std::alloc::AllocError;
 
 impl Predictor {
@@ -19,7 +19,7 @@ impl Predictor {
     }
 
     /// Reads a saved predictor; None if the octets are not those of one.
-    pub fn load(octets: &mut Octets<'_>) -> Option<Predictor>
+    pub fn load(octets: &mut OctetReader<'_>) -> Option<Predictor>
         ensures loaded { (s : Prediction) (rest : List ℕ) → PredictionFits s
             → octets.old ≡ saved_prediction s ++ rest → (result ≡ Some s) × (octets.new ≡ rest) }
         ensures read { IfSome result (λ s. octets.old ≡ saved_prediction s ++ octets.new) }

@@ -8,7 +8,7 @@ ghost use Rattle.g726_tone.specs.Saved.{saved_adaptation, saved_scales, saved_sp
 
 use crate::adapt::Adapt;
 use crate::scale::{lima, mix};
-use saved_octets::{Octets, append_bool, append_u16, append_u32};
+use saved_octets::{OctetReader, append_bool, append_u16, append_u32};
 use std::alloc::AllocError;
 
 impl Adapt {
@@ -27,7 +27,7 @@ impl Adapt {
     ///
     /// None if the octets are not one, as with a variable out of range.
     #[tactic(auto, unfolding(crate::specs::Saved::saved_adaptation))]
-    pub fn load(octets: &mut Octets<'_>) -> Option<Adapt>
+    pub fn load(octets: &mut OctetReader<'_>) -> Option<Adapt>
         ensures loaded { (s : Adaptation) (rest : List ℕ) → InRange s
             → octets.old ≡ saved_adaptation s ++ rest
             → (result ≡ Some s) × (octets.new ≡ rest) }
@@ -63,7 +63,7 @@ fn within(number: u32, low: u32, high: u32) -> Option<i32>
 }
 
 // Reads a 16-bit variable, if it is in the range.
-fn load_u16(octets: &mut Octets<'_>, low: u32, high: u32) -> Option<i32>
+fn load_u16(octets: &mut OctetReader<'_>, low: u32, high: u32) -> Option<i32>
     requires { high < 2 ^ 16 }
     ensures loaded { (z : ℤ) (rest : List ℕ) → pos low ≤ℤ z → z ≤ℤ pos high
         → octets.old ≡ two_octets (unsigned_abs z) ++ rest → (result ≡ Some z) × (octets.new ≡ rest) }
@@ -75,7 +75,7 @@ fn load_u16(octets: &mut Octets<'_>, low: u32, high: u32) -> Option<i32>
 }
 
 // Reads a 32-bit variable, if it is in the range.
-fn load_u32(octets: &mut Octets<'_>, low: u32, high: u32) -> Option<i32>
+fn load_u32(octets: &mut OctetReader<'_>, low: u32, high: u32) -> Option<i32>
     requires { high < 2 ^ 31 }
     ensures loaded { (z : ℤ) (rest : List ℕ) → pos low ≤ℤ z → z ≤ℤ pos high
         → octets.old ≡ four_octets (unsigned_abs z) ++ rest → (result ≡ Some z) × (octets.new ≡ rest) }
@@ -86,7 +86,7 @@ fn load_u32(octets: &mut Octets<'_>, low: u32, high: u32) -> Option<i32>
     within(octets.read_u32()?, low, high)
 }
 
-fn load_scales(octets: &mut Octets<'_>) -> Option<(i32, i32)>
+fn load_scales(octets: &mut OctetReader<'_>) -> Option<(i32, i32)>
     ensures loaded { (yu yl : ℤ) (rest : List ℕ) → AreScales yu yl → octets.old ≡ saved_scales yu yl ++ rest
         → (result ≡ Some (yu, yl)) × (octets.new ≡ rest) }
     ensures read { IfSome result (λ s. octets.old ≡ saved_scales s.0 s.1 ++ octets.new) }
@@ -97,7 +97,7 @@ fn load_scales(octets: &mut Octets<'_>) -> Option<(i32, i32)>
     Some((yu, yl))
 }
 
-fn load_speeds(octets: &mut Octets<'_>) -> Option<(i32, i32, i32)>
+fn load_speeds(octets: &mut OctetReader<'_>) -> Option<(i32, i32, i32)>
     ensures loaded { (dms dml ap : ℤ) (rest : List ℕ) → AreSpeeds dms dml ap
         → octets.old ≡ saved_speeds dms dml ap ++ rest
         → (result ≡ Some (dms, dml, ap)) × (octets.new ≡ rest) }

@@ -3,12 +3,12 @@ use Rattle.clap.specs.Words.{Row}
 use Rattle.gw_program.specs.Satop.{IsSetUp}
 use Rattle.gw_satop.specs.Session.{HasSettings}
 use Rattle.gw_satop.specs.declared.line.Receiver.{Receiver}
-use Rattle.gw_satop.specs.declared.pace.Pace.{Pace}
+use Rattle.gw_satop.specs.declared.pace.PlayClock.{PlayClock}
 use Rattle.gw_satop.specs.declared.sender.Sender.{Sender}
 use Rattle.gateway_main.proofs.emulate.Goals as goal
 
 -- What is set up as it was is set up as the command says.
-set-up-stays : (command : Option (List ℕ × List Row)) (r r' : Receiver) (s s' : Sender) (p p' : Pace)
+set-up-stays : (command : Option (List ℕ × List Row)) (r r' : Receiver) (s s' : Sender) (p p' : PlayClock)
     → IsSetUp command r s p → HasSettings r r' s s' p p' → IsSetUp command r' s' p'
 set-up-stays command r r' s s' p p' up same = record {
   size = rw same.settings_are up.size;

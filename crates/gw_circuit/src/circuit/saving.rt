@@ -11,11 +11,11 @@ ghost use Rattle.gw_circuit.specs.declared.circuit.Circuit.{Circuit};
 ghost use Rattle.gw_circuit.specs.Items.{CircuitEvent};
 ghost use Rattle.gw_circuit.specs.Saved.{saved_circuit, saved_clocks, saved_counts, saved_numbers};
 ghost use Rattle.gw_circuit.specs.Saved.{NumbersFit, CircuitFits};
-ghost use Rattle.gw_circuit.specs.Standing.{StandsSince};
+ghost use Rattle.gw_circuit.specs.Standing.{HistorySince};
 
 use crate::circuit::Circuit;
 use q421_line::{Line, Role};
-use saved_octets::{Octets, append_u16, append_u32};
+use saved_octets::{OctetReader, append_u16, append_u32};
 use std::alloc::AllocError;
 
 // The sample clock, and the sequence number of the next datagram.
@@ -62,7 +62,7 @@ impl Circuit {
     /// Puts the circuit back to what it was before its first item. It takes no memory.
     pub fn clear(&mut self)
         ensures stands { (law : Law) (config : CircuitConfig) (items : List CircuitEvent)
-            → StandsSince self.old law config items → StandsSince self.new law config [] }
+            → HistorySince self.old law config items → HistorySince self.new law config [] }
         ensures config { (self.new.law ≡ self.old.law) × (self.new.config ≡ self.old.config) }
     {
         self.speech
@@ -84,15 +84,15 @@ impl Circuit {
 
     /// Reads a saved circuit into this one, which keeps its law and its configuration. None if the octets are
     /// not those of a circuit; then it is as it was before its first item. It takes no memory.
-    pub fn load(&mut self, octets: &mut Octets<'_>) -> Option<()>
+    pub fn load(&mut self, octets: &mut OctetReader<'_>) -> Option<()>
         ensures loaded { (other : Circuit) (law : Law) (config : CircuitConfig)
             (items before : List CircuitEvent)
-            (rest : List ℕ) → StandsSince other law config items → CircuitFits other
-            → StandsSince self.old law config before → octets.old ≡ saved_circuit other ++ rest
+            (rest : List ℕ) → HistorySince other law config items → CircuitFits other
+            → HistorySince self.old law config before → octets.old ≡ saved_circuit other ++ rest
             → (result ≡ Some tt) × (self.new ≡ other) × (octets.new ≡ rest) }
         ensures read { IfSome result (λ done. octets.old ≡ saved_circuit self.new ++ octets.new) }
         ensures none { (law : Law) (config : CircuitConfig) (items : List CircuitEvent)
-            → StandsSince self.old law config items → IfNone result (StandsSince self.new law config []) }
+            → HistorySince self.old law config items → IfNone result (HistorySince self.new law config []) }
         ensures config { (self.new.law ≡ self.old.law) × (self.new.config ≡ self.old.config) }
     {
         self.clear();
@@ -112,7 +112,7 @@ impl Circuit {
 
     // Reads a saved line into this circuit; None if the octets are not those of a line, whose line is then
     // new.
-    fn load_line(&mut self, octets: &mut Octets<'_>) -> Option<()>
+    fn load_line(&mut self, octets: &mut OctetReader<'_>) -> Option<()>
         ensures loaded { (line : Line) (rest : List ℕ) → line.role ≡ self.old.config.role
             → LineFits line → octets.old ≡ saved_line line ++ rest
             → (result ≡ Some tt) × (self.new.line ≡ line) × (octets.new ≡ rest) }
@@ -127,7 +127,7 @@ impl Circuit {
 }
 
 // A saved line, and that it is one; else a new line.
-fn load_line(role: Role, octets: &mut Octets<'_>) -> (Line, bool)
+fn load_line(role: Role, octets: &mut OctetReader<'_>) -> (Line, bool)
     ensures loaded { (line : Line) (rest : List ℕ) → line.role ≡ role → LineFits line
         → octets.old ≡ saved_line line ++ rest
         → (result.0 ≡ line) × (result.1 ≡ true) × (octets.new ≡ rest) }
@@ -157,7 +157,7 @@ fn save_counts(sent: u32, received: u32, dropped: u32, out: &mut Vec<u8>) -> Res
     append_u32(out, dropped)
 }
 
-fn load_clocks(octets: &mut Octets<'_>) -> Option<Clocks>
+fn load_clocks(octets: &mut OctetReader<'_>) -> Option<Clocks>
     ensures loaded { (clock sequence : ℕ) (rest : List ℕ) → clock < 2 ^ 32 → sequence < 2 ^ 16
         → octets.old ≡ saved_clocks clock sequence ++ rest
         → (result ≡ Some (record { clock = clock; sequence = sequence })) × (octets.new ≡ rest) }
@@ -168,7 +168,7 @@ fn load_clocks(octets: &mut Octets<'_>) -> Option<Clocks>
     Some(Clocks { clock, sequence })
 }
 
-fn load_counts(octets: &mut Octets<'_>) -> Option<Counts>
+fn load_counts(octets: &mut OctetReader<'_>) -> Option<Counts>
     ensures loaded { (sent received dropped : ℕ) (rest : List ℕ) → sent < 2 ^ 32 → received < 2 ^ 32
         → dropped < 2 ^ 32 → octets.old ≡ saved_counts sent received dropped ++ rest
         → (result ≡ Some (record { sent = sent; received = received; dropped = dropped }))
@@ -185,7 +185,7 @@ fn load_counts(octets: &mut Octets<'_>) -> Option<Counts>
     })
 }
 
-fn load_numbers(octets: &mut Octets<'_>) -> Option<Numbers>
+fn load_numbers(octets: &mut OctetReader<'_>) -> Option<Numbers>
     ensures loaded { (c : Circuit) (rest : List ℕ) → NumbersFit c → octets.old ≡ saved_numbers c ++ rest
         → (result ≡ Some (record {
           clocks = record { clock = c.clock; sequence = c.sequence };

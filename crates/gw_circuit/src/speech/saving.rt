@@ -11,13 +11,13 @@ ghost use Rattle.rtp_playout.specs.Calls.{PlayoutCall};
 ghost use Rattle.gw_circuit.specs.declared.speech.Speech.{Speech};
 ghost use Rattle.gw_circuit.specs.Coding.{PayloadFormat};
 ghost use Rattle.gw_circuit.specs.Saved.{kind_number, saved_coding, saved_packet, saved_speech, SpeechFits};
-ghost use Rattle.gw_circuit.specs.Speech.{Speaks};
+ghost use Rattle.gw_circuit.specs.Speech.{SpeechHistory};
 
 use crate::speech::Speech;
 use arrayvec::ArrayVec;
 use e1_g711::Law;
 use g726_codec::{AnyCodec, CodecKind};
-use saved_octets::{Octets, append_u8};
+use saved_octets::{OctetReader, append_u8};
 use std::alloc::AllocError;
 
 // A codec with its payload type, as it is read.
@@ -41,18 +41,18 @@ impl Speech {
 
     // Reads saved speech of this law into this one, with its size of packets and its prefill. None if the
     // octets are not those of speech; then it begins anew.
-    pub(crate) fn load(&mut self, law: Law, octets: &mut Octets<'_>) -> Option<()>
+    pub(crate) fn load(&mut self, law: Law, octets: &mut OctetReader<'_>) -> Option<()>
         ensures loaded { (other : Speech) (coding mine : PayloadFormat) (size prefill : ℕ)
             (heard before : List ℕ)
             (calls asked : List PlayoutCall) (rest : List ℕ)
-            → Speaks other law coding size prefill heard calls
-            → SpeechFits other → Speaks self.old law mine size prefill before asked
+            → SpeechHistory other law coding size prefill heard calls
+            → SpeechFits other → SpeechHistory self.old law mine size prefill before asked
             → octets.old ≡ saved_speech other ++ rest
             → (result ≡ Some tt) × (self.new ≡ other) × (octets.new ≡ rest) }
         ensures read { IfSome result (λ done. octets.old ≡ saved_speech self.new ++ octets.new) }
         ensures none { (coding : PayloadFormat) (size prefill : ℕ) (heard : List ℕ) (calls : List PlayoutCall)
-            → Speaks self.old law coding size prefill heard calls
-            → IfNone result (Speaks self.new law coding size prefill [] []) }
+            → SpeechHistory self.old law coding size prefill heard calls
+            → IfNone result (SpeechHistory self.new law coding size prefill [] []) }
     {
         self.reset();
         let coded = load_coding(law, octets)?;
@@ -78,7 +78,7 @@ fn kind_number(kind: CodecKind) -> u8
     }
 }
 
-fn load_kind(octets: &mut Octets<'_>) -> Option<CodecKind>
+fn load_kind(octets: &mut OctetReader<'_>) -> Option<CodecKind>
     ensures loaded { (kind : CodecKind) (rest : List ℕ) → octets.old ≡ kind_number kind ∷ rest
         → (result ≡ Some kind) × (octets.new ≡ rest) }
     ensures read { IfSome result (λ kind. octets.old ≡ kind_number kind ∷ octets.new) }
@@ -106,7 +106,7 @@ fn save_coding(
     codec.save(out)
 }
 
-fn load_coding(law: Law, octets: &mut Octets<'_>) -> Option<Coded>
+fn load_coding(law: Law, octets: &mut OctetReader<'_>) -> Option<Coded>
     ensures loaded { (kind : CodecKind) (payload_type : ℕ) (codec : CodecState) (rest : List ℕ)
         → payload_type < 128 → codec.law ≡ law → codec.kind ≡ kind → CodecFits codec
         → octets.old ≡ saved_coding kind payload_type codec ++ rest
@@ -127,7 +127,7 @@ fn load_coding(law: Law, octets: &mut Octets<'_>) -> Option<Coded>
     })
 }
 
-fn load_payload_type(octets: &mut Octets<'_>) -> Option<u8>
+fn load_payload_type(octets: &mut OctetReader<'_>) -> Option<u8>
     ensures loaded { (payload_type : ℕ) (rest : List ℕ) → payload_type < 128
         → octets.old ≡ payload_type ∷ rest → (result ≡ Some payload_type) × (octets.new ≡ rest) }
     ensures read { IfSome result (λ payload_type. octets.old ≡ payload_type ∷ octets.new) }
@@ -149,7 +149,7 @@ fn save_packet(packet: &ArrayVec<u8, 240>, out: &mut Vec<u8>) -> Result<(), Allo
 }
 
 // Reads the words of a packet that is not full, each of so many bits.
-fn load_packet(size: u8, bits: u8, octets: &mut Octets<'_>) -> Option<ArrayVec<u8, 240>>
+fn load_packet(size: u8, bits: u8, octets: &mut OctetReader<'_>) -> Option<ArrayVec<u8, 240>>
     requires size { size ≤ 240 }
     requires bits { bits ≤ 8 }
     ensures loaded { (words rest : List ℕ) → length words < size → All (λ w. w < 2 ^ bits) words

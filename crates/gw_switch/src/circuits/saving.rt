@@ -1,7 +1,7 @@
 //! The circuits saved as octets, and loaded from them.
 
 use super::{BoxedCircuit, CIRCUITS, Circuits};
-use saved_octets::Octets;
+use saved_octets::OctetReader;
 use std::alloc::AllocError;
 
 impl Circuits {
@@ -23,7 +23,7 @@ impl Circuits {
 
     /// Reads saved circuits into these, each of which keeps its law and its configuration. The error is the
     /// number of the first circuit whose octets are not those of one; then they are not to be used.
-    pub(crate) fn load(&mut self, octets: &mut Octets<'_>) -> Result<(), u8>
+    pub(crate) fn load(&mut self, octets: &mut OctetReader<'_>) -> Result<(), u8>
         ensures loaded { (saved : List BoxedCircuit) (rest : List ℕ) → AreAlike self.old.channels.items saved
             → octets.old ≡ saved_circuits saved ++ rest
             → (result ≡ Ok tt) × (self.new.channels.items ≡ saved) × (octets.new ≡ rest) }
@@ -43,7 +43,7 @@ ghost use Rattle.std.specs.Prelude.{◌≡◌, ◌++◌, ℕ, List, true};
 ghost use Rattle.gw_switch.specs.Saved.{saved_channel, IsAlike};
 
 // Reads a saved circuit into this one, and returns whether the octets are those of one.
-fn load_channel(channel: &mut BoxedCircuit, octets: &mut Octets<'_>) -> bool
+fn load_channel(channel: &mut BoxedCircuit, octets: &mut OctetReader<'_>) -> bool
     ensures loaded { (saved : BoxedCircuit) (rest : List ℕ) → IsAlike channel.old saved
         → octets.old ≡ saved_channel saved ++ rest
         → (result ≡ true) × (channel.new ≡ saved) × (octets.new ≡ rest) }

@@ -2,7 +2,7 @@
 
 use super::Gateway;
 use crate::StateFault;
-use saved_octets::Octets;
+use saved_octets::OctetReader;
 use std::alloc::AllocError;
 
 impl Gateway {
@@ -27,7 +27,7 @@ impl Gateway {
     /// Reads a saved gateway into this one, whose circuits are configured as those that were saved. It takes
     /// no memory. If the octets are not those of a gateway there is none any more.
     #[tactic(auto, unfolding(crate::specs::Saved::saved_gateway))]
-    pub fn load(mut self, octets: &mut Octets<'_>) -> Result<Gateway, StateFault>
+    pub fn load(mut self, octets: &mut OctetReader<'_>) -> Result<Gateway, StateFault>
         ensures loaded { (config other : GatewayConfig) (saved : Gateway) (events before : List Event)
             (rest : List ℕ) → HasHistory config saved events → GatewayFits saved
             → HasHistory other self before

@@ -13,7 +13,7 @@ use super::Trunk;
 use super::signalling::Signalling;
 use g704_align::Aligner;
 use g704_cas::{MfAligner, Nibble};
-use saved_octets::{Octets, append_bool, append_u8, append_u16};
+use saved_octets::{OctetReader, append_bool, append_u8, append_u16};
 use std::alloc::AllocError;
 
 const SLOTS: usize = 32;
@@ -43,7 +43,7 @@ impl Trunk {
     }
 
     /// Reads a saved trunk into this one; None if the octets are not those of a trunk.
-    pub(crate) fn load(&mut self, octets: &mut Octets<'_>) -> Option<()>
+    pub(crate) fn load(&mut self, octets: &mut OctetReader<'_>) -> Option<()>
         ensures loaded { (other : Trunk) (rest : List ℕ) → TrunkFits other
             → octets.old ≡ saved_trunk other ++ rest
             → (result ≡ Some tt) × (self.new ≡ other) × (octets.new ≡ rest) }
@@ -68,7 +68,7 @@ impl Signalling {
         save_alarms(self.remote_frame, self.remote_multiframe, out)
     }
 
-    fn load(&mut self, octets: &mut Octets<'_>) -> Option<()>
+    fn load(&mut self, octets: &mut OctetReader<'_>) -> Option<()>
         ensures loaded { (other : Signalling) (rest : List ℕ) → length other.nibbles ≡ 30
             → All IsNibble other.nibbles → octets.old ≡ saved_signalling other ++ rest
             → (result ≡ Some tt) × (self.new ≡ other) × (octets.new ≡ rest) }
@@ -101,7 +101,7 @@ fn save_slot(slot: Option<u8>, out: &mut Vec<u8>) -> Result<(), AllocError>
     }
 }
 
-fn load_slot(octets: &mut Octets<'_>) -> Option<Option<u8>>
+fn load_slot(octets: &mut OctetReader<'_>) -> Option<Option<u8>>
     ensures loaded { (slot : Option ℕ) (rest : List ℕ) → octets.old ≡ saved_slot slot ++ rest
         → (result ≡ Some slot) × (octets.new ≡ rest) }
     ensures read { IfSome result (λ slot. octets.old ≡ saved_slot slot ++ octets.new) }
@@ -123,7 +123,7 @@ fn save_nibble(nibble: Option<Nibble>, out: &mut Vec<u8>) -> Result<(), AllocErr
     }
 }
 
-fn load_nibble(octets: &mut Octets<'_>) -> Option<Option<Nibble>>
+fn load_nibble(octets: &mut OctetReader<'_>) -> Option<Option<Nibble>>
     ensures loaded { (nibble : Option ℕ) (rest : List ℕ) → IsNibble nibble
         → octets.old ≡ saved_nibble nibble ++ rest → (result ≡ Some nibble) × (octets.new ≡ rest) }
     ensures read { IfSome result (λ nibble. octets.old ≡ saved_nibble nibble ++ octets.new) }
@@ -144,7 +144,7 @@ fn save_alarms(frame: bool, multiframe: bool, out: &mut Vec<u8>) -> Result<(), A
     append_bool(out, multiframe)
 }
 
-fn load_alarms(octets: &mut Octets<'_>) -> Option<RemoteAlarms>
+fn load_alarms(octets: &mut OctetReader<'_>) -> Option<RemoteAlarms>
     ensures loaded { (frame multiframe : Bool) (rest : List ℕ)
         → octets.old ≡ saved_alarms frame multiframe ++ rest
         → (result ≡ Some (record { frame = frame; multiframe = multiframe })) × (octets.new ≡ rest) }
@@ -166,7 +166,7 @@ fn save_slots(slots: &[Option<u8>; 32], out: &mut Vec<u8>) -> Result<(), AllocEr
     Ok(())
 }
 
-fn load_slots(slots: &mut [Option<u8>; 32], octets: &mut Octets<'_>) -> Option<()>
+fn load_slots(slots: &mut [Option<u8>; 32], octets: &mut OctetReader<'_>) -> Option<()>
     ensures loaded { (saved : List (Option ℕ)) (rest : List ℕ) → length saved ≡ 32
         → octets.old ≡ saved_slots saved ++ rest
         → (result ≡ Some tt) × (slots.new ≡ saved) × (octets.new ≡ rest) }
@@ -189,7 +189,7 @@ fn save_nibbles(nibbles: &[Option<Nibble>; 30], out: &mut Vec<u8>) -> Result<(),
     Ok(())
 }
 
-fn load_nibbles(nibbles: &mut [Option<Nibble>; 30], octets: &mut Octets<'_>) -> Option<()>
+fn load_nibbles(nibbles: &mut [Option<Nibble>; 30], octets: &mut OctetReader<'_>) -> Option<()>
     ensures loaded { (saved : List (Option ℕ)) (rest : List ℕ) → length saved ≡ 30
         → All IsNibble saved → octets.old ≡ saved_nibbles saved ++ rest
         → (result ≡ Some tt) × (nibbles.new ≡ saved) × (octets.new ≡ rest) }

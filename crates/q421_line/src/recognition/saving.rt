@@ -6,7 +6,7 @@ ghost use Rattle.q421_line.specs.Saved.{saved_pair, saved_recognition, PairsFit}
 
 use crate::pairs::Pair;
 use crate::recognition::Recognition;
-use saved_octets::Octets;
+use saved_octets::OctetReader;
 use std::alloc::AllocError;
 
 // The number for no pair.
@@ -23,7 +23,7 @@ impl Recognition {
         ])
     }
 
-    pub(crate) fn load(octets: &mut Octets<'_>) -> Option<Recognition>
+    pub(crate) fn load(octets: &mut OctetReader<'_>) -> Option<Recognition>
         ensures loaded { (r : Recognition) (rest : List ℕ) → PairsFit r
             → octets.old ≡ saved_recognition r ++ rest → (result ≡ Some r) × (octets.new ≡ rest) }
         ensures read { IfSome result (λ r. octets.old ≡ saved_recognition r ++ octets.new) }
@@ -58,7 +58,7 @@ fn pair_number(pair: Option<Pair>) -> u8
     }
 }
 
-fn load_pair(octets: &mut Octets<'_>) -> Option<Option<Pair>>
+fn load_pair(octets: &mut OctetReader<'_>) -> Option<Option<Pair>>
     ensures loaded { (pair : Option ℕ) (rest : List ℕ) → IfSome pair (λ p. p < 4)
         → octets.old ≡ saved_pair pair ∷ rest → (result ≡ Some pair) × (octets.new ≡ rest) }
     ensures read { IfSome result (λ pair. octets.old ≡ saved_pair pair ∷ octets.new) }

@@ -7,7 +7,7 @@ ghost use Rattle.q421_line.specs.Saved.{saved_line, state_number, LineFits};
 
 use crate::recognition::Recognition;
 use crate::{Line, Role, State};
-use saved_octets::{Octets, append_u8, append_u16};
+use saved_octets::{OctetReader, append_u8, append_u16};
 use std::alloc::AllocError;
 
 impl Line {
@@ -33,7 +33,7 @@ impl Line {
     }
 
     /// Reads a saved line and gives it this role; None if the octets are not those of a line.
-    pub fn load(role: Role, octets: &mut Octets<'_>) -> Option<Line>
+    pub fn load(role: Role, octets: &mut OctetReader<'_>) -> Option<Line>
         ensures loaded { (line : Line) (rest : List ℕ) → line.role ≡ role → LineFits line
             → octets.old ≡ saved_line line ++ rest → (result ≡ Some line) × (octets.new ≡ rest) }
         ensures read { IfSome result (λ line. octets.old ≡ saved_line line ++ octets.new) }
@@ -68,7 +68,7 @@ fn state_number(state: State) -> u8
     }
 }
 
-fn load_state(octets: &mut Octets<'_>) -> Option<State>
+fn load_state(octets: &mut OctetReader<'_>) -> Option<State>
     ensures loaded { (state : State) (rest : List ℕ) → octets.old ≡ state_number state ∷ rest
         → (result ≡ Some state) × (octets.new ≡ rest) }
     ensures read { IfSome result (λ state. octets.old ≡ state_number state ∷ octets.new) }

@@ -13,7 +13,7 @@ ghost use Rattle.rtp_playout.specs.Standing.{HasHistory, IsBelow};
 use crate::playout::{Playout, RtpStream};
 use crate::window::empty;
 use circular_buffer::HeapCircularBuffer;
-use saved_octets::{Octets, append_u8, append_u32};
+use saved_octets::{OctetReader, append_u8, append_u32};
 use std::alloc::AllocError;
 
 impl Playout {
@@ -31,7 +31,7 @@ impl Playout {
     ///
     /// None if the octets are not those of a playout whose words are below the bound; then it is empty, as
     /// after `clear`.
-    pub fn load(&mut self, bound: u16, octets: &mut Octets<'_>) -> Option<()>
+    pub fn load(&mut self, bound: u16, octets: &mut OctetReader<'_>) -> Option<()>
         ensures loaded { (other : Playout) (prefill : ℕ) (calls before : List PlayoutCall) (rest : List ℕ)
             → HasHistory other prefill calls → IsBelow bound other → StreamFits other.stream
             → HasHistory self.old prefill before
@@ -78,7 +78,7 @@ fn save_place(place: Option<u8>, out: &mut Vec<u8>) -> Result<(), AllocError>
     }
 }
 
-fn load_stream(octets: &mut Octets<'_>) -> Option<Option<RtpStream>>
+fn load_stream(octets: &mut OctetReader<'_>) -> Option<Option<RtpStream>>
     ensures loaded { (stream : Option RtpStream) (rest : List ℕ) → StreamFits stream
         → octets.old ≡ saved_stream stream ++ rest → (result ≡ Some stream) × (octets.new ≡ rest) }
     ensures read { IfSome result (λ stream. octets.old ≡ saved_stream stream ++ octets.new) }
@@ -94,7 +94,7 @@ fn load_stream(octets: &mut Octets<'_>) -> Option<Option<RtpStream>>
     }
 }
 
-fn load_place(bound: u16, octets: &mut Octets<'_>) -> Option<Option<u8>>
+fn load_place(bound: u16, octets: &mut OctetReader<'_>) -> Option<Option<u8>>
     ensures loaded { (place : Option ℕ) (rest : List ℕ) → IfSome place (λ word. word < bound)
         → octets.old ≡ saved_place place ++ rest → (result ≡ Some place) × (octets.new ≡ rest) }
     ensures read { IfSome result (λ place. octets.old ≡ saved_place place ++ octets.new) }
@@ -128,7 +128,7 @@ fn save_places(window: &HeapCircularBuffer<Option<u8>>, out: &mut Vec<u8>) -> Re
 fn load_places(
     window: &mut HeapCircularBuffer<Option<u8>>,
     bound: u16,
-    octets: &mut Octets<'_>,
+    octets: &mut OctetReader<'_>,
 ) -> Option<()>
     ensures loaded { (places : List (Option ℕ)) (rest : List ℕ) → length places ≡ window.old.capacity
         → All (λ place. IfSome place (λ word. word < bound)) places
@@ -147,7 +147,7 @@ fn load_places(
 }
 
 impl Playout {
-    fn load_parts(&mut self, bound: u16, octets: &mut Octets<'_>) -> Option<()>
+    fn load_parts(&mut self, bound: u16, octets: &mut OctetReader<'_>) -> Option<()>
         ensures loaded { (stream : Option RtpStream) (places : List (Option ℕ)) (rest : List ℕ)
             → StreamFits stream → length places ≡ self.old.window.capacity
             → All (λ place. IfSome place (λ word. word < bound)) places

@@ -1,6 +1,6 @@
 use Rattle.std.proofs.Common.{length, take, ◌-◌, ◌≡◌, ◌++◌, ◌<◌, ◌≤◌, ℕ, List}
 use Rattle.gw_satop.specs.declared.line.Receiver.{Receiver}
-use Rattle.gw_satop.specs.declared.pace.Pace.{Pace}
+use Rattle.gw_satop.specs.declared.pace.PlayClock.{PlayClock}
 use Rattle.gw_satop.specs.Session.{PlaysAll}
 use Rattle.gw_satop.specs.Sending.{packets_of}
 use Rattle.gw_satop.proofs.circuit.send_all.Given as goal
@@ -14,7 +14,7 @@ invariant-loop-at g l = record {
   within : l.at ≤ length l.octets;
   received : g.P.Peer.received l.peer ≡ g.P.Peer.received l.initial.peer;
   start : l.sender.start ≡ l.initial.sender.start;
-  plays : (receiver : Receiver) (pace : Pace) (received : List (List ℕ)) (went : List ℕ) → l.missing ≡ pace.silent
+  plays : (receiver : Receiver) (pace : PlayClock) (received : List (List ℕ)) (went : List ℕ) → l.missing ≡ pace.silent
       → PlaysAll receiver pace l.initial.counts l.initial.sender.log.flags received went
       → PlaysAll receiver pace l.counts l.sender.log.flags received went;
 }

@@ -4,8 +4,8 @@ use Rattle.gw_trunk.proofs.source.next_record.Given as goal
 -- Nothing came and nothing was asked so far, and the room is as long as it was.
 abbrev pub invariant-loop-turn : goal.invariant-loop-turn
 invariant-loop-turn g l = record {
-  came : g.I.Incoming.came l.incoming ≡ g.I.Incoming.came l.initial.incoming;
-  asked : g.I.Incoming.asked l.incoming ≡ g.I.Incoming.asked l.initial.incoming;
+  came : g.I.TrunkInput.came l.incoming ≡ g.I.TrunkInput.came l.initial.incoming;
+  asked : g.I.TrunkInput.asked l.incoming ≡ g.I.TrunkInput.asked l.initial.incoming;
   most : l.most ≤ length l.room;
   some : 4 < l.most;
   few : l.most ≤ 2052;

@@ -1,5 +1,5 @@
 use Rattle.std.proofs.Common.{◌≡◌, ◌≤◌, ◌∙◌, refl, sym, ap, subst, arith, List, length}
-use Rattle.satop_playout.specs.declared.slot.Slot.{Slot}
+use Rattle.satop_playout.specs.declared.slot.PacketSlot.{PacketSlot}
 use Rattle.satop_playout.proofs.Keeping.{AllEmpty, stands-begun, emptied-all, rewritten}
 use Rattle.satop_playout.proofs.playout.SatopPlayout.begin.Goals as goal
 
@@ -13,6 +13,6 @@ returns-clause-stands c = λ settings calls k.
     (let test = c.loop-slot-test.false in let auto = c.loop-slot.auto.slot-items in omega arith) in
     stands-begun c.args.self.now _ settings calls c.args.sequence k refl
     (ap length whole ∙ same ∙ c.args.self.now.room)
-    (subst (λ (xs : List Slot). AllEmpty xs) (sym whole)
+    (subst (λ (xs : List PacketSlot). AllEmpty xs) (sym whole)
     (emptied-all c.loop-slot.slot-items c.loop-slot.slot-index passed c.loop-slot.invariant))
     refl (omega arith) refl refl refl refl

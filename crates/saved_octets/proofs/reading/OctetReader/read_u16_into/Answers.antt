@@ -5,7 +5,7 @@ use Rattle.std.proofs.lemmas.List.{take_all, length-take-le}
 use Rattle.std.proofs.lemmas.List.Elements.{All-push}
 use Rattle.saved_octets.specs.Numbers.{two_octets}
 use Rattle.saved_octets.proofs.Items.{saved-push, next-item, all-read, two-tell}
-use Rattle.saved_octets.proofs.reading.Octets.read_u16_into.Goals as goal
+use Rattle.saved_octets.proofs.reading.OctetReader.read_u16_into.Goals as goal
 
 pub loop-i-init : goal.loop-i-init
 loop-i-init c = record { octets = refl; below = λ k d less. absurd (omega arith) }

@@ -1,6 +1,6 @@
 use Rattle.std.proofs.Common.{◌≡◌, ◌++◌, ◌<◌, ◌^◌, take, All, flat_map}
 use Rattle.saved_octets.specs.Numbers.{two_octets}
-use Rattle.saved_octets.proofs.reading.Octets.read_u16_into.Given as goal
+use Rattle.saved_octets.proofs.reading.OctetReader.read_u16_into.Given as goal
 
 abbrev pub invariant-loop-i : goal.invariant-loop-i
 invariant-loop-i l = record {
