@@ -4,7 +4,7 @@ use Rattle.g704_framing.specs.Alignment.{Framing}
 use Rattle.g704_align.specs.Loss.{is_third_wrong}
 use Rattle.g704_bits.specs.Search.{search}
 
--- each eighth of these windows, from the one behind so many
+-- each eighth of these windows, from the one behind this many
 unfoldable pub eighths_after : ℕ → List ℕ → List ℕ
 eighths_after skipped [] = []
 eighths_after zero (window ∷ windows) = window ∷ eighths_after 7 windows

@@ -19,7 +19,7 @@ const UNMOVED: u8 = 7;
 // The state of the search.
 #[derive(Clone, Copy, Debug, PartialEq, Eq)]
 pub(crate) enum SyncState {
-    // No alignment since so many windows, counted up to two frames and from there modulo two frames.
+    // No alignment for this many windows, counted up to two frames and from there modulo two frames.
     Hunting {
         seen: u16,
     },

@@ -66,7 +66,7 @@ octets_from octets (Some number) = drop (2112 + 64 * (number % 8)) octets
 unfoldable pub checked_octets : List ℕ → List ℕ
 checked_octets octets = octets_from octets (multiframe_in octets)
 
--- How many of so many numbers, from this one, pass.
+-- How many of this many numbers, from this one, pass.
 unfoldable pub count_in : (ℕ → Bool) → ℕ → ℕ → ℕ
 count_in passes from zero = 0
 count_in passes from (suc count) =
@@ -76,7 +76,7 @@ count_in passes from (suc count) =
 abbrev pub known_blocks : List ℕ → ℕ
 known_blocks checked = length checked / 256 - 1
 
--- How many of so many submultiframes, from this one, are errored.
+-- How many of this many submultiframes, from this one, are errored.
 unfoldable pub errored_in : List ℕ → ℕ → ℕ → ℕ
 errored_in checked from count = count_in (λ number. not (is_right checked number)) from count
 

@@ -28,7 +28,7 @@ errored_in_all (Errored count ∷ arrivals) = count + errored_in_all arrivals
 unfoldable pub has_e_bit : ℕ → Bool
 has_e_bit place = (place % 512 == 32 * 13) || (place % 512 == 32 * 15)
 
--- The errored submultiframes not yet reported, if so many were not at this place. Each E bit reports one.
+-- The errored submultiframes not yet reported, if this many were not at this place. Each E bit reports one.
 -- The number saturates.
 unfoldable pub unreported_after : ℕ → ℕ → List SenderInput → ℕ
 unreported_after left place [] = left

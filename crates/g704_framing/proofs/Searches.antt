@@ -12,7 +12,7 @@ pub later-found : (found more : Option ℕ) → StaysFound found more → StaysF
 later-found None r h p e = cc
 later-found (Some q) r h p e = ap later (h q refl) ∙ e
 
--- if nothing is found in so many octets, a longer stream's find is by a later one
+-- if nothing is found in this many octets, a longer stream's find is by a later one
 abbrev pub FoundAfter : ℕ → ℕ → Option ℕ → Option ℕ → Type 0
 FoundAfter found_at count found more = found ≡ None → IsFoundAfter count found_at more
 

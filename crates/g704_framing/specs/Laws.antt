@@ -6,7 +6,7 @@ use Rattle.g704_framing.specs.Alignment.{Framing, FoundAlignment, alignments_fro
 use Rattle.g704_framing.specs.Alignment.{after_search, search_ends_of}
 use Rattle.g704_framing.specs.Age.{age_in}
 
--- whatever is found is found by an octet after the first so many
+-- whatever is found is found by an octet after the first this many
 abbrev pub IsFoundAfter : ℕ → ℕ → Option ℕ → Type 0
 IsFoundAfter count found_at None = Unit {0}
 IsFoundAfter count found_at (Some start) = count ≤ start + found_at

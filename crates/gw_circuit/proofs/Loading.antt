@@ -61,7 +61,7 @@ pub read-three : (a b c all one two rest : List ℕ) → all ≡ a ++ one → on
 read-three a b c all one two rest e f g =
     e ∙ ap (λ (os : List ℕ). a ++ os) (f ∙ ap (λ (os : List ℕ). b ++ os) g) ∙ sym (three-parts a b c rest)
 
--- the bound of words of so many bits, made by a shift
+-- the bound of words of this many bits, made by a shift
 pub bound-of : (kind : CodecKind) → 1 * 2 ^ bits_of kind % 65536 ≡ 2 ^ bits_of kind
 bound-of G711 = refl
 bound-of G16 = refl

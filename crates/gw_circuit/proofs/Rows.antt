@@ -44,7 +44,7 @@ config = record {
 abbrev signals : ℕ → List CircuitEvent
 signals nibble = replicate 10 (Signal (Some nibble))
 
--- so many slots in which 0xD4 is heard
+-- this many slots in which 0xD4 is heard
 abbrev sent : ℕ → List CircuitEvent
 sent n = replicate n (Slot (Some 0xD4))
 

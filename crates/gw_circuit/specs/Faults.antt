@@ -7,7 +7,7 @@ use Rattle.gw_circuit.specs.declared.Dropped.TheVariants.{NotOpen, Rtp, Playout}
 use Rattle.gw_circuit.specs.declared.CodecFault.{CodecFault}
 use Rattle.gw_circuit.specs.declared.CodecFault.TheVariants.{PayloadType}
 
--- the number of a refusal of a datagram: 20, or that of the fault that it tells
+-- the number of a refusal of a datagram: 20, or that of its fault
 abbrev pub code_of : Dropped → ℕ
 code_of NotOpen = 20
 code_of (Rtp fault) = rtp.fault_number fault

@@ -24,7 +24,7 @@ use thiserror::Error;
 /// A datagram that is sent.
 pub type Datagram = ArrayVec<u8, 252>;
 
-/// Why a datagram is dropped. Where more than one holds, the first of this list is told.
+/// Why a datagram is dropped. If more than one holds, it is the first of this list.
 #[derive(Clone, Copy, Debug, PartialEq, Eq, Error)]
 pub enum Dropped {
     /// 20: the path is not open.
@@ -39,7 +39,7 @@ pub enum Dropped {
 }
 
 impl Dropped {
-    /// The number of the refusal: 20, or that of the fault that it tells.
+    /// The number of the refusal: 20, or that of its fault.
     pub fn code(self) -> u8
         ensures { result ≡ code_of self }
     {
@@ -70,7 +70,7 @@ impl CodecFault {
     }
 }
 
-/// What is told of a circuit.
+/// The status of a circuit.
 #[derive(Clone, Copy, Debug, PartialEq, Eq)]
 pub struct Status {
     /// At which end of the circuit its line is.

@@ -18,7 +18,7 @@ use Rattle.gw_speech.specs.declared.spec.StreamSpec.{StreamSpec}
 use Rattle.gw_command.specs.Command.{law_name, codec_name, usual_payload, IsNumber, SaysNumber, SaysOrUsual, IsStream}
 use Rattle.gw_command.specs.Command.{text_in, SaysNumberIn}
 
--- what reading a text as an unsigned number of so many bits gives
+-- what reading a text as an unsigned number of this many bits gives
 abbrev pub Reads : ℕ → List ℕ → Result ℕ ParseIntError → Type 0
 Reads bits text r = ParsesUnsigned bits 10 text r × ExplainsUnsignedError 10 text r × HasUnsignedDigitsIfOk text r
 

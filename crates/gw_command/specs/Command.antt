@@ -25,7 +25,7 @@ abbrev pub law_name : Law → List ℕ
 law_name A = codes "a"
 law_name Mu = codes "mu"
 
--- the name of a codec, whose law another option tells
+-- the name of a codec, whose law another option has
 abbrev pub codec_name : CodecKind → List ℕ
 codec_name G711 = codes "g711"
 codec_name G16 = text_of names.G16
@@ -48,7 +48,7 @@ abbrev pub usual_payload : Law → CodecKind → ℕ
 usual_payload law G711 = static_type law
 usual_payload law _ = 96
 
--- the text is this number, of so many bits, in decimal digits, behind a plus sign or none
+-- the text is this number, of this many bits, in decimal digits, behind a plus sign or none
 abbrev pub IsNumber : ℕ → List ℕ → ℕ → Type 0
 IsNumber bits text n = IsNumeral 10 (without_leading_plus text)
     × (digits_value 10 (without_leading_plus text) ≡ n) × (n < 2 ^ bits)

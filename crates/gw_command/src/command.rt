@@ -267,7 +267,7 @@ pub fn path_of<'m>(matches: &'m ArgMatches<'_>) -> Option<&'m str>
     text_of(matches, "config")
 }
 
-/// The name of the senders that the matches ask to let in, the first one, where they name some.
+/// The name of the senders to accept, the first one, if the matches name some.
 pub fn senders_of<'m>(matches: &'m ArgMatches<'_>) -> Option<&'m str>
     ensures { option_map (λ name. name.now) result
         ≡ text_in (codes "senders") (subcommand_rows_of matches.now) }
@@ -285,8 +285,8 @@ pub fn repeat_of(matches: &ArgMatches<'_>) -> Option<u8>
     options.get_one("repeat")
 }
 
-// The number of signals, one of which comes every 2 ms, in a wait of so many milliseconds; None unless these
-// are 200 to 8,000. A time between two signals counts as that of the later one.
+// The number of signals, one of which comes every 2 ms, in a wait of this many milliseconds; None unless
+// these are 200 to 8,000. A time between two signals counts as that of the later one.
 fn signals_of(ms: u16) -> Option<u16>
     ensures wait { IfSome result (IsWaitOf ms) }
     ensures none { IfNone result ((signals : ℕ) → ¬ IsWaitOf ms signals) }
@@ -333,7 +333,7 @@ pub fn control_of<'m>(matches: &'m ArgMatches<'_>) -> Option<&'m str>
     text_of(matches, "control")
 }
 
-/// The path of the socket at which clients are told how the trunk stands, the first one, if the matches name
+/// The path of the socket whose clients are sent the state of the trunk, the first one, if the matches name
 /// one.
 pub fn tell_of<'m>(matches: &'m ArgMatches<'_>) -> Option<&'m str>
     ensures { option_map (λ path. path.now) result ≡ text_in (codes "tell") (subcommand_rows_of matches.now) }
@@ -376,7 +376,7 @@ pub fn asks_check(matches: &ArgMatches<'_>) -> bool
     asks(matches, "check")
 }
 
-/// Whether the counts of CRC-4 multiframes are to be told after each second of the trunk.
+/// Whether the counts of CRC-4 multiframes are to be written after each second of the trunk.
 pub fn asks_live(matches: &ArgMatches<'_>) -> bool
     ensures yes { text_in (codes "live") (subcommand_rows_of matches.now) ≡ Some (codes "true")
         → result ≡ true }

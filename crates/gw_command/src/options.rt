@@ -415,7 +415,7 @@ fn over_option<'a>(alloc: Global) -> Arg<'a> {
     )
 }
 
-// Whose datagrams are let in.
+// Whose datagrams are accepted.
 fn senders_option<'a>(alloc: Global) -> Arg<'a> {
     option(alloc, "senders", SENDERS_TEXT)
         .value_parser(["any", "host", "peer"].as_slice())
@@ -442,7 +442,7 @@ fn control_option<'a>(alloc: Global) -> Arg<'a> {
     option(alloc, "control", CONTROL_TEXT).value_name("SOCKET")
 }
 
-// Where clients are told how the trunk stands.
+// The socket whose clients are sent the state of the trunk.
 fn tell_option<'a>(alloc: Global) -> Arg<'a> {
     option(alloc, "tell", TELL_TEXT).value_name("SOCKET")
 }

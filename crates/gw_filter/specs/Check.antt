@@ -14,11 +14,12 @@ use Rattle.gw_filter.specs.Filter.{FiltersUntil, filter_totals}
 abbrev pub same_octet : List ℕ → ℕ → ℕ
 same_octet before octet = octet
 
--- So many errored submultiframes of these octets are not yet reported; the reports sent add up to the others.
+-- This number of errored submultiframes of these octets is not yet reported; the reports sent add up to the
+-- others.
 abbrev pub AreReported : List ℕ → List ℕ → ℕ → Type 0
 AreReported octets reports unreported = sum reports + unreported ≡ (receiver_counts_of octets).errored
 
--- Octets that went out as they came in, and whose errored submultiframes are reported, all but some.
+-- Octets that were written as they were read. All but some of their errored submultiframes are reported.
 pub record IsChecked (reports octets returned : List ℕ) : Type 0 where
   pub same : returned ≡ octets
   pub unreported : ℕ
@@ -34,7 +35,7 @@ pub record HasReported (checker : TrunkChecker) (reported : ℕ)
   pub others : reported + unreported ≡ (receiver_counts_of octets).errored
 
 -- The source gave octets to its end. The sink took the same octets; they were counted, and their errored
--- submultiframes reported, except for those that are told.
+-- submultiframes reported, except for those counted as unreported.
 pub record ChecksMultiframes (source source' : SourceState) (sink sink' : SinkState) (reports : List ℕ)
     (checked : Checked) : Type 0 where
   pub octets : List ℕ

@@ -8,7 +8,7 @@ use Rattle.gw_records.specs.declared.outcome.RunFault.TheVariants.{Read, Write}
 use Rattle.gw_records.specs.Streams.{SourceState, SinkState, Yields, GivesUp, FailsAfterPrefix, at_most}
 use Rattle.gw_records.specs.Outcome.{nothing_counted}
 
--- The totals after so many octets.
+-- The totals after this many octets.
 abbrev pub filter_totals : ℕ → Totals
 filter_totals count = record nothing_counted { octets = at_most count }
 

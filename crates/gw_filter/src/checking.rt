@@ -42,7 +42,7 @@ pub struct Checked {
 /// Checks the CRC-4 multiframes of a trunk.
 ///
 /// The errored submultiframes of each buffer are reported behind it, at most 255 of them at once; those that
-/// could not be sent are kept. The counts are told after each second of the trunk.
+/// could not be sent are kept. The counts are written after each second of the trunk.
 #[derive(Drop)]
 pub struct ReportingChecker<R, T> {
     checker: TrunkChecker,
@@ -50,7 +50,7 @@ pub struct ReportingChecker<R, T> {
     // The sum of the reports.
     reported: u64,
     teller: T,
-    // Octets since the counts were told.
+    // Octets since the counts were written.
     untold: usize,
 }
 
@@ -89,7 +89,7 @@ impl<R: ReportSink, T: CountsTeller + Drop> ReportingChecker<R, T> {
         }
     }
 
-    // Tells the counts if a second has passed with so many octets.
+    // Writes the counts if a second has passed with this many octets.
     fn tell(&mut self, len: usize)
         ensures checker { self.new.checker ≡ self.old.checker }
         ensures reported { self.new.reported ≡ self.old.reported }

@@ -1,4 +1,4 @@
-//! Where reports of errored submultiframes go to, and who is told the counts of a trunk.
+//! Receivers of reports of errored submultiframes, and of the counts of a trunk.
 
 ghost use Rattle.std.specs.Prelude.{◌≡◌, ◌∷◌, ◌++◌, ℕ, List, [], Some, None, if◌then◌else◌};
 
@@ -6,7 +6,7 @@ use g704_crc4::ReceiverCounts;
 use gw_records::{Log, Source, SourceFault};
 use std::io::Write;
 
-/// Takes reports.
+/// A receiver of reports.
 pub trait ReportSink {
     /// The reports that were sent.
     ghost sent: { Self → List ℕ };
@@ -16,9 +16,9 @@ pub trait ReportSink {
         ensures { sent self.new ≡ (if result then sent self.old ++ count ∷ [] else sent self.old) };
 }
 
-/// Is told counts.
+/// A receiver of counts.
 pub trait CountsTeller {
-    /// Tells the counts up to now.
+    /// Receives the counts up to now.
     fn tell(&mut self, counts: &ReceiverCounts);
 }
 

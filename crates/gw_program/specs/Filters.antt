@@ -33,7 +33,7 @@ pub record HasChecked (source source' : SourceState) (sink sink' : SinkState) (t
   pub done : ChecksMultiframes source source' sink sink' reports checked
   pub totals_are : totals ≡ checked.totals
 
--- Checking ended with this trouble, which tells the fault.
+-- Checking ended with this fault.
 pub record HasCheckedUntil (source source' : SourceState) (sink sink' : SinkState)
     (program_fault : ProgramFault)
     : Type 0 where

@@ -1,4 +1,4 @@
--- What a command does on its streams, and what is told of its end (module `performing`).
+-- What a command does on its streams, and its result (module `performing`).
 use Rattle.std.specs.Prelude.{◌≡◌, ◌⊎◌, false, [], Option, Some, None, Result, Ok, Err}
 use Rattle.gw_config.specs.declared.config.Config.{Config}
 use Rattle.gw_records.specs.declared.outcome.Totals.{Totals}
@@ -9,31 +9,31 @@ use Rattle.gw_command.specs.declared.command.SessionKind.TheVariants.{Replay, Ch
 use Rattle.gw_program.specs.declared.program_fault.ProgramFault.{ProgramFault}
 use Rattle.gw_program.specs.declared.program_fault.ProgramFault.TheVariants as program_faults
 
--- what is told of how a job or a session ended
+-- the result of a job or a session
 abbrev pub told_as : Result Totals RunFault → Result Totals ProgramFault
 told_as (Ok totals) = Ok totals
 told_as (Err fault) = Err (program_faults.Session fault)
 
--- a job or a session ended so, and this is told
+-- a job or a session ended so, and this is its result
 pub record Ended (ends : Result Totals RunFault → Type 0) (told : Result Totals ProgramFault) : Type 0 where
   pub end : Result Totals RunFault
   pub done : ends end
   pub told_is : told ≡ told_as end
 
--- what is told of how a session ended and of the saving of its state: a saving that failed is told in any
+-- the result of a session and of the saving of its state: a saving that failed is reported in any
 -- case
 abbrev pub told_after : Result Totals RunFault → Result (Unit {0}) ProgramFault → Result Totals ProgramFault
 told_after end (Ok u) = told_as end
 told_after end (Err program_fault) = Err program_fault
 
--- the state was saved so, or was not, and this is told of a session that ended so
+-- the state was saved so, or was not, and this is the result of a session that ended so
 pub record IsTold (Saves : Result (Unit {0}) ProgramFault → Type 0) (end : Result Totals RunFault)
     (told : Result Totals ProgramFault) : Type 0 where
   pub saved : Result (Unit {0}) ProgramFault
   pub saves : Saves saved
   pub told_is : told ≡ told_after end saved
 
--- a session ended so, and this is told of it and of the saving of its state
+-- a session ended so, and this is the result of it and of the saving of its state
 pub record EndedSaved (ends : Result Totals RunFault → Type 0) (Saves : Result (Unit {0}) ProgramFault
     → Type 0)
     (told : Result Totals ProgramFault) : Type 0 where
@@ -41,7 +41,7 @@ pub record EndedSaved (ends : Result Totals RunFault → Type 0) (Saves : Result
   pub done : ends end
   pub tells : IsTold Saves end told
 
--- a fault is told for a reason, and nothing was read or written
+-- a fault is returned for a reason, and nothing was read or written
 pub record NotBegun {S K : Type 0} (source source' : S) (sink sink' : K) (Why : ProgramFault → Type 0)
     (told : Result Totals ProgramFault) : Type 0 where
   pub program_fault : ProgramFault

@@ -30,8 +30,7 @@ abbrev pub AsksCheck : CommandLine → Type 0
 AsksCheck command = text_in (codes "check") command ≡ Some (codes "true")
 
 -- what a request does, of what jobs, filters, the check of CRC-4 multiframes, sessions, the trunk and the
--- circuit
--- do
+-- circuit do
 abbrev pub by_request : (SpeechJob → Type 0) → (Filter → Type 0) → Type 0 → (SessionKind → Type 0) → Type 0
     → Type 0
     → CommandLine → Request → Type 0
@@ -49,7 +48,7 @@ pub record HasRequest (command : CommandLine) (does : CommandLine → Request �
   pub asked : IsRequest command request
   pub done : does command request
 
--- the command asks for nothing, and this is told
+-- the command asks for nothing, and this is returned
 pub record NoRequest (command : CommandLine) (told : Result Totals ProgramFault) : Type 0 where
   pub nothing : (request : Request) → ¬ IsRequest command request
   pub told_is : told ≡ Err program_faults.Nothing
@@ -68,7 +67,7 @@ pub record OnNewStreams (does : SessionStreams → SessionStreams → Type 0) : 
   pub new : AreNew before
   pub done : does before after
 
--- what the job told when it was done
+-- the job was done with this result
 abbrev pub DoesJob : SpeechJob → Result Totals ProgramFault → Type 0
 DoesJob job told = OnNewStreams (λ a a'. Ended (λ end. MatchResult end
     (Does job a.source a'.source a.sink a'.sink) (DoesUntil job a.source a'.source a.sink a'.sink)) told)
@@ -77,7 +76,7 @@ DoesJob job told = OnNewStreams (λ a a'. Ended (λ end. MatchResult end
 abbrev pub reports_in : CommandLine → Option (List ℕ)
 reports_in command = text_in (codes "reports") command
 
--- a file of reports is named and can't be opened, and this is told
+-- a file of reports is named and can't be opened, and this is returned
 pub record LacksReports (named : Option (List ℕ)) (told : Result Totals ProgramFault) : Type 0 where
   pub program_fault : ProgramFault
   pub is_named : named ≢ None
@@ -89,20 +88,20 @@ pub record WithReports (named : Option (List ℕ)) (does : Option (List ℕ) →
   pub none : named ≡ None → reports ≡ Some []
   pub done : does reports
 
--- what the filter told when it had run, by the file of reports if one is named
+-- the filter ran with this result, and with the file of reports if one is named
 abbrev pub RunsFilter : Option (List ℕ) → Filter → Result Totals ProgramFault → Type 0
 RunsFilter named filter told = LacksReports named told ⊎ WithReports named (λ reports. OnNewStreams (λ a a'.
     Ended (λ end. MatchResult end
     (DoesFilter reports filter a.source a'.source a.sink a'.sink)
     (DoesFilterUntil reports filter a.source a'.source a.sink a'.sink)) told))
 
--- what was told when CRC-4 multiframes had been checked, by the file of reports if one is named
+-- CRC-4 multiframes were checked with this result, and with the file of reports if one is named
 abbrev pub ChecksCrc4 : Option (List ℕ) → Result Totals ProgramFault → Type 0
 ChecksCrc4 named told = LacksReports named told ⊎ OnNewStreams (λ a a'.
     IfOk told (HasChecked a.source a'.source a.sink a'.sink)
     × IfErr told (HasCheckedUntil a.source a'.source a.sink a'.sink))
 
--- a fault is told, and nothing was read or written; or this was done with a gateway that was begun by a
+-- a fault is returned, and nothing was read or written; or this was done with a gateway that was begun by a
 -- configuration, from a state if one is named, and with the wait that is asked for
 abbrev pub ByGateway : SessionStreams → SessionStreams → Result Totals ProgramFault → Option (List ℕ)
     → (Option ℕ → Type 0)
@@ -110,8 +109,8 @@ abbrev pub ByGateway : SessionStreams → SessionStreams → Result Totals Progr
 ByGateway a a' told load asks does = NotBegun a.source a'.source a.sink a'.sink (λ _. ⊤) told
     ⊎ HasConfig (λ _. ⊤) (λ config. HasGateway (BeginsWaiting config.gateway load asks) does)
 
--- what the session told when it was done, by the states to load and to save if they are named, and the wait
--- that is asked for
+-- the session ended with this result; the states to load and to save are those that are named, and the wait
+-- is the one that is asked for
 abbrev pub DoesSession : Option (List ℕ) → Option (List ℕ) → (Option ℕ → Type 0) → SessionKind
     → Result Totals ProgramFault → Type 0
 DoesSession load save asks session told = OnNewStreams (λ a a'. ByGateway a a' told load asks
@@ -130,8 +129,8 @@ pub record HasTrunk (does : Traffic → Type 0) : Type 0 where
   pub was_slow : Bool
   pub goes : ∥ GoesInTime passed.went went discarded was_slow ∥₁
 
--- what was told when the trunk had been served, by the states to load and to save if they are named, and the
--- wait that is asked for
+-- the trunk was served with this result; the states to load and to save are those that are named, and the
+-- wait is the one that is asked for
 abbrev pub ServesTrunk : Option (List ℕ) → Option (List ℕ) → (Option ℕ → Type 0) → Result Totals ProgramFault
     → Type 0
 ServesTrunk load save asks told = OnNewStreams (λ a a'. ByGateway a a' told load asks (λ gateway gateway'.
@@ -149,7 +148,7 @@ save_in command = text_in (codes "save") command
 abbrev pub AsksWait : CommandLine → Option ℕ → Type 0
 AsksWait command wait = MatchOption wait ((signals : ℕ) → ¬ SaysWait command signals) (SaysWait command)
 
--- what the command asks for was done, and this is told
+-- what the command asks for was done, and this is returned
 abbrev pub Performs : CommandLine → Result Totals ProgramFault → Type 0
 Performs command told = HasRequest command (by_request (λ job. DoesJob job told)
     (λ filter. RunsFilter (reports_in command) filter told) (ChecksCrc4 (reports_in command) told)

@@ -29,8 +29,7 @@ IsDeviceFault left (program_faults.Session faults.Write) = ⊤
 IsDeviceFault left _ = ⊥
 
 -- A circuit after all that happened to it: both halves, the pace and the counts; the datagrams that came and
--- were
--- sent; the octets that came from the trunk, went to it, and are left for it.
+-- were sent; the octets that came from the trunk, went to it, and are left for it.
 pub record CircuitTraffic : Type 0 where
   pub receiver : Receiver
   pub sender : Sender
@@ -44,16 +43,14 @@ pub record CircuitTraffic : Type 0 where
 
 -- A circuit was carried: what went to the trunk is what is played for the datagrams that came, but for what
 -- is left, and what was sent to the far end are the packets of the octets that came, with bit R in silence.
--- The
--- counts are those of what happened. Nothing is left at the end of the trunk.
+-- The counts are those of what happened. Nothing is left at the end of the trunk.
 pub record CarriesSatop (c : CircuitTraffic) (told : Result Totals ProgramFault) : Type 0 where
   pub plays : ∥ PlaysAll c.receiver c.pace c.counts c.sender.log.flags c.received (c.went ++ c.left) ∥₁
   pub sends : SendsAll c.sender c.sent c.came
   pub told_is : MatchResult told (λ _. c.left ≡ []) (IsDeviceFault c.left)
 
 -- The packets that may be waited for: twice as many as the jitter needs, and those of 125 ms (32,000 octets)
--- at
--- least; 1024 at most.
+-- at least; 1024 at most.
 abbrev pub window_for : ℕ → ℕ → ℕ
 window_for jitter size = min (max (max (2 * jitter) (32000 / size)) 1) 1024
 
@@ -101,8 +98,7 @@ LacksStream program_faults.OutOfMemory = ⊤
 LacksStream _ = ⊥
 
 -- Why the circuit is not opened: a word is missing, the size is no size of a packet, there is no socket, the
--- system
--- refused to wait for a stream of the trunk, or memory was refused.
+-- system refused to wait for a stream of the trunk, or memory was refused.
 abbrev pub FailsToOpen : CommandLine → ProgramFault → Type 0
 FailsToOpen command program_faults.Nothing = LacksWord command
 FailsToOpen command program_faults.PacketSize = SaysOtherSize command
@@ -117,6 +113,6 @@ pub record HasCircuit (command : CommandLine) (told : Result Totals ProgramFault
   pub set_up : IsSetUp command traffic.receiver traffic.sender traffic.pace
   pub carried : CarriesSatop traffic told
 
--- what was told: why the circuit was not opened, or it was carried
+-- the result: why the circuit was not opened, or it was carried
 abbrev pub DoesSatop : CommandLine → Result Totals ProgramFault → Type 0
 DoesSatop command told = IsErrAnd told (FailsToOpen command) ⊎ HasCircuit command told

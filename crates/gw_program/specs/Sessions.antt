@@ -49,7 +49,7 @@ pub record Lists (gateway : Gateway) (ended : Result Totals RunFault) (sink sink
   pub broke : IfErr listed (λ e. (e ≡ faults.Write) × FailsAfterPrefix sink sink' text)
   pub end_is : end ≡ checked ended listed
 
--- a sink that takes all octets and tells nothing
+-- a sink that takes all octets and reports nothing
 abbrev pub nowhere : SinkState
 nowhere = record { failures = 0; taken = None }
 

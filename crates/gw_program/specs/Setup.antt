@@ -14,7 +14,7 @@ Says (Err (program_faults.Config fault)) meaning = Fails fault meaning
 Says (Err program_fault) meaning = (program_fault ≡ program_faults.File)
     ⊎ (program_fault ≡ program_faults.OutOfMemory)
 
--- that the file can't be read is told only where the system gave an error
+-- that the file can't be read is reported only if the system returned an error
 abbrev pub FailsToRead : (Error → Type 0) → ProgramFault → Type 0
 FailsToRead fails program_faults.File = (error : Error) × fails error
 FailsToRead fails program_fault = ⊤

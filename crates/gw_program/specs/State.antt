@@ -51,7 +51,7 @@ abbrev pub FailsToLoad : GatewayConfig → SourceState → SourceState → Progr
 FailsToLoad config source source' (program_faults.State fault) = WasRefused config source source' fault
 FailsToLoad config source source' program_fault = FailsToRead source source' program_fault
 
--- what is told where octets are not loaded
+-- the fault if octets are not loaded
 abbrev pub load_trouble : LoadFault → ProgramFault
 load_trouble loads.OutOfMemory = program_faults.OutOfMemory
 load_trouble fault = program_faults.State fault

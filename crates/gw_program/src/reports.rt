@@ -1,4 +1,4 @@
-//! The file through which `crc4 --check` tells `crc4` of errored submultiframes.
+//! The file through which `crc4 --check` reports errored submultiframes to `crc4`.
 
 use crate::program_fault::ProgramFault;
 use crate::recording::never_wait;

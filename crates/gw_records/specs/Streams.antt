@@ -77,7 +77,7 @@ pub record AppendsPrefix (old new : Option (List ℕ)) (octets : List ℕ) : Typ
   pub appended : Appends old new written
 
 -- Octets were added, these first ones before the others. A prefix of all was taken: all of the first ones
--- except at most so many.
+-- except at most this many.
 pub record AppendsBut (late : ℕ) (old new : Option (List ℕ)) (first octets : List ℕ) : Type 0 where
   pub written : List ℕ
   pub rest : List ℕ

@@ -106,7 +106,7 @@ impl<R: Read> Source for FromRead<R> {
 ///
 /// Each error of the writer is a failure, also a write that took nothing. The octets that it took are known
 /// of every writer, also of standard output and files: those it was known to hold at the start, then those
-/// that its calls took. If the writer tells what it holds, it holds these.
+/// that its calls took. If the writer reports what it holds, it holds these.
 #[derive(Drop)]
 pub struct ToWrite<W: Write> {
     writer: W,

@@ -27,7 +27,7 @@ fn timestamp_of(datagram: &[u8]) -> u32
 }
 
 impl RecentDatagrams {
-    // An empty queue with room for so many datagrams.
+    // An empty queue with room for this many datagrams.
     pub(crate) fn open(alloc: Global, count: u8) -> Result<RecentDatagrams, AllocError>
         ensures { IfOk result (λ h. (h.packets.items ≡ []) × (count ≤ deque_capacity h.packets)) }
     {

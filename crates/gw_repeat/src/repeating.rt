@@ -21,9 +21,9 @@ pub const MOST: u8 = 8;
 
 /// Ports over other ports that send each datagram twice.
 ///
-/// A datagram goes to the ports below when it is sent, and again behind the one sent so many datagrams later,
-/// if all from it on are consecutive by their timestamps. Receives pass through. The original ports and all
-/// calls are ghost data.
+/// A datagram goes to the ports below when it is sent, and again behind the one sent this many datagrams
+/// later, if all from it on are consecutive by their timestamps. Receives pass through. The original ports
+/// and all calls are ghost data.
 #[derive(Drop)]
 pub struct Repeating<P: Ports> {
     pub(crate) ports: P,
@@ -85,8 +85,8 @@ pub fn packet_words(circuits: &[CircuitConfig; 30]) -> [u8; 30]
 impl<P: Ports + Drop> Repeating<P> {
     /// Wraps ports so that each datagram is sent twice.
     ///
-    /// It is sent again behind the one so many later, or never if that is 0. The words are those of a packet
-    /// of each circuit.
+    /// It is sent again behind the one this many later, or never if that is 0. The words are those of a
+    /// packet of each circuit.
     pub fn open(
         alloc: Global,
         ports: P,

@@ -27,7 +27,7 @@ new_pace timing began = record {
 }
 
 -- the number of the packet that is played next if a stream begins with this one: by this machine's clock the
--- one so many packets before it, so that the jitter buffer fills
+-- one this many packets before it, so that the jitter buffer fills
 abbrev pub first_number : Timing → ℕ → ℕ
 first_number t sequence =
     if t.own_clock then (sequence + (2 ^ 16 - t.jitter % 2 ^ 16)) % 2 ^ 16 else sequence

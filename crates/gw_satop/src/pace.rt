@@ -203,7 +203,7 @@ impl PlayClock {
         self.silent || self.timing.own_clock
     }
 
-    /// Whether a packet is due if so many are there from the next one to the last, and if all that came was
+    /// Whether a packet is due if this many are there from the next one to the last, and if all that came was
     /// read or not.
     pub fn is_due(&self, now: u64, reach: u16, read_all: bool) -> bool
         ensures { result ≡ is_due self.now now reach read_all }

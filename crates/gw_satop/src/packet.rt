@@ -59,7 +59,7 @@ fn malformed_by(fault: SatopFault) -> PacketFault
     }
 }
 
-// Whether a packet is one of a circuit whose packets have so many octets.
+// Whether a packet is one of a circuit whose packets have this many octets.
 fn fits(size: usize, view: &SatopView<'_>) -> bool
     ensures { result ≡ fits size view.now }
 {
@@ -67,7 +67,7 @@ fn fits(size: usize, view: &SatopView<'_>) -> bool
     len == size || view.control().lost && len == 0
 }
 
-// So many ones.
+// This many ones.
 fn ones(size: usize) -> &'static [u8]
     requires { size ≤ 1280 }
     ensures { result.now ≡ replicate size 255 }

@@ -19,7 +19,7 @@ pub struct Timing {
 }
 
 impl Timing {
-    /// The timing of packets of so many frames, 1 to 40.
+    /// The timing of packets of this many frames, 1 to 40.
     pub fn new(frames: u64, jitter: u16, own_clock: bool) -> Timing
         requires least { 1 ≤ frames }
         requires most { frames ≤ 40 }

@@ -21,7 +21,7 @@ pub record TapeState : Type 0 where
 abbrev pub no_tape : TapeState
 no_tape = record { ended = true; failures = 0; taken = None }
 
--- what a tape tells, or one that takes nothing
+-- the state of a tape, or of one that takes nothing
 abbrev pub tells_of : {T : Type 0} → (T → TapeState) → Option T → TapeState
 tells_of tells None = no_tape
 tells_of tells (Some tape) = tells tape

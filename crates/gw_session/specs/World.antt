@@ -9,12 +9,12 @@ pub record SessionState : Type 0 where
   pub gateway : Gateway
   pub totals : Totals
 
--- What a session writes to: what its sink tells, and the octets that wait to be written to it.
+-- What a session writes to: the state of its sink, and the octets that wait to be written to it.
 pub record Output : Type 0 where
   pub sink : SinkState
   pub waiting : List ℕ
 
--- All that a session changes, with what its tape tells.
+-- All that a session changes, with the state of its tape.
 pub record World : Type 0 where
   pub state : SessionState
   pub tape : TapeState

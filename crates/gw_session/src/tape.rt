@@ -15,8 +15,8 @@ use gw_records::{CODEC, COMMAND, DATAGRAM, FRONT_LEN, RecordKind, TRUNK};
 // The longest datagram that a record can hold.
 const LONGEST: usize = 65_535;
 
-/// The octets of records that are put on a tape together, 4,096 at most: a pipe takes so many whole or not at
-/// all (pipe(7), PIPE_BUF).
+/// The octets of records that are put on a tape together, 4,096 at most: a pipe takes this many whole or not
+/// at all (pipe(7), PIPE_BUF).
 pub type Batch = ArrayVec<u8, 4_096>;
 
 /// What events are recorded on, as records of the same events.

@@ -122,7 +122,7 @@ goes_on octets coded way words stands = record {
   whole = way.whole;
 }
 
--- encoding between two reads: the source gave octets; the first of their words are sent, in so many packets whose
+-- encoding between two reads: the source gave octets; the first of their words are sent, in this many packets whose
 -- records are written, and those behind them are held
 pub record Encoding (s : StreamSpec) (source source' : SourceState) (sink sink' : SinkState) (codec : CodecState)
     (held : ℕ) (speech : List ℕ) : Type 0 where

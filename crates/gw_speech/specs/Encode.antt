@@ -77,7 +77,7 @@ full_records_of s octets = records_from s 0 (words_for s octets) (full_packets s
 unfoldable pub records_of : StreamSpec → List ℕ → List ℕ
 records_of s octets = full_records_of s (filled s octets)
 
--- the totals of so many packets
+-- the totals of this many packets
 abbrev pub encode_totals : ℕ → Totals
 encode_totals count = record nothing_counted { datagrams = at_most count }
 

@@ -14,7 +14,7 @@ abbrev pub IsRenewal : ℕ → CircuitConfig → CircuitConfig → List Event �
 IsRenewal c old new events =
     ((old ≡ new) × (events ≡ [])) ⊎ ((old ≢ new) × (events ≡ Event.Configure c new ∷ []))
 
--- what happens to the first circuits, so many of them, one after the other
+-- what happens to this many circuits from the first, one after the other
 abbrev pub AreRenewals : GatewayConfig → GatewayConfig → ℕ → List Event → Type 0
 AreRenewals old new zero events = events ≡ []
 AreRenewals old new (suc n) events = (before : List Event) × (last : List Event)

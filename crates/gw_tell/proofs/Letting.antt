@@ -1,4 +1,4 @@
--- Clients that are let in one after another.
+-- Clients that are accepted one after another.
 use Rattle.std.proofs.Common.{◌≡◌, ◌⊎◌, inl, inr, ◌∙◌, ℕ, List, Option, Some, None, refl, sym, append-nil, []}
 use Rattle.std.proofs.Common.{◌∷◌, zero, suc}
 use Rattle.e1_g711.specs.declared.Law.{Law}
@@ -43,7 +43,7 @@ none_let_in law place gateway told seized places = inl (refl, λ k. stays (at pl
     stays None = tt
     stays (Some client) = inl refl
 
--- One more is let in.
+-- One more is accepted.
 pub one_let_in : (law : Law) (place : ℕ) (gateway : Gateway) (told told' told'' : GatewayStatus)
     (seized : List ℕ) (places places' places'' : List ClientSlot)
     → LetsIn law place gateway told told' seized places places'

@@ -15,14 +15,14 @@ use Rattle.gw_tell.specs.Reports.{Shows, Changes, IsStatusOf, place_after, whole
 abbrev pub sent : Client → List ℕ
 sent client = client.got.octets ++ waiting client.waits
 
--- the client at a place was sent these octets, or is let go
+-- the client at a place was sent these octets, or is disconnected
 abbrev pub Gets : Option Client → Option Client → List ℕ → Type 0
 Gets place None octets = ⊤
 Gets None (Some client') octets = ⊥
 Gets (Some client) (Some client') octets =
     (sent client' ≡ sent client ++ octets) × (client'.last ≡ client.last)
 
--- the client at a place was sent its part of these lines, or is let go
+-- the client at a place was sent its part of these lines, or is disconnected
 abbrev pub IsTold : Option Client → Option Client → ℕ → List ℕ → Type 0
 IsTold place None at lines = ⊤
 IsTold None (Some client') at lines = ⊥
@@ -42,11 +42,11 @@ at places k = (slice_index_or places k no_place).client
 abbrev pub AllFree : List ClientSlot → Type 0
 AllFree places = (k : ℕ) → at places k ≡ None
 
--- all clients were sent their part of these lines, or are let go
+-- all clients were sent their part of these lines, or are disconnected
 abbrev pub AllAreTold : List ClientSlot → List ClientSlot → ℕ → List ℕ → Type 0
 AllAreTold places places' place lines = (k : ℕ) → IsTold (at places k) (at places' k) place lines
 
--- the clients were told what changed with a record, behind which the gateway stands
+-- the clients were sent what changed with a record, after which the gateway is in this state
 pub record TellsChanges (place : ℕ) (r : Record) (code : ℕ) (gateway : Gateway) (was told : GatewayStatus)
     (places places' : List ClientSlot) : Type 0 where
   pub is : GatewayStatus
@@ -57,7 +57,7 @@ pub record TellsChanges (place : ℕ) (r : Record) (code : ℕ) (gateway : Gatew
   pub true_picture : IsStatusOf is told
   pub told_all : AllAreTold places places' (place_after place r) lines
 
--- the client at a place stays as it was, or is let go, or is a new one that was sent the whole state
+-- the client at a place stays as it was, or is disconnected, or is a new one that was sent the whole state
 abbrev pub StaysOrNew : Law → ℕ → GatewayStatus → List ℕ → Option Client → Option Client → Type 0
 StaysOrNew law place told seized old None = ⊤
 StaysOrNew law place told seized old (Some client') = (old ≡ Some client')

@@ -65,7 +65,7 @@ RowStep due c was is told text text' =
     ((was ≢ quiet_at due was is) × (told ≡ is) × (text' ≡ text ++ row_line c is))
     ⊎ ((was ≡ quiet_at due was is) × (told ≡ was) × (text' ≡ text))
 
--- the first circuits, so many, are reported one after another
+-- this many circuits from the first are reported one after another
 unfoldable pub RowSteps : Bool → List Status → List Status → List Status → List ℕ → List ℕ → ℕ → Type 0
 RowSteps due was is told text text' zero = text' ≡ text
 RowSteps due was is told text text' (suc n) = (between : List ℕ) × RowSteps due was is told text between n
@@ -105,7 +105,7 @@ pub record IsStatusOf (is told : GatewayStatus) : Type 0 where
   pub rows_are : (c : ℕ) → 1 ≤ c → c ≤ 30
       → of_circuit told.rows c ≡ counted_as (of_circuit is.rows c) (of_circuit told.rows c)
 
--- the lines of the first circuits, so many
+-- the lines of this many circuits from the first
 unfoldable pub row_lines : List Status → ℕ → List ℕ
 row_lines rows zero = []
 row_lines rows (suc n) = row_lines rows n ++ row_line (suc n) (of_circuit rows (suc n))

@@ -11,7 +11,7 @@ use Rattle.gw_tell.specs.Clients.{at, sent, Gets, AllFree, TellsChanges, StaysOr
 use Rattle.gw_tell.specs.Reports.{Shows, place_after, whole_state}
 use Rattle.gw_tell.specs.Seizures.{AreCounted, no_seizures}
 
--- a Teller that was shown nothing yet: it has no client, and what was told last is how this gateway stands
+-- a Teller that was shown nothing yet: it has no client, and what was reported last is this gateway's state
 pub record HasBegun (t : Teller) (law : Law) (gateway : Gateway) : Type 0 where
   pub law_is : t.law ≡ law
   pub place_is : t.place ≡ 0
@@ -25,8 +25,8 @@ IsNew law place told seized None = ⊤
 IsNew law place told seized (Some client) = (sent client ≡ whole_state law place told seized)
     × (client.last ≡ place)
 
--- New clients were let in: each was sent the whole state by what was told last, and those before them stay.
--- If there was none before them, that may be how the gateway stands now.
+-- New clients were accepted: each was sent the whole state as last reported, and those before them stay.
+-- If there was none before them, that may be the gateway's present state.
 abbrev pub LetsIn : Law → ℕ → Gateway → GatewayStatus → GatewayStatus → List ℕ → List ClientSlot
     → List ClientSlot → Type 0
 LetsIn law place gateway told told' seized places places' =
@@ -38,9 +38,9 @@ abbrev pub IsOther : Record → Type 0
 IsOther (Record.Trunk octets) = ⊥
 IsOther _ = ⊤
 
--- A Teller was shown a record, with the code of its answer and the gateway behind it. It counted seizures, and
--- wrote to its clients what changed. Behind a record of the trunk it may then have closed the connections of
--- clients that had gone, and accepted new ones.
+-- A Teller was shown a record, with the code of its answer and the gateway behind it. It counted seizures,
+-- and wrote to its clients what changed. Behind a record of the trunk it may then have closed the connections
+-- of clients that had gone, and accepted new ones.
 pub record TellsRecord (t t' : Teller) (r : Record) (code : ℕ) (gateway : Gateway) : Type 0 where
   pub law_is : t'.law ≡ t.law
   pub place_is : t'.place ≡ place_after t.place r

@@ -1,4 +1,4 @@
-//! A client, who is told what changes.
+//! A client that is sent what changes.
 
 ghost use Rattle.std.specs.Prelude.{◌≡◌, ◌≤◌, ◌++◌, [], length, take, drop, IfOk, OnOk};
 ghost use Rattle.gw_tell.specs.Backlog.{waiting};
@@ -14,11 +14,11 @@ use std::io::{ErrorKind, Read, Write};
 // How much is read at once of what a client sends, which nobody looks at.
 const ROOM_LEN: usize = 256;
 
-/// A client is to be let go: it has gone, or 64 KiB of what it is sent wait for it.
+/// A client is to be disconnected: it has gone, or 64 KiB of what it is sent wait for it.
 #[derive(Clone, Copy)]
 pub struct Away;
 
-/// A connection that is told what changes.
+/// A connection that is sent what changes.
 #[derive(Drop)]
 pub struct Client {
     stream: UnixStream,
@@ -62,7 +62,7 @@ impl Client {
         }
     }
 
-    /// The room of a client that is let go.
+    /// The room of a client that is disconnected.
     pub fn into_room(self) -> Backlog {
         let Client { waits, .. } = self;
         waits
@@ -91,7 +91,7 @@ impl Client {
     }
 
     /// Sends it octets. What it does not take at once waits for it, behind what waits already. A client for
-    /// whom there is no room for all of them is to be let go.
+    /// whom there is no room for all of them is to be disconnected.
     pub fn give(&mut self, octets: &[u8]) -> Result<(), Away>
         ensures ok { OnOk result (sent self.new ≡ sent self.old ++ octets.now) }
         ensures last { self.new.last ≡ self.old.last }

@@ -1,4 +1,4 @@
-//! How a trunk stands and what changes, told to clients as lines of text while a session goes on.
+//! The state of a trunk and its changes, sent to clients as lines of text while a session goes on.
 #![tactic(auto)]
 
 mod backlog;

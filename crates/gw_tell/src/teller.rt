@@ -1,4 +1,4 @@
-//! A watch of a session that tells clients how the trunk stands.
+//! A watch of a session that sends clients the state of the trunk.
 
 ghost use Rattle.std.specs.Prelude.{◌≡◌, ◌⊎◌, ◌<◌, ◌≤◌, ◌++◌, ℕ, [], length, take, drop, IfSome, None};
 ghost use Rattle.std.specs.Prelude.{IsTrue, IfOk};
@@ -30,7 +30,7 @@ const MOST_CLIENTS: usize = 8;
 // The octets of the trunk from one look at clients to the next.
 const LOOK: u64 = 2048;
 
-/// Tells the clients of a Unix socket how a trunk stands and what changes, as lines of text (e1gw-tell(5)).
+/// Sends the clients of a Unix socket the state of a trunk and its changes, as lines of text (e1gw-tell(5)).
 /// What a client does not take at once waits for it: 64 KiB at most, in room that is taken at the beginning.
 /// A client that goes, or for whom there is no room, loses its connection, and nothing else happens.
 #[derive(Drop)]
@@ -129,7 +129,7 @@ impl Teller {
         })
     }
 
-    // Counts seizures, and tells all clients what changed with a record.
+    // Counts seizures, and sends all clients what changed with a record.
     #[inline(never)]
     fn tell(&mut self, head: &RecordKind, body: &[u8], code: u8, gateway: &Gateway)
         ensures changes { TellsChanges self.old.place (named head.now body.now) code gateway.now
@@ -196,7 +196,7 @@ impl Teller {
         are_free(&self.places) || before / LOOK != self.place / LOOK
     }
 
-    // Lets go who has gone.
+    // Closes the connections of clients that have gone.
     fn listen(&mut self)
         ensures clients { (k : ℕ) → Gets (at self.old.places k) (at self.new.places k) [] }
         ensures law { self.new.law ≡ self.old.law }
@@ -209,7 +209,7 @@ impl Teller {
         }
     }
 
-    // Lets in who knocks, as many as there are places at most.
+    // Accepts connections, as many as there are places at most.
     fn let_in(&mut self, gateway: &Gateway)
         ensures lets_in { LetsIn self.old.law self.old.place gateway.now self.old.told self.new.told
             self.old.seized self.old.places self.new.places }
@@ -225,7 +225,7 @@ impl Teller {
         }
     }
 
-    /// Tells all clients that the session has ended.
+    /// Sends all clients that the session has ended.
     pub fn end(&mut self)
         ensures { (k : ℕ) → Gets (at self.old.places k) (at self.new.places k) end_line }
     {

@@ -125,7 +125,7 @@ none-passes p zero went told told' octets true none is =
 none-passes p zero went told told' octets false none is =
     record { place_is = refl; went_are = sym (append-nil went); told_are = is }
 
--- Octets of a body pass, so many of the first ones, of which there are no more than it has.
+-- Octets of a body pass, this many of the first ones, of which there are no more than it has.
 pub body-passes : (to_trunk : Bool) (more most n : ℕ) (octets went went' told told' : List ℕ) → most ≤ length octets
     → most ≤ suc more → n ≤ length (take most octets)
     → went' ≡ went ++ cond to_trunk (take n (take most octets)) []

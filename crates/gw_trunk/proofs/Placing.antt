@@ -11,14 +11,14 @@ use Rattle.gw_trunk.specs.declared.client.ClientPoll.TheVariants.{Command, Nothi
 use Rattle.gw_trunk.specs.declared.client.Client.{Client}
 use Rattle.gw_trunk.specs.Clients.{KeepsClient, Answers, AllKeep, OnlyAt, at, is_quiet}
 
--- A client that stays, and then stays or is let go, does so in all.
+-- A client that stays, and then stays or is disconnected, does so in all.
 pub keeps-trans : (p q r : Option Client) → KeepsClient p q → KeepsClient q r → KeepsClient p r
 keeps-trans p q None a b = tt
 keeps-trans p None (Some r) a b = absurd b
 keeps-trans None (Some q) (Some r) a b = absurd a
 keeps-trans (Some p) (Some q) (Some r) a b = record { gave_is = b.gave_is ∙ a.gave_is; got_is = b.got_is ∙ a.got_is }
 
--- A client that was asked, gave nothing and did not ask for the end stays or is let go, and has nothing.
+-- A client that was asked, gave nothing and did not ask for the end stays or is disconnected, and has nothing.
 pub asked-none : (asked : ClientPoll) (p p' : Option Client) (room : List ℕ) → Answers asked p p' room
     → (asked ≡ Nothing) ⊎ (asked ≡ Gone) → KeepsClient p p' × (is_quiet p' ≡ true)
 asked-none Nothing p p' room a none = a
@@ -26,7 +26,7 @@ asked-none Gone p p' room a none = rw a (tt, refl)
 asked-none (Command n) p p' room a none = elim none [ inl e ↦ cc | inr e ↦ cc ]
 asked-none End p p' room a none = elim none [ inl e ↦ cc | inr e ↦ cc ]
 
--- All clients stay or are let go where one place changes.
+-- All clients stay or are disconnected where one place changes.
 pub all-kept : (first places places' : List (Option Client)) (place : ℕ) → AllKeep first places
     → OnlyAt place places places' → KeepsClient (at places place) (at places' place) → AllKeep first places'
 all-kept first places places' place kept only one = λ k. elim (cases_eq k place) [

@@ -100,7 +100,7 @@ passes position position' sent left left' xs t p = elim (cases_eq (position.plac
       (more-of position sent left left' xs t (omega (arith, p.fits, more)) p.left_is)
 ]
 
--- One more of so many that are counted up to the greatest u64.
+-- One more of this many that are counted up to the greatest u64.
 one-more-of : (discarded n : ℕ) → discarded ≡ at_most (n + 0) → at_most (discarded + 1) ≡ at_most (n + 1)
 one-more-of discarded n e = omega (arith, e)
 

@@ -4,7 +4,7 @@ use Rattle.std.specs.Prelude.{nat_lt, List, [], ◌∷◌}
 use Rattle.gw_trunk.specs.declared.sink.RecordPosition.{RecordPosition}
 use Rattle.gw_trunk.specs.declared.sink.RecordPosition.TheVariants.{Kind, Circuit, High, Low, Body}
 
--- a body of so many octets begins, or where it has none the next record
+-- a body of this many octets begins, or where it has none the next record
 abbrev pub body_place : Bool → ℕ → RecordPosition
 body_place to_trunk zero = Kind
 body_place to_trunk (suc more) = Body to_trunk more
@@ -54,7 +54,7 @@ answered place (octet ∷ octets) =
 abbrev pub others : List ℕ → List ℕ
 others octets = answered Kind octets
 
--- where a body goes on after so many octets of it
+-- where a body goes on after this many octets of it
 abbrev pub body_after : Bool → ℕ → ℕ → RecordPosition
 body_after to_trunk more n = if nat_lt more n then Kind else Body to_trunk (more - n)
 

@@ -24,8 +24,8 @@ abbrev pub HasNoRecord : List ℕ → Type 0
 HasNoRecord octets = (ending : EndReason) × (end_of client_kinds octets ≡ Some ending)
 
 -- what a client did that was asked: it gave a record, which stands at the front of a room; or it gave none
--- and has nothing that is whole; or it asks for the end; or it is to be let go, and what is held of it begins
--- with no whole record, or the room is shorter than what is held of a client at most
+-- and has nothing that is whole; or it asks for the end; or it is to be disconnected, and what is held of it
+-- begins with no whole record, or the room is shorter than what is held of a client at most
 abbrev pub Replies : ClientPoll → Client → Client → List ℕ → Type 0
 Replies (Command n) client client' room = (n ≤ length room) × GaveOne client client' (take n room)
 Replies Nothing client client' room = Stays client client' × (client'.ready ≡ false)
@@ -33,7 +33,7 @@ Replies End client client' room = Stays client client'
 Replies Gone client client' room =
     Stays client client' × (HasNoRecord client'.held.items ⊎ (length room < 64))
 
--- the client at a place stays, with what it gave and got, or is let go
+-- the client at a place stays, with what it gave and got, or is disconnected
 abbrev pub KeepsClient : Option Client → Option Client → Type 0
 KeepsClient place None = ⊤
 KeepsClient None (Some client') = ⊥
@@ -49,7 +49,7 @@ abbrev pub IsAnswered : Client → Client → List ℕ → Type 0
 IsAnswered client client' octets = (client'.got.octets ≡ client.got.octets ++ octets)
     ⊎ ((client'.got.octets ≡ client.got.octets) × (client'.left ≡ true))
 
--- the client at a place got these octets, has hung up and got nothing, or is let go
+-- the client at a place got these octets, has hung up and got nothing, or is disconnected
 abbrev pub Gets : Option Client → Option Client → List ℕ → Type 0
 Gets place None octets = ⊤
 Gets None (Some client') octets = ⊥
@@ -66,7 +66,7 @@ abbrev pub IsAwake : Option Client → Type 0
 IsAwake None = ⊤
 IsAwake (Some client) = client.ready ≡ true
 
--- what the client at a place did that was asked: one that is to be let go is
+-- what the client at a place did that was asked: one that is to be disconnected is
 abbrev pub Answers : ClientPoll → Option Client → Option Client → List ℕ → Type 0
 Answers (Command n) place place' room = (n ≤ length room) × GaveAt place place' (take n room)
 Answers Nothing place place' room = KeepsClient place place' × (is_quiet place' ≡ true)
@@ -92,11 +92,11 @@ pub record HasAnswered (asker : Option ℕ) (places places' : List (Option Clien
   pub none : IfNone asker (octets ≡ [])
   pub others : (k : ℕ) → asker ≢ Some k → at places' k ≡ at places k
 
--- all clients stay or are let go
+-- all clients stay or are disconnected
 abbrev pub AllKeep : List (Option Client) → List (Option Client) → Type 0
 AllKeep places places' = (k : ℕ) → KeepsClient (at places k) (at places' k)
 
--- A client gave one more record: the answer to it is for this client. The others stay or are let go.
+-- A client gave one more record: the answer to it is for this client. The others stay or are disconnected.
 pub record HasGiven (places places' : List (Option Client)) (asker : Option ℕ)
     (octets : List ℕ) : Type 0 where
   pub place : ℕ
@@ -105,7 +105,7 @@ pub record HasGiven (places places' : List (Option Client)) (asker : Option ℕ)
   pub others : (k : ℕ) → k ≢ place → KeepsClient (at places k) (at places' k)
 
 -- What clients did that were asked in turn: one of them gave a record, or none has anything, or one asks for
--- the end. Who is to be let go is, and that ends nothing.
+-- the end. A client that is to be disconnected is, and that ends nothing.
 abbrev pub Asks : ClientPoll → List (Option Client) → List (Option Client) → Option ℕ → List ℕ → Type 0
 Asks (Command n) places places' asker room = (n ≤ length room) × HasGiven places places' asker (take n room)
 Asks Nothing places places' asker room = AllKeep places places' × (list_all is_quiet places' ≡ true)

@@ -43,7 +43,7 @@ pub record IsThinned (position : MultiframePosition) (sent left : List ℕ) : Ty
   pub place_is : position.place ≡ length thinned.last.octets
   pub discards_is : position.discards ≡ thinned.last.is_discarded
 
--- the position after so many octets of the multiframe
+-- the position after this many octets of the multiframe
 abbrev pub position_after : MultiframePosition → ℕ → MultiframePosition
 position_after position n = if position.place + n == 512 then record position { place = 0; discards = false }
     else record position { place = position.place + n }

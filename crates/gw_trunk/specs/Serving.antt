@@ -38,7 +38,7 @@ answers_for config before (event ∷ es) =
     answer_in event (reply_to config before event) ++ answers_for config (before ++ event ∷ []) es
 
 -- What passed between a trunk and its clients and the gateway: the octets that came from the trunk and what
--- clients asked, the octets that went to the trunk and the answers that clients were told.
+-- clients asked, the octets that went to the trunk and the answers that clients were sent.
 pub record Traffic : Type 0 where
   pub came : List ℕ
   pub asked : List ℕ

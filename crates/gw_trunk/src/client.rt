@@ -22,20 +22,20 @@ const KINDS: AcceptedKinds = AcceptedKinds {
 // The record that asks for the end of the session: its kind, no circuit, no body.
 const END: [u8; 4] = [0x45, 0, 0, 0];
 
-/// A client is to be let go: it does not take its answer.
+/// A client is to be disconnected: it does not take its answer.
 #[derive(Clone, Copy)]
 pub struct Away;
 
 /// What a client did that was asked.
 #[derive(Clone, Copy)]
 pub enum ClientPoll {
-    /// It gave a record of so many octets.
+    /// It gave a record of this many octets.
     Command(usize),
     /// It has nothing that is whole.
     Nothing,
     /// It asks for the end of the session.
     End,
-    /// It is to be let go.
+    /// It is to be disconnected.
     Gone,
 }
 
@@ -173,8 +173,8 @@ impl Client {
         }
     }
 
-    /// Takes its next record to the front of `room`, if it has a whole one. Who has hung up is let go only
-    /// behind its last whole record.
+    /// Takes its next record to the front of `room`, if it has a whole one. A client that has hung up is
+    /// disconnected only behind its last whole record.
     pub fn ask(&mut self, room: &mut [u8]) -> ClientPoll
         ensures { Replies result self.old self.new room.new }
     {
@@ -189,8 +189,8 @@ impl Client {
         self.next_record(room)
     }
 
-    /// Gives it an answer. A client that does not take it whole at once is to be let go, unless it has hung
-    /// up: then nobody gets the answer.
+    /// Gives it an answer. A client that does not take it whole at once is to be disconnected, unless it has
+    /// hung up: then nobody gets the answer.
     pub fn answer(&mut self, answer: &[u8]) -> Result<(), Away>
         ensures gave { self.new.gave.octets ≡ self.old.gave.octets }
         ensures ok { OnOk result (IsAnswered self.old self.new answer.now) }

@@ -20,7 +20,7 @@ use std::time::Duration;
 // How many clients there may be at once.
 const MOST_CLIENTS: usize = 8;
 
-// How many that knock are let in before the trunk is looked at again.
+// How many waiting connections are accepted before the trunk is looked at again.
 const MOST_KNOCKS: usize = 8;
 
 // The longest answer to a record of a client.
@@ -200,7 +200,7 @@ impl Clients {
         })
     }
 
-    // Notes what has come, and waits for it if told to.
+    // Notes what has come, and waits for it if asked to.
     fn look(&mut self, timeout: Option<Duration>)
         ensures asker { self.new.asker ≡ self.old.asker }
         ensures keep { AllKeep self.old.places self.new.places }
@@ -282,7 +282,7 @@ impl Clients {
         }
     }
 
-    // Lets one client in, if one knocks and there is a place.
+    // Accepts one connection, if one waits and there is a place.
     fn let_one_in(&mut self)
         ensures { self.new.asker ≡ self.old.asker }
     {
@@ -304,7 +304,7 @@ impl Clients {
         }
     }
 
-    /// Lets in who knocks, without waiting. What has come was noted before the trunk was read; if that is a
+    /// Accepts connections, without waiting. What has come was noted before the trunk was read; if that is a
     /// regular file, it is noted here.
     pub fn let_in(&mut self)
         ensures { self.new.asker ≡ self.old.asker }

@@ -24,7 +24,7 @@ pub struct DeviceFault;
 /// What a read of a device came to.
 #[derive(Clone, Copy, Debug, PartialEq, Eq)]
 pub enum DeviceRead {
-    /// Octets, so many.
+    /// This many octets.
     Octets(usize),
     /// No octet has come yet.
     NoneNow,
@@ -43,7 +43,7 @@ pub trait TrunkInput {
     /// The octets of the C and K records of clients that were taken.
     ghost asked: { Self → List ℕ };
 
-    /// Holds of a device if a read told that it has ended.
+    /// Holds of a device if a read reported that it has ended.
     ghost has_ended: { Self → Type 0 } = { λ _. ⊤ };
 
     /// Whether the trunk was read since the last record of a client.

@@ -32,7 +32,7 @@ struct MultiframePosition {
     discarded: u64,
 }
 
-// The position after so many octets of the multiframe.
+// The position after this many octets of the multiframe.
 fn position_after(position: MultiframePosition, n: usize) -> MultiframePosition
     requires { position.place + n ≤ 512 }
     ensures { result ≡ position_after position n }

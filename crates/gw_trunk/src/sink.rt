@@ -34,7 +34,7 @@ pub struct TrunkRecordSink<O: TrunkOutput, A: TrunkOutput> {
     ghost passed: { HasPassed place log.octets (O.went outgoing) (A.went answers) },
 }
 
-// Where a body of so many octets begins.
+// Where a body of this many octets begins.
 fn body_place(to_trunk: bool, len: usize) -> RecordPosition
     ensures { result ≡ body_place to_trunk len }
 {
@@ -59,7 +59,7 @@ fn place_next(place: RecordPosition, octet: u8) -> RecordPosition
     }
 }
 
-// Where a body goes on after so many octets of it.
+// Where a body goes on after this many octets of it.
 fn body_after(to_trunk: bool, more: usize, n: usize) -> RecordPosition
     ensures { result ≡ body_after to_trunk more n }
 {

@@ -27,7 +27,7 @@ pub struct TrunkRecordSource<I: TrunkInput> {
     ghost in_turn: { turn ≡ true → I.is_turn incoming ≡ true },
 }
 
-// The front of a record of so many octets of the trunk.
+// The front of a record of this many octets of the trunk.
 fn front_of(len: usize) -> [u8; 4]
     requires { len < 2 ^ 16 }
     ensures { result ≡ 0x54 ∷ 0 ∷ big_bytes 2 len }

@@ -26,7 +26,7 @@ IsReceived (Ok x) r = r ≡ Ok (Some x)
 IsReceived (Err error) (Ok got) = (got ≡ None) × FoundNone error
 IsReceived (Err error) (Err e) = ¬ FoundNone error
 
--- The result of a send of so many octets: it succeeds exactly if the system took all of them.
+-- The result of a send of this many octets: it succeeds exactly if the system took all of them.
 abbrev pub IsSent : Result ℕ Error → ℕ → Result (Unit {0}) PortFault → Type 0
 IsSent (Ok taken) len (Ok tt) = taken ≡ len
 IsSent (Ok taken) len (Err e) = taken ≢ len

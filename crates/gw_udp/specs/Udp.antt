@@ -32,7 +32,7 @@ IsEndpoint is_bound looks_up host senders (Some port) None = ⊥
 IsEndpoint is_bound looks_up host senders (Some port) (Some e) =
     IsEndpointOf is_bound looks_up host senders port e
 
--- each of the first so many circuits has the socket of its own ports
+-- each of the first this many circuits has the socket of its own ports
 abbrev pub HasEndpoints : {S : Type 0} → Bound S → LookUp → List ℕ → SourceFilter → List (Option Port)
     → List (Option (Endpoint S)) → ℕ → Type 0
 HasEndpoints {S} is_bound looks_up host senders ports endpoints n =
@@ -55,7 +55,7 @@ pub record Strays {S : Type 0} (receives : Received S) (accepted : SocketAddr �
   pub received : receives between new (Ok (Some (len, from))) room
   pub stranger : ¬ accepted from
 
--- so many receives at a socket gave strangers' datagrams
+-- this many receives at a socket gave strangers' datagrams
 abbrev pub Skips : {S : Type 0} → Received S → (SocketAddr → Type 0) → ℕ → S → S → Type 0
 Skips receives accepted zero old new = new ≡ old
 Skips receives accepted (suc n) old new = Strays receives accepted (Skips receives accepted n old) new

@@ -10,7 +10,7 @@ fn trunk(place: usize) -> u8 {
     }
 }
 
-// The octet of the trunk that comes so many bits late.
+// The octet of the trunk that comes this many bits late.
 fn late(bits: u32, place: usize) -> u8 {
     let before = if place == 0 {
         0xFF

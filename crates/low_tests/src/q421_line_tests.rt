@@ -10,7 +10,7 @@ use std::test::Fail;
 // What a line is given in a test.
 #[derive(Clone, Copy)]
 enum Step {
-    // This nibble, so many times.
+    // This nibble, this many times.
     Heard(u8, u8),
     Asked(Cmd),
 }
@@ -63,7 +63,7 @@ fn outgoing_call(rt: HostRuntime) {
     assert_eq!(rt; line.command(Answer), Err(LineFault::WrongRole));
 }
 
-// The signal at which a line releases an unacknowledged seizure, if this wait is given after so many signals
+// The signal at which a line releases an unacknowledged seizure, if this wait is given after this many signals
 // of it.
 fn released_by(rt: &impl Abort, after: u16, wait: u16) -> u16 {
     let mut line = Line::new(Outgoing);

@@ -22,7 +22,7 @@ impl BitBuffer {
         }
     }
 
-    // Adds a number of so many bits above the present ones.
+    // Adds a number of this many bits above the present ones.
     #[inline]
     #[tactic(auto, using(crate::proofs::Bits::bits_above))]
     pub(crate) fn push(&mut self, number: u8, bits: u8)

@@ -41,7 +41,7 @@ pub record IsPacket (octets : List ℕ) (rtp : Bool) (p : Content) (reserved fra
   pub len_fits : len < 64
   pub counted : (len ≡ 0 → ⊥) → len ≡ length octets
 
--- LEN of a written packet of so many octets: their number if it is below 64
+-- LEN of a written packet of this many octets: their number if it is below 64
 abbrev pub length_said : ℕ → ℕ
 length_said size = if nat_lt size 64 then size else 0
 

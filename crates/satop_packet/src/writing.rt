@@ -49,7 +49,7 @@ pub fn write(
     Ok(())
 }
 
-// LEN of a packet with so many octets.
+// LEN of a packet with this many octets.
 fn length_said(size: usize) -> u8
     ensures { result ≡ length_said size }
 {

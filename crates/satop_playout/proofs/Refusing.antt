@@ -15,7 +15,7 @@ told-last : (o n l t r : Bool) → o ≡ false → n ≡ false → l ≡ false �
     → told o n l t r ≡ cond r (Some Repeat) None
 told-last o n l t r a b c d = rw (a, b, c, d) refl
 
--- a number so far behind that of the next packet is so many places ahead
+-- a number so far behind that of the next packet is this many places ahead
 ahead-is : (number first : Option ℕ) (placed : List PlacedPacket) (now next sequence place : ℕ)
     → IsNext number first placed now → number ≡ Some next → place ≡ (sequence + (2 ^ 16 - next)) % 2 ^ 16
     → (is_some first ≡ true) × (place ≡ ahead_of first now sequence)

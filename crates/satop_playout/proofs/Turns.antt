@@ -159,7 +159,7 @@ accepted_is_played settings before later sequence octets answer none turn =
     let fill = fill_of settings.fill settings.size t.given t.filled in
     (ap is_some due, ap (λ (o : Option (List ℕ)). octets_or_fill o fill) due)
 
--- a number so many places ahead is the rest of them ahead after some plays
+-- a number this many places ahead is the rest of them ahead after some plays
 ahead-later : (first : Option ℕ) (now plays sequence : ℕ) → is_some first ≡ true
     → ahead_of first now sequence < 2 ^ 15 → plays ≤ ahead_of first now sequence
     → plays + ahead_of first (now + plays) sequence ≡ ahead_of first now sequence

@@ -58,8 +58,8 @@ RefusalsChangeNothing = (settings : Settings) (calls : List PlayoutCall) (sequen
     (fault : ArrivalFault) → arrival_answer settings calls sequence octets ≡ Err fault
     → stream settings (calls ++ Arrives sequence octets ∷ []) ≡ stream settings calls
 
--- A packet that is accepted so many places ahead is there after so many plays, and gives its octets, whatever
--- else arrived in between.
+-- A packet that is accepted this many places ahead is there after this many plays, and gives its octets,
+-- whatever else arrived in between.
 abbrev pub AcceptedIsPlayed : Type 0
 AcceptedIsPlayed = (settings : Settings) (before after : List PlayoutCall) (sequence : ℕ) (octets : List ℕ)
     → arrival_answer settings before sequence octets ≡ Ok tt → NoBeginning after

@@ -19,7 +19,7 @@ again (suc count) given =
 abbrev pub may_repeat : ℕ → List ℕ → ℕ → Bool
 may_repeat size given filled = nat_le multiframe (length given) && nat_le (filled + size) 2048
 
--- what replaces a packet of so many octets, after these octets, of which so many at the end were filled
+-- what replaces a packet of this many octets, after these octets, of which this many at the end were filled
 abbrev pub fill_of : Replacement → ℕ → List ℕ → ℕ → List ℕ
 fill_of Ones size given filled = replicate size 255
 fill_of Again size given filled =

@@ -8,7 +8,7 @@ use Rattle.satop_playout.specs.declared.slot.PacketSlot.{PacketSlot}
 use Rattle.satop_playout.specs.Calls.{PlayoutCall}
 use Rattle.satop_playout.specs.Plays.{PlacedPacket, PlayoutState, stream, packet_at, reach_from}
 
--- p is so many places behind a start, round the end of n places
+-- p is this many places behind a start, round the end of n places
 abbrev pub Wraps : ℕ → ℕ → ℕ → ℕ → Type 0
 Wraps start k n p = (p < n) × ((p ≡ start + k) ⊎ (p + n ≡ start + k))
 

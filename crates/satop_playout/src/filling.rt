@@ -13,7 +13,7 @@ pub(crate) const MULTIFRAME: usize = 512;
 // The most octets in a row that are repeated: 8 ms.
 pub(crate) const MOST_REPEATED: usize = 2048;
 
-// Fills a packet, after the last multiframe of octets given, of which so many in a row were filled.
+// Fills a packet, after the last multiframe of octets given, of which this many in a row were filled.
 pub(crate) fn replace(
     fill: Replacement,
     given: &HeapCircularBuffer<u8>,

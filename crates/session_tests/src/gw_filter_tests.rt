@@ -47,7 +47,7 @@ struct LateTrunk {
 }
 
 impl LateTrunk {
-    // The trunk before its first octet, whose read fails behind so many octets.
+    // The trunk before its first octet, whose read fails behind this many octets.
     fn new(fails_at: usize) -> LateTrunk
         ensures failed { result.failed ≡ 0 }
         ensures reads { result.reads ≡ 0 }
@@ -86,7 +86,7 @@ struct Taken {
 }
 
 impl Taken {
-    // A sink with room for so many octets.
+    // A sink with room for this many octets.
     fn new(room: usize) -> Taken
         ensures { result.failed ≡ 0 }
     {

@@ -148,7 +148,7 @@ fn save_packet(packet: &ArrayVec<u8, 240>, out: &mut Vec<u8>) -> Result<(), Allo
     out.extend_from_slice(packet.as_slice())
 }
 
-// Reads the words of a packet that is not full, each of so many bits.
+// Reads the words of a packet that is not full, each of this many bits.
 fn load_packet(size: u8, bits: u8, octets: &mut OctetReader<'_>) -> Option<ArrayVec<u8, 240>>
     requires size { size ≤ 240 }
     requires bits { bits ≤ 8 }

@@ -28,7 +28,7 @@ struct Replayed {
     status: Status,
 }
 
-// Replays a session, of which at most so many octets are given by a read.
+// Replays a session, of which at most this many octets are given by a read.
 fn replay(
     alloc: Global,
     gateway: &mut Gateway,

@@ -2,7 +2,7 @@ use Rattle.std.proofs.Common.{◌≡◌}
 use Rattle.gw_tell.specs.Telling.{LetsIn}
 use Rattle.gw_tell.proofs.teller.Teller.let_in.Given as goal
 
--- those who knocked so far were let in
+-- those who knocked so far were accepted
 abbrev pub invariant-loop-turn : goal.invariant-loop-turn
 invariant-loop-turn l = record {
   lets_in : LetsIn l.fn.self.law l.fn.self.place l.gateway l.fn.self.told l.self.told l.fn.self.seized
