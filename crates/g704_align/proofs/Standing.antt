@@ -18,11 +18,11 @@ use Rattle.g704_align.specs.declared.alignment.SyncState.{SyncState}
 use Rattle.g704_align.specs.declared.alignment.SyncState.TheVariants.{Searching, Candidate, Aligned}
 use Rattle.g704_align.specs.Loss.{frame_alignment, is_third_wrong}
 use Rattle.g704_align.specs.Placing.{place_of, number_of, frames, place, alarm_after}
-use Rattle.g704_align.specs.Aligner.{IsAlignment, Describes, Follows, HasHistory}
+use Rattle.g704_align.specs.Aligner.{IsAlignedRun, Describes, Follows, HasHistory}
 use Rattle.g704_align.proofs.Searches.{frame_is_framing, search-found}
 
 -- the age of an octet of a present alignment
-age-aligned : (b : Option ℕ) (c : List ℕ) (after n age ws wd : ℕ) → IsAlignment age ws wd c → after ≤ n
+age-aligned : (b : Option ℕ) (c : List ℕ) (after n age ws wd : ℕ) → IsAlignedRun age ws wd c → after ≤ n
     → age_in after (alignments_from frame_alignment b c 0) n ≡ Some n
 age-aligned b c after n age ws wd h le =
     age-standing after n (alignments_from frame_alignment b c 0)
@@ -37,8 +37,8 @@ even_frame n = elim (cases_lt (n % 64) 32) [
 ]
 
 -- between two phases of an alignment
-pub place-aligned : (b : Option ℕ) (c : List ℕ) (x age ws wd age' ws' wd' : ℕ) → IsAlignment age ws wd c
-    → IsAlignment age' ws' wd' (c ++ x ∷ [])
+pub place-aligned : (b : Option ℕ) (c : List ℕ) (x age ws wd age' ws' wd' : ℕ) → IsAlignedRun age ws wd c
+    → IsAlignedRun age' ws' wd' (c ++ x ∷ [])
     → Slot (age % 32) (nat_lt age 32) ≡ place_since frames b (c ++ x ∷ []) (length c)
 unfolding place_since
 place-aligned b c x age ws wd age' ws' wd' h g =
@@ -53,7 +53,7 @@ unfolding place_since
 place-early b c n le = ap place_of (sym (age-early frame_alignment b c 65 n (omega arith)))
 
 -- an octet by which an alignment is not lost
-place-kept : (b : Option ℕ) (c : List ℕ) (x age ws wd : ℕ) → IsAlignment age ws wd c
+place-kept : (b : Option ℕ) (c : List ℕ) (x age ws wd : ℕ) → IsAlignedRun age ws wd c
     → is_third_wrong (c ++ x ∷ []) (length c) ≡ false
     → Slot (length c % 32) ((length c / 32) % 2 == 0) ≡ place_since frames b (c ++ x ∷ []) (length c)
 unfolding place_since
@@ -68,7 +68,7 @@ abbrev IsNoSpeech : Place → Type 0
 IsNoSpeech p = number_of p % 16 ≡ 0
 
 -- half a frame from a signal there is no slot of speech, whether the alignment is lost or not
-pub place-signal : (b : Option ℕ) (c : List ℕ) (x age ws wd : ℕ) → IsAlignment age ws wd c → age % 16 ≡ 0
+pub place-signal : (b : Option ℕ) (c : List ℕ) (x age ws wd : ℕ) → IsAlignedRun age ws wd c → age % 16 ≡ 0
     → number_of (place_since frames b (c ++ x ∷ []) (length c)) % 16 ≡ 0
 place-signal b c x age ws wd h e = elim (cases_Bool (is_third_wrong (c ++ x ∷ []) (length c))) [
   | inl lost ↦ subst IsNoSpeech (place-over frames b c x (RestartsAfter-lost frame_alignment frame_is_framing b c x

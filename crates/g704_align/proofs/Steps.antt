@@ -11,7 +11,7 @@ use Rattle.g704_framing.specs.Restart.{RestartsAfter}
 use Rattle.g704_framing.proofs.Ends.{RestartsAfter-passed, kept-more, RestartsAfter-lost}
 use Rattle.g704_align.specs.Search.{is_fas, is_nfas, search}
 use Rattle.g704_align.specs.Loss.{is_wrong, is_third_wrong, frame_alignment}
-use Rattle.g704_align.specs.Aligner.{IsCandidate, IsAlignment, CountsWrong, wrong_before, count_after, is_refuted}
+use Rattle.g704_align.specs.Aligner.{IsCandidate, IsAlignedRun, CountsWrong, wrong_before, count_after, is_refuted}
 use Rattle.g704_align.proofs.Wrongs.{is_wrong-append, is_wrong-fas, is_wrong-nfas}
 use Rattle.g704_align.proofs.Wrongs.{is_wrong-early, is_wrong-other}
 use Rattle.g704_align.proofs.Searches.{frame_is_framing, slice_get-within, slice_get-at, confirmed-refuted}
@@ -109,7 +109,7 @@ third-early c k h = and_left _ _ (is_wrong-early c k h)
 
 -- three octets that confirm one another begin an alignment, with no wrong one
 pub alignment-found : (c : List ℕ) → length c ≡ 65 → is_fas (get_or c 0 0) ≡ true → is_nfas (get_or c 32 0) ≡ true
-    → is_fas (get_or c 64 0) ≡ true → IsAlignment 1 0 0 c
+    → is_fas (get_or c 64 0) ≡ true → IsAlignedRun 1 0 0 c
 alignment-found c l f n g = record {
   counted = rw l refl;
   found = omega arith;
@@ -123,7 +123,7 @@ alignment-found c l f n g = record {
 
 -- and one that is confirmed
 pub candidate-found : (c : List ℕ) (x age : ℕ) → IsCandidate age c → is_refuted age x ≡ false → 64 ≤ age
-    → IsAlignment 1 0 0 (c ++ x ∷ [])
+    → IsAlignedRun 1 0 0 (c ++ x ∷ [])
 candidate-found c x age h kept le =
     let n : length c ≡ 64 = (let a = h.counted in let y = h.young in omega arith) in
     let l : length (c ++ x ∷ []) ≡ 65 = omega (arith, length_push c x) in
@@ -217,10 +217,10 @@ module _ (c : List ℕ) (x rest count : ℕ) (found : 64 < length c) (h : Counts
   ]
 
 -- an alignment after one octet more
-module _ (c : List ℕ) (x age ws wd : ℕ) (h : IsAlignment age ws wd c) where
+module _ (c : List ℕ) (x age ws wd : ℕ) (h : IsAlignedRun age ws wd c) where
   -- its fields, if it is not lost by the octet
   alignment-more : (ws' wd' : ℕ) → is_third_wrong (c ++ x ∷ []) (length c) ≡ false → CountsWrong 0 ws' (c ++ x ∷ [])
-      → CountsWrong 32 wd' (c ++ x ∷ []) → IsAlignment ((age + 1) % 64) ws' wd' (c ++ x ∷ [])
+      → CountsWrong 32 wd' (c ++ x ∷ []) → IsAlignedRun ((age + 1) % 64) ws' wd' (c ++ x ∷ [])
   alignment-more ws' wd' third s d = let f = h.found in let l = length_push c x in let a = h.counted in record {
     counted = omega arith;
     found = omega arith;
@@ -263,7 +263,7 @@ module _ (c : List ℕ) (x age ws wd : ℕ) (h : IsAlignment age ws wd c) where
 
   -- by the octet of slot 0 of an even frame
   pub fas-more : (n : ℕ) → age ≡ 0 → Some n ≡ count_after ws (is_fas x)
-      → IsAlignment ((age + 1) % 64) n wd (c ++ x ∷ [])
+      → IsAlignedRun ((age + 1) % 64) n wd (c ++ x ∷ [])
   fas-more n e counted =
       let r = count-more c x 0 ws h.found h.fas_count (at_rest 0 e) (is_fas x) n (wrong-fas e) counted in
       alignment-more n wd r.1 r.0 (counts-other c x 32 wd begun h.nfas_count (not_at_rest 32 (omega arith)))
@@ -279,7 +279,7 @@ module _ (c : List ℕ) (x age ws wd : ℕ) (h : IsAlignment age ws wd c) where
 
   -- of an odd frame
   pub nfas-more : (n : ℕ) → age ≡ 32 → Some n ≡ count_after wd (is_nfas x)
-      → IsAlignment ((age + 1) % 64) ws n (c ++ x ∷ [])
+      → IsAlignedRun ((age + 1) % 64) ws n (c ++ x ∷ [])
   nfas-more n e counted =
       let r = count-more c x 32 wd h.found h.nfas_count (at_rest 32 e) (is_nfas x) n (wrong-nfas e) counted in
       alignment-more ws n r.1 (counts-other c x 0 ws begun h.fas_count (not_at_rest 0 (omega arith))) r.0
@@ -294,7 +294,7 @@ module _ (c : List ℕ) (x age ws wd : ℕ) (h : IsAlignment age ws wd c) where
   nfas-lost b e counted = lost_by b (nfas-third e counted)
 
   -- of another slot
-  pub other-more : age ≢ 0 → age ≢ 32 → IsAlignment ((age + 1) % 64) ws wd (c ++ x ∷ [])
+  pub other-more : age ≢ 0 → age ≢ 32 → IsAlignedRun ((age + 1) % 64) ws wd (c ++ x ∷ [])
   other-more p q =
       let a = h.counted in
       let other : length c % 32 ≢ 0 = omega (arith, not_at_rest 0 p, not_at_rest 32 q) in
@@ -308,8 +308,8 @@ module _ (c : List ℕ) (x age ws wd : ℕ) (h : IsAlignment age ws wd c) where
 
   -- an octet between the signals, with the next age as it is computed
   pub between-signals : (next : ℕ) → age % 32 ≢ 0 → (age < 64 → next ≡ (age + 1) % 64)
-      → IsAlignment next ws wd (c ++ x ∷ [])
+      → IsAlignedRun next ws wd (c ++ x ∷ [])
   between-signals next between is =
       let zero : age ≢ 0 = λ e. between (omega (arith, e)) in
       let frame : age ≢ 32 = λ e. between (omega (arith, e)) in
-      subst (λ a. IsAlignment a ws wd (c ++ x ∷ [])) (sym (is age-below)) (other-more zero frame)
+      subst (λ a. IsAlignedRun a ws wd (c ++ x ∷ [])) (sym (is age-below)) (other-more zero frame)

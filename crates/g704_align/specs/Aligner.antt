@@ -37,7 +37,7 @@ abbrev pub count_after : ℕ → Bool → Option ℕ
 count_after count right = if right then Some 0 else (if nat_lt count 2 then Some (count + 1) else None)
 
 -- The octets are a present alignment, from its first FAS octet.
-pub record IsAlignment (age wrong_fas wrong_nfas : ℕ) (octets : List ℕ) : Type 0 where
+pub record IsAlignedRun (age wrong_fas wrong_nfas : ℕ) (octets : List ℕ) : Type 0 where
   pub counted : age ≡ length octets % 64
   pub found : 64 < length octets
   pub fas : is_fas (slice_index octets 0) ≡ true
@@ -51,13 +51,13 @@ pub record IsAlignment (age wrong_fas wrong_nfas : ℕ) (octets : List ℕ) : Ty
 abbrev pub Describes : SyncState → List ℕ → Type 0
 Describes Searching octets = octets ≡ []
 Describes (Candidate age) octets = IsCandidate age octets
-Describes (Aligned age wrong_fas wrong_nfas) octets = IsAlignment age wrong_fas wrong_nfas octets
+Describes (Aligned age wrong_fas wrong_nfas) octets = IsAlignedRun age wrong_fas wrong_nfas octets
 
 -- the phase fits these octets, or is the search that follows them
 abbrev pub Follows : SyncState → Option ℕ → List ℕ → Type 0
 Follows Searching before octets = RestartsAfter frame_alignment before octets
 Follows (Candidate age) before octets = IsCandidate age octets
-Follows (Aligned age wrong_fas wrong_nfas) before octets = IsAlignment age wrong_fas wrong_nfas octets
+Follows (Aligned age wrong_fas wrong_nfas) before octets = IsAlignedRun age wrong_fas wrong_nfas octets
 
 -- the aligner has this history: its fields describe the octets since the last restart
 abbrev pub HasHistory : Aligner → List ℕ → Type 0

@@ -6,7 +6,7 @@ ghost use Rattle.g704_align.specs.declared.alignment.Place.TheVariants.{Slot};
 ghost use Rattle.g704_align.specs.Search.{is_fas, is_nfas};
 ghost use Rattle.g704_framing.specs.Places.{place_since};
 ghost use Rattle.g704_align.specs.Placing.{frames, place, alarm_after, number_of};
-ghost use Rattle.g704_align.specs.Aligner.{IsCandidate, is_refuted, IsAlignment, count_after, Describes};
+ghost use Rattle.g704_align.specs.Aligner.{IsCandidate, is_refuted, IsAlignedRun, count_after, Describes};
 ghost use Rattle.g704_align.specs.Aligner.{Follows, HasHistory};
 
 mod saving;
@@ -225,7 +225,7 @@ fn refutes(age: u8, octet: u8) -> bool
 
 // The phase after an octet in alignment.
 fn after_aligned(age: u8, wrong_fas: u8, wrong_nfas: u8, octet: u8) -> SyncState
-    ensures { (before : Option ℕ) (octets : List ℕ) → IsAlignment age wrong_fas wrong_nfas octets
+    ensures { (before : Option ℕ) (octets : List ℕ) → IsAlignedRun age wrong_fas wrong_nfas octets
         → Follows result before (octets ++ octet ∷ []) }
 {
     let next = next_age(age);

@@ -4,7 +4,7 @@ use Rattle.std.proofs.Common.{Bool, Option, Some, None, refl, sym, ap, ◌∙◌
 use Rattle.std.specs.Prelude.{◌&&◌, nat_le, option_map}
 use Rattle.std.proofs.lemmas.Bool.Decides.{nat_tests}
 use Rattle.std.proofs.lemmas.List.{length-append, append-nil, drop_at, length_push}
-use Rattle.g704_framing.specs.Alignment.{FoundAlignment, loss, alignments_from, after_search, after_loss}
+use Rattle.g704_framing.specs.Alignment.{AlignmentSpan, loss, alignments_from, after_search, after_loss}
 use Rattle.g704_framing.specs.Restart.{RestartsAfter, last_of, moved}
 use Rattle.g704_framing.proofs.Leasts.{IsLeast, least_equals}
 use Rattle.g704_framing.proofs.Turns.{alignments-turns, alignments-append, onto}
@@ -12,7 +12,7 @@ use Rattle.g704_framing.proofs.Ends.{is_lost-append}
 use Rattle.g704_bits.specs.Search.{search, is_confirmed}
 use Rattle.g704_bits.specs.Loss.{is_lost_at, bit_alignment}
 use Rattle.g704_bits.specs.Bits.{offset_of, offset_after}
-use Rattle.g704_bits.specs.Aligner.{IsAlignment}
+use Rattle.g704_bits.specs.Aligner.{IsAlignedRun}
 use Rattle.g704_bits.proofs.Framing.{bits_are_framing, search-equals, confirmed-append, confirmed-behind}
 use Rattle.g704_bits.proofs.Steps.{first-confirmed, not-lost}
 
@@ -32,7 +32,7 @@ unfolding after_search
 none-yet b c none = alignments-turns bit_alignment bits_are_framing b c 0 ∙ rw (search-none c none) refl
 
 -- an alignment at a place of a stream: it is found there, whatever follows
-pub found-at : (sk al t : List ℕ) (age ws wd : ℕ) → IsAlignment age ws wd al
+pub found-at : (sk al t : List ℕ) (age ws wd : ℕ) → IsAlignedRun age ws wd al
     → ((k : ℕ) → k < length sk → is_confirmed (sk ++ al) k ≡ false) → search ((sk ++ al) ++ t) 0 ≡ Some (length sk)
 found-at sk al t age ws wd h none =
     let n = h.found in
@@ -56,7 +56,7 @@ loss-at sk d o h =
     (ap (option_map (λ age. length sk + age)) (least_equals (is_lost_at d) (length d) o h))
 
 -- a present alignment is the only one
-pub one-stands : (b : Option ℕ) (sk al : List ℕ) (age ws wd : ℕ) → IsAlignment age ws wd al
+pub one-stands : (b : Option ℕ) (sk al : List ℕ) (age ws wd : ℕ) → IsAlignedRun age ws wd al
     → ((k : ℕ) → k < length sk → is_confirmed (sk ++ al) k ≡ false)
     → alignments_from bit_alignment b (sk ++ al) 0 ≡ record { start = length sk; lost = None } ∷ []
 unfolding after_search after_loss
@@ -67,7 +67,7 @@ one-stands b sk al age ws wd h none =
     ∙ rw (found, loss-at sk al None (not-lost al age ws wd h)) refl
 
 -- and one that is lost by the next window ends all
-pub one-lost : (b : Option ℕ) (sk al : List ℕ) (x age ws wd : ℕ) → IsAlignment age ws wd al
+pub one-lost : (b : Option ℕ) (sk al : List ℕ) (x age ws wd : ℕ) → IsAlignedRun age ws wd al
     → ((k : ℕ) → k < length sk → is_confirmed (sk ++ al) k ≡ false)
     → is_lost_at (al ++ x ∷ []) (length al) ≡ true
     → (t : List ℕ) → alignments_from bit_alignment b (((sk ++ al) ++ x ∷ []) ++ t) 0
@@ -96,7 +96,7 @@ one-lost b sk al x age ws wd h none third t =
     (rw (← len) (alignments-append bit_alignment b c t)))
 
 -- so everything restarts after it
-pub over-lost : (b : Option ℕ) (sk al : List ℕ) (x age ws wd : ℕ) → IsAlignment age ws wd al
+pub over-lost : (b : Option ℕ) (sk al : List ℕ) (x age ws wd : ℕ) → IsAlignedRun age ws wd al
     → ((k : ℕ) → k < length sk → is_confirmed (sk ++ al) k ≡ false)
     → is_lost_at (al ++ x ∷ []) (length al) ≡ true → RestartsAfter bit_alignment b ((sk ++ al) ++ x ∷ [])
 over-lost b sk al x age ws wd h none third = record {
@@ -106,7 +106,7 @@ over-lost b sk al x age ws wd h none third = record {
 }
 
 -- the offset of alignments, one list after another
-offset_of-append : (j : ℕ) (ds es : List FoundAlignment) → offset_of j (ds ++ es) ≡ offset_of (offset_of j ds) es
+offset_of-append : (j : ℕ) (ds es : List AlignmentSpan) → offset_of j (ds ++ es) ≡ offset_of (offset_of j ds) es
 offset_of-append j [] es = refl
 offset_of-append j (d ∷ ds) es = offset_of-append (d.start % 8) ds es
 

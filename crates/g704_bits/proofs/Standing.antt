@@ -11,7 +11,7 @@ use Rattle.g704_bits.specs.Loss.{is_lost_at, bit_alignment}
 use Rattle.g704_bits.specs.Bits.{offset_of, offset_after}
 use Rattle.g704_bits.specs.declared.aligner.SyncState.{SyncState}
 use Rattle.g704_bits.specs.declared.aligner.SyncState.TheVariants.{Hunting, Aligned}
-use Rattle.g704_bits.specs.Aligner.{IsHunting, IsAlignment, Describes, FollowsAlignment, HasHistory}
+use Rattle.g704_bits.specs.Aligner.{IsHunting, IsAlignedRun, Describes, FollowsAlignment, HasHistory}
 use Rattle.g704_bits.specs.Aligner.{next_seen, confirms}
 use Rattle.g704_bits.proofs.Framing.{confirmed-append}
 use Rattle.g704_bits.proofs.Spans.{none-yet, one-stands, one-lost, over-lost, offset-since}
@@ -27,7 +27,7 @@ offset-quiet earlier c over none =
 
 -- in alignment
 offset-stands : (earlier sk al : List ℕ) (age ws wd : ℕ) (over : RestartsAfter bit_alignment None earlier)
-    → IsAlignment age ws wd al → ((k : ℕ) → k < length sk → is_confirmed (sk ++ al) k ≡ false)
+    → IsAlignedRun age ws wd al → ((k : ℕ) → k < length sk → is_confirmed (sk ++ al) k ≡ false)
     → offset_after (earlier ++ (sk ++ al)) ≡ (length earlier + length sk) % 8
 offset-stands earlier sk al age ws wd over h none =
     offset-since earlier (sk ++ al) over
@@ -36,7 +36,7 @@ offset-stands earlier sk al age ws wd over h none =
 
 -- if it is lost by the last window
 offset-lost : (earlier sk al : List ℕ) (x age ws wd : ℕ) (over : RestartsAfter bit_alignment None earlier)
-    → IsAlignment age ws wd al → ((k : ℕ) → k < length sk → is_confirmed (sk ++ al) k ≡ false)
+    → IsAlignedRun age ws wd al → ((k : ℕ) → k < length sk → is_confirmed (sk ++ al) k ≡ false)
     → is_lost_at (al ++ x ∷ []) (length al) ≡ true
     → offset_after (earlier ++ ((sk ++ al) ++ x ∷ [])) ≡ (length earlier + length sk) % 8
 unfolding alignments_from
@@ -47,7 +47,7 @@ offset-lost earlier sk al x age ws wd over h none third =
     ∙ one-lost (last_of None earlier) sk al x age ws wd h none third [])
 
 -- what comes behind an alignment confirms nothing before it
-none-longer : (sk al : List ℕ) (x age ws wd : ℕ) → IsAlignment age ws wd al
+none-longer : (sk al : List ℕ) (x age ws wd : ℕ) → IsAlignedRun age ws wd al
     → ((k : ℕ) → k < length sk → is_confirmed (sk ++ al) k ≡ false)
     → (k : ℕ) → k < length sk → is_confirmed (sk ++ (al ++ x ∷ [])) k ≡ false
 none-longer sk al x age ws wd h none k lt =
@@ -119,7 +119,7 @@ stands-found seen o bit memory history x s sure at =
 -- an alignment goes on, or is lost
 pub stands-aligned : (age ws wd o : ℕ) (memory history : List ℕ) (x : ℕ) (after : SyncState)
     → HasHistory (record { phase = Aligned age ws wd; offset = o; memory = memory }) history
-    → ((windows : List ℕ) → IsAlignment age ws wd windows → FollowsAlignment after windows x)
+    → ((windows : List ℕ) → IsAlignedRun age ws wd windows → FollowsAlignment after windows x)
     → HasHistory (record { phase = after; offset = o; memory = memory }) (history ++ x ∷ [])
 stands-aligned age ws wd o memory history x (Aligned age' ws' wd') s follows =
     let h = s.since in

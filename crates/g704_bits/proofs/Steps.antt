@@ -11,11 +11,11 @@ use Rattle.g704_align.specs.Aligner as frames
 use Rattle.g704_align.proofs.Steps as octets
 use Rattle.g704_bits.specs.Search.{is_confirmed}
 use Rattle.g704_bits.specs.Loss.{octets_along, is_lost_at}
-use Rattle.g704_bits.specs.Aligner.{IsAlignment}
+use Rattle.g704_bits.specs.Aligner.{IsAlignedRun}
 use Rattle.g704_bits.proofs.Eighths.{length-octets, octet-at, octets-push, octets-between, lost-octet, lost-between}
 
 -- three windows that confirm one another are an alignment, with no wrong one
-pub alignment-found : (c : List ℕ) → length c ≡ 513 → is_confirmed c 0 ≡ true → IsAlignment 1 0 0 c
+pub alignment-found : (c : List ℕ) → length c ≡ 513 → is_confirmed c 0 ≡ true → IsAlignedRun 1 0 0 c
 unfolding is_confirmed
 alignment-found c l sure =
     let one = and_parts (is_fas (slice_index c 0)) _ sure in
@@ -29,13 +29,13 @@ alignment-found c l sure =
     }
 
 -- the first window of an alignment is confirmed
-pub first-confirmed : (c : List ℕ) (age ws wd : ℕ) → IsAlignment age ws wd c → is_confirmed c 0 ≡ true
+pub first-confirmed : (c : List ℕ) (age ws wd : ℕ) → IsAlignedRun age ws wd c → is_confirmed c 0 ≡ true
 unfolding is_confirmed
 first-confirmed c age ws wd h =
     rw (← octet-at c 0, ← octet-at c 32, ← octet-at c 64, h.octets.fas, h.octets.nfas, h.octets.confirmed) refl
 
 -- a present alignment is not lost
-pub not-lost : (c : List ℕ) (age ws wd : ℕ) → IsAlignment age ws wd c → (k : ℕ) → k < length c
+pub not-lost : (c : List ℕ) (age ws wd : ℕ) → IsAlignedRun age ws wd c → (k : ℕ) → k < length c
     → is_lost_at c k ≡ false
 not-lost c age ws wd h k lt = elim (cases_eq (k % 8) 0) [
   | inr ne ↦ lost-between c k ne
@@ -43,13 +43,13 @@ not-lost c age ws wd h k lt = elim (cases_eq (k % 8) 0) [
 ]
 
 -- an alignment after one window more
-module _ (c : List ℕ) (x age ws wd : ℕ) (h : IsAlignment age ws wd c) where
+module _ (c : List ℕ) (x age ws wd : ℕ) (h : IsAlignedRun age ws wd c) where
   -- an age is below two frames
   pub age-below : age < 512
   age-below = let a = h.counted in omega arith
 
   -- the window lies between two octets
-  between : length c % 8 ≢ 0 → IsAlignment ((age + 1) % 512) ws wd (c ++ x ∷ [])
+  between : length c % 8 ≢ 0 → IsAlignedRun ((age + 1) % 512) ws wd (c ++ x ∷ [])
   between ne = let a = h.counted in let f = h.found in let l = length_push c x in record {
     counted = omega arith;
     found = omega arith;
@@ -58,8 +58,8 @@ module _ (c : List ℕ) (x age ws wd : ℕ) (h : IsAlignment age ws wd c) where
 
   -- or is the next one
   next-octet : (ws' wd' : ℕ) → length c % 8 ≡ 0
-      → frames.IsAlignment ((length (octets_along c) % 64 + 1) % 64) ws' wd' (octets_along c ++ x ∷ [])
-      → IsAlignment ((age + 1) % 512) ws' wd' (c ++ x ∷ [])
+      → frames.IsAlignedRun ((length (octets_along c) % 64 + 1) % 64) ws' wd' (octets_along c ++ x ∷ [])
+      → IsAlignedRun ((age + 1) % 512) ws' wd' (c ++ x ∷ [])
   next-octet ws' wd' e more =
       let a = h.counted in let f = h.found in let l = length_push c x in
       let n : length (octets_along c ++ x ∷ []) % 64 ≡ (length (octets_along c) % 64 + 1) % 64
@@ -83,7 +83,7 @@ module _ (c : List ℕ) (x age ws wd : ℕ) (h : IsAlignment age ws wd c) where
 
   -- by the octet of slot 0 of an even frame
   pub fas-more : (n : ℕ) → age ≡ 0 → Some n ≡ count_after ws (is_fas x)
-      → IsAlignment ((age + 1) % 512) n wd (c ++ x ∷ [])
+      → IsAlignedRun ((age + 1) % 512) n wd (c ++ x ∷ [])
   fas-more n e counted =
       let at = octet-age 0 e (omega arith) in
       next-octet n wd at.0 (octets.fas-more (octets_along c) x _ ws wd h.octets n at.1 counted)
@@ -96,7 +96,7 @@ module _ (c : List ℕ) (x age ws wd : ℕ) (h : IsAlignment age ws wd c) where
 
   -- of an odd frame
   pub nfas-more : (n : ℕ) → age ≡ 256 → Some n ≡ count_after wd (is_nfas x)
-      → IsAlignment ((age + 1) % 512) ws n (c ++ x ∷ [])
+      → IsAlignedRun ((age + 1) % 512) ws n (c ++ x ∷ [])
   nfas-more n e counted =
       let at = octet-age 32 e (omega arith) in
       next-octet ws n at.0 (octets.nfas-more (octets_along c) x _ ws wd h.octets n at.1 counted)
@@ -108,7 +108,7 @@ module _ (c : List ℕ) (x age ws wd : ℕ) (h : IsAlignment age ws wd c) where
       lost-by at.0 (octets.nfas-third (octets_along c) x _ ws wd h.octets at.1 counted)
 
   -- of another slot, or between two octets
-  pub other-more : age ≢ 0 → age ≢ 256 → IsAlignment ((age + 1) % 512) ws wd (c ++ x ∷ [])
+  pub other-more : age ≢ 0 → age ≢ 256 → IsAlignedRun ((age + 1) % 512) ws wd (c ++ x ∷ [])
   other-more p q = elim (cases_eq (length c % 8) 0) [
     | inr ne ↦ between ne
     | inl e ↦

@@ -34,11 +34,11 @@ confirms seen memory window =
     && (is_nfas (slice_index memory ((seen + 256) % 512)) && is_fas window))
 
 -- The windows are a present alignment, from its first signal.
-pub record IsAlignment (age wrong_fas wrong_nfas : ℕ) (windows : List ℕ) : Type 0 where
+pub record IsAlignedRun (age wrong_fas wrong_nfas : ℕ) (windows : List ℕ) : Type 0 where
   pub counted : age ≡ length windows % 512
   pub found : 512 < length windows
   pub octets :
-      frames.IsAlignment (length (octets_along windows) % 64) wrong_fas wrong_nfas (octets_along windows)
+      frames.IsAlignedRun (length (octets_along windows) % 64) wrong_fas wrong_nfas (octets_along windows)
 
 -- The alignment behind windows of which none is confirmed.
 pub record IsAligned (age wrong_fas wrong_nfas : ℕ) (windows : List ℕ) : Type 0 where
@@ -46,7 +46,7 @@ pub record IsAligned (age wrong_fas wrong_nfas : ℕ) (windows : List ℕ) : Typ
   pub aligned : List ℕ
   pub whole : windows ≡ skipped ++ aligned
   pub none : (position : ℕ) → position < length skipped → is_confirmed windows position ≡ false
-  pub fields : IsAlignment age wrong_fas wrong_nfas aligned
+  pub fields : IsAlignedRun age wrong_fas wrong_nfas aligned
 
 -- the windows since the last restart, by the phase, and the memory without alignment
 abbrev pub Describes : SyncState → List ℕ → List ℕ → Type 0
@@ -58,7 +58,7 @@ abbrev pub FollowsAlignment : SyncState → List ℕ → ℕ → Type 0
 FollowsAlignment (Hunting seen) windows window =
     (seen ≡ 0) × (is_lost_at (windows ++ window ∷ []) (length windows) ≡ true)
 FollowsAlignment (Aligned age wrong_fas wrong_nfas) windows window =
-    IsAlignment age wrong_fas wrong_nfas (windows ++ window ∷ [])
+    IsAlignedRun age wrong_fas wrong_nfas (windows ++ window ∷ [])
 
 -- The aligner has this history of windows.
 pub record HasHistory (aligner : Aligner) (history : List ℕ) : Type 0 where

@@ -4,7 +4,7 @@ use Rattle.std.specs.Prelude.{slice_index}
 use Rattle.std.specs.Prelude.{true}
 use Rattle.g704_align.specs.Search.{is_fas, is_nfas}
 use Rattle.g704_bits.specs.Search.{is_confirmed}
-use Rattle.g704_framing.specs.Alignment.{FoundAlignment, alignments_of}
+use Rattle.g704_framing.specs.Alignment.{AlignmentSpan, alignments_of}
 use Rattle.g704_bits.specs.Loss.{bit_alignment}
 
 -- the window that ends at a bit of the second of two octets, bit 0 the first sent
@@ -28,7 +28,7 @@ abbrev pub windows_of : List ℕ → List ℕ
 windows_of octets = windows_after 255 octets
 
 -- the last bit of windows in the last of these alignments, or this one if there is none
-abbrev pub offset_of : ℕ → List FoundAlignment → ℕ
+abbrev pub offset_of : ℕ → List AlignmentSpan → ℕ
 offset_of before [] = before
 offset_of before (alignment ∷ others) = offset_of (alignment.start % 8) others
 

@@ -2,7 +2,7 @@
 
 ghost use Rattle.std.specs.Prelude.{◌≡◌, ◌+◌, ◌%◌, ◌<◌, ◌≤◌, ◌&&◌, ℕ, nat_le, List, Option, [], ◌∷◌, ◌++◌};
 ghost use Rattle.std.specs.Prelude.{length, slice_index};
-ghost use Rattle.g704_bits.specs.Aligner.{HasHistory, IsAlignment, FollowsAlignment, confirms, next_seen};
+ghost use Rattle.g704_bits.specs.Aligner.{HasHistory, IsAlignedRun, FollowsAlignment, confirms, next_seen};
 
 use g704_align::{count_after, is_fas, is_nfas};
 
@@ -125,7 +125,7 @@ fn next_seen(seen: u16) -> u16
 
 // The phase after a window in alignment.
 fn after_aligned(age: u16, wrong_fas: u8, wrong_nfas: u8, window: u8) -> SyncState
-    ensures { (windows : List ℕ) → IsAlignment age wrong_fas wrong_nfas windows
+    ensures { (windows : List ℕ) → IsAlignedRun age wrong_fas wrong_nfas windows
         → FollowsAlignment result windows window }
 {
     let next = next_age(age);

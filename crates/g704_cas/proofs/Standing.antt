@@ -15,11 +15,11 @@ use Rattle.g704_cas.specs.declared.alignment.SyncState.TheVariants.{Searching, A
 use Rattle.g704_cas.specs.Search.{is_not_zero}
 use Rattle.g704_cas.specs.Loss.{multiframe_alignment}
 use Rattle.g704_cas.specs.Placing.{multiframes, alarm_after}
-use Rattle.g704_cas.specs.Aligner.{IsAlignment, Describes, Follows, HasHistory}
+use Rattle.g704_cas.specs.Aligner.{IsAlignedRun, Describes, Follows, HasHistory}
 use Rattle.g704_cas.proofs.Searches.{multiframe_is_framing, search-found}
 
 -- the age of an octet of a present alignment
-age-aligned : (b : Option ℕ) (c : List ℕ) (n frame : ℕ) (wrong : Bool) → IsAlignment b frame wrong c
+age-aligned : (b : Option ℕ) (c : List ℕ) (n frame : ℕ) (wrong : Bool) → IsAlignedRun b frame wrong c
     → age_in 0 (alignments_from multiframe_alignment b c 0) n ≡ Some n
 age-aligned b c n frame wrong h =
     age-standing 0 n (alignments_from multiframe_alignment b c 0)
@@ -29,13 +29,13 @@ age-aligned b c n frame wrong h =
 
 -- the octet by which alignment is found
 pub place-first : (b : Option ℕ) (c : List ℕ) (x frame : ℕ) (wrong after : Bool) → (c ≡ []) × (after ≡ is_not_zero b)
-    → IsAlignment b frame wrong (c ++ x ∷ []) → Frame 0 ≡ place_since multiframes b (c ++ x ∷ []) (length c)
+    → IsAlignedRun b frame wrong (c ++ x ∷ []) → Frame 0 ≡ place_since multiframes b (c ++ x ∷ []) (length c)
 unfolding place_since
 place-first b c x frame wrong after h g = rw (age-aligned b (c ++ x ∷ []) (length c) frame wrong g, h.0) refl
 
 -- an octet in an alignment
-pub place-next : (b : Option ℕ) (c : List ℕ) (x frame frame' : ℕ) (wrong wrong' : Bool) → IsAlignment b frame wrong c
-    → IsAlignment b frame' wrong' (c ++ x ∷ [])
+pub place-next : (b : Option ℕ) (c : List ℕ) (x frame frame' : ℕ) (wrong wrong' : Bool) → IsAlignedRun b frame wrong c
+    → IsAlignedRun b frame' wrong' (c ++ x ∷ [])
     → Frame (frame % 16) ≡ place_since multiframes b (c ++ x ∷ []) (length c)
 unfolding place_since
 place-next b c x frame frame' wrong wrong' h g =
@@ -69,7 +69,7 @@ alarm-searching phase history after e h =
 pub alarm-aligned : (phase : SyncState) (history : List ℕ) (frame : ℕ) (wrong : Bool) → phase ≡ Aligned frame wrong
     → HasHistory (record { phase = phase }) history → false ≡ alarm_after history
 alarm-aligned phase history frame wrong e h =
-    let d : IsAlignment (last_of None h.earlier) frame wrong h.since
+    let d : IsAlignedRun (last_of None h.earlier) frame wrong h.since
     = subst (λ p. Describes p (last_of None h.earlier) h.since) e h.fields in
     rw h.whole (ap is_none (sym (age-aligned (last_of None h.earlier) h.since (length h.since - 1) frame wrong d))
     ∙ alarm-since multiframes h.earlier h.since h.over d.begun)

@@ -8,13 +8,13 @@ use Rattle.g704_framing.specs.Restart.{RestartsAfter, last_of}
 use Rattle.g704_framing.proofs.Ends.{RestartsAfter-passed, kept-more, RestartsAfter-lost, last_of-push}
 use Rattle.g704_cas.specs.Search.{is_mfas, is_not_zero, search}
 use Rattle.g704_cas.specs.Loss.{is_wrong, is_second_wrong, multiframe_alignment}
-use Rattle.g704_cas.specs.Aligner.{IsAlignment}
+use Rattle.g704_cas.specs.Aligner.{IsAlignedRun}
 use Rattle.g704_cas.proofs.Wrongs.{is_wrong-append, is_wrong-other, is_wrong-first}
 use Rattle.g704_cas.proofs.Wrongs.{is_wrong-last}
 use Rattle.g704_cas.proofs.Searches.{multiframe_is_framing, search-found}
 
 -- an octet by which alignment is found
-pub first_octet : (b : Option ℕ) (x : ℕ) → is_not_zero b ≡ true → is_mfas x ≡ true → IsAlignment b 1 false (x ∷ [])
+pub first_octet : (b : Option ℕ) (x : ℕ) → is_not_zero b ≡ true → is_mfas x ≡ true → IsAlignedRun b 1 false (x ∷ [])
 first_octet b x h r = record {
   after_nonzero = h;
   begun = omega arith;
@@ -40,13 +40,13 @@ not_zero-wrong b c x r = rw (last_of-push b c x) (elim (cases_eq x 0) [
 ])
 
 -- an alignment after one octet more
-module _ (b : Option ℕ) (c : List ℕ) (x frame : ℕ) (wrong : Bool) (h : IsAlignment b frame wrong c) where
+module _ (b : Option ℕ) (c : List ℕ) (x frame : ℕ) (wrong : Bool) (h : IsAlignedRun b frame wrong c) where
   -- its fields, if it is not lost by the octet
   more : (frame' : ℕ) (wrong' : Bool) → frame' ≡ length (c ++ x ∷ []) % 16
       → is_second_wrong (c ++ x ∷ []) (length c) ≡ false
       → ((k : ℕ) → length (c ++ x ∷ []) ≤ k → k < length (c ++ x ∷ []) + 16 → k % 16 ≡ 0
       → wrong' ≡ is_wrong (c ++ x ∷ []) (k - 16))
-      → IsAlignment b frame' wrong' (c ++ x ∷ [])
+      → IsAlignedRun b frame' wrong' (c ++ x ∷ [])
   more frame' wrong' n now l = let s = h.begun in let p = length_push c x in record {
     after_nonzero = h.after_nonzero;
     begun = omega arith;
@@ -57,7 +57,7 @@ module _ (b : Option ℕ) (c : List ℕ) (x frame : ℕ) (wrong : Bool) (h : IsA
   }
 
   -- by an octet of another frame
-  pub other-more : frame ≢ 0 → IsAlignment b ((frame + 1) % 16) wrong (c ++ x ∷ [])
+  pub other-more : frame ≢ 0 → IsAlignedRun b ((frame + 1) % 16) wrong (c ++ x ∷ [])
   other-more ne =
       let a = h.counted in
       let s = h.begun in
@@ -91,7 +91,7 @@ module _ (b : Option ℕ) (c : List ℕ) (x frame : ℕ) (wrong : Bool) (h : IsA
 
   -- by one of frame 0 that is right, or the first in a row that is wrong
   pub zero-more : (right : Bool) → frame ≡ 0 → is_mfas x ≡ right → (not right && wrong) ≡ false
-      → IsAlignment b 1 (not right) (c ++ x ∷ [])
+      → IsAlignedRun b 1 (not right) (c ++ x ∷ [])
   zero-more right e r passed =
       let a = h.counted in
       let p = length_push c x in

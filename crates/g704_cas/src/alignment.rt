@@ -4,7 +4,7 @@ ghost use Rattle.std.specs.Prelude.{◌≡◌, ◌+◌, ◌%◌, ◌<◌, ℕ, L
 ghost use Rattle.g704_cas.specs.Search.{is_mfas, is_not_zero};
 ghost use Rattle.g704_framing.specs.Places.{place_since};
 ghost use Rattle.g704_cas.specs.Placing.{multiframes, place, alarm_after, frame_of};
-ghost use Rattle.g704_cas.specs.Aligner.{IsAlignment, Describes, Follows, HasHistory};
+ghost use Rattle.g704_cas.specs.Aligner.{IsAlignedRun, Describes, Follows, HasHistory};
 
 mod saving;
 
@@ -120,7 +120,7 @@ fn searched(after_nonzero: bool, octet: u8) -> SyncState
 
 // The phase after an octet in alignment.
 fn after_aligned(frame: u8, wrong: bool, octet: u8) -> SyncState
-    ensures { (before : Option ℕ) (octets : List ℕ) → IsAlignment before frame wrong octets
+    ensures { (before : Option ℕ) (octets : List ℕ) → IsAlignedRun before frame wrong octets
         → Follows result before (octets ++ octet ∷ []) }
 {
     if frame == 0 {

@@ -4,7 +4,7 @@ use Rattle.std.proofs.Common.{Option, Some, None, refl, sym, ap, ◌∙◌, arit
 use Rattle.std.proofs.lemmas.Option.{same_Some}
 use Rattle.std.proofs.lemmas.Bool.{lt-ltb, le-ltb, lt-leb, le-leb, and_left, and_parts}
 use Rattle.std.proofs.lemmas.Bool.{cases_lt, cases_Bool, false≢true}
-use Rattle.g704_framing.specs.Alignment.{Framing, FoundAlignment, alignments_from, after_search, after_loss, loss}
+use Rattle.g704_framing.specs.Alignment.{Framing, AlignmentSpan, alignments_from, after_search, after_loss, loss}
 use Rattle.g704_framing.specs.Age.{is_before_loss, is_standing, age_in}
 use Rattle.g704_framing.specs.Laws.{IsFraming}
 use Rattle.g704_framing.proofs.Turns.{alignments-turns}
@@ -39,7 +39,7 @@ loss-here n (Some q) e g = elim (cases_lt (suc n) q) [
 
 module _ (f : Framing) (h : IsFraming f) (b : Option ℕ) (s : List ℕ) (a n k : ℕ) where
   -- There is an alignment at the octet.
-  in_alignment : (p : ℕ) (l : Option ℕ) (ds : List FoundAlignment) → ds ≡ after_loss f b s l → IsNotBefore p l
+  in_alignment : (p : ℕ) (l : Option ℕ) (ds : List AlignmentSpan) → ds ≡ after_loss f b s l → IsNotBefore p l
       → p + a ≤ suc n → is_before_loss (suc n) l ≡ true → suc n - p ≡ k
       → IsAgeBefore a (suc n) k (age_in a (record { start = p; lost = l } ∷ ds) n)
   in_alignment p l ds tail nb le up e = elim (cases_lt n (p + a)) [
@@ -62,7 +62,7 @@ module _ (f : Framing) (h : IsFraming f) (b : Option ℕ) (s : List ℕ) (a n k 
   ]
 
   -- There is no alignment at the octet, and there was none before, or it is lost by the octet.
-  past_alignment : (p : ℕ) (l : Option ℕ) (ds : List FoundAlignment) → ds ≡ after_loss f b s l
+  past_alignment : (p : ℕ) (l : Option ℕ) (ds : List AlignmentSpan) → ds ≡ after_loss f b s l
       → is_standing a (record { start = p; lost = l }) (suc n) ≡ false → age_in a ds (suc n) ≡ Some k
       → IsAgeBefore a (suc n) k (age_in a ds n)
       → IsAgeBefore a (suc n) k (age_in a (record { start = p; lost = l } ∷ ds) n)
@@ -84,7 +84,7 @@ module _ (f : Framing) (h : IsFraming f) (b : Option ℕ) (s : List ℕ) (a n k 
   ]
 
   -- What follows an alignment.
-  after_it : (ds : List FoundAlignment) (o : Option ℕ) → ds ≡ after_loss f b s o → age_in a ds (suc n) ≡ Some k
+  after_it : (ds : List AlignmentSpan) (o : Option ℕ) → ds ≡ after_loss f b s o → age_in a ds (suc n) ≡ Some k
       → ((q : ℕ) → ds ≡ alignments_from f b s (suc q) → age_in a ds (suc n) ≡ Some k
       → IsAgeBefore a (suc n) k (age_in a ds n))
       → IsAgeBefore a (suc n) k (age_in a ds n)
@@ -93,7 +93,7 @@ module _ (f : Framing) (h : IsFraming f) (b : Option ℕ) (s : List ℕ) (a n k 
   after_it ds (Some q) e j again = again q e j
 
   -- An alignment that begins here, or what follows it.
-  one_alignment : (p : ℕ) (l : Option ℕ) (ds : List FoundAlignment) → ds ≡ after_loss f b s l → IsNotBefore p l
+  one_alignment : (p : ℕ) (l : Option ℕ) (ds : List AlignmentSpan) → ds ≡ after_loss f b s l → IsNotBefore p l
       → age_in a (record { start = p; lost = l } ∷ ds) (suc n) ≡ Some k
       → ((q : ℕ) → ds ≡ alignments_from f b s (suc q) → age_in a ds (suc n) ≡ Some k
       → IsAgeBefore a (suc n) k (age_in a ds n))
@@ -110,7 +110,7 @@ module _ (f : Framing) (h : IsFraming f) (b : Option ℕ) (s : List ℕ) (a n k 
   ]
 
   -- What was found, and what follows it.
-  found_before : (d : FoundAlignment) (ds : List FoundAlignment) (o : Option ℕ) → d ∷ ds ≡ after_search f b s o
+  found_before : (d : AlignmentSpan) (ds : List AlignmentSpan) (o : Option ℕ) → d ∷ ds ≡ after_search f b s o
       → age_in a (d ∷ ds) (suc n) ≡ Some k
       → ((q : ℕ) → ds ≡ alignments_from f b s (suc q) → age_in a ds (suc n) ≡ Some k
       → IsAgeBefore a (suc n) k (age_in a ds n))
@@ -123,7 +123,7 @@ module _ (f : Framing) (h : IsFraming f) (b : Option ℕ) (s : List ℕ) (a n k 
       rw head (one_alignment p (loss f s p) ds tail (loss-not_before f h s p) (rw head at i) again)
 
   -- From the alignments of a stream.
-  pub age_before : (ds : List FoundAlignment) (from : ℕ) → ds ≡ alignments_from f b s from
+  pub age_before : (ds : List AlignmentSpan) (from : ℕ) → ds ≡ alignments_from f b s from
       → age_in a ds (suc n) ≡ Some k
       → IsAgeBefore a (suc n) k (age_in a ds n)
   age_before [] from e i = cc

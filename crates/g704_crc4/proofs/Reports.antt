@@ -10,20 +10,6 @@ use Rattle.g704_crc4.specs.Reporting.{SenderInput, Octet, Errored, octet_count, 
 use Rattle.g704_crc4.specs.Reporting.{unreported_after, unreported, octet_with_e, is_reported_by, zeros_after}
 use Rattle.g704_crc4.specs.Reporting.{EachIsReported, NoneIsReported, ReportsAfter}
 
--- One octet more is one place more.
-pub octets-octet : (h : List SenderInput) (x : ℕ) → octet_count (h ++ Octet x ∷ []) ≡ octet_count h + 1
-unfolding octet_count
-octets-octet [] x = refl
-octets-octet (Octet y ∷ h) x = omega (arith, octets-octet h x)
-octets-octet (Errored n ∷ h) x = octets-octet h x
-
--- A report takes no place.
-pub octets-errored : (h : List SenderInput) (n : ℕ) → octet_count (h ++ Errored n ∷ []) ≡ octet_count h
-unfolding octet_count
-octets-errored [] n = refl
-octets-errored (Octet y ∷ h) n = omega (arith, octets-errored h n)
-octets-errored (Errored m ∷ h) n = octets-errored h n
-
 -- What is left after one octet more.
 left-octet : (left place : ℕ) (h : List SenderInput) (x : ℕ) → unreported_after left place (h ++ Octet x ∷ [])
     ≡ cond (has_e_bit (place + octet_count h)) (unreported_after left place h - 1) (unreported_after left place h)

@@ -5,7 +5,7 @@ use Rattle.std.specs.Prelude.{option_map}
 use Rattle.std.proofs.lemmas.List.{append-nil}
 use Rattle.std.proofs.lemmas.Bool.{le-ltb, lt-leb, le-leb, and_left, and_right}
 use Rattle.std.proofs.lemmas.Bool.Decides.{nat_tests}
-use Rattle.g704_framing.specs.Alignment.{Framing, FoundAlignment, alignments_from}
+use Rattle.g704_framing.specs.Alignment.{Framing, AlignmentSpan, alignments_from}
 use Rattle.g704_framing.specs.Age.{is_before_loss, is_standing, age_in}
 use Rattle.g704_framing.specs.Restart.{moved, IsLostBefore, AllLostBefore, RestartsAfter, last_of}
 use Rattle.g704_framing.proofs.Moves.{map-moved_zero}
@@ -24,13 +24,13 @@ before_loss-moved m n None = refl
 before_loss-moved m n (Some q) = ltb-move m n q
 
 -- nor whether there is an alignment
-standing-moved : (a m n : ℕ) (d : FoundAlignment) → is_standing a (moved m d) (m + n) ≡ is_standing a d n
+standing-moved : (a m n : ℕ) (d : AlignmentSpan) → is_standing a (moved m d) (m + n) ≡ is_standing a d n
 standing-moved a m n d =
     let e : m + d.start + a ≡ m + (d.start + a) = omega arith in
     rw (e, leb-move m (d.start + a) n, before_loss-moved m n d.lost) refl
 
 -- ages do not depend on the origin of positions
-pub age_in-moved : (a m n : ℕ) (ds : List FoundAlignment) → age_in a (map (moved m) ds) (m + n) ≡ age_in a ds n
+pub age_in-moved : (a m n : ℕ) (ds : List AlignmentSpan) → age_in a (map (moved m) ds) (m + n) ≡ age_in a ds n
 age_in-moved a m n [] = refl
 age_in-moved a m n (d ∷ ds) =
     let e : (m + n) - (m + d.start) ≡ n - d.start = omega arith in
@@ -42,7 +42,7 @@ lost_before m n None h g = absurd g
 lost_before m n (Some q) h g = le-ltb n q (omega arith)
 
 -- alignments that are lost by then give no octet an age
-pub age_in-over : (a m n : ℕ) (ds es : List FoundAlignment) → m ≤ suc n → AllLostBefore m ds
+pub age_in-over : (a m n : ℕ) (ds es : List AlignmentSpan) → m ≤ suc n → AllLostBefore m ds
     → age_in a (ds ++ es) n ≡ age_in a es n
 age_in-over a m n [] es h g = refl
 age_in-over a m n (d ∷ ds) es h g =
@@ -50,7 +50,7 @@ age_in-over a m n (d ∷ ds) es h g =
     rw e (age_in-over a m n ds es h g.1)
 
 -- an alignment that begins at m or later gives no age to an octet before m + a
-pub age_in-early : (a m n : ℕ) (ds : List FoundAlignment) → n < m + a → age_in a (map (moved m) ds) n ≡ None
+pub age_in-early : (a m n : ℕ) (ds : List AlignmentSpan) → n < m + a → age_in a (map (moved m) ds) n ≡ None
 age_in-early a m n [] h = refl
 age_in-early a m n (d ∷ ds) h =
     let e : is_standing a (moved m d) n ≡ false = and_left _ _ (lt-leb (m + d.start + a) n (omega arith)) in
@@ -84,7 +84,7 @@ age-early f b c a n h =
     ∙ age_in-early a 0 n (alignments_from f b c 0) (omega arith)
 
 -- in an alignment at the head of the stream that is not lost
-pub age-standing : (first position : ℕ) (alignments : List FoundAlignment)
+pub age-standing : (first position : ℕ) (alignments : List AlignmentSpan)
     → alignments ≡ record { start = 0; lost = None } ∷ [] → first ≤ position
     → age_in first alignments position ≡ Some position
 age-standing a n ds e h =

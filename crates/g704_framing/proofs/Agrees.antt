@@ -6,7 +6,7 @@ use Rattle.std.specs.List.{AllByRecursion}
 use Rattle.std.proofs.lemmas.List.Elements.{recursion_from_All}
 use Rattle.std.proofs.lemmas.Option.{same_Some}
 use Rattle.g704_framing.specs.Least.{least}
-use Rattle.g704_framing.specs.Alignment.{Framing, FoundAlignment, loss, alignments_from, search_ends_of}
+use Rattle.g704_framing.specs.Alignment.{Framing, AlignmentSpan, loss, alignments_from, search_ends_of}
 use Rattle.g704_framing.specs.Laws.{IsFraming, IsUpToLoss, IsLostAlike, AlignmentsAreAlike}
 use Rattle.g704_framing.proofs.Leasts.{IsLeast, least-is, least_equals, reach, least_alike}
 use Rattle.g704_framing.proofs.Moves.{same_alignment}
@@ -45,12 +45,12 @@ loss-alike f s t p len alike =
 
 module _ (f : Framing) (h : IsFraming f) (s t : List ℕ) (len : length s ≡ length t) where
   -- if no search ends there is no alignment
-  empty_ends : (ds : List FoundAlignment) → [] ≡ search_ends_of f ds → [] ≡ ds
+  empty_ends : (ds : List AlignmentSpan) → [] ≡ search_ends_of f ds → [] ≡ ds
   empty_ends [] e = refl
   empty_ends (d ∷ ds) e = cc
 
   -- what two searches found, and the alignments after it
-  found_alike : (d : FoundAlignment) (ds : List FoundAlignment) → IsLostAlike f s t d
+  found_alike : (d : AlignmentSpan) (ds : List AlignmentSpan) → IsLostAlike f s t d
       → ((from : ℕ) → ds ≡ alignments_from f None s from
       → search_ends_of f ds ≡ search_ends_of f (alignments_from f None t from)
       → ds ≡ alignments_from f None t from)
@@ -85,7 +85,7 @@ module _ (f : Framing) (h : IsFraming f) (s t : List ℕ) (len : length s ≡ le
           again (suc r) (i ∙ ap (λ k. alignments_from f None s (suc k)) (same_Some q r e')) i'
 
   -- from any position on, by the alignments of the first stream
-  alike_from : (ds : List FoundAlignment) (from : ℕ) → ds ≡ alignments_from f None s from
+  alike_from : (ds : List AlignmentSpan) (from : ℕ) → ds ≡ alignments_from f None s from
       → search_ends_of f ds ≡ search_ends_of f (alignments_from f None t from) → AllByRecursion (IsLostAlike f s t) ds
       → ds ≡ alignments_from f None t from
   alike_from [] from e ends all = empty_ends (alignments_from f None t from) ends

@@ -5,7 +5,7 @@ use Rattle.std.specs.Prelude.{option_map}
 use Rattle.std.proofs.lemmas.List.{append-nil, length-append, length_push, map-append, get_or_append_left}
 use Rattle.std.proofs.lemmas.Bool.{cases_eq}
 use Rattle.g704_framing.specs.Least.{least}
-use Rattle.g704_framing.specs.Alignment.{Framing, FoundAlignment, loss, alignments_from}
+use Rattle.g704_framing.specs.Alignment.{Framing, AlignmentSpan, loss, alignments_from}
 use Rattle.g704_framing.specs.Restart.{moved, IsLostBefore, AllLostBefore, RestartsAfter, last_of}
 use Rattle.g704_framing.specs.Laws.{IsFraming}
 use Rattle.g704_framing.proofs.Leasts.{IsLeast, least_equals}
@@ -33,17 +33,17 @@ lost_moved m n None g = g
 lost_moved m n (Some k) g = omega arith
 
 -- the same of all alignments of a list
-all_later : (m n : ℕ) (ds : List FoundAlignment) → m ≤ n → AllLostBefore m ds → AllLostBefore n ds
+all_later : (m n : ℕ) (ds : List AlignmentSpan) → m ≤ n → AllLostBefore m ds → AllLostBefore n ds
 all_later m n [] h g = tt
 all_later m n (d ∷ ds) h g = (lost_later m n d.lost h g.0, all_later m n ds h g.1)
 
 -- and with positions counted from further back
-all_moved : (m n : ℕ) (ds : List FoundAlignment) → AllLostBefore n ds → AllLostBefore (m + n) (map (moved m) ds)
+all_moved : (m n : ℕ) (ds : List AlignmentSpan) → AllLostBefore n ds → AllLostBefore (m + n) (map (moved m) ds)
 all_moved m n [] g = tt
 all_moved m n (d ∷ ds) g = (lost_moved m n d.lost g.0, all_moved m n ds g.1)
 
 -- and of two lists, one after the other
-all_append : (n : ℕ) (ds es : List FoundAlignment) → AllLostBefore n ds → AllLostBefore n es
+all_append : (n : ℕ) (ds es : List AlignmentSpan) → AllLostBefore n ds → AllLostBefore n es
     → AllLostBefore n (ds ++ es)
 all_append n [] es g h = h
 all_append n (d ∷ ds) es g h = (g.0, all_append n ds es g.1 h)

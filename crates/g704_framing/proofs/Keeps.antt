@@ -9,7 +9,7 @@ use Rattle.std.proofs.lemmas.List.Elements.{All-from_recursion}
 use Rattle.std.proofs.lemmas.Option.{same_Some}
 use Rattle.std.proofs.lemmas.List.{ext_get_or, get_or-drop, take-append-drop, length-take-le, get_or_append_left}
 use Rattle.std.proofs.lemmas.Bool.{cases_lt, lt-leb, le-ltb, and_left, and_right}
-use Rattle.g704_framing.specs.Alignment.{Framing, FoundAlignment, loss, alignments_from}
+use Rattle.g704_framing.specs.Alignment.{Framing, AlignmentSpan, loss, alignments_from}
 use Rattle.g704_framing.specs.Age.{is_standing, age_in}
 use Rattle.g704_framing.specs.Restart.{last_of}
 use Rattle.g704_framing.specs.Laws.{IsFraming, IsFoundAfter, IsRead, IsUpToLoss, AgreeAlong, OthersAreNotRead}
@@ -160,7 +160,7 @@ module _ (f : Framing) (h : IsFraming f) where
   read_if false age o e i = subst (IsRead f) (sym i) tt
 
   -- the streams agree at each octet from one before a position on that has no age, or lies whole periods on
-  abbrev Same : List ℕ → List ℕ → ℕ → ℕ → List FoundAlignment → Type 0
+  abbrev Same : List ℕ → List ℕ → ℕ → ℕ → List AlignmentSpan → Type 0
   Same s t a from ds =
       (n : ℕ) → from ≤ suc n → n < length s → IsRead f (age_in a ds n) → slice_index s n ≡ slice_index t n
 
@@ -226,10 +226,10 @@ module _ (f : Framing) (h : IsFraming f) where
         same n (omega arith) lt (subst (IsRead f) (sym (after_lost p q n (omega arith))) read)
 
     -- what the streams have in common from an alignment of the first one on
-    abbrev Kept : List FoundAlignment → ℕ → Type 0
+    abbrev Kept : List AlignmentSpan → ℕ → Type 0
     Kept ds from = (ds ≡ alignments_from f None t from) × AllByRecursion (AgreeAlong f s t) ds
 
-    module _ (ds : List FoundAlignment)
+    module _ (ds : List AlignmentSpan)
         (again : (q : ℕ) → ds ≡ alignments_from f None s (suc q) → Same s t a (suc q) ds → Kept ds (suc q)) where
       -- after the loss of an alignment
       keep_after : (from p : ℕ) (o r : Option ℕ) → from ≤ p → IsNotBefore p o → o ≡ r → ds ≡ after_loss f None s o
@@ -244,7 +244,7 @@ module _ (f : Framing) (h : IsFraming f) where
           (rest.0 ∙ ap (λ k. alignments_from f None t (suc k)) (same_Some q r e), rest.1)
 
       -- after a search that found one
-      keep_found : (d : FoundAlignment) (from : ℕ) (o : Option ℕ) → f.search None s from ≡ o
+      keep_found : (d : AlignmentSpan) (from : ℕ) (o : Option ℕ) → f.search None s from ≡ o
           → d ∷ ds ≡ after_search f None s o
           → Same s t a from (d ∷ ds) → Kept (d ∷ ds) from
       unfolding after_search
@@ -275,7 +275,7 @@ module _ (f : Framing) (h : IsFraming f) where
     nothing_after = refl
 
     -- from any position on, by the alignments of the first stream
-    keep : (ds : List FoundAlignment) (from : ℕ) → ds ≡ alignments_from f None s from → Same s t a from ds
+    keep : (ds : List AlignmentSpan) (from : ℕ) → ds ≡ alignments_from f None s from → Same s t a from ds
         → Kept ds from
     keep [] from e same =
         let nothing : f.search None s from ≡ None

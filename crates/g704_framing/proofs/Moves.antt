@@ -1,7 +1,7 @@
 -- Alignments whose positions are counted from further back.
 use Rattle.std.proofs.Common.{◌≡◌, ℕ, suc, ◌+◌, List, [], ◌∷◌, map, Option, Some, None, refl, ap, arith, zero-add}
 use Rattle.std.specs.Prelude.{option_map}
-use Rattle.g704_framing.specs.Alignment.{FoundAlignment, later_alignment}
+use Rattle.g704_framing.specs.Alignment.{AlignmentSpan, later_alignment}
 use Rattle.g704_framing.specs.Restart.{moved}
 
 -- counted from the old origin
@@ -22,18 +22,18 @@ option_map-add m n (Some k) = ap Some (omega arith)
 
 -- alignments are equal that begin and are lost alike
 pub same_alignment : (a b : ℕ) (p q : Option ℕ) → a ≡ b → p ≡ q
-    → ◌≡◌ {A = FoundAlignment} (record { start = a; lost = p }) (record { start = b; lost = q })
+    → ◌≡◌ {A = AlignmentSpan} (record { start = a; lost = p }) (record { start = b; lost = q })
 same_alignment a b p q e f = cc
 
 -- the same for all alignments of a list, from the old origin
-pub map-moved_zero : (ds : List FoundAlignment) → map (moved 0) ds ≡ ds
+pub map-moved_zero : (ds : List AlignmentSpan) → map (moved 0) ds ≡ ds
 map-moved_zero [] = refl
 map-moved_zero (d ∷ ds) =
     let h : moved 0 d ≡ d = same_alignment _ _ _ _ (zero-add d.start) (option_map-zero d.lost) in
     let t = map-moved_zero ds in cc
 
 -- from one further back
-pub map-moved_suc : (n : ℕ) (ds : List FoundAlignment) → map (moved (suc n)) ds ≡ map later_alignment (map (moved n) ds)
+pub map-moved_suc : (n : ℕ) (ds : List AlignmentSpan) → map (moved (suc n)) ds ≡ map later_alignment (map (moved n) ds)
 map-moved_suc n [] = refl
 map-moved_suc n (d ∷ ds) =
     let h : moved (suc n) d ≡ later_alignment (moved n d)
@@ -41,7 +41,7 @@ map-moved_suc n (d ∷ ds) =
     let t = map-moved_suc n ds in cc
 
 -- from further back, twice
-pub map-moved_add : (m n : ℕ) (ds : List FoundAlignment) → map (moved m) (map (moved n) ds) ≡ map (moved (m + n)) ds
+pub map-moved_add : (m n : ℕ) (ds : List AlignmentSpan) → map (moved m) (map (moved n) ds) ≡ map (moved (m + n)) ds
 map-moved_add m n [] = refl
 map-moved_add m n (d ∷ ds) =
     let h : moved m (moved n d) ≡ moved (m + n) d = same_alignment _ _ _ _ (omega arith) (option_map-add m n d.lost) in

@@ -3,7 +3,7 @@ use Rattle.std.proofs.Common.{◌≡◌, ℕ, ◌+◌, List, drop, sym, ap, ◌�
 use Rattle.std.specs.Prelude.{is_none}
 use Rattle.std.proofs.lemmas.List.{get_or-drop}
 use Rattle.std.proofs.lemmas.List.Elements.{All-weaker}
-use Rattle.g704_framing.specs.Alignment.{FoundAlignment, search_ends_of}
+use Rattle.g704_framing.specs.Alignment.{AlignmentSpan, search_ends_of}
 use Rattle.g704_framing.specs.Age.{age_in}
 use Rattle.g704_framing.specs.Laws.{IsLostAlike, AgreeAlong}
 use Rattle.g704_framing.specs.Places.{PlaceRules, alignments_in, place_in, alarm_in, IsAlikeAlong, IsPlacing}
@@ -21,7 +21,7 @@ places_are_settled p is s t n lt = (
 )
 
 -- streams whose octets that keep an alignment are right or wrong alike lose it alike
-lost_alike : {Place : Type 0} (p : PlaceRules Place) → IsPlacing p → (s t : List ℕ) (d : FoundAlignment)
+lost_alike : {Place : Type 0} (p : PlaceRules Place) → IsPlacing p → (s t : List ℕ) (d : AlignmentSpan)
     → IsAlikeAlong p s t d → IsLostAlike p.framing s t d
 lost_alike p is s t d alike k lt up = is.lost (drop d.start s) (drop d.start t) k (λ j le late e.
     ap (p.is_right j) (get_or-drop d.start s j 0)

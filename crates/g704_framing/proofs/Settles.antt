@@ -6,7 +6,7 @@ use Rattle.std.proofs.lemmas.Option.{same_Some}
 use Rattle.std.proofs.lemmas.List.{drop-append-le}
 use Rattle.std.proofs.lemmas.Bool.{lt-ltb, lt-leb, and_left, cases_lt, false≢true}
 use Rattle.g704_framing.specs.Least.{least}
-use Rattle.g704_framing.specs.Alignment.{Framing, FoundAlignment, later_alignment, loss, alignments_from}
+use Rattle.g704_framing.specs.Alignment.{Framing, AlignmentSpan, later_alignment, loss, alignments_from}
 use Rattle.g704_framing.specs.Age.{is_standing, age_in}
 use Rattle.g704_framing.specs.Laws.{IsFraming, IsFoundAfter, AgesAreSettled}
 use Rattle.g704_framing.proofs.Leasts.{IsLeast, least-is, only_one}
@@ -15,17 +15,17 @@ use Rattle.g704_framing.proofs.Turns.{alignments-turns, none_found}
 use Rattle.g704_framing.proofs.Ends.{is_lost-append}
 
 -- each alignment begins at this position or later
-abbrev pub BeginFrom : ℕ → List FoundAlignment → Type 0
+abbrev pub BeginFrom : ℕ → List AlignmentSpan → Type 0
 BeginFrom from [] = Unit {0}
 BeginFrom from (d ∷ ds) = (from ≤ d.start) × BeginFrom from ds
 
 -- counted from one further back they begin one later
-begin-later : (from : ℕ) (ds : List FoundAlignment) → BeginFrom from ds → BeginFrom (suc from) (map later_alignment ds)
+begin-later : (from : ℕ) (ds : List AlignmentSpan) → BeginFrom from ds → BeginFrom (suc from) (map later_alignment ds)
 begin-later from [] h = tt
 begin-later from (d ∷ ds) h = let le = h.0 in (omega arith, begin-later from ds h.1)
 
 -- each begins somewhere
-begin-zero : (ds : List FoundAlignment) → BeginFrom 0 ds
+begin-zero : (ds : List AlignmentSpan) → BeginFrom 0 ds
 begin-zero [] = tt
 begin-zero (d ∷ ds) = (omega arith, begin-zero ds)
 
@@ -39,7 +39,7 @@ alignments-begin f b (x ∷ s) (suc from) =
     begin-later from (alignments_from f (Some x) s from) (alignments-begin f (Some x) s from)
 
 -- and give no age to an octet before
-pub age_in-before : (a from n : ℕ) (ds : List FoundAlignment) → BeginFrom from ds → n < from + a → age_in a ds n ≡ None
+pub age_in-before : (a from n : ℕ) (ds : List AlignmentSpan) → BeginFrom from ds → n < from + a → age_in a ds n ≡ None
 age_in-before a from n [] h lt = refl
 age_in-before a from n (d ∷ ds) h lt =
     let le = h.0 in
@@ -138,7 +138,7 @@ module _ (f : Framing) (h : IsFraming f) where
   ]
 
   -- what begins from a position on begins from an earlier one on
-  begin_earlier : (m n : ℕ) (ds : List FoundAlignment) → m ≤ n → BeginFrom n ds → BeginFrom m ds
+  begin_earlier : (m n : ℕ) (ds : List AlignmentSpan) → m ≤ n → BeginFrom n ds → BeginFrom m ds
   begin_earlier m n [] le g = tt
   begin_earlier m n (d ∷ ds) le g = let first = g.0 in (omega arith, begin_earlier m n ds le g.1)
 
@@ -186,7 +186,7 @@ module _ (f : Framing) (h : IsFraming f) where
     age-continues p (Some q) r g again = rw (g, again q refl) refl
 
     -- after a search that found an alignment
-    settle_found : (le : f.found_at ≤ a) (d : FoundAlignment) (ds : List FoundAlignment) (from : ℕ) (o : Option ℕ)
+    settle_found : (le : f.found_at ≤ a) (d : AlignmentSpan) (ds : List AlignmentSpan) (from : ℕ) (o : Option ℕ)
         → f.search b s from ≡ o
         → d ∷ ds ≡ after_search f b s o
         → ((q : ℕ) → ds ≡ alignments_from f b s (suc q)
@@ -203,7 +203,7 @@ module _ (f : Framing) (h : IsFraming f) where
         ∙ sym (ap (λ es. age_in a es n) e)
 
     -- from any position on, by the alignments of the stream
-    settle : (le : f.found_at ≤ a) (ds : List FoundAlignment) (from : ℕ) → ds ≡ alignments_from f b s from
+    settle : (le : f.found_at ≤ a) (ds : List AlignmentSpan) (from : ℕ) → ds ≡ alignments_from f b s from
         → age_in a (alignments_from f b (s ++ t) from) n ≡ age_in a ds n
     settle le [] from e =
         let nothing = none_found f b s (f.search b s from) (e ∙ alignments-turns f h b s from) in

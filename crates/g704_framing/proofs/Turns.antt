@@ -3,7 +3,7 @@ use Rattle.std.proofs.Common.{◌≡◌, ℕ, zero, suc, List, [], ◌∷◌, �
 use Rattle.std.proofs.Common.{refl, sym, ap, ◌∙◌}
 use Rattle.std.specs.Prelude.{option_map}
 use Rattle.g704_framing.specs.Least.{least}
-use Rattle.g704_framing.specs.Alignment.{Framing, FoundAlignment, later_alignment, loss, alignments_from}
+use Rattle.g704_framing.specs.Alignment.{Framing, AlignmentSpan, later_alignment, loss, alignments_from}
 use Rattle.g704_framing.specs.Alignment.{after_loss, after_search}
 use Rattle.g704_framing.specs.Restart.{moved, last_of}
 use Rattle.g704_framing.specs.Laws.{AlignmentsTakeTurns}
@@ -21,12 +21,12 @@ none_found f b s None e = refl
 none_found f b s (Some p) e = cc
 
 -- an alignment before others
-abbrev pub onto : FoundAlignment → List FoundAlignment → List FoundAlignment
+abbrev pub onto : AlignmentSpan → List AlignmentSpan → List AlignmentSpan
 onto d ds = d ∷ ds
 
 -- a search from the first octet on
 zero_case : (f : Framing) (b : Option ℕ) (x : ℕ) (s : List ℕ) (r : Option ℕ) →
-    ◌≡◌ {A = List FoundAlignment} (elim r [
+    ◌≡◌ {A = List AlignmentSpan} (elim r [
       | None ↦ []
       | Some start ↦ record { start = start; lost = loss f (x ∷ s) start }
           ∷ (elim (loss f (x ∷ s) start) [
@@ -39,7 +39,7 @@ zero_case f b x s None = refl
 zero_case f b x s (Some p) = ap (onto (record { start = p; lost = loss f (x ∷ s) p })) (go (loss f (x ∷ s) p))
   where
     go : (r : Option ℕ)
-        → ◌≡◌ {A = List FoundAlignment}
+        → ◌≡◌ {A = List AlignmentSpan}
         (elim r [ None ↦ [] | Some position ↦ map later_alignment (alignments_from f (Some x) s position) ])
         (after_loss f b (x ∷ s) r)
     go None = refl

@@ -17,7 +17,7 @@ pub record Framing : Type 0 where
   pub is_lost : List ℕ → ℕ → Bool
 
 -- An alignment: the place of its first octet, and the octet by which it is lost, if any.
-pub record FoundAlignment : Type 0 where
+pub record AlignmentSpan : Type 0 where
   pub start : ℕ
   pub lost : Option ℕ
 
@@ -32,12 +32,12 @@ abbrev pub later : Option ℕ → Option ℕ
 later position = option_map suc position
 
 -- an alignment with its positions counted from one octet earlier
-abbrev pub later_alignment : FoundAlignment → FoundAlignment
+abbrev pub later_alignment : AlignmentSpan → AlignmentSpan
 later_alignment alignment = record { start = suc alignment.start; lost = later alignment.lost }
 
 -- the alignments of a stream after this octet, if any: the first search is from this position, each further
 -- one from the octet after a loss
-unfoldable pub alignments_from : Framing → Option ℕ → List ℕ → ℕ → List FoundAlignment
+unfoldable pub alignments_from : Framing → Option ℕ → List ℕ → ℕ → List AlignmentSpan
 alignments_from framing before [] from = []
 alignments_from framing before (octet ∷ stream) (suc from) =
     map later_alignment (alignments_from framing (Some octet) stream from)
@@ -51,20 +51,20 @@ alignments_from framing before (octet ∷ stream) zero = elim (framing.search be
 ]
 
 -- all alignments of a stream
-abbrev pub alignments_of : Framing → List ℕ → List FoundAlignment
+abbrev pub alignments_of : Framing → List ℕ → List AlignmentSpan
 alignments_of framing stream = alignments_from framing None stream 0
 
 -- the positions of the octets by which alignments are found
-abbrev pub search_ends_of : Framing → List FoundAlignment → List ℕ
+abbrev pub search_ends_of : Framing → List AlignmentSpan → List ℕ
 search_ends_of framing alignments = map (λ alignment. alignment.start + framing.found_at) alignments
 
 -- the alignments after a loss, by a search from the octet after it
-unfoldable pub after_loss : Framing → Option ℕ → List ℕ → Option ℕ → List FoundAlignment
+unfoldable pub after_loss : Framing → Option ℕ → List ℕ → Option ℕ → List AlignmentSpan
 after_loss framing before stream None = []
 after_loss framing before stream (Some lost) = alignments_from framing before stream (suc lost)
 
 -- the alignments from what a search found: the first begins there, and further ones follow its loss
-unfoldable pub after_search : Framing → Option ℕ → List ℕ → Option ℕ → List FoundAlignment
+unfoldable pub after_search : Framing → Option ℕ → List ℕ → Option ℕ → List AlignmentSpan
 after_search framing before stream None = []
 after_search framing before stream (Some start) =
     record { start = start; lost = loss framing stream start } ∷ after_loss framing before stream

@@ -2,7 +2,7 @@
 use Rattle.std.specs.Prelude.{◌≡◌, ℕ, suc, ◌+◌, ◌%◌, ◌<◌, ◌≤◌, List, [], ◌∷◌, ◌++◌, length, drop, All}
 use Rattle.std.specs.Prelude.{slice_index}
 use Rattle.std.specs.Prelude.{Option, Some, None, option_map}
-use Rattle.g704_framing.specs.Alignment.{Framing, FoundAlignment, alignments_from, alignments_of}
+use Rattle.g704_framing.specs.Alignment.{Framing, AlignmentSpan, alignments_from, alignments_of}
 use Rattle.g704_framing.specs.Alignment.{after_search, search_ends_of}
 use Rattle.g704_framing.specs.Age.{age_in}
 
@@ -52,7 +52,7 @@ IsUpToLoss position None = Unit {0}
 IsUpToLoss position (Some lost) = position ≤ lost
 
 -- the two streams are lost alike, up to and including the loss of an alignment of the first
-abbrev pub IsLostAlike : Framing → List ℕ → List ℕ → FoundAlignment → Type 0
+abbrev pub IsLostAlike : Framing → List ℕ → List ℕ → AlignmentSpan → Type 0
 IsLostAlike framing stream other alignment = (age : ℕ) → alignment.start + age < length stream
     → IsUpToLoss (alignment.start + age) alignment.lost
     → framing.is_lost (drop alignment.start stream) age ≡ framing.is_lost (drop alignment.start other) age
@@ -73,7 +73,7 @@ IsRead framing None = Unit {0}
 IsRead framing (Some age) = age % framing.period ≡ 0
 
 -- two streams have the same octets at whole periods from an alignment's first octet, up to its loss
-abbrev pub AgreeAlong : Framing → List ℕ → List ℕ → FoundAlignment → Type 0
+abbrev pub AgreeAlong : Framing → List ℕ → List ℕ → AlignmentSpan → Type 0
 AgreeAlong framing stream other alignment = (age : ℕ) → age % framing.period ≡ 0
     → alignment.start + age < length stream → IsUpToLoss (alignment.start + age) alignment.lost
     → slice_index stream (alignment.start + age) ≡ slice_index other (alignment.start + age)

@@ -1,7 +1,7 @@
 -- The places of octets in a stream, for each kind of alignment, and their laws.
 use Rattle.std.specs.Prelude.{◌≡◌, ℕ, ◌+◌, ◌%◌, ◌<◌, ◌≤◌, Bool, is_none, List, ◌++◌, length, All}
 use Rattle.std.specs.Prelude.{slice_index, Option}
-use Rattle.g704_framing.specs.Alignment.{Framing, FoundAlignment, alignments_from, alignments_of}
+use Rattle.g704_framing.specs.Alignment.{Framing, AlignmentSpan, alignments_from, alignments_of}
 use Rattle.g704_framing.specs.Alignment.{search_ends_of}
 use Rattle.g704_framing.specs.Age.{age_in}
 use Rattle.g704_framing.specs.Laws.{IsFraming, IsUpToLoss, IsRead}
@@ -19,7 +19,7 @@ pub record PlaceRules (Place : Type 0) : Type 0 where
   pub is_right : ℕ → ℕ → Bool
 
 -- the alignments of a stream
-abbrev pub alignments_in : {Place : Type 0} → PlaceRules Place → List ℕ → List FoundAlignment
+abbrev pub alignments_in : {Place : Type 0} → PlaceRules Place → List ℕ → List AlignmentSpan
 alignments_in p stream = alignments_of p.framing stream
 
 -- the place of the octet at a position, counted from this octet, if any
@@ -39,7 +39,7 @@ alarm_in p stream position = is_none (age_in p.framing.found_at (alignments_in p
 
 -- the octets that keep an alignment, from the first with a place to that of the loss, are right or wrong
 -- alike in two streams
-abbrev pub IsAlikeAlong : {Place : Type 0} → PlaceRules Place → List ℕ → List ℕ → FoundAlignment → Type 0
+abbrev pub IsAlikeAlong : {Place : Type 0} → PlaceRules Place → List ℕ → List ℕ → AlignmentSpan → Type 0
 IsAlikeAlong p stream other alignment = (age : ℕ) → p.placed_from ≤ age → age % p.framing.period ≡ 0
     → alignment.start + age < length stream → IsUpToLoss (alignment.start + age) alignment.lost
     → p.is_right age (slice_index stream (alignment.start + age))

@@ -2,7 +2,7 @@
 use Rattle.std.proofs.Common.{◌≡◌, ◌+◌, ◌++◌, ℕ, List, [], length, take, drop, sym, ap, ◌∙◌, arith}
 use Rattle.std.proofs.Math.Seq.{take-append_seam}
 use Rattle.std.specs.Io.KnownBytes.{Appends}
-use Rattle.gw_records.specs.Streams.{SourceState, SinkState, Yields, Refills}
+use Rattle.gw_records.specs.Streams.{SourceState, SinkState, GivesOctets, Refills}
 
 -- The source gave octets, and what the filter returned for them is written.
 pub record Stage {F : Type 0} (Has : F → List ℕ → List ℕ → Type 0)
@@ -10,7 +10,7 @@ pub record Stage {F : Type 0} (Has : F → List ℕ → List ℕ → Type 0)
   pub given : List ℕ
   pub returned : List ℕ
   pub stands : Has filter given returned
-  pub gives : Yields source source' given
+  pub gives : GivesOctets source source' given
   pub took : Appends sink.taken sink'.taken returned
   pub no_read : source'.failures ≡ source.failures
   pub no_write : sink'.failures ≡ sink.failures

@@ -6,7 +6,7 @@ use Rattle.g704_crc4.specs.ReceiverCounts.{receiver_counts_of}
 use Rattle.g704_crc4.specs.Receivers.{ChecksTrunk}
 use Rattle.g704_crc4.specs.declared.counting.TrunkChecker.{TrunkChecker}
 use Rattle.gw_records.specs.declared.outcome.RunFault.{RunFault}
-use Rattle.gw_records.specs.Streams.{SourceState, SinkState, Yields}
+use Rattle.gw_records.specs.Streams.{SourceState, SinkState, GivesOctets}
 use Rattle.gw_filter.specs.declared.checking.Checked.{Checked}
 use Rattle.gw_filter.specs.Filter.{FiltersUntil, filter_totals}
 
@@ -39,7 +39,7 @@ pub record HasReported (checker : TrunkChecker) (reported : ℕ)
 pub record ChecksMultiframes (source source' : SourceState) (sink sink' : SinkState) (reports : List ℕ)
     (checked : Checked) : Type 0 where
   pub octets : List ℕ
-  pub gives : Yields source source' octets
+  pub gives : GivesOctets source source' octets
   pub ended : IsAtEnd source'.to_come
   pub took : Appends sink.taken sink'.taken octets
   pub totals_are : checked.totals ≡ filter_totals (length octets)

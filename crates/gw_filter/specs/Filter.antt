@@ -5,7 +5,7 @@ use Rattle.g704_framing.specs.Replies.{stream_replies}
 use Rattle.gw_records.specs.declared.outcome.Totals.{Totals}
 use Rattle.gw_records.specs.declared.outcome.RunFault.{RunFault}
 use Rattle.gw_records.specs.declared.outcome.RunFault.TheVariants.{Read, Write}
-use Rattle.gw_records.specs.Streams.{SourceState, SinkState, Yields, GivesUp, FailsAfterPrefix, at_most}
+use Rattle.gw_records.specs.Streams.{SourceState, SinkState, GivesOctets, GivesUp, FailsAfterPrefix, at_most}
 use Rattle.gw_records.specs.Outcome.{nothing_counted}
 
 -- The totals after this many octets.
@@ -17,12 +17,13 @@ abbrev pub RepliesTo : (List ℕ → ℕ → ℕ) → List ℕ → List ℕ → 
 RepliesTo reply octets returned = returned ≡ stream_replies reply octets
 
 -- The source gave octets to its end, and the sink took what the filter returned for them.
-pub record Filters (Returns : List ℕ → List ℕ → Type 0) (source source' : SourceState) (sink sink' : SinkState)
+pub record Filters (Returns : List ℕ → List ℕ
+    → Type 0) (source source' : SourceState) (sink sink' : SinkState)
     (totals : Totals) : Type 0 where
   pub octets : List ℕ
   pub returned : List ℕ
   pub returns : Returns octets returned
-  pub gives : Yields source source' octets
+  pub gives : GivesOctets source source' octets
   pub ended : IsAtEnd source'.to_come
   pub took : Appends sink.taken sink'.taken returned
   pub totals_are : totals ≡ filter_totals (length octets)
@@ -36,7 +37,7 @@ pub record FiltersUntilRead (Returns : List ℕ → List ℕ → Type 0) (source
   pub octets : List ℕ
   pub returned : List ℕ
   pub returns : Returns octets returned
-  pub gives : Yields source source' octets
+  pub gives : GivesOctets source source' octets
   pub took : Appends sink.taken sink'.taken returned
   pub cause : GivesUp source source' octets
   pub no_write : sink'.failures ≡ sink.failures
@@ -47,7 +48,7 @@ pub record FiltersUntilWrite (Returns : List ℕ → List ℕ → Type 0) (sourc
   pub octets : List ℕ
   pub returned : List ℕ
   pub returns : Returns octets returned
-  pub gives : Yields source source' octets
+  pub gives : GivesOctets source source' octets
   pub breaks : FailsAfterPrefix sink sink' returned
   pub no_read : source'.failures ≡ source.failures
 

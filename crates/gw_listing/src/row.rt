@@ -4,7 +4,7 @@ ghost use Rattle.std.specs.Prelude.{◌≡◌, ◌≤◌, ◌+◌, [], ◌++◌,
 ghost use Rattle.arrayvec.specs.ArrayString.{array_string_len};
 ghost use Rattle.gw_listing.specs.Row.{role_name, state_name, pair_text, recognised_text, line_part, row};
 
-use crate::columns::{push_digit, push_left, push_right};
+use crate::padding::{push_digit, push_left, push_right};
 use arrayvec::ArrayString;
 use g704_cas::CircuitNo;
 use g726_codec::CodecName;

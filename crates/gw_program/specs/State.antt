@@ -6,7 +6,7 @@ use Rattle.gw_switch.specs.declared.GatewayConfig.{GatewayConfig}
 use Rattle.gw_switch.specs.declared.gateway.Gateway.{Gateway}
 use Rattle.gw_switch.specs.Events.{Event}
 use Rattle.gw_switch.specs.Standing.{HasHistory}
-use Rattle.gw_records.specs.Streams.{SourceState, SinkState, Yields, FailsAfterPrefix}
+use Rattle.gw_records.specs.Streams.{SourceState, SinkState, GivesOctets, FailsAfterPrefix}
 use Rattle.gw_state.specs.declared.fault.LoadFault.{LoadFault}
 use Rattle.gw_state.specs.declared.fault.LoadFault.TheVariants as loads
 use Rattle.gw_state.specs.Faults.{Refuses}
@@ -17,13 +17,13 @@ use Rattle.gw_program.specs.declared.program_fault.ProgramFault.TheVariants as p
 
 -- a source gave these octets up to its end
 pub record WasRead (source source' : SourceState) (octets : List ℕ) : Type 0 where
-  pub gives : Yields source source' octets
+  pub gives : GivesOctets source source' octets
   pub ended : IsAtEnd source'.to_come
 
 -- a source gave more octets than any state has
 pub record IsTooLong (source source' : SourceState) : Type 0 where
   pub octets : List ℕ
-  pub gives : Yields source source' octets
+  pub gives : GivesOctets source source' octets
   pub many : 2 ^ 20 ≤ length octets
 
 -- why a source was not read up to its end

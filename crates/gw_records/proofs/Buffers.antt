@@ -2,9 +2,9 @@
 use Rattle.gw_records.proofs.Common.{◌≡◌, ◌+◌, ◌-◌, ◌<◌, ◌≤◌, ℕ, true, List, ◌++◌, length, take, drop, sym, ap, ◌∙◌}
 use Rattle.gw_records.proofs.Common.{inl, inr, length-take-le, length-drop, arith, copy_within, Some, slice_index}
 use Rattle.gw_records.proofs.Common.{Reader, held, take_at, take-append-le, drop-take, paste, take-append-add}
-use Rattle.gw_records.proofs.Common.{nat_tests, common_steps, AcceptedKinds, EndReason, end_of, is_open, is_cut}
+use Rattle.gw_records.proofs.Common.{nat_tests, common_steps, AcceptedKinds, RecordsEnd, end_of, is_open, is_cut}
 use Rattle.std.proofs.lemmas.List.Edits.{take-paste}
-use Rattle.gw_records.specs.declared.records.EndReason.TheVariants as endings
+use Rattle.gw_records.specs.declared.records.RecordsEnd.TheVariants as endings
 use Rattle.gw_records.proofs.Firsts.{found_in}
 
 -- moved to the front
@@ -25,7 +25,7 @@ behind xs buf post filled n q r =
     rw (length-take-le filled xs q, take-append-le n buf post r) at (take-append-add (take filled xs) (buf ++ post) n)
 
 -- if more octets may matter, the octets are few
-pub open_is_short : (kinds : AcceptedKinds) (octets : List ℕ) (ending : EndReason)
+pub open_is_short : (kinds : AcceptedKinds) (octets : List ℕ) (ending : RecordsEnd)
     → ((i : ℕ) → slice_index octets i < 256)
     → end_of kinds octets ≡ Some ending → is_open ending ≡ true → length octets < 65540
 unfolding is_cut

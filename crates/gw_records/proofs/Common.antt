@@ -7,10 +7,11 @@ pub use Rattle.gw_records.specs.Records.{is_open, spelled, IsGood, body_len, IsC
 pub use Rattle.gw_records.specs.Records.{record_at, Reads}
 unfoldable pub use Rattle.gw_records.specs.Records.{end_of, is_cut, has_bad_kind, has_bad_circuit, has_bad_length}
 unfoldable pub use Rattle.gw_records.specs.Records.{has_bad_command, head_of}
-pub use Rattle.gw_records.specs.Streams.{SourceState, SinkState, Yields, GivesUp, at_most, AppendsPrefix, AppendsBut}
-pub use Rattle.gw_records.specs.Streams.{TakesAllBut, FailsAfterPrefix}
+pub use Rattle.gw_records.specs.Streams.{SourceState, SinkState, GivesOctets, GivesUp, at_most, AppendsPrefix}
+pub use Rattle.gw_records.specs.Streams.{AppendsBut}
+pub use Rattle.gw_records.specs.Streams.{TakesAllButWaiting, FailsAfterPrefix}
 pub use Rattle.gw_records.specs.declared.reader.Reader.{Reader}
-pub use Rattle.gw_records.specs.declared.records.EndReason.{EndReason}
+pub use Rattle.gw_records.specs.declared.records.RecordsEnd.{RecordsEnd}
 pub use Rattle.gw_records.specs.declared.records.FirstRecord.{FirstRecord}
 pub use Rattle.gw_records.specs.declared.records.AcceptedKinds.{AcceptedKinds}
 pub use Rattle.std.proofs.Common.{◌≡◌, ◌≤◌, ℕ, refl, arith, ◌+◌, ◌-◌, ◌<◌, true, List, ◌++◌, length, take, drop, sym}

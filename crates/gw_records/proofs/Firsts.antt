@@ -4,15 +4,15 @@ use Rattle.gw_records.proofs.Common.{◌∷◌, Bool, cond, Option, Some, None, 
 use Rattle.gw_records.proofs.Common.{take, get_or, refl, sym, ◌∙◌, length-take-le, arith, slice_index, nat_tests}
 use Rattle.gw_records.proofs.Common.{common_steps, AcceptedKinds, spelled, IsGood, body_len, has_bad_kind}
 use Rattle.gw_records.proofs.Common.{has_bad_circuit, has_bad_length, has_bad_command, is_cut, end_of, IsCircuit}
-use Rattle.gw_records.proofs.Common.{IsFirst, head_of, named, EndReason, command_of, codec_of}
+use Rattle.gw_records.proofs.Common.{IsFirst, head_of, named, RecordsEnd, command_of, codec_of}
 use Rattle.byteorder.specs.Endian.{big_bytes}
-use Rattle.gw_records.specs.declared.records.RecordKind.{RecordKind}
-use Rattle.gw_records.specs.declared.records.RecordKind.TheVariants as heads
-use Rattle.gw_records.specs.declared.records.EndReason.TheVariants as endings
+use Rattle.gw_records.specs.declared.records.RecordHead.{RecordHead}
+use Rattle.gw_records.specs.declared.records.RecordHead.TheVariants as heads
+use Rattle.gw_records.specs.declared.records.RecordsEnd.TheVariants as endings
 use Rattle.gw_records.proofs.Again.{octet_of_command_again, octet_of_codec_again}
 
 -- what is known of the tests of end_of, by what they give
-abbrev pub Found : (none few kind circuit len cut command : Bool) → Option EndReason → Type 0
+abbrev pub Found : (none few kind circuit len cut command : Bool) → Option RecordsEnd → Type 0
 Found none few kind circuit len cut command None =
     (few ≡ false) × (kind ≡ false) × (circuit ≡ false) × (len ≡ false) × (cut ≡ false) × (command ≡ false)
 Found none few kind circuit len cut command (Some endings.End) = none ≡ true
@@ -36,7 +36,7 @@ first_found false false false false false false true = (refl, inr refl)
 first_found false false false false false false false = (refl, refl, refl, refl, refl, refl)
 
 -- .. of octets that end so
-pub found_in : (kinds : AcceptedKinds) (octets : List ℕ) (o : Option EndReason) → end_of kinds octets ≡ o
+pub found_in : (kinds : AcceptedKinds) (octets : List ℕ) (o : Option RecordsEnd) → end_of kinds octets ≡ o
     → Found (length octets == 0) (nat_lt (length octets) 4) (has_bad_kind kinds octets) (has_bad_circuit octets)
     (has_bad_length octets) (is_cut octets) (has_bad_command octets) o
 unfolding end_of
@@ -87,7 +87,7 @@ length_spelled : (h l n : ℕ) → h < 256 → l < 256 → n ≡ h * 256 + l →
 length_spelled h l n p q e = rw e (grind (arith, common_steps))
 
 -- a head of four octets, and a body
-firstly : (kinds : AcceptedKinds) (head : RecordKind) (k c h l : ℕ) (rest : List ℕ) → h * 256 + l ≤ length rest
+firstly : (kinds : AcceptedKinds) (head : RecordHead) (k c h l : ℕ) (rest : List ℕ) → h * 256 + l ≤ length rest
     → k ∷ c ∷ h ∷ l ∷ take (h * 256 + l) rest ≡ spelled (named head (take (h * 256 + l) rest))
     → IsGood kinds (named head (take (h * 256 + l) rest))
     → IsFirst kinds (record { head = head; len = 4 + (h * 256 + l) }) (k ∷ c ∷ h ∷ l ∷ rest)
@@ -101,7 +101,7 @@ first_octets : (n : ℕ) (rest : List ℕ) → n ≤ length rest → (n ≡ 1 �
 first_octets n rest h = (λ e. rw e (grind (arith, common_steps)), λ e. rw e (grind (arith, common_steps)))
 
 -- the head returned is that of the first octets, which have no bad command
-pub head_told : (octets : List ℕ) (o : Option RecordKind) (head : RecordKind)
+pub head_told : (octets : List ℕ) (o : Option RecordHead) (head : RecordHead)
     → SomeIff o (has_bad_command octets ≡ false) (head_of octets) → ok_or o endings.BadCommand ≡ Ok head
     → (has_bad_command octets ≡ false) × (head_of octets ≡ head)
 head_told octets None head h e = cc

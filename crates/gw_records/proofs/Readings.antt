@@ -2,7 +2,7 @@
 use Rattle.gw_records.proofs.Common.{◌≡◌, ◌+◌, ◌*◌, ◌/◌, ◌%◌, ℕ, List, [], ◌∷◌, ◌++◌, length, take, drop, refl, sym, ap}
 use Rattle.gw_records.proofs.Common.{◌∙◌, append_assoc, append-nil, length-append, arith, Some, None, flat_map}
 use Rattle.gw_records.proofs.Common.{AllByRecursion, take-append_seam, drop-append_seam, nat_tests, AcceptedKinds}
-use Rattle.gw_records.proofs.Common.{EndReason, Record, spelled, IsGood, body_len, has_bad_kind, has_bad_circuit}
+use Rattle.gw_records.proofs.Common.{RecordsEnd, Record, spelled, IsGood, body_len, has_bad_kind, has_bad_circuit}
 use Rattle.gw_records.proofs.Common.{has_bad_length, is_cut, has_bad_command, end_of, named, head_of, AtMostOneReading}
 use Rattle.gw_records.proofs.Common.{MoreKeepsRecords}
 use Rattle.gw_records.proofs.Again.{octet_of_command_again, octet_of_codec_again}
@@ -42,7 +42,7 @@ unspelled kinds (Record.Codec circuit codec payload_type) x good = (
 )
 
 -- a good record does not end octets
-no_end : (kinds : AcceptedKinds) (r : Record) (rs : List Record) (octets rest : List ℕ) (ending : EndReason)
+no_end : (kinds : AcceptedKinds) (r : Record) (rs : List Record) (octets rest : List ℕ) (ending : RecordsEnd)
     → IsGood kinds r
     → octets ≡ flat_map spelled (r ∷ rs) ++ rest → end_of kinds octets ≡ Some ending → ⊥
 no_end kinds r rs octets rest ending good e h =
@@ -51,7 +51,7 @@ no_end kinds r rs octets rest ending good e h =
     cc
 
 -- records that come first in octets come first in all that is read of them
-more_go : (kinds : AcceptedKinds) (rs rs' : List Record) (rest rest' : List ℕ) (ending' : EndReason)
+more_go : (kinds : AcceptedKinds) (rs rs' : List Record) (rest rest' : List ℕ) (ending' : RecordsEnd)
     → flat_map spelled rs ++ rest ≡ flat_map spelled rs' ++ rest' → AllByRecursion (IsGood kinds) rs
     → AllByRecursion (IsGood kinds) rs' → end_of kinds rest' ≡ Some ending'
     → (others : List Record) × (rs' ≡ rs ++ others) × (rest ≡ flat_map spelled others ++ rest')
@@ -68,7 +68,7 @@ more_go kinds (r ∷ rs) (r' ∷ rs') rest rest' ending' e g g' h' =
     (all.0, let same : rs' ≡ rs ++ all.0 = all.1 in cc, all.2, all.3)
 
 -- .. and are all of it if an end follows them
-same_end : (kinds : AcceptedKinds) (rs others : List Record) (rest rest' : List ℕ) (ending ending' : EndReason)
+same_end : (kinds : AcceptedKinds) (rs others : List Record) (rest rest' : List ℕ) (ending ending' : RecordsEnd)
     → rest ≡ flat_map spelled others ++ rest' → AllByRecursion (IsGood kinds) others
     → end_of kinds rest ≡ Some ending → end_of kinds rest' ≡ Some ending' → (rs ≡ rs ++ others) × (ending ≡ ending')
 same_end kinds rs [] rest rest' ending ending' e g h h' = (

@@ -2,15 +2,15 @@
 use Rattle.gw_records.proofs.Common.{◌≡◌, ◌+◌, ◌^◌, ◌<◌, ◌≤◌, inl, inr, ℕ, true, List, [], ◌∷◌, ◌++◌, length, drop}
 use Rattle.gw_records.proofs.Common.{refl, sym, ap, ◌∙◌, append_assoc, append-nil, length-append, arith}
 use Rattle.gw_records.proofs.Common.{take-append-drop, Some, Result, Ok, Err, IfOk, IfErr, IsErrAnd, flat_map}
-use Rattle.gw_records.proofs.Common.{AllByRecursion, IsAtEnd, Reader, AcceptedKinds, FirstRecord, EndReason, Record}
+use Rattle.gw_records.proofs.Common.{AllByRecursion, IsAtEnd, Reader, AcceptedKinds, FirstRecord, RecordsEnd, Record}
 use Rattle.gw_records.proofs.Common.{spelled, IsGood, IsFirst, record_at, end_of, is_open, SourceState, SinkState}
-use Rattle.gw_records.proofs.Common.{Yields, GivesUp, held, Brings, RunsOut, FailsToRead}
+use Rattle.gw_records.proofs.Common.{GivesOctets, GivesUp, held, Brings, RunsOut, FailsToRead}
 use Rattle.std.proofs.lemmas.List.Concat.{flat_map-append}
 use Rattle.gw_records.specs.declared.outcome.Totals.{Totals}
 use Rattle.gw_records.specs.declared.outcome.RunFault.{RunFault}
-use Rattle.gw_records.specs.declared.records.EndReason.TheVariants as endings
+use Rattle.gw_records.specs.declared.records.RecordsEnd.TheVariants as endings
 use Rattle.gw_records.specs.Outcome.{answer_of, SessionTo, Ends, EndsAll, EndsUntil, FailsToWrite}
-use Rattle.gw_records.proofs.Writes.{Yields-none, Yields-join, Yields-end}
+use Rattle.gw_records.proofs.Writes.{GivesOctets-none, GivesOctets-join, GivesOctets-end}
 
 abbrev pub made : ℕ → ℕ → ℕ → ℕ → ℕ → Totals
 made a b c d e = record { records = a; octets = b; datagrams = c; dropped = d; port_faults = e }
@@ -29,7 +29,7 @@ goes_up P (Err y) f up met p = rw (up, met) p
 -- a session between two records: what it has read are good records and what its reader holds
 pub record Stage (kinds : AcceptedKinds) (source source' : SourceState) (sink sink' : SinkState) (reader : Reader)
     (octets : List ℕ) (records : List Record) : Type 0 where
-  pub gives : Yields source source' octets
+  pub gives : GivesOctets source source' octets
   pub whole : octets ≡ flat_map spelled records ++ held reader
   pub good : AllByRecursion (IsGood kinds) records
   pub no_read : source'.failures ≡ source.failures
@@ -41,7 +41,7 @@ pub record Stage (kinds : AcceptedKinds) (source source' : SourceState) (sink si
 pub starts : {kinds : AcceptedKinds} (a : SourceState) (c : SinkState) (reader : Reader) → held reader ≡ []
     → reader.reads_left ≡ 2 ^ 62 → Stage kinds a a c c reader [] []
 starts a c reader none left = record {
-  gives = Yields-none a;
+  gives = GivesOctets-none a;
   whole = sym none;
   good = tt;
   no_read = refl;
@@ -129,7 +129,7 @@ pub reads_more : {kinds : AcceptedKinds} {a b b' : SourceState} {c d d' : SinkSt
     → (r : Brings b b' reader reader') → a.reads < 2 ^ 63 → d'.failures ≡ d.failures
     → Stage kinds a b' c d' reader' (octets ++ r.octets) records
 reads_more {reader = reader} {octets = octets} {records = records} w r few kept = record {
-  gives = Yields-join _ _ _ octets r.octets w.gives r.gives;
+  gives = GivesOctets-join _ _ _ octets r.octets w.gives r.gives;
   whole = rw (w.whole, r.holds) (append_assoc (flat_map spelled records) (held reader) r.octets);
   good = w.good;
   no_read = r.same ∙ w.no_read;
@@ -140,13 +140,13 @@ reads_more {reader = reader} {octets = octets} {records = records} w r few kept 
 
 -- what is held ends so, and nothing came behind it
 unfoldable session_to : {kinds : AcceptedKinds} {a b b' : SourceState} {c d d' : SinkState} {reader : Reader}
-    {octets slice : List ℕ} {records : List Record} {ending : EndReason} {Done : Totals → List Record → Type 0}
-    (totals : Totals) → Stage kinds a b c d reader octets records → Yields b b' [] → slice ≡ held reader
+    {octets slice : List ℕ} {records : List Record} {ending : RecordsEnd} {Done : Totals → List Record → Type 0}
+    (totals : Totals) → Stage kinds a b c d reader octets records → GivesOctets b b' [] → slice ≡ held reader
     → end_of kinds slice ≡ Some ending → d'.failures ≡ d.failures → Done totals records
     → SessionTo kinds a b' c d' Done ending
 session_to {kinds} {reader = reader} {octets = octets} {records = records} totals w gives same ends kept done = record {
   octets = octets;
-  gives = Yields-end _ _ _ _ [] refl w.gives gives;
+  gives = GivesOctets-end _ _ _ _ [] refl w.gives gives;
   records = records;
   reads = record { rest = held reader; whole = w.whole; good = w.good; ends = rw same at ends };
   totals = totals;
@@ -156,7 +156,7 @@ session_to {kinds} {reader = reader} {octets = octets} {records = records} total
 
 -- the records end so
 pub ended : {kinds : AcceptedKinds} {a b b' : SourceState} {c d d' : SinkState} {reader reader' : Reader}
-    {octets slice : List ℕ} {records : List Record} {ending : EndReason} {Done : Totals → List Record → Type 0}
+    {octets slice : List ℕ} {records : List Record} {ending : RecordsEnd} {Done : Totals → List Record → Type 0}
     (totals : Totals) → Stage kinds a b c d reader octets records → RunsOut b b' reader reader' ending
     → slice ≡ held reader → end_of kinds slice ≡ Some ending → d'.failures ≡ d.failures → Done totals records
     → (e : Ends kinds a b' c d' Done ending) × (totals ≡ e.0.totals)
@@ -165,10 +165,10 @@ ended totals w r same ends kept done = ((session_to totals w r.gives same ends k
 
 -- a read failed, or there were too many
 pub gives_up : {kinds : AcceptedKinds} {a b b' : SourceState} {c d d' : SinkState} {reader reader' : Reader}
-    {octets slice : List ℕ} {records : List Record} {ending : EndReason} {Done : Totals → List Record → Type 0}
+    {octets slice : List ℕ} {records : List Record} {ending : RecordsEnd} {Done : Totals → List Record → Type 0}
     (totals : Totals) → Stage kinds a b c d reader octets records → FailsToRead b b' reader reader' ending
     → slice ≡ held reader → end_of kinds slice ≡ Some ending → d'.failures ≡ d.failures → Done totals records
-    → (ending : EndReason) × (s : SessionTo kinds a b' c d' Done ending) × GivesUp a b' s.octets
+    → (ending : RecordsEnd) × (s : SessionTo kinds a b' c d' Done ending) × GivesUp a b' s.octets
     × (is_open ending ≡ true)
 unfolding session_to
 gives_up totals w r same ends kept done = (
@@ -183,7 +183,7 @@ gives_up totals w r same ends kept done = (
 
 -- a session ends if its records end so
 pub ends_so : {kinds : AcceptedKinds} {a b : SourceState} {c d : SinkState} {Done : Totals → List Record → Type 0}
-    (Begun : List Record → Type 0) (ending : EndReason) (totals : Totals) (result : Result Totals RunFault)
+    (Begun : List Record → Type 0) (ending : RecordsEnd) (totals : Totals) (result : Result Totals RunFault)
     → (e : Ends kinds a b c d Done ending) → (is_open ending ≡ true → IsAtEnd b.to_come) → totals ≡ e.0.totals
     → result ≡ answer_of ending totals
     → (IfOk result (EndsAll kinds a b c d Done)) × (IfErr result (EndsUntil kinds a b c d Done Begun))

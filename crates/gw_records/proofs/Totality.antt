@@ -1,7 +1,7 @@
 -- Each list of octets is read.
 use Rattle.gw_records.proofs.Common.{◌≡◌, ◌+◌, ◌<◌, ◌≤◌, ℕ, zero, suc, Option, Some, None, List, [], ◌∷◌, length, drop}
 use Rattle.gw_records.proofs.Common.{refl, sym, append_assoc, length-drop, take-append-drop, arith, slice_index}
-use Rattle.gw_records.proofs.Common.{get_or-drop, nat_tests, AcceptedKinds, EndReason, FirstRecord, Record, Reads}
+use Rattle.gw_records.proofs.Common.{get_or-drop, nat_tests, AcceptedKinds, RecordsEnd, FirstRecord, Record, Reads}
 use Rattle.gw_records.proofs.Common.{body_len, is_cut, end_of, IsFirst, record_at, EachIsRead}
 use Rattle.gw_records.proofs.Firsts.{good_first, found_in}
 
@@ -17,9 +17,9 @@ first_of_none kinds octets bytes e =
     (_, good_first kinds octets bytes long t.1 t.2 t.3 whole t.5)
 
 -- at most n octets that end in this way are read as records
-readings : (n : ℕ) (kinds : AcceptedKinds) (octets : List ℕ) (o : Option EndReason) → end_of kinds octets ≡ o
+readings : (n : ℕ) (kinds : AcceptedKinds) (octets : List ℕ) (o : Option RecordsEnd) → end_of kinds octets ≡ o
     → length octets ≤ n → ((i : ℕ) → slice_index octets i < 256)
-    → (records : List Record) × (ending : EndReason) × Reads kinds octets records ending
+    → (records : List Record) × (ending : RecordsEnd) × Reads kinds octets records ending
 readings n kinds octets (Some ending) e h bytes =
     ([], ending, record { rest = octets; whole = refl; good = tt; ends = e })
 readings zero kinds octets None e h bytes =

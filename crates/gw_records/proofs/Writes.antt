@@ -2,7 +2,8 @@
 use Rattle.gw_records.proofs.Common.{◌+◌, ◌≡◌, ◌-◌, ◌<◌, ◌≤◌, ◌^◌, ◌==◌, ◌&&◌, cond, ℕ, List, [], ◌∷◌, ◌++◌, length}
 use Rattle.gw_records.proofs.Common.{take, drop, Option, refl, sym, append_assoc, append-nil, nat_lt, arith}
 use Rattle.gw_records.proofs.Common.{Consumes-nil, Consumes-trans, common_steps, Appends, length-append, ap, ◌∙◌}
-use Rattle.gw_records.proofs.Common.{SourceState, SinkState, Yields, at_most, AppendsPrefix, AppendsBut, TakesAllBut}
+use Rattle.gw_records.proofs.Common.{SourceState, SinkState, GivesOctets, at_most, AppendsPrefix, AppendsBut}
+use Rattle.gw_records.proofs.Common.{TakesAllButWaiting}
 use Rattle.gw_records.proofs.Common.{FailsAfterPrefix}
 -- nothing appended and nothing lost, and two appends that are one
 pub use Rattle.std.proofs.KnownBytes.{Appends-nil as Appends-none, Appends-trans as Appends-join}
@@ -30,9 +31,10 @@ pub AppendsPrefix-same : (a b : Option (List ℕ)) (xs ys : List ℕ) → xs ≡
 AppendsPrefix-same a b xs ys e p = rw (← e) p
 
 -- .. of what passes
-pub TakesAllBut-same : (a b : Option (List ℕ)) (waiting xs ys : List ℕ) → xs ≡ ys → TakesAllBut a b waiting xs
-    → TakesAllBut a b waiting ys
-TakesAllBut-same a b waiting xs ys e p = rw (← e) p
+pub TakesAllButWaiting-same : (a b : Option (List ℕ)) (waiting xs ys : List ℕ) → xs ≡ ys
+    → TakesAllButWaiting a b waiting xs
+    → TakesAllButWaiting a b waiting ys
+TakesAllButWaiting-same a b waiting xs ys e p = rw (← e) p
 
 -- an append, and then a prefix
 pub AppendsPrefix-join : (a b c : Option (List ℕ)) (xs ys all : List ℕ) → Appends a b xs → AppendsPrefix b c ys
@@ -56,13 +58,14 @@ AppendsPrefix-more a b octets more q = record {
 
 -- octets of which some are buffered, then a prefix of the buffered ones and of more
 pub AppendsPrefix-behind : (a b c : Option (List ℕ)) (waiting before more : List ℕ)
-    → TakesAllBut a b waiting before → AppendsPrefix b c (waiting ++ more) → AppendsPrefix a c (before ++ more)
+    → TakesAllButWaiting a b waiting before → AppendsPrefix b c (waiting ++ more) → AppendsPrefix a c (before ++ more)
 AppendsPrefix-behind a b c waiting before more p q =
     AppendsPrefix-join a b c p.written (waiting ++ more) (before ++ more) p.appended q (rw (p.whole, append_assoc) refl)
 
 -- octets of which few are buffered, then a prefix of the buffered ones and of more
 pub AppendsBut-behind : (late : ℕ) (a b c : Option (List ℕ)) (waiting before more : List ℕ) → length waiting ≤ late
-    → TakesAllBut a b waiting before → AppendsPrefix b c (waiting ++ more) → AppendsBut late a c before (before ++ more)
+    → TakesAllButWaiting a b waiting before → AppendsPrefix b c (waiting ++ more)
+    → AppendsBut late a c before (before ++ more)
 unfolding AppendsPrefix-behind AppendsPrefix-join
 AppendsBut-behind late a b c waiting before more few p q =
     let len = ap length p.whole ∙ length-append p.written waiting in
@@ -91,38 +94,41 @@ AppendsBut-more more p = record {
 }
 
 -- what waited is written, and then other octets pass
-pub TakesAllBut-after : (a b c : Option (List ℕ)) (before waiting octets : List ℕ)
-    → Appends a b before → TakesAllBut b c waiting octets → TakesAllBut a c waiting (before ++ octets)
-TakesAllBut-after a b c before waiting octets p q = record {
+pub TakesAllButWaiting-after : (a b c : Option (List ℕ)) (before waiting octets : List ℕ)
+    → Appends a b before → TakesAllButWaiting b c waiting octets → TakesAllButWaiting a c waiting (before ++ octets)
+TakesAllButWaiting-after a b c before waiting octets p q = record {
   written = before ++ q.written;
   whole = rw (q.whole, append_assoc) refl;
   appended = Appends-join a b c before q.written p q.appended;
 }
 
 -- octets that pass behind others
-pub TakesAllBut-join : (a b c : Option (List ℕ)) (waiting waiting' before more : List ℕ)
-    → TakesAllBut a b waiting before → TakesAllBut b c waiting' (waiting ++ more)
-    → TakesAllBut a c waiting' (before ++ more)
-TakesAllBut-join a b c waiting waiting' before more p q =
-    rw (p.whole, append_assoc) (TakesAllBut-after a b c p.written waiting' (waiting ++ more) p.appended q)
+pub TakesAllButWaiting-join : (a b c : Option (List ℕ)) (waiting waiting' before more : List ℕ)
+    → TakesAllButWaiting a b waiting before → TakesAllButWaiting b c waiting' (waiting ++ more)
+    → TakesAllButWaiting a c waiting' (before ++ more)
+TakesAllButWaiting-join a b c waiting waiting' before more p q =
+    rw (p.whole, append_assoc) (TakesAllButWaiting-after a b c p.written waiting' (waiting ++ more) p.appended q)
 
 -- what was taken and what is buffered are all
-pub TakesAllBut-appended : (a b c : Option (List ℕ)) (waiting octets : List ℕ) → TakesAllBut a b waiting octets
+pub TakesAllButWaiting-appended : (a b c : Option (List ℕ)) (waiting octets : List ℕ)
+    → TakesAllButWaiting a b waiting octets
     → Appends b c waiting → Appends a c octets
-TakesAllBut-appended a b c waiting octets p q = rw (p.whole) (Appends-join a b c p.written waiting p.appended q)
+TakesAllButWaiting-appended a b c waiting octets p q = rw (p.whole) (Appends-join a b c p.written waiting p.appended q)
 
 -- everything was taken, with nothing buffered
-pub TakesAllBut-empty : (a b : Option (List ℕ)) (waiting : List ℕ) {octets : List ℕ} → waiting ≡ [] → Appends a b octets
-    → TakesAllBut a b waiting octets
-TakesAllBut-empty a b waiting e p = rw e (record { written = _; whole = sym (append-nil _); appended = p })
+pub TakesAllButWaiting-empty : (a b : Option (List ℕ)) (waiting : List ℕ) {octets : List ℕ} → waiting ≡ []
+    → Appends a b octets
+    → TakesAllButWaiting a b waiting octets
+TakesAllButWaiting-empty a b waiting e p = rw e (record { written = _; whole = sym (append-nil _); appended = p })
 
 -- at the start nothing is buffered
-pub TakesAllBut-start : (a : Option (List ℕ)) (waiting : List ℕ) → waiting ≡ [] → TakesAllBut a a waiting []
-TakesAllBut-start a waiting e = TakesAllBut-empty a a waiting e (Appends-none a)
+pub TakesAllButWaiting-start : (a : Option (List ℕ)) (waiting : List ℕ) → waiting ≡ []
+    → TakesAllButWaiting a a waiting []
+TakesAllButWaiting-start a waiting e = TakesAllButWaiting-empty a a waiting e (Appends-none a)
 
 -- nothing was written, and everything is buffered
-pub TakesAllBut-none : (a : Option (List ℕ)) (waiting : List ℕ) → TakesAllBut a a waiting (waiting ++ [])
-TakesAllBut-none a waiting = record { written = []; whole = append-nil waiting; appended = Appends-none a }
+pub TakesAllButWaiting-none : (a : Option (List ℕ)) (waiting : List ℕ) → TakesAllButWaiting a a waiting (waiting ++ [])
+TakesAllButWaiting-none a waiting = record { written = []; whole = append-nil waiting; appended = Appends-none a }
 
 -- what waited is written, and then a write fails
 pub FailsAfterPrefix-after : (a b c : SinkState) (before octets : List ℕ)
@@ -136,11 +142,16 @@ FailsAfterPrefix-after a b c before octets p e q = record {
 -- a prefix of octets is one of more octets
 pub FailsAfterPrefix-more : (a b : SinkState) (octets more : List ℕ) → FailsAfterPrefix a b octets
     → FailsAfterPrefix a b (octets ++ more)
-FailsAfterPrefix-more a b octets more q = record { counted = q.counted; took = AppendsPrefix-more _ _ octets more q.took }
+FailsAfterPrefix-more a b octets more q = record {
+  counted = q.counted;
+  took = AppendsPrefix-more _ _ octets more
+      q.took;
+}
 
 -- octets that break off behind others
 pub FailsAfterPrefix-join : (a b c : SinkState) (waiting before more : List ℕ)
-    → TakesAllBut a.taken b.taken waiting before → b.failures ≡ a.failures → FailsAfterPrefix b c (waiting ++ more)
+    → TakesAllButWaiting a.taken b.taken waiting before → b.failures ≡ a.failures
+    → FailsAfterPrefix b c (waiting ++ more)
     → FailsAfterPrefix a c (before ++ more)
 FailsAfterPrefix-join a b c waiting before more p e q = record {
   counted = omega (arith, e, q.counted);
@@ -149,23 +160,25 @@ FailsAfterPrefix-join a b c waiting before more p e q = record {
 
 -- writing the buffer fails
 pub FailsAfterPrefix-waiting : (a b c : SinkState) (waiting octets : List ℕ)
-    → TakesAllBut a.taken b.taken waiting octets → b.failures ≡ a.failures → FailsAfterPrefix b c waiting
+    → TakesAllButWaiting a.taken b.taken waiting octets → b.failures ≡ a.failures → FailsAfterPrefix b c waiting
     → FailsAfterPrefix a c octets
 FailsAfterPrefix-waiting a b c waiting octets p e q = rw (p.whole)
     (FailsAfterPrefix-after a b c p.written waiting p.appended e q)
 
 -- a source that gives in turn
-pub Yields-none : (a : SourceState) → Yields a a []
-Yields-none a = record { gave = Appends-none a.given; consumed = Consumes-nil a.to_come }
+pub GivesOctets-none : (a : SourceState) → GivesOctets a a []
+GivesOctets-none a = record { gave = Appends-none a.given; consumed = Consumes-nil a.to_come }
 
 -- a source that gave octets, and then more
-pub Yields-join : (a b c : SourceState) (xs ys : List ℕ) → Yields a b xs → Yields b c ys → Yields a c (xs ++ ys)
-Yields-join a b c xs ys p q = record {
+pub GivesOctets-join : (a b c : SourceState) (xs ys : List ℕ) → GivesOctets a b xs → GivesOctets b c ys
+    → GivesOctets a c (xs ++ ys)
+GivesOctets-join a b c xs ys p q = record {
   gave = Appends-join a.given b.given c.given xs ys p.gave q.gave;
   consumed = Consumes-trans a.to_come b.to_come c.to_come xs ys p.consumed q.consumed;
 }
 
 -- .. and then nothing
-pub Yields-end : (a b c : SourceState) (xs ys : List ℕ) → length ys ≡ 0 → Yields a b xs → Yields b c ys → Yields a c xs
-Yields-end a b c xs [] e p q = rw append-nil at (Yields-join a b c xs [] p q)
-Yields-end a b c xs (y ∷ ys) e p q = absurd (omega (arith, e))
+pub GivesOctets-end : (a b c : SourceState) (xs ys : List ℕ) → length ys ≡ 0 → GivesOctets a b xs
+    → GivesOctets b c ys → GivesOctets a c xs
+GivesOctets-end a b c xs [] e p q = rw append-nil at (GivesOctets-join a b c xs [] p q)
+GivesOctets-end a b c xs (y ∷ ys) e p q = absurd (omega (arith, e))

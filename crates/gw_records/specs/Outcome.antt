@@ -5,10 +5,10 @@ use Rattle.gw_records.specs.declared.outcome.Totals.{Totals}
 use Rattle.gw_records.specs.declared.outcome.RunFault.{RunFault}
 use Rattle.gw_records.specs.declared.outcome.RunFault.TheVariants as faults
 use Rattle.gw_records.specs.declared.records.AcceptedKinds.{AcceptedKinds}
-use Rattle.gw_records.specs.declared.records.EndReason.{EndReason}
-use Rattle.gw_records.specs.declared.records.EndReason.TheVariants as endings
+use Rattle.gw_records.specs.declared.records.RecordsEnd.{RecordsEnd}
+use Rattle.gw_records.specs.declared.records.RecordsEnd.TheVariants as endings
 use Rattle.gw_records.specs.Records.{Record, BeginsWith, Reads, is_open}
-use Rattle.gw_records.specs.Streams.{SourceState, SinkState, Yields, GivesUp}
+use Rattle.gw_records.specs.Streams.{SourceState, SinkState, GivesOctets, GivesUp}
 
 -- the number of a fault
 unfoldable pub fault_number : RunFault → ℕ
@@ -21,7 +21,7 @@ fault_number faults.Write = 6
 fault_number faults.OutOfMemory = 7
 
 -- the result if the records end so
-abbrev pub answer_of : EndReason → Totals → Result Totals RunFault
+abbrev pub answer_of : RecordsEnd → Totals → Result Totals RunFault
 answer_of endings.End totals = Ok totals
 answer_of endings.BadKind totals = Err faults.BadKind
 answer_of endings.BadCircuit totals = Err faults.BadCircuit
@@ -34,9 +34,9 @@ nothing_counted = record { records = 0; octets = 0; datagrams = 0; dropped = 0; 
 -- The source gave octets, which are good records with this end; this was done with the records, counted by
 -- these totals, and no write failed.
 pub record SessionTo (kinds : AcceptedKinds) (source source' : SourceState) (sink sink' : SinkState)
-    (Done : Totals → List Record → Type 0) (ending : EndReason) : Type 0 where
+    (Done : Totals → List Record → Type 0) (ending : RecordsEnd) : Type 0 where
   pub octets : List ℕ
-  pub gives : Yields source source' octets
+  pub gives : GivesOctets source source' octets
   pub records : List Record
   pub reads : Reads kinds octets records ending
   pub totals : Totals
@@ -45,7 +45,7 @@ pub record SessionTo (kinds : AcceptedKinds) (source source' : SourceState) (sin
 
 -- .. and no read failed
 abbrev pub Ends : AcceptedKinds → SourceState → SourceState → SinkState → SinkState
-    → (Totals → List Record → Type 0) → EndReason → Type 0
+    → (Totals → List Record → Type 0) → RecordsEnd → Type 0
 Ends kinds source source' sink sink' Done ending =
     SessionTo kinds source source' sink sink' Done ending × (source'.failures ≡ source.failures)
 
@@ -60,7 +60,7 @@ pub record EndsAll (kinds : AcceptedKinds) (source source' : SourceState) (sink 
 pub record FailsToWrite (kinds : AcceptedKinds) (source source' : SourceState) (sink sink' : SinkState)
     (Begun : List Record → Type 0) : Type 0 where
   pub octets : List ℕ
-  pub gives : Yields source source' octets
+  pub gives : GivesOctets source source' octets
   pub records : List Record
   pub begins : BeginsWith kinds octets records
   pub begun : Begun records
@@ -80,7 +80,7 @@ EndsUntil kinds source source' sink sink' Done Begun faults.BadCommand =
     Ends kinds source source' sink sink' Done endings.BadCommand
 EndsUntil kinds source source' sink sink' Done Begun faults.Truncated =
     Ends kinds source source' sink sink' Done endings.Truncated × IsAtEnd source'.to_come
-EndsUntil kinds source source' sink sink' Done Begun faults.Read = (ending : EndReason)
+EndsUntil kinds source source' sink sink' Done Begun faults.Read = (ending : RecordsEnd)
     × (s : SessionTo kinds source source' sink sink' Done ending) × GivesUp source source' s.octets
     × (is_open ending ≡ true)
 EndsUntil kinds source source' sink sink' Done Begun faults.Write =

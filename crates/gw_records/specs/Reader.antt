@@ -2,10 +2,10 @@
 use Rattle.std.specs.Prelude.{◌≡◌, ◌⊎◌, ◌+◌, ◌*◌, ◌<◌, ◌≤◌, ◌++◌}
 use Rattle.std.specs.Prelude.{ℕ, Bool, true, false, List, [], length, take, drop}
 use Rattle.std.specs.Io.KnownBytes.{IsAtEnd}
-use Rattle.gw_records.specs.declared.records.EndReason.{EndReason}
+use Rattle.gw_records.specs.declared.records.RecordsEnd.{RecordsEnd}
 use Rattle.gw_records.specs.declared.reader.Reader.{Reader}
 use Rattle.gw_records.specs.Records.{is_open}
-use Rattle.gw_records.specs.Streams.{SourceState, Yields, at_most}
+use Rattle.gw_records.specs.Streams.{SourceState, GivesOctets, at_most}
 
 -- the octets read and not consumed
 unfoldable pub held : Reader → List ℕ
@@ -18,7 +18,7 @@ work_left r = 131079 * r.reads_left + length (held r)
 -- the source gave octets, which are behind the others
 pub record Brings (source source' : SourceState) (reader reader' : Reader) : Type 0 where
   pub octets : List ℕ
-  pub gives : Yields source source' octets
+  pub gives : GivesOctets source source' octets
   pub holds : held reader' ≡ held reader ++ octets
   pub turns : reader.reads_left ≤ reader'.reads_left + length octets
   pub counted : source'.reads ≡ at_most (source.reads + 1)
@@ -28,25 +28,25 @@ pub record Brings (source source' : SourceState) (reader reader' : Reader) : Typ
 
 -- No octet arrived, and none is to come if more would matter; if not, none was asked for.
 pub record RunsOut (source source' : SourceState) (reader reader' : Reader)
-    (ending : EndReason) : Type 0 where
-  pub gives : Yields source source' []
+    (ending : RecordsEnd) : Type 0 where
+  pub gives : GivesOctets source source' []
   pub holds : held reader' ≡ held reader
   pub ended : is_open ending ≡ true → IsAtEnd source'.to_come
   pub still : is_open ending ≡ false → source' ≡ source
   pub same : source'.failures ≡ source.failures
 
 -- reading on brought octets, or found that there is nothing to wait for
-abbrev pub ReadsOn : SourceState → SourceState → Reader → Reader → EndReason → Bool → Type 0
+abbrev pub ReadsOn : SourceState → SourceState → Reader → Reader → RecordsEnd → Bool → Type 0
 ReadsOn source source' reader reader' ending true = Brings source source' reader reader'
 ReadsOn source source' reader reader' ending false = RunsOut source source' reader reader' ending
 
 -- more octets might have changed the end, and the source gave no more: it failed, or the read limit was
 -- reached
 pub record FailsToRead (source source' : SourceState) (reader reader' : Reader)
-    (ending : EndReason) : Type 0
+    (ending : RecordsEnd) : Type 0
   where
     pub awaited : is_open ending ≡ true
-    pub gives : Yields source source' []
+    pub gives : GivesOctets source source' []
     pub holds : held reader' ≡ held reader
     pub cause : (source.failures < source'.failures) ⊎ (reader.reads_left ≡ 0)
     pub uncounted : source'.reads ≡ source.reads

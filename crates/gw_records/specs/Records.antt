@@ -5,11 +5,11 @@ use Rattle.std.specs.Prelude.{Option, Some, None}
 use Rattle.std.specs.List.{flat_map, AllByRecursion}
 use Rattle.byteorder.specs.Endian.{big_bytes}
 use Rattle.gw_records.specs.declared.records.AcceptedKinds.{AcceptedKinds}
-use Rattle.gw_records.specs.declared.records.RecordKind.{RecordKind}
-use Rattle.gw_records.specs.declared.records.RecordKind.TheVariants as heads
+use Rattle.gw_records.specs.declared.records.RecordHead.{RecordHead}
+use Rattle.gw_records.specs.declared.records.RecordHead.TheVariants as heads
 use Rattle.gw_records.specs.declared.records.FirstRecord.{FirstRecord}
-use Rattle.gw_records.specs.declared.records.EndReason.{EndReason}
-use Rattle.gw_records.specs.declared.records.EndReason.TheVariants as endings
+use Rattle.gw_records.specs.declared.records.RecordsEnd.{RecordsEnd}
+use Rattle.gw_records.specs.declared.records.RecordsEnd.TheVariants as endings
 use Rattle.gw_records.specs.Octets.{command_of, octet_of_command, codec_of, octet_of_codec}
 
 -- a kind, a circuit, a 16-bit length and the body
@@ -77,7 +77,7 @@ has_bad_command octets =
     || nat_lt 127 (slice_index octets 5))
 
 -- how octets end that do not begin with a whole good record
-unfoldable pub end_of : AcceptedKinds → List ℕ → Option EndReason
+unfoldable pub end_of : AcceptedKinds → List ℕ → Option RecordsEnd
 end_of kinds octets =
     if length octets == 0 then Some endings.End
     else (if nat_lt (length octets) 4 then Some endings.Truncated
@@ -89,7 +89,7 @@ end_of kinds octets =
     else None))))))
 
 -- more octets may change this end
-abbrev pub is_open : EndReason → Bool
+abbrev pub is_open : RecordsEnd → Bool
 is_open endings.End = true
 is_open endings.Truncated = true
 is_open _ = false
@@ -102,14 +102,14 @@ pub record BeginsWith (kinds : AcceptedKinds) (octets : List ℕ) (records : Lis
 
 -- the octets are these good records, and a rest with this end
 pub record Reads (kinds : AcceptedKinds) (octets : List ℕ) (records : List Record)
-    (ending : EndReason) : Type 0 where
+    (ending : RecordsEnd) : Type 0 where
   pub rest : List ℕ
   pub whole : octets ≡ flat_map spelled records ++ rest
   pub good : AllByRecursion (IsGood kinds) records
   pub ends : end_of kinds rest ≡ Some ending
 
 -- the head of the first octets
-unfoldable pub head_of : List ℕ → RecordKind
+unfoldable pub head_of : List ℕ → RecordHead
 head_of octets =
     if slice_index octets 0 == 0x54 then heads.Trunk
     else (if slice_index octets 0 == 0x44 then heads.Datagram (slice_index octets 1)
@@ -118,7 +118,7 @@ head_of octets =
     else heads.Codec (slice_index octets 1) (codec_of (slice_index octets 4)) (slice_index octets 5)))
 
 -- the record with this head and body
-abbrev pub named : RecordKind → List ℕ → Record
+abbrev pub named : RecordHead → List ℕ → Record
 named heads.Trunk body = Record.Trunk body
 named (heads.Datagram circuit) body = Record.Datagram circuit body
 named (heads.Command circuit command) body = Record.Command circuit (octet_of_command command)

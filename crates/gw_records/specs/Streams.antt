@@ -51,7 +51,7 @@ CountsWrite old new r octets =
     (λ _. new ≡ at_most (old + 1))
 
 -- the source gave these octets, if it reports them
-pub record Yields (old new : SourceState) (octets : List ℕ) : Type 0 where
+pub record GivesOctets (old new : SourceState) (octets : List ℕ) : Type 0 where
   pub gave : Appends old.given new.given octets
   pub consumed : Consumes old.to_come new.to_come octets
 
@@ -66,7 +66,7 @@ pub record Refills (old new : List ℕ) (source source' : SourceState) (n : ℕ)
   pub octets : List ℕ
   pub counted : length octets ≡ n
   pub holds : new ≡ old ++ octets
-  pub gives : Yields source source' octets
+  pub gives : GivesOctets source source' octets
   pub ended : n ≡ 0 → IsAtEnd source'.to_come
 
 -- known octets grew by a prefix of these
@@ -86,7 +86,7 @@ pub record AppendsBut (late : ℕ) (old new : Option (List ℕ)) (first octets :
   pub few : length first ≤ length written + late
 
 -- the last of these octets are buffered, and the sink took those before
-pub record TakesAllBut (old new : Option (List ℕ)) (waiting octets : List ℕ) : Type 0 where
+pub record TakesAllButWaiting (old new : Option (List ℕ)) (waiting octets : List ℕ) : Type 0 where
   pub written : List ℕ
   pub whole : octets ≡ written ++ waiting
   pub appended : Appends old new written
@@ -100,7 +100,7 @@ pub record FailsAfterPrefix (old new : SinkState) (octets : List ℕ) : Type 0 w
 -- was taken
 abbrev pub Puts : {T : Type 0} → SinkState → SinkState → List ℕ → List ℕ → Result T RunFault → Type 0
 Puts old new waiting octets r = MatchResult r
-    (λ _. TakesAllBut old.taken new.taken waiting octets × (new.failures ≡ old.failures))
+    (λ _. TakesAllButWaiting old.taken new.taken waiting octets × (new.failures ≡ old.failures))
     (λ e. (e ≡ Write) × FailsAfterPrefix old new octets)
 
 -- these octets were taken, and no write failed; or Write, if one failed after a prefix of them was taken

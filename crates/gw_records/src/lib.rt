@@ -17,7 +17,7 @@ pub use outcome::{NO_TOTALS, RunFault, Totals, answer};
 pub use ports::{PortFault, Ports};
 pub use reader::{MAX_READS, Reader, read_behind};
 pub use records::{
-    AcceptedKinds, CODEC, COMMAND, DATAGRAM, EndReason, FRONT_LEN, FirstRecord, RecordKind, TRUNK,
+    AcceptedKinds, CODEC, COMMAND, DATAGRAM, FRONT_LEN, FirstRecord, RecordHead, RecordsEnd, TRUNK,
     datagram_record, first_record,
 };
 pub use streams::{FromRead, Sink, SinkFault, Source, SourceFault, ToWrite};

@@ -2,7 +2,7 @@
 ghost use Rattle.std.specs.Prelude.{◌≡◌};
 ghost use Rattle.gw_records.specs.Outcome.{fault_number, answer_of};
 
-use crate::records::EndReason;
+use crate::records::RecordsEnd;
 use thiserror::Error;
 
 /// The totals of a session.
@@ -78,14 +78,14 @@ impl RunFault {
 }
 
 /// The result of a session whose records end so.
-pub fn answer(ending: EndReason, totals: Totals) -> Result<Totals, RunFault>
+pub fn answer(ending: RecordsEnd, totals: Totals) -> Result<Totals, RunFault>
     ensures { result ≡ answer_of ending totals }
 {
     match ending {
-        EndReason::End => Ok(totals),
-        EndReason::BadKind => Err(RunFault::BadKind),
-        EndReason::BadCircuit => Err(RunFault::BadCircuit),
-        EndReason::BadCommand => Err(RunFault::BadCommand),
-        EndReason::Truncated => Err(RunFault::Truncated),
+        RecordsEnd::End => Ok(totals),
+        RecordsEnd::BadKind => Err(RunFault::BadKind),
+        RecordsEnd::BadCircuit => Err(RunFault::BadCircuit),
+        RecordsEnd::BadCommand => Err(RunFault::BadCommand),
+        RecordsEnd::Truncated => Err(RunFault::Truncated),
     }
 }

@@ -1,10 +1,10 @@
 //! The buffer of octets read, from which records are taken in place.
 ghost use Rattle.std.specs.Prelude.{◌≡◌, ◌+◌, ◌<◌, ◌≤◌, [], vec_len, length, take, IfOk, OnErr};
-ghost use Rattle.gw_records.specs.Streams.{CountsRead, CountsTurn, Refills, Yields};
+ghost use Rattle.gw_records.specs.Streams.{CountsRead, CountsTurn, Refills, GivesOctets};
 ghost use Rattle.gw_records.specs.Records.{is_open};
 
 use crate::outcome::RunFault;
-use crate::records::{AcceptedKinds, EndReason};
+use crate::records::{AcceptedKinds, RecordsEnd};
 use crate::streams::{Source, SourceFault};
 use std::alloc::{AllocError, Global};
 
@@ -29,10 +29,10 @@ pub struct Reader {
 }
 
 // Whether more octets may change how octets end.
-fn is_open(ending: EndReason) -> bool
+fn is_open(ending: RecordsEnd) -> bool
     ensures { result ≡ is_open ending }
 {
-    matches!(ending, EndReason::End | EndReason::Truncated)
+    matches!(ending, RecordsEnd::End | RecordsEnd::Truncated)
 }
 
 /// Reads octets behind the first ones of a buffer.
@@ -48,7 +48,7 @@ pub fn read_behind<S: Source>(
     ensures gives { IfOk result (λ n. Refills (take filled buffer.old) (take (filled + n) buffer.new)
         (S.tells source.old) (S.tells source.new) n) }
     ensures kept { OnErr result (take filled buffer.new ≡ take filled buffer.old) }
-    ensures none { OnErr result (Yields (S.tells source.old) (S.tells source.new) []) }
+    ensures none { OnErr result (GivesOctets (S.tells source.old) (S.tells source.new) []) }
     ensures counts { CountsRead (S.tells source.old).failures (S.tells source.new).failures result }
     ensures turns { CountsTurn (S.tells source.old).reads (S.tells source.new).reads result }
     ensures len { length buffer.new ≡ length buffer.old }
@@ -60,7 +60,7 @@ pub fn read_behind<S: Source>(
 impl Reader {
     ghost use Rattle.std.specs.Prelude.{◌≡◌, ◌+◌, ◌-◌, ◌^◌, ◌<◌, ◌≤◌};
     ghost use Rattle.std.specs.Prelude.{[], length, drop, Some, IfOk, IfErr, OnErr};
-    ghost use Rattle.gw_records.specs.Streams.{CanCount, CountsRead, CountsTurn, Refills, Yields};
+    ghost use Rattle.gw_records.specs.Streams.{CanCount, CountsRead, CountsTurn, Refills, GivesOctets};
     ghost use Rattle.gw_records.specs.Records.{end_of};
     ghost use Rattle.gw_records.specs.Reader.{held, ReadsOn, FailsToRead};
 
@@ -137,7 +137,7 @@ impl Reader {
         ensures gives { IfOk result (λ n. Refills (held self.old) (held self.new)
             (S.tells source.old) (S.tells source.new) n) }
         ensures kept { OnErr result (held self.new ≡ held self.old) }
-        ensures none { OnErr result (Yields (S.tells source.old) (S.tells source.new) []) }
+        ensures none { OnErr result (GivesOctets (S.tells source.old) (S.tells source.new) []) }
         ensures counts { CountsRead (S.tells source.old).failures (S.tells source.new).failures result }
         ensures reads { CountsTurn (S.tells source.old).reads (S.tells source.new).reads result }
         ensures turns { self.new.reads_left + 1 ≡ self.old.reads_left }
@@ -155,7 +155,7 @@ impl Reader {
     pub fn read_on<S: Source>(
         &mut self,
         kinds: &AcceptedKinds,
-        ending: EndReason,
+        ending: RecordsEnd,
         source: &mut S,
     ) -> Result<bool, RunFault>
         requires ends { end_of kinds.now (held self.old) ≡ Some ending }

@@ -34,7 +34,7 @@ pub struct AcceptedKinds {
 
 /// The end of records.
 #[derive(Clone, Copy, Debug, PartialEq, Eq)]
-pub enum EndReason {
+pub enum RecordsEnd {
     End,
     BadKind,
     BadCircuit,
@@ -44,7 +44,7 @@ pub enum EndReason {
 
 /// A record without the octets of its body.
 #[derive(Clone, Copy, Debug, PartialEq, Eq)]
-pub enum RecordKind {
+pub enum RecordHead {
     Trunk,
     Datagram(CircuitNo),
     Command(CircuitNo, Cmd),
@@ -54,7 +54,7 @@ pub enum RecordKind {
 /// A whole first record, and its length.
 #[derive(Clone, Copy, Debug, PartialEq, Eq)]
 pub struct FirstRecord {
-    pub head: RecordKind,
+    pub head: RecordHead,
     pub len: usize,
 }
 
@@ -108,7 +108,7 @@ fn has_bad_length(held: &[u8]) -> bool
 
 // The head of a whole record's first octets; `None` for an unknown command or codec.
 #[tactic(auto, unfolding(crate::specs::Records::has_bad_command, crate::specs::Records::head_of))]
-fn head_of(held: &[u8]) -> Option<RecordKind>
+fn head_of(held: &[u8]) -> Option<RecordHead>
     requires kind { slice_index held.now 0 ≢ 0x54 → slice_index held.now 0 ≢ 0x44
         → slice_index held.now 0 ≢ 0x43 → slice_index held.now 0 ≡ 0x4B }
     requires circuit { slice_index held.now 0 ≢ 0x54 → IsCircuit (slice_index held.now 1) }
@@ -118,11 +118,11 @@ fn head_of(held: &[u8]) -> Option<RecordKind>
     ensures { SomeIff result (has_bad_command held.now ≡ false) (head_of held.now) }
 {
     match held[0] {
-        TRUNK => Some(RecordKind::Trunk),
-        DATAGRAM => Some(RecordKind::Datagram(CircuitNo::new(held[1])?)),
-        COMMAND => Some(RecordKind::Command(CircuitNo::new(held[1])?, command_of(held[4])?)),
+        TRUNK => Some(RecordHead::Trunk),
+        DATAGRAM => Some(RecordHead::Datagram(CircuitNo::new(held[1])?)),
+        COMMAND => Some(RecordHead::Command(CircuitNo::new(held[1])?, command_of(held[4])?)),
         _ if held[5] > 127 => None,
-        _ => Some(RecordKind::Codec(CircuitNo::new(held[1])?, codec_of(held[4])?, held[5])),
+        _ => Some(RecordHead::Codec(CircuitNo::new(held[1])?, codec_of(held[4])?, held[5])),
     }
 }
 
@@ -131,30 +131,30 @@ fn head_of(held: &[u8]) -> Option<RecordKind>
 /// It is inlined, so that a session that accepts one kind tests for no other.
 #[inline(always)]
 #[tactic(auto, unfolding(crate::specs::Records::end_of, crate::specs::Records::is_cut))]
-pub fn first_record(kinds: &AcceptedKinds, held: &[u8]) -> Result<FirstRecord, EndReason>
+pub fn first_record(kinds: &AcceptedKinds, held: &[u8]) -> Result<FirstRecord, RecordsEnd>
     ensures good { IfOk result (λ f. IsFirst kinds.now f held.now) }
     ensures end { IfErr result (λ e. end_of kinds.now held.now ≡ Some e) }
 {
     if held.is_empty() {
-        return Err(EndReason::End);
+        return Err(RecordsEnd::End);
     }
     if held.len() < 4 {
-        return Err(EndReason::Truncated);
+        return Err(RecordsEnd::Truncated);
     }
     if has_bad_kind(kinds, held) {
-        return Err(EndReason::BadKind);
+        return Err(RecordsEnd::BadKind);
     }
     if has_bad_circuit(held) {
-        return Err(EndReason::BadCircuit);
+        return Err(RecordsEnd::BadCircuit);
     }
     if has_bad_length(held) {
-        return Err(EndReason::BadCommand);
+        return Err(RecordsEnd::BadCommand);
     }
     let len = 4 + body_len(held);
     if held.len() < len {
-        return Err(EndReason::Truncated);
+        return Err(RecordsEnd::Truncated);
     }
-    let head = head_of(held).ok_or(EndReason::BadCommand)?;
+    let head = head_of(held).ok_or(RecordsEnd::BadCommand)?;
     Ok(FirstRecord { head, len })
 }
 

@@ -2,15 +2,16 @@
 use Rattle.gw_session.proofs.Common.{◌≡◌, ◌⊎◌, inl, inr, ◌+◌, ◌-◌, ◌<◌, ◌≤◌, ℕ, zero, suc, Option, List, [], ◌∷◌, ◌++◌}
 use Rattle.gw_session.proofs.Common.{length, take, drop, refl, ap, ◌∙◌, append_assoc, append-nil, length-append, arith}
 use Rattle.gw_session.proofs.Common.{Appends, map_push, flat_map_more, GatewayConfig, Event, octets, HasHistory}
-use Rattle.gw_session.proofs.Common.{AcceptedKinds, Record, IsGood, record_at, SinkState, TakesAllBut, FailsAfterPrefix}
-use Rattle.gw_session.proofs.Common.{AppendsBut, AppendsPrefix, TakesAllBut-appended, TakesAllBut-empty}
-use Rattle.gw_session.proofs.Common.{TakesAllBut-join, Appends-join, AppendsBut-behind, all_kinds, PacketOutput}
+use Rattle.gw_session.proofs.Common.{AcceptedKinds, Record, IsGood, record_at, SinkState, TakesAllButWaiting}
+use Rattle.gw_session.proofs.Common.{FailsAfterPrefix}
+use Rattle.gw_session.proofs.Common.{AppendsBut, AppendsPrefix, TakesAllButWaiting-appended, TakesAllButWaiting-empty}
+use Rattle.gw_session.proofs.Common.{TakesAllButWaiting-join, Appends-join, AppendsBut-behind, all_kinds, PacketOutput}
 use Rattle.gw_session.proofs.Common.{SessionInput}
 use Rattle.gw_session.proofs.Common.{input_record, turns_of, turns, events_in, events_through, Follows, but_last}
 use Rattle.gw_session.proofs.Common.{WatchedTrace}
 use Rattle.gw_session.proofs.Common.{OfFirstInputs, written_for, written_by, ActsOn, StopsAt, CutTrace, TapeState}
 use Rattle.gw_session.proofs.Common.{SessionState}
-use Rattle.gw_session.proofs.Common.{Output, drop-take, named, TakesAllBut-start, ActTrace}
+use Rattle.gw_session.proofs.Common.{Output, drop-take, named, TakesAllButWaiting-start, InputTrace}
 use Rattle.gw_records.specs.declared.records.FirstRecord.{FirstRecord}
 use Rattle.gw_session.proofs.Turns.{TurnsTrace-none, TurnsTrace-join, counted-more, octets-append, turns_have_octets}
 use Rattle.gw_session.proofs.Turns.{through-append}
@@ -80,7 +81,7 @@ less_written spells config before (a ∷ b ∷ inputs) = omega (
 
 -- octets of which few wait, and a write of these failed
 waiting_cut : (late : ℕ) (o : Option (List ℕ)) (s s' : SinkState) (w first xs : List ℕ) → length w ≤ late
-    → length first ≤ length xs → TakesAllBut o s.taken w xs → FailsAfterPrefix s s' w
+    → length first ≤ length xs → TakesAllButWaiting o s.taken w xs → FailsAfterPrefix s s' w
     → AppendsBut late o s'.taken first xs
 waiting_cut late o s s' w first xs few less took breaks = record {
   written = took.written ++ breaks.took.written;
@@ -100,13 +101,13 @@ waiting_cut late o s s' w first xs few less took breaks = record {
 pub through_none : (spells : PacketOutput) (Seen : List SessionInput → Type 0)
     {s : SessionState} {tape : TapeState} {o : Option (List ℕ)}
     {w : List ℕ} → Seen [] → w ≡ []
-    → WatchedTrace (written_by spells) s s tape tape (λ first xs. TakesAllBut o o w xs) Seen []
+    → WatchedTrace (written_by spells) s s tape tape (λ first xs. TakesAllButWaiting o o w xs) Seen []
 through_none spells Seen seen none = (
   record {
     inputs = [];
     told_are = refl;
     follows = record { goes = TurnsTrace-none _; records = refl; trunk_octets = refl; recorded = recorded_none _ };
-    took = λ config before at. TakesAllBut-start _ _ none;
+    took = λ config before at. TakesAllButWaiting-start _ _ none;
   },
   seen,
 )
@@ -135,22 +136,24 @@ module _ (spells : PacketOutput) (Seen : List SessionInput
 
     -- all of it was taken
     pub through_all : {o p : Option (List ℕ)} {w : List ℕ} (q : Option (List ℕ))
-        → WatchedTrace (written_by spells) s s' x y (λ first xs. TakesAllBut o p w xs) Seen records → Appends p q w
+        → WatchedTrace (written_by spells) s s' x y (λ first xs. TakesAllButWaiting o p w xs) Seen records
+        → Appends p q w
         → WatchedTrace (written_by spells) s s' x y (λ first. Appends o q) Seen records
     through_all q h wrote =
-        through_as Seen (λ first xs less took. TakesAllBut-appended _ _ _ _ _ took wrote) (λ inputs seen. seen) h
+        through_as Seen (λ first xs less took. TakesAllButWaiting-appended _ _ _ _ _ took wrote) (λ inputs seen. seen) h
 
     -- when what waits is written nothing waits, and the rest is as it was
     pub through_on : {o p q : Option (List ℕ)} {w w' : List ℕ}
-        → WatchedTrace (written_by spells) s s' x y (λ first xs. TakesAllBut o p w xs) Seen records → Appends p q w
-        → w' ≡ [] → WatchedTrace (written_by spells) s s' x y (λ first xs. TakesAllBut o q w' xs) Seen records
+        → WatchedTrace (written_by spells) s s' x y (λ first xs. TakesAllButWaiting o p w xs) Seen records
+        → Appends p q w
+        → w' ≡ [] → WatchedTrace (written_by spells) s s' x y (λ first xs. TakesAllButWaiting o q w' xs) Seen records
     through_on h wrote none = through_as Seen
-        (λ first xs less took. TakesAllBut-empty _ _ _ none (TakesAllBut-appended _ _ _ _ _ took wrote))
+        (λ first xs less took. TakesAllButWaiting-empty _ _ _ none (TakesAllButWaiting-appended _ _ _ _ _ took wrote))
         (λ inputs seen. seen) h
 
     -- .. or a write of what waits failed
     pub waiting_failed : (late : ℕ) {o : Option (List ℕ)} {b c : SinkState} {w : List ℕ} → length w ≤ late
-        → WatchedTrace (written_by spells) s s' x y (λ first xs. TakesAllBut o b.taken w xs) Seen records
+        → WatchedTrace (written_by spells) s s' x y (λ first xs. TakesAllButWaiting o b.taken w xs) Seen records
         → 0 < length records → FailsAfterPrefix b c w → (0 < length records)
         × WatchedTrace (written_by spells) s s' x y (AppendsBut late o c.taken) (OfFirstInputs Seen) records
     waiting_failed late {o} {b} {c} {w} few p some breaks = (
@@ -188,21 +191,24 @@ module _ (spells : PacketOutput) (Seen : List SessionInput
 
       -- records that were gone through, and then one more whose answer passes
       pub through_done : {o : Option (List ℕ)} {a b : Output} (Known : List SessionInput → Type 0)
-          → WatchedTrace (written_by spells) s s' x y (λ first xs. TakesAllBut o a.sink.taken a.waiting xs) Seen records
-          → (q : ActTrace spells (record { state = s'; tape = y; output = a })
-          (record { state = s''; tape = z; output = b }) r (TakesAllBut a.sink.taken b.sink.taken b.waiting))
+          → WatchedTrace (written_by spells) s s' x y
+          (λ first xs. TakesAllButWaiting o a.sink.taken a.waiting xs) Seen records
+          → (q : InputTrace spells (record { state = s'; tape = y; output = a })
+          (record { state = s''; tape = z; output = b }) r (TakesAllButWaiting a.sink.taken b.sink.taken b.waiting))
           → ((inputs : List SessionInput) → Follows s s' x y inputs → Seen inputs
           → Known (inputs ++ q.inputs.input ∷ []))
-          → WatchedTrace (written_by spells) s s'' x z (λ first xs. TakesAllBut o b.sink.taken b.waiting xs) Known
+          → WatchedTrace (written_by spells) s s'' x z
+          (λ first xs. TakesAllButWaiting o b.sink.taken b.waiting xs) Known
           (records ++ r ∷ [])
       through_done Known p q known = through_more Known p q.inputs
-          (λ config now at first xs took. TakesAllBut-join _ _ _ _ _ _ _ took (q.took config now at)) known
+          (λ config now at first xs took. TakesAllButWaiting-join _ _ _ _ _ _ _ took (q.took config now at)) known
 
       -- a write failed in it, when it was done or when its first octets were heard
       pub input_failed : (late : ℕ) {o : SinkState} {a b : Output} → length a.waiting ≤ late
-          → WatchedTrace (written_by spells) s s' x y (λ first xs. TakesAllBut o.taken a.sink.taken a.waiting xs) Seen
+          → WatchedTrace (written_by spells) s s' x y
+          (λ first xs. TakesAllButWaiting o.taken a.sink.taken a.waiting xs) Seen
           records
-          → ActTrace spells (record { state = s'; tape = y; output = a })
+          → InputTrace spells (record { state = s'; tape = y; output = a })
           (record { state = s''; tape = z; output = b }) r (AppendsPrefix a.sink.taken b.sink.taken)
           ⊎ ((octets : List ℕ) × (r ≡ Record.Trunk octets) × StopsAt spells s' s'' a b.sink octets)
           → {w w' : List ℕ} → ((0 < length (records ++ r ∷ []))

@@ -3,9 +3,12 @@ pub use Rattle.byteorder.specs.Endian.{big_bytes}
 pub use Rattle.gw_circuit.specs.declared.Dropped.{Dropped}
 pub use Rattle.gw_records.proofs.Sessions.{five, goes_up, starts, first_held, record_taken, stops_in, stops_behind}
 pub use Rattle.gw_records.proofs.Sessions.{reads_more, ended, gives_up, ends_so, Stage}
-pub use Rattle.gw_records.proofs.Writes.{Appends-none, TakesAllBut-join, AppendsPrefix-behind, TakesAllBut-same}
-pub use Rattle.gw_records.proofs.Writes.{AppendsPrefix-same, TakesAllBut-appended, TakesAllBut-empty, Appends-join}
-pub use Rattle.gw_records.proofs.Writes.{AppendsBut-behind, TakesAllBut-start, TakesAllBut-none, AppendsBut-same}
+pub use Rattle.gw_records.proofs.Writes.{Appends-none, TakesAllButWaiting-join, AppendsPrefix-behind}
+pub use Rattle.gw_records.proofs.Writes.{TakesAllButWaiting-same}
+pub use Rattle.gw_records.proofs.Writes.{AppendsPrefix-same, TakesAllButWaiting-appended, TakesAllButWaiting-empty}
+pub use Rattle.gw_records.proofs.Writes.{Appends-join}
+pub use Rattle.gw_records.proofs.Writes.{AppendsBut-behind, TakesAllButWaiting-start, TakesAllButWaiting-none}
+pub use Rattle.gw_records.proofs.Writes.{AppendsBut-same}
 pub use Rattle.gw_records.proofs.Writes.{AppendsBut-more, AppendsPrefix-join, FailsAfterPrefix-waiting}
 pub use Rattle.gw_records.specs.Outcome.{SessionTo, EndsAll, EndsUntil, OrNoMemory, nothing_counted}
 pub use Rattle.gw_records.specs.Ports.{counted, PortsState, PortCall, Extends, KeepsReceives, Waiting, TakesOut}
@@ -14,7 +17,7 @@ pub use Rattle.gw_records.specs.Reader.{held, work_left}
 pub use Rattle.gw_records.specs.Records.{Record, IsGood, record_at, named, record_of, spelled, Reads}
 unfoldable pub use Rattle.gw_records.specs.Records.{end_of, has_bad_kind, has_bad_circuit, has_bad_length, is_cut}
 unfoldable pub use Rattle.gw_records.specs.Records.{has_bad_command}
-pub use Rattle.gw_records.specs.Streams.{TakesAllBut, at_most, Puts, SinkState, FailsAfterPrefix, AppendsBut}
+pub use Rattle.gw_records.specs.Streams.{TakesAllButWaiting, at_most, Puts, SinkState, FailsAfterPrefix, AppendsBut}
 pub use Rattle.gw_records.specs.Streams.{AppendsPrefix, SourceState}
 pub use Rattle.gw_records.specs.declared.outcome.RunFault.{RunFault}
 pub use Rattle.gw_records.specs.declared.outcome.Totals.{Totals}
@@ -23,7 +26,7 @@ pub use Rattle.gw_session.specs.Answers.{Written, written_out, code_of, answers,
 pub use Rattle.gw_session.specs.Answers.{packets_in, events_of, events, answered, as_record, render, packet_in}
 pub use Rattle.gw_session.specs.Answers.{sent_with}
 pub use Rattle.gw_session.specs.Exchange.{TakesEvent, Exchanges, ActsOn, Inputs, written_by, StopsAt, CutTrace}
-pub use Rattle.gw_session.specs.Exchange.{ActTrace}
+pub use Rattle.gw_session.specs.Exchange.{InputTrace}
 pub use Rattle.gw_session.specs.Exchange.{WatchedTrace, OfFirstInputs}
 pub use Rattle.gw_session.specs.Exchange.{ComesInTurn, SendsPacket, OctetTrace, PacketWriteError, TraceToWriteError}
 pub use Rattle.gw_session.specs.Exchange.{Receiving, RecordsBehind, IsGiven, FourCome}
@@ -48,7 +51,7 @@ pub use Rattle.gw_session.specs.Tape.{TapeState, Recorded, RecordedBut, HasEnded
 pub use Rattle.gw_session.specs.Tape.{Taping, taping, Batched, Batches, RecordsAll}
 unfoldable pub use Rattle.gw_session.specs.Tape.{kind_and_circuit}
 pub use Rattle.gw_session.specs.Watch.{Shows, Look, shown_in, IsCalled, code_after, IsCodeAfter, AreTrue, Watched}
-pub use Rattle.gw_session.specs.Watch.{ActsShown, OfFirst, RunsWatched}
+pub use Rattle.gw_session.specs.Watch.{InputsShown, OfFirst, RunsWatched}
 pub use Rattle.gw_session.specs.World.{Output, World, state_of, SessionState, world_of, output_of}
 pub use Rattle.gw_switch.specs.Events.{Event, octets}
 unfoldable pub use Rattle.gw_switch.specs.Standing.{HasHistory}

@@ -3,13 +3,13 @@ use Rattle.gw_session.proofs.Common.{List, Result, IfErr, Totals, RunFault, Acce
 use Rattle.gw_session.proofs.Common.{IfOk-weaker, IfErr-weaker, SourceState, SessionTo, EndsAll, EndsUntil, OrNoMemory}
 use Rattle.gw_session.proofs.Common.{MatchResult, Ok, Err}
 use Rattle.gw_records.specs.declared.outcome.RunFault.TheVariants as faults
-use Rattle.gw_records.specs.declared.records.EndReason.{EndReason}
+use Rattle.gw_records.specs.declared.records.RecordsEnd.{RecordsEnd}
 
 module _ (kinds : AcceptedKinds) (a b : SourceState) (c d : SinkState) {P Q : Totals → List Record → Type 0}
     (f : (t : Totals) (rs : List Record) → P t rs → Q t rs)
   where
     -- what is known of the totals and records of a session, and what follows from it
-    session_as : {ending : EndReason} → SessionTo kinds a b c d P ending → SessionTo kinds a b c d Q ending
+    session_as : {ending : RecordsEnd} → SessionTo kinds a b c d P ending → SessionTo kinds a b c d Q ending
     session_as s = record {
       octets = s.octets;
       gives = s.gives;

@@ -1,14 +1,14 @@
 -- Records that are acted on.
 use Rattle.gw_session.proofs.Common.{◌≡◌, inl, ◌+◌, ◌-◌, ◌^◌, ◌<◌, ℕ, min, List, [], ◌∷◌, ◌++◌, length, Result, Ok, Err}
 use Rattle.gw_session.proofs.Common.{refl, sym, ap, ◌∙◌, append_assoc, arith, length-map, big_bytes, GatewayConfig}
-use Rattle.gw_session.proofs.Common.{Gateway, Event, HasHistory, reply_to, Totals, RunFault, Record, TakesAllBut}
-use Rattle.gw_session.proofs.Common.{at_most, Appends-none, TakesAllBut-join, AppendsPrefix-behind, PacketOutput}
+use Rattle.gw_session.proofs.Common.{Gateway, Event, HasHistory, reply_to, Totals, RunFault, Record, TakesAllButWaiting}
+use Rattle.gw_session.proofs.Common.{at_most, Appends-none, TakesAllButWaiting-join, AppendsPrefix-behind, PacketOutput}
 use Rattle.gw_session.proofs.Common.{counted, Written, written_out, code_of, SessionInput, input_record, turns_of}
 use Rattle.gw_session.proofs.Common.{events_in}
 use Rattle.gw_session.proofs.Common.{events_of_turns, octet_of, answer_to, packets_for, dropped_for, TakesEvent}
 use Rattle.gw_session.proofs.Common.{spelled_for}
 use Rattle.gw_session.proofs.Common.{written_for, Exchanges, ActsOn, TapeState, Recorded, Output, World, state_of, Puts}
-use Rattle.gw_session.proofs.Common.{TakesAllBut-same, AppendsPrefix-same, sent_with_octets, Inputs, OnOk}
+use Rattle.gw_session.proofs.Common.{TakesAllButWaiting-same, AppendsPrefix-same, sent_with_octets, Inputs, OnOk}
 use Rattle.gw_session.specs.declared.tape.OnTape.{OnTape}
 use Rattle.gw_session.proofs.Turns.{PortTrace-none, counted_is}
 
@@ -16,7 +16,7 @@ use Rattle.gw_session.proofs.Turns.{PortTrace-none, counted_is}
 inputs_put : (spells : PacketOutput) (w w' : World) (o : Output) (out : List ℕ) {r : Record}
     (result : Result (Unit {0}) RunFault) (on : ActsOn w.state w'.state w.tape w'.tape r)
     → ((config : GatewayConfig) (before : List Event) → HasHistory config w.state.gateway before → (first : List ℕ)
-    × TakesAllBut w.output.sink.taken o.sink.taken o.waiting first
+    × TakesAllButWaiting w.output.sink.taken o.sink.taken o.waiting first
     × (first ++ out ≡ w.output.waiting ++ written_for spells config before on.input))
     → o.sink.failures ≡ w.output.sink.failures
     → Puts o.sink w'.output.sink w'.output.waiting (o.waiting ++ out) result → Inputs spells w w' r result
@@ -25,7 +25,7 @@ inputs_put spells w w' o out (Ok u) on first kept puts = (
     inputs = on;
     took = λ config before h.
         let f = first config before h in
-        TakesAllBut-same _ _ _ _ _ f.2 (TakesAllBut-join _ _ _ _ _ _ _ f.1 puts.0);
+        TakesAllButWaiting-same _ _ _ _ _ f.2 (TakesAllButWaiting-join _ _ _ _ _ _ _ f.1 puts.0);
   },
   puts.1 ∙ kept,
 )

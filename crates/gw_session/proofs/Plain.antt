@@ -14,7 +14,7 @@ use Rattle.gw_session.proofs.Common.{dropped_for, answer_to, but_last, SessionTr
 use Rattle.gw_session.proofs.Common.{world_of, spelled_for, written_for, written_by, CutTrace, TraceToWriteError}
 use Rattle.gw_session.proofs.Common.{count_by, take_all, take_at, record_of, AppendsBut-same, AppendsBut-more, five}
 use Rattle.gw_session.proofs.Common.{trunk_octets, run_totals, RunsThrough, AreFirst, RunsUntilWrite, in_record}
-use Rattle.gw_session.proofs.Common.{no_ports, first_four, Shows, Watched, ActsShown, OfFirst, WatchedTrace}
+use Rattle.gw_session.proofs.Common.{no_ports, first_four, Shows, Watched, InputsShown, OfFirst, WatchedTrace}
 use Rattle.gw_session.proofs.Turns.{PortTrace-join, LeavesOut-all, counted_is}
 use Rattle.gw_session.proofs.Attending.{but_last_more}
 use Rattle.gw_session.proofs.Cutting.{answered_first}
@@ -289,7 +289,7 @@ each_events (input ∷ inputs) p =
 -- what a watch is shown of inputs is what it is shown of their records
 shown_plain : {W : Type 0} {shows : Shows W} {g : Gateway} {w w' : W} (inputs : List SessionInput)
     → Plain (turns inputs)
-    → ActsShown shows g w w' inputs
+    → InputsShown shows g w w' inputs
     → Watched shows g w w' (map input_record inputs) (map events_of (map input_record inputs))
 shown_plain inputs p seen = rw (each_events inputs p) at seen
 
@@ -297,7 +297,7 @@ shown_plain inputs p seen = rw (each_events inputs p) at seen
 pub seen_plain : {W : Type 0} {shows : Shows W} {w w' : W} {g g' : Gateway} {t : Totals} {x y : TapeState}
     {Took : List ℕ → List ℕ → Type 0} {records : List Record}
     → WatchedTrace (written_by in_record) (at_records g nothing_counted) (at_records g' t) x y Took
-    (ActsShown shows g w w') records
+    (InputsShown shows g w w') records
     → Watched shows g w w' records (map events_of records)
 seen_plain p = rw (p.0.told_are) at (shown_plain p.0.inputs (plain_trades
     (turns p.0.inputs) p.0.follows.goes.trades) p.1)
@@ -306,7 +306,7 @@ seen_plain p = rw (p.0.told_are) at (shown_plain p.0.inputs (plain_trades
 seen_first : {W : Type 0} {shows : Shows W} {w w' : W} {g g' : Gateway} {x y : TapeState} {t : Totals}
     {Took : List ℕ → List ℕ → Type 0} (records : List Record) → 0 < length records
     → (p : SessionTrace (written_by in_record) (at_records g nothing_counted) (at_records g' t) x y Took records)
-    → ActsShown shows g w w' (but_last p.inputs)
+    → InputsShown shows g w w' (but_last p.inputs)
     → OfFirst (λ rs. Watched shows g w w' rs (map events_of rs)) records
 seen_first records some p seen =
     let l = last_of p.inputs (omega (arith, some, ap length p.told_are, length-map p.inputs input_record)) in
@@ -323,7 +323,7 @@ seen_first records some p seen =
 seen_before : {W : Type 0} {shows : Shows W} {w w' : W} {g g' : Gateway} {x y : TapeState} {t : Totals}
     {s s' : SinkState} (begun : List Record)
     → (p : CutTrace 65536 in_record (world_of no_ports g nothing_counted x s []) (world_of no_ports g' t y s' []) begun)
-    → ActsShown shows g w w' p.trace.inputs
+    → InputsShown shows g w w' p.trace.inputs
     → OfFirst (λ rs. Watched shows g w w' rs (map events_of rs)) begun
 seen_before begun p seen =
     let k = p.trace in
@@ -336,7 +336,7 @@ seen_before begun p seen =
 -- where a write failed, the records begun ran up to that write, and a watch was shown all, or all but the last
 pub runs_until : {W : Type 0} {shows : Shows W} {w w' : W} {g g' : Gateway} {x y : TapeState} {s s' : SinkState}
     (records : List Record)
-    → TraceToWriteError 65536 in_record (ActsShown shows g w w') (world_of no_ports g nothing_counted x s [])
+    → TraceToWriteError 65536 in_record (InputsShown shows g w w') (world_of no_ports g nothing_counted x s [])
     (λ totals. world_of no_ports g' totals y s' []) records
     → RunsUntilWrite g g' s s' records × OfFirst (λ rs. Watched shows g w w' rs (map events_of rs)) records
 runs_until records v = elim v.1 [

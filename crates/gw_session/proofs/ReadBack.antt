@@ -2,7 +2,7 @@
 use Rattle.gw_session.proofs.Common.{◌≡◌, List, [], ◌++◌, flat_map, refl, sym, ap, ◌∙◌, append_assoc, append-nil}
 use Rattle.gw_session.proofs.Common.{AllByRecursion, flat_map-append, Record, IsGood, spelled, Reads, end_of, events}
 use Rattle.gw_session.proofs.Common.{events_of, all_kinds, append_cancel_left, RecordingsAreReadBack}
-use Rattle.gw_records.specs.declared.records.EndReason.TheVariants as endings
+use Rattle.gw_records.specs.declared.records.RecordsEnd.TheVariants as endings
 use Rattle.gw_records.proofs.Readings.{one_reading, more_keeps}
 
 -- the octets of good records are read as these

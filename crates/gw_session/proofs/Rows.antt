@@ -6,7 +6,7 @@ use Rattle.q421_line.specs.declared.LineFault.TheVariants as line
 use Rattle.q421_line.specs.Commands.{fault_number}
 use Rattle.gw_circuit.specs.declared.Dropped.TheVariants as dropped
 use Rattle.gw_circuit.specs.declared.CodecFault.TheVariants as codec
-use Rattle.gw_records.specs.declared.records.EndReason.TheVariants as endings
+use Rattle.gw_records.specs.declared.records.RecordsEnd.TheVariants as endings
 
 abbrev seize : Record
 seize = Record.Command 1 1

@@ -8,7 +8,7 @@ use Rattle.gw_session.proofs.Common.{all_answers, MatchResult, SessionStreams, S
 use Rattle.gw_session.proofs.Common.{RecordedSessionsRunAlike}
 use Rattle.std.proofs.KnownBytes.{Appends-nil}
 use Rattle.gw_records.specs.declared.outcome.RunFault.TheVariants as faults
-use Rattle.gw_records.specs.declared.records.EndReason.TheVariants as endings
+use Rattle.gw_records.specs.declared.records.RecordsEnd.TheVariants as endings
 use Rattle.gw_session.proofs.ReadBack.{read_back}
 use Rattle.gw_session.proofs.AnsweredAlike.{answer_alike}
 use Rattle.gw_session.proofs.Taping.{recorded_none}

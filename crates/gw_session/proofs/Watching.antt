@@ -3,10 +3,10 @@ use Rattle.gw_session.proofs.Common.{◌≡◌, ◌++◌, ◌∷◌, ℕ, List, 
 use Rattle.gw_session.proofs.Common.{GatewayConfig, Gateway, Event, HasHistory, Record, SessionState, TapeState}
 use Rattle.gw_session.proofs.Common.{SessionInput, input_record}
 use Rattle.gw_session.proofs.Common.{events_in, events_through, ActsOn, Follows, Shows, Look, shown_in, IsCalled}
-use Rattle.gw_session.proofs.Common.{code_after, IsCodeAfter, AreTrue, ActsShown}
+use Rattle.gw_session.proofs.Common.{code_after, IsCodeAfter, AreTrue, InputsShown}
 
 -- before the first record
-pub none_shown : {W : Type 0} {shows : Shows W} {gateway : Gateway} {w : W} → ActsShown shows gateway w w []
+pub none_shown : {W : Type 0} {shows : Shows W} {gateway : Gateway} {w : W} → InputsShown shows gateway w w []
 none_shown = record { looks = []; calls = refl; shown_are = refl; are_true = λ config before new. tt }
 
 -- a watch was called, and then once more
@@ -39,8 +39,8 @@ true_more config before (a ∷ inputs) (m ∷ looks) input l all code at = (
 pub shown_more : {W : Type 0} {shows : Shows W} {w v v' : W} {s s' s'' : SessionState} {x y z : TapeState} {inputs :
     List SessionInput}
     {r : Record} {code : ℕ} → (q : ActsOn s' s'' y z r) → IsCodeAfter s'.gateway r code
-    → shows v v' r code s''.gateway → Follows s s' x y inputs → ActsShown shows s.gateway w v inputs
-    → ActsShown shows s.gateway w v' (inputs ++ q.input ∷ [])
+    → shows v v' r code s''.gateway → Follows s s' x y inputs → InputsShown shows s.gateway w v inputs
+    → InputsShown shows s.gateway w v' (inputs ++ q.input ∷ [])
 shown_more {shows = shows} {w = w} {v = v} {v' = v'} {s'' = s''} {inputs = inputs} {r = r} {code = code} q is call
     follows seen =
     let l : Look = record { shown = r; code = code; gateway = s''.gateway } in

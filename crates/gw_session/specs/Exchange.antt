@@ -7,7 +7,7 @@ use Rattle.gw_session.specs.Prelude.{RunFault, Record, SinkState, AppendsPrefix,
 use Rattle.gw_session.specs.Prelude.{PortsState, IfKnown, Extends, counted}
 use Rattle.gw_switch.specs.Whole.{reply_to, octet_reply}
 use Rattle.gw_records.specs.declared.outcome.RunFault.TheVariants.{Write}
-use Rattle.gw_records.specs.Streams.{TakesAllBut, FailsAfterPrefix}
+use Rattle.gw_records.specs.Streams.{TakesAllButWaiting, FailsAfterPrefix}
 use Rattle.gw_session.specs.Answers.{code_of, packet_in}
 use Rattle.gw_session.specs.PacketPorts.{PacketOutput}
 use Rattle.gw_records.specs.Ports.{TakesOut, KeepsSends, KeepsReceives}
@@ -115,7 +115,7 @@ pub record OctetTrace (spells : PacketOutput) (s s' : SessionState) (o o' : Outp
   pub hears : (config : GatewayConfig) (before : List Event) → HasHistory config s.gateway before
       → HasHistory config s'.gateway (before ++ Event.Octet octet ∷ [])
       × (octet_reply config before octet ≡ record { octet = sent; packet = packet })
-  pub passes : TakesAllBut o.sink.taken o'.sink.taken o'.waiting
+  pub passes : TakesAllButWaiting o.sink.taken o'.sink.taken o'.waiting
       (o.waiting ++ flat_map spells (packet_in packet))
   pub no_failure : o'.sink.failures ≡ o.sink.failures
 
@@ -148,7 +148,7 @@ pub record Exchanges (spells : PacketOutput) (s s' : SessionState) (o o' : Outpu
   pub sent_are : (config : GatewayConfig) (before : List Event) → HasHistory config s.gateway before
       → octets_for config before (events_of_turns turns) ≡ sent
   pub passes : (config : GatewayConfig) (before : List Event) → HasHistory config s.gateway before
-      → TakesAllBut o.sink.taken o'.sink.taken o'.waiting
+      → TakesAllButWaiting o.sink.taken o'.sink.taken o'.waiting
       (o.waiting ++ spelled_for spells config before (events_of_turns turns))
   pub no_failure : o'.sink.failures ≡ o.sink.failures
 
@@ -199,7 +199,7 @@ pub record ActsOn (s s' : SessionState) (tape tape' : TapeState) (r : Record) : 
   pub recorded : Recorded tape tape' (events_in input)
 
 -- .. and this is known of what waited and of all that is put for it
-pub record ActTrace (spells : PacketOutput) (w w' : World) (r : Record)
+pub record InputTrace (spells : PacketOutput) (w w' : World) (r : Record)
     (Took : List ℕ → Type 0) : Type 0 where
   pub inputs : ActsOn w.state w'.state w.tape w'.tape r
   pub took : (config : GatewayConfig) (before : List Event) → HasHistory config w.state.gateway before
@@ -209,10 +209,11 @@ pub record ActTrace (spells : PacketOutput) (w w' : World) (r : Record)
 -- were heard.
 abbrev pub Inputs : PacketOutput → World → World → Record → Result (Unit {0}) RunFault → Type 0
 Inputs spells w w' r result = MatchResult result
-    (λ _. ActTrace spells w w' r (TakesAllBut w.output.sink.taken w'.output.sink.taken w'.output.waiting)
+    (λ _. InputTrace spells w w' r (TakesAllButWaiting w.output.sink.taken w'.output.sink.taken
+    w'.output.waiting)
     × (w'.output.sink.failures ≡ w.output.sink.failures))
     (λ e. (e ≡ Write) × (w.output.sink.failures < w'.output.sink.failures)
-    × (ActTrace spells w w' r (AppendsPrefix w.output.sink.taken w'.output.sink.taken)
+    × (InputTrace spells w w' r (AppendsPrefix w.output.sink.taken w'.output.sink.taken)
     ⊎ ((octets : List ℕ) × (r ≡ Record.Trunk octets)
     × StopsAt spells w.state w'.state w.output w'.output.sink octets)))
 
@@ -224,7 +225,8 @@ pub record CutTrace (late : ℕ) (spells : PacketOutput) (w w' : World) (begun :
   pub all : begun ≡ records ++ Record.Trunk octets ∷ []
   pub between : World
   pub trace : SessionTrace (written_by spells) w.state between.state w.tape between.tape
-      (λ first. TakesAllBut w.output.sink.taken between.output.sink.taken between.output.waiting) records
+      (λ first. TakesAllButWaiting w.output.sink.taken between.output.sink.taken between.output.waiting)
+      records
   pub few : length between.output.waiting ≤ late
   pub stops : StopsAt spells between.state w'.state between.output w'.output.sink octets
 

@@ -4,8 +4,8 @@ use Rattle.std.specs.Prelude.{MatchResult, flat_map}
 use Rattle.std.specs.Io.KnownBytes.{Appends}
 use Rattle.gw_session.specs.Prelude.{GatewayConfig, Gateway, HasHistory, Totals, RunFault, SourceState}
 use Rattle.gw_session.specs.Prelude.{SinkState, AppendsPrefix, Extends, counted, Event, whole_from, Record}
-use Rattle.gw_records.specs.declared.records.EndReason.{EndReason}
-use Rattle.gw_records.specs.declared.records.EndReason.TheVariants as endings
+use Rattle.gw_records.specs.declared.records.RecordsEnd.{RecordsEnd}
+use Rattle.gw_records.specs.declared.records.RecordsEnd.TheVariants as endings
 use Rattle.gw_records.specs.Records.{Reads}
 use Rattle.gw_session.specs.Answers.{Written, written_out, answers, answered, trunk_in, datagrams_in}
 use Rattle.gw_session.specs.Answers as records_of
@@ -19,7 +19,7 @@ use Rattle.gw_session.specs.Tape.{TapeState, Recorded}
 -- What was recorded is read as records whose events are the first of those that happened; where the tape has
 -- not ended, the octets end with a whole record, and these are all events.
 pub record ReadsBack (tape' : TapeState) (happened : List Event) (records : List Record)
-    (ending : EndReason)
+    (ending : RecordsEnd)
     : Type 0 where
   pub lost : List Event
   pub first : happened ≡ records_of.events records ++ lost
@@ -29,7 +29,7 @@ pub record ReadsBack (tape' : TapeState) (happened : List Event) (records : List
 abbrev pub RecordingsAreReadBack : Type 0
 RecordingsAreReadBack = (tape tape' : TapeState) (happened : List Event) (octets : List ℕ)
     (records : List Record)
-    (ending : EndReason) → Recorded tape tape' happened → tape.taken ≡ Some [] → tape'.taken ≡ Some octets
+    (ending : RecordsEnd) → Recorded tape tape' happened → tape.taken ≡ Some [] → tape'.taken ≡ Some octets
     → Reads all_kinds octets records ending → ReadsBack tape' happened records ending
 
 -- the records that are written for an input, and for inputs one after another

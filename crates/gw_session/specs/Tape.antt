@@ -4,8 +4,8 @@ use Rattle.std.specs.Prelude.{Option, None, Some, length, map, flat_map}
 use Rattle.std.specs.Io.KnownBytes.{Appends}
 use Rattle.std.specs.List.{AllByRecursion}
 use Rattle.gw_session.specs.Prelude.{Event, Record, IsGood, AppendsPrefix}
-use Rattle.gw_records.specs.declared.records.RecordKind.{RecordKind}
-use Rattle.gw_records.specs.declared.records.RecordKind.TheVariants as heads
+use Rattle.gw_records.specs.declared.records.RecordHead.{RecordHead}
+use Rattle.gw_records.specs.declared.records.RecordHead.TheVariants as heads
 use Rattle.gw_records.specs.Records.{spelled}
 use Rattle.gw_session.specs.Answers.{events}
 use Rattle.gw_session.specs.declared.tape.OnTape.{OnTape}
@@ -85,7 +85,7 @@ abbrev pub HasEnded : TapeState → TapeState → Type 0
 HasEnded tape tape' = (tape'.ended ≡ true) × (tape'.taken ≡ tape.taken) × (tape.ended ≡ true → tape' ≡ tape)
 
 -- the kind and the circuit of a record that was put on a tape
-unfoldable pub kind_and_circuit : RecordKind → OnTape
+unfoldable pub kind_and_circuit : RecordHead → OnTape
 kind_and_circuit heads.Trunk = record { kind = 0x54; circuit = 0 }
 kind_and_circuit (heads.Datagram circuit) = record { kind = 0x44; circuit = circuit }
 kind_and_circuit (heads.Command circuit command) = record { kind = 0x43; circuit = circuit }

@@ -68,8 +68,8 @@ pub record Watched {W : Type 0} (shows : Shows W) (gateway : Gateway) (w w' : W)
       → AreTrue config before happened looks
 
 -- .. for the records of these inputs
-abbrev pub ActsShown : {W : Type 0} → Shows W → Gateway → W → W → List SessionInput → Type 0
-ActsShown shows gateway w w' inputs = Watched shows gateway w w' (map input_record inputs)
+abbrev pub InputsShown : {W : Type 0} → Shows W → Gateway → W → W → List SessionInput → Type 0
+InputsShown shows gateway w w' inputs = Watched shows gateway w w' (map input_record inputs)
     (map events_in inputs)
 
 -- this is known of records, or of all but the last one

@@ -14,7 +14,7 @@ use byteorder::{BigEndian, ByteOrder};
 use g704_cas::CircuitNo;
 use g726_codec::CodecKind;
 use gw_circuit::CodecFault;
-use gw_records::{OutputBuffer, RecordKind, RunFault, Sink, TRUNK, flush, put};
+use gw_records::{OutputBuffer, RecordHead, RunFault, Sink, TRUNK, flush, put};
 use gw_switch::Gateway;
 use q421_line::{Cmd, LineFault};
 
@@ -165,7 +165,7 @@ impl SessionBuffers {
         &mut self,
         gateway: &mut Gateway,
         packet_ports: &mut O,
-        head: RecordKind,
+        head: RecordHead,
         body: &[u8],
         sink: &mut K,
         tape: &mut T,
@@ -185,18 +185,18 @@ impl SessionBuffers {
         ensures room { vec_len self.new.room ≡ vec_len self.old.room }
     {
         match head {
-            RecordKind::Trunk => self.handle_trunk_record(gateway, packet_ports, body, sink, tape),
-            RecordKind::Datagram(circuit) => {
+            RecordHead::Trunk => self.handle_trunk_record(gateway, packet_ports, body, sink, tape),
+            RecordHead::Datagram(circuit) => {
                 let recorded = record(tape, head, body);
                 let code = give_datagram(gateway, circuit, body, &mut self.totals);
                 self.put_answer(recorded, code, sink)
             }
-            RecordKind::Command(circuit, command) => {
+            RecordHead::Command(circuit, command) => {
                 let recorded = record(tape, head, body);
                 let code = give_command(gateway, circuit, command);
                 self.put_answer(recorded, code, sink)
             }
-            RecordKind::Codec(circuit, codec, payload_type) => {
+            RecordHead::Codec(circuit, codec, payload_type) => {
                 let recorded = record(tape, head, body);
                 let code = give_codec(gateway, circuit, codec, payload_type);
                 self.put_answer(recorded, code, sink)

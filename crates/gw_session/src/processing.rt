@@ -6,7 +6,7 @@ ghost use Rattle.gw_records.specs.Reader.{held};
 ghost use Rattle.gw_records.specs.Outcome.{nothing_counted, EndsAll, EndsUntil};
 ghost use Rattle.gw_session.specs.Exchange.{written_by, WatchedTrace, TraceToWriteError};
 ghost use Rattle.gw_session.specs.Exchange.{most_waiting};
-ghost use Rattle.gw_session.specs.Watch.{ActsShown};
+ghost use Rattle.gw_session.specs.Watch.{InputsShown};
 ghost use Rattle.gw_session.specs.World.{state_of, world_of};
 
 use crate::exchange::SessionBuffers;
@@ -45,16 +45,16 @@ pub fn process_records<O: PacketPorts, S: Source, K: Sink, T: Tape, W: Watch>(
         (state_of (O.tells packet_ports.old) gateway.old nothing_counted)
         (state_of (O.tells packet_ports.new) gateway.new totals) (T.tells tape.old) (T.tells tape.new)
         (λ first. Appends (K.tells sink.old).taken (K.tells sink.new).taken)
-        (ActsShown W.shows gateway.old watch.old watch.new))) }
+        (InputsShown W.shows gateway.old watch.old watch.new))) }
     ensures fault { IfErr result (EndsUntil kinds.now
         (S.tells source.old) (S.tells source.new) (K.tells sink.old) (K.tells sink.new)
         (λ totals. WatchedTrace (written_by O.spells)
         (state_of (O.tells packet_ports.old) gateway.old nothing_counted)
         (state_of (O.tells packet_ports.new) gateway.new totals) (T.tells tape.old) (T.tells tape.new)
         (λ first. Appends (K.tells sink.old).taken (K.tells sink.new).taken)
-        (ActsShown W.shows gateway.old watch.old watch.new))
+        (InputsShown W.shows gateway.old watch.old watch.new))
         (TraceToWriteError (most_waiting session.old.at_once) O.spells
-        (ActsShown W.shows gateway.old watch.old watch.new)
+        (InputsShown W.shows gateway.old watch.old watch.new)
         (world_of (O.tells packet_ports.old) gateway.old nothing_counted (T.tells tape.old)
         (K.tells sink.old) [])
         (λ totals. world_of (O.tells packet_ports.new) gateway.new totals (T.tells tape.new)

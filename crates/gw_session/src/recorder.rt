@@ -8,7 +8,7 @@ ghost use Rattle.gw_session.specs.Tape.{WritesRecords};
 use crate::spelling::append;
 use crate::tape::Tape;
 use gw_records::{
-    CODEC, COMMAND, DATAGRAM, RecordKind, Sink, TRUNK, TrunkRecord, octet_of_codec,
+    CODEC, COMMAND, DATAGRAM, RecordHead, Sink, TRUNK, TrunkRecord, octet_of_codec,
     octet_of_command, write_all,
 };
 
@@ -22,17 +22,17 @@ fn fill(room: &mut TrunkRecord, kind: u8, circuit: u8, body: &[u8])
 }
 
 // Spells a record.
-fn spell(room: &mut TrunkRecord, head: RecordKind, body: &[u8])
+fn spell(room: &mut TrunkRecord, head: RecordHead, body: &[u8])
     requires { IsGood all_kinds (named head body.now) }
     ensures { room.new.items ≡ spelled (named head body.now) }
 {
     match head {
-        RecordKind::Trunk => fill(room, TRUNK, 0, body),
-        RecordKind::Datagram(circuit) => fill(room, DATAGRAM, circuit.get(), body),
-        RecordKind::Command(circuit, command) => {
+        RecordHead::Trunk => fill(room, TRUNK, 0, body),
+        RecordHead::Datagram(circuit) => fill(room, DATAGRAM, circuit.get(), body),
+        RecordHead::Command(circuit, command) => {
             fill(room, COMMAND, circuit.get(), &[octet_of_command(command)]);
         }
-        RecordKind::Codec(circuit, codec, payload_type) => {
+        RecordHead::Codec(circuit, codec, payload_type) => {
             let octets = [octet_of_codec(codec), payload_type];
             fill(room, CODEC, circuit.get(), &octets);
         }
@@ -109,7 +109,7 @@ impl<K: Sink> Tape for Recorder<K> {
       taken = (K.tells r.sink).taken;
     } };
 
-    fn put(&mut self, head: RecordKind, body: &[u8]) {
+    fn put(&mut self, head: RecordHead, body: &[u8]) {
         if self.ended {
             return;
         }

@@ -10,7 +10,7 @@ ghost use Rattle.gw_session.specs.Tape.{WritesRecords, Batches, RecordsAll, tapi
 use crate::spelling::append;
 use arrayvec::ArrayVec;
 use g704_cas::CircuitNo;
-use gw_records::{CODEC, COMMAND, DATAGRAM, FRONT_LEN, RecordKind, TRUNK};
+use gw_records::{CODEC, COMMAND, DATAGRAM, FRONT_LEN, RecordHead, TRUNK};
 
 // The longest datagram that a record can hold.
 const LONGEST: usize = 65_535;
@@ -27,7 +27,7 @@ pub trait Tape {
 
     /// Records what a record of this head and body says. The tape may end at it; one that has ended does
     /// nothing.
-    fn put(&mut self, head: RecordKind, body: &[u8])
+    fn put(&mut self, head: RecordHead, body: &[u8])
         requires { IsGood all_kinds (named head body.now) }
         ensures { Recorded (tells self.old) (tells self.new) (events_of (named head body.now)) };
 
@@ -48,7 +48,7 @@ pub struct NoTape;
 impl Tape for NoTape {
     ghost tells = { λ _. no_tape };
 
-    fn put(&mut self, _head: RecordKind, _body: &[u8]) {}
+    fn put(&mut self, _head: RecordHead, _body: &[u8]) {}
 
     fn put_together(&mut self, _octets: &[u8]) {}
 
@@ -59,7 +59,7 @@ impl Tape for NoTape {
 impl<T: Tape> Tape for Option<T> {
     ghost tells = { λ tape. tells_of T.tells tape };
 
-    fn put(&mut self, head: RecordKind, body: &[u8]) {
+    fn put(&mut self, head: RecordHead, body: &[u8]) {
         if let Some(tape) = self {
             tape.put(head, body);
         }
@@ -92,23 +92,23 @@ impl OnTape {
 
     // A record of this head is on the tape.
     #[tactic(auto, unfolding(crate::specs::Tape::kind_and_circuit))]
-    fn of(head: &RecordKind) -> OnTape
+    fn of(head: &RecordHead) -> OnTape
         ensures { result ≡ kind_and_circuit head.now }
     {
         match head {
-            RecordKind::Trunk => OnTape {
+            RecordHead::Trunk => OnTape {
                 kind: TRUNK,
                 circuit: 0,
             },
-            RecordKind::Datagram(circuit) => OnTape {
+            RecordHead::Datagram(circuit) => OnTape {
                 kind: DATAGRAM,
                 circuit: circuit.get(),
             },
-            RecordKind::Command(circuit, _) => OnTape {
+            RecordHead::Command(circuit, _) => OnTape {
                 kind: COMMAND,
                 circuit: circuit.get(),
             },
-            RecordKind::Codec(circuit, _, _) => OnTape {
+            RecordHead::Codec(circuit, _, _) => OnTape {
                 kind: CODEC,
                 circuit: circuit.get(),
             },
@@ -131,7 +131,7 @@ impl OnTape {
 }
 
 /// Records what a record of this head and body says.
-pub fn record<T: Tape>(tape: &mut T, head: RecordKind, body: &[u8]) -> OnTape
+pub fn record<T: Tape>(tape: &mut T, head: RecordHead, body: &[u8]) -> OnTape
     requires { IsGood all_kinds (named head body.now) }
     ensures recorded { Recorded (T.tells tape.old) (T.tells tape.new) (events_of (named head body.now)) }
     ensures on_tape { result ≡ kind_and_circuit head }
@@ -177,7 +177,7 @@ fn batch_octets<T: Tape>(tape: &mut T, batch: &mut Batch, octets: &[u8])
     if make_room(tape, batch, octets) {
         append(batch, TRUNK, 0, octets);
     } else {
-        tape.put(RecordKind::Trunk, octets);
+        tape.put(RecordHead::Trunk, octets);
     }
 }
 
@@ -192,7 +192,7 @@ fn batch_datagram<T: Tape>(tape: &mut T, batch: &mut Batch, circuit: CircuitNo, 
     } else if make_room(tape, batch, octets) {
         append(batch, DATAGRAM, circuit.get(), octets);
     } else {
-        tape.put(RecordKind::Datagram(circuit), octets);
+        tape.put(RecordHead::Datagram(circuit), octets);
     }
 }
 
@@ -223,5 +223,5 @@ pub fn record_octets<T: Tape>(tape: &mut T, batch: &mut Batch, octets: &[u8]) ->
 {
     batch_octets(tape, batch, octets);
     write_batch(tape, batch);
-    OnTape::of(&RecordKind::Trunk)
+    OnTape::of(&RecordHead::Trunk)
 }

@@ -4,7 +4,7 @@ ghost use Rattle.std.specs.Prelude.{◌≡◌};
 ghost use Rattle.gw_records.specs.Records.{named};
 ghost use Rattle.gw_session.specs.Watch.{Shows, ShowsSome};
 
-use gw_records::RecordKind;
+use gw_records::RecordHead;
 use gw_switch::Gateway;
 
 /// What is shown each record of a session after the gateway has acted on it. It has the gateway by a shared
@@ -16,7 +16,7 @@ pub trait Watch {
 
     /// What is shown: the record's head and body, the code of its answer (0 for octets of the trunk, and if a
     /// datagram, a command or a codec was not refused), and the gateway as it stands after it.
-    fn after(&mut self, head: &RecordKind, body: &[u8], code: u8, gateway: &Gateway)
+    fn after(&mut self, head: &RecordHead, body: &[u8], code: u8, gateway: &Gateway)
         ensures { shows self.old self.new (named head.now body.now) code gateway.now };
 }
 
@@ -28,14 +28,14 @@ impl Watch for NoWatch {
     ghost shows = { λ old new _ _ _. new ≡ old };
 
     #[inline(always)]
-    fn after(&mut self, _head: &RecordKind, _body: &[u8], _code: u8, _gateway: &Gateway) {}
+    fn after(&mut self, _head: &RecordHead, _body: &[u8], _code: u8, _gateway: &Gateway) {}
 }
 
 /// A watch, or none.
 impl<W: Watch> Watch for Option<W> {
     ghost shows = { ShowsSome W.shows };
 
-    fn after(&mut self, head: &RecordKind, body: &[u8], code: u8, gateway: &Gateway) {
+    fn after(&mut self, head: &RecordHead, body: &[u8], code: u8, gateway: &Gateway) {
         if let Some(watch) = self {
             watch.after(head, body, code, gateway);
         }

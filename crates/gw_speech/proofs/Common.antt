@@ -5,14 +5,17 @@ pub use Rattle.g726_codec.specs.Laws.{OneWordAnOctet, PrefixesComeFirst, SpeechI
 pub use Rattle.g726_codec.specs.declared.CodecKind.TheVariants.{G711}
 pub use Rattle.gw_records.proofs.Sessions.{five, goes_up, starts, first_held, record_taken, stops_in, stops_behind}
 pub use Rattle.gw_records.proofs.Sessions.{reads_more, ended, gives_up, Stage}
-pub use Rattle.gw_records.proofs.Writes.{Yields-end, TakesAllBut-start, TakesAllBut-empty, TakesAllBut-join}
-pub use Rattle.gw_records.proofs.Writes.{TakesAllBut-appended, AppendsPrefix-behind, FailsAfterPrefix-waiting}
-pub use Rattle.gw_records.proofs.Writes.{TakesAllBut-none, FailsAfterPrefix-join, FailsAfterPrefix-more, Appends-none}
-pub use Rattle.gw_records.proofs.Writes.{Appends-join, Yields-none, Yields-join, FailsAfterPrefix-after, read_failed}
+pub use Rattle.gw_records.proofs.Writes.{GivesOctets-end, TakesAllButWaiting-start, TakesAllButWaiting-empty}
+pub use Rattle.gw_records.proofs.Writes.{TakesAllButWaiting-join}
+pub use Rattle.gw_records.proofs.Writes.{TakesAllButWaiting-appended, AppendsPrefix-behind, FailsAfterPrefix-waiting}
+pub use Rattle.gw_records.proofs.Writes.{TakesAllButWaiting-none, FailsAfterPrefix-join, FailsAfterPrefix-more}
+pub use Rattle.gw_records.proofs.Writes.{Appends-none}
+pub use Rattle.gw_records.proofs.Writes.{Appends-join, GivesOctets-none, GivesOctets-join, FailsAfterPrefix-after}
+pub use Rattle.gw_records.proofs.Writes.{read_failed}
 pub use Rattle.gw_records.specs.Reader.{held, work_left}
 pub use Rattle.gw_records.specs.Records.{Record, IsGood, IsFirst, is_open, end_of, named, record_at}
 unfoldable pub use Rattle.gw_records.specs.Records.{has_bad_kind, has_bad_length, has_bad_command}
-pub use Rattle.gw_records.specs.Streams.{SourceState, SinkState, Yields, GivesUp, Refills, TakesAllBut}
+pub use Rattle.gw_records.specs.Streams.{SourceState, SinkState, GivesOctets, GivesUp, Refills, TakesAllButWaiting}
 pub use Rattle.gw_speech.specs.Decode.{speech_of, datagram_words, record_words, words_in, speech_in, only_datagrams}
 pub use Rattle.gw_speech.specs.Decode.{count_record, decode_totals, DecodesThrough, DecodesAll, DecodesUntil}
 pub use Rattle.gw_speech.specs.Decode.{HasDecoded}

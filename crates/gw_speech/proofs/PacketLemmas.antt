@@ -4,8 +4,8 @@ use Rattle.gw_speech.proofs.Common.{drop, replicate, refl, sym, ap, ◌∙◌, a
 use Rattle.gw_speech.proofs.Common.{length-drop, length-take, length-take-le, take-append-drop, drop-drop, arith}
 use Rattle.gw_speech.proofs.Common.{div-mul-add, mod-mul-add, le-div, length-replicate, drop-append-le, take-append-le}
 use Rattle.gw_speech.proofs.Common.{drop_at, All-append, All-drop, All, copy_within, Appends, put_mid, idle_code}
-use Rattle.gw_speech.proofs.Common.{CodecState, OneWordAnOctet, PrefixesComeFirst, SourceState, SinkState, Yields}
-use Rattle.gw_speech.proofs.Common.{GivesUp, Refills, Yields-end, StreamSpec, packet_len, word_bits, words_for}
+use Rattle.gw_speech.proofs.Common.{CodecState, OneWordAnOctet, PrefixesComeFirst, SourceState, SinkState, GivesOctets}
+use Rattle.gw_speech.proofs.Common.{GivesUp, Refills, GivesOctets-end, StreamSpec, packet_len, word_bits, words_for}
 use Rattle.gw_speech.proofs.Common.{packet_record, records_from, full_packets, filled, packets, records_of}
 use Rattle.gw_speech.proofs.Common.{full_records_of, header_with, HasEncoded, IsPacket, IsDecoding, EncodesUntilRead}
 use Rattle.std.proofs.Math.Nat.{div-add-mod, mod-lt, mod-eq_of_lt, mod_self, sub-zero}
@@ -133,7 +133,7 @@ pub record Encoding (s : StreamSpec) (source source' : SourceState) (sink sink' 
   pub fit : All (λ w. w < 2 ^ word_bits s) (take held speech)
   pub open_packet : held < packet_len s
   pub fits : length speech ≡ 33008
-  pub gives : Yields source source' given
+  pub gives : GivesOctets source source' given
   pub took : Appends sink.taken sink'.taken (records_from s 0 sent count)
   pub no_read : source'.failures ≡ source.failures
   pub no_write : sink'.failures ≡ sink.failures
@@ -141,12 +141,12 @@ pub record Encoding (s : StreamSpec) (source source' : SourceState) (sink sink' 
 -- nothing more is read
 pub reads_no_more : {s : StreamSpec} {held : ℕ} {speech : List ℕ} {a b b' : SourceState} {c d : SinkState}
     {codec : CodecState} → OneWordAnOctet → (w : Encoding s a b c d codec held speech)
-    → Yields b b' [] → GivesUp a b' w.given → EncodesUntilRead s a b' c d
+    → GivesOctets b b' [] → GivesUp a b' w.given → EncodesUntilRead s a b' c d
 reads_no_more {s} {held} {speech} counted w none cause =
     let short : length (take held speech) < packet_len s = omega (arith, w.open_packet, length-take held speech) in
     record {
       octets = _;
-      gives = Yields-end _ _ _ _ [] refl w.gives none;
+      gives = GivesOctets-end _ _ _ _ [] refl w.gives none;
       took = rw ((full_behind counted w.way short).0) w.took;
       cause = cause;
       no_write = w.no_write;

@@ -10,11 +10,11 @@ use Rattle.gw_speech.proofs.Common.{DecodesUntil}
 use Rattle.std.proofs.lemmas.List.Concat.{flat_map-append}
 use Rattle.std.proofs.lemmas.List.Sums.{fold_push}
 use Rattle.std.proofs.lemmas.Bool.Decides.{nat_tests}
-use Rattle.gw_records.specs.declared.records.RecordKind.{RecordKind}
-use Rattle.gw_records.specs.declared.records.RecordKind.TheVariants as heads
+use Rattle.gw_records.specs.declared.records.RecordHead.{RecordHead}
+use Rattle.gw_records.specs.declared.records.RecordHead.TheVariants as heads
 use Rattle.gw_records.specs.declared.records.FirstRecord.{FirstRecord}
-use Rattle.gw_records.specs.declared.records.EndReason.{EndReason}
-use Rattle.gw_records.specs.declared.records.EndReason.TheVariants as endings
+use Rattle.gw_records.specs.declared.records.RecordsEnd.{RecordsEnd}
+use Rattle.gw_records.specs.declared.records.RecordsEnd.TheVariants as endings
 use Rattle.gw_records.specs.declared.outcome.Totals.{Totals}
 use Rattle.gw_records.specs.declared.outcome.RunFault.{RunFault}
 use Rattle.gw_records.specs.Outcome.{answer_of, Ends}
@@ -35,7 +35,7 @@ decoded_more s records r words e first =
     ap (speech_of s) (words_more s records r words e) ∙ speech_splits s (words_in s records) (unwrap_or words []) first
 
 -- the code words of a good record of datagrams are those of its body
-words_named : (s : StreamSpec) (head : RecordKind) (body : List ℕ) → IsGood only_datagrams (named head body)
+words_named : (s : StreamSpec) (head : RecordHead) (body : List ℕ) → IsGood only_datagrams (named head body)
     → record_words s (named head body) ≡ datagram_words s body
 words_named s (heads.Datagram circuit) body good = refl
 words_named s _ body good = cc (good.0)
@@ -70,7 +70,7 @@ no_command octets e =
     grind (arith, nat_tests)
 
 -- the end of decoding if the records end so
-pub decode_ends : (s : StreamSpec) {a b : SourceState} {c d : SinkState} (ending : EndReason) (totals : Totals)
+pub decode_ends : (s : StreamSpec) {a b : SourceState} {c d : SinkState} (ending : RecordsEnd) (totals : Totals)
     (result : Result Totals RunFault) → (e : Ends only_datagrams a b c d (DecodesThrough s c d) ending)
     → (is_open ending ≡ true → IsAtEnd b.to_come) → totals ≡ e.0.totals → result ≡ answer_of ending totals
     → (IfOk result (DecodesAll s a b c d)) × (IfErr result (DecodesUntil s a b c d))

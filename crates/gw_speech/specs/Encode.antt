@@ -12,7 +12,7 @@ use Rattle.gw_speech.specs.declared.encode.NextPacket.{NextPacket}
 use Rattle.gw_records.specs.declared.outcome.Totals.{Totals}
 use Rattle.gw_records.specs.declared.outcome.RunFault.{RunFault}
 use Rattle.gw_records.specs.declared.outcome.RunFault.TheVariants.{Read, Write}
-use Rattle.gw_records.specs.Streams.{SourceState, SinkState, Yields, GivesUp, FailsAfterPrefix, at_most}
+use Rattle.gw_records.specs.Streams.{SourceState, SinkState, GivesOctets, GivesUp, FailsAfterPrefix, at_most}
 use Rattle.gw_records.specs.Records.{record_of}
 use Rattle.gw_records.specs.Outcome.{nothing_counted}
 
@@ -85,7 +85,7 @@ encode_totals count = record nothing_counted { datagrams = at_most count }
 pub record Encodes (s : StreamSpec) (source source' : SourceState) (sink sink' : SinkState)
     (totals : Totals) : Type 0 where
   pub octets : List ℕ
-  pub gives : Yields source source' octets
+  pub gives : GivesOctets source source' octets
   pub ended : IsAtEnd source'.to_come
   pub took : Appends sink.taken sink'.taken (records_of s octets)
   pub totals_are : totals ≡ encode_totals (packets s octets)
@@ -96,7 +96,7 @@ pub record Encodes (s : StreamSpec) (source source' : SourceState) (sink sink' :
 pub record EncodesUntilRead (s : StreamSpec) (source source' : SourceState) (sink sink' : SinkState)
     : Type 0 where
   pub octets : List ℕ
-  pub gives : Yields source source' octets
+  pub gives : GivesOctets source source' octets
   pub took : Appends sink.taken sink'.taken (full_records_of s octets)
   pub cause : GivesUp source source' octets
   pub no_write : sink'.failures ≡ sink.failures
@@ -105,7 +105,7 @@ pub record EncodesUntilRead (s : StreamSpec) (source source' : SourceState) (sin
 pub record EncodesUntilWrite (s : StreamSpec) (source source' : SourceState) (sink sink' : SinkState)
     : Type 0 where
   pub octets : List ℕ
-  pub gives : Yields source source' octets
+  pub gives : GivesOctets source source' octets
   pub breaks : FailsAfterPrefix sink sink' (records_of s octets)
   pub no_read : source'.failures ≡ source.failures
 

@@ -44,7 +44,7 @@ fn packet_len(spec: &StreamSpec) -> usize
     usize::from(spec.ptime) * SAMPLES_IN_MS
 }
 
-// The state before the first packet.
+// The state before the first packet of a stream of speech.
 fn first_packet(sequence: u16, timestamp: u32) -> NextPacket
     ensures { (s : StreamSpec) → s.sequence ≡ sequence → s.timestamp ≡ timestamp → IsPacket s result 0 }
 {

@@ -9,7 +9,7 @@ use Rattle.std.proofs.lemmas.Option.{same_Some}
 use Rattle.std.proofs.lemmas.List.{get_or-drop}
 use Rattle.std.proofs.lemmas.List.Elements.{recursion_from_All, All-weaker}
 use Rattle.g704_framing.specs.Least.{least}
-use Rattle.g704_framing.specs.Alignment.{FoundAlignment, loss, alignments_from, alignments_of, after_search, after_loss}
+use Rattle.g704_framing.specs.Alignment.{AlignmentSpan, loss, alignments_from, alignments_of, after_search, after_loss}
 use Rattle.g704_framing.specs.Alignment.{search_ends_of}
 use Rattle.g704_framing.specs.Age.{is_standing, age_in}
 use Rattle.g704_framing.specs.Laws.{IsLostAlike}
@@ -36,7 +36,7 @@ use Rattle.gw_switch.specs.Laws.{is_first, is_slot16, ends_search, SearchesAreOf
 use Rattle.gw_switch.proofs.SameWorlds.{slot16_octets-length, with_slot}
 
 -- whether an octet is the first of one of these alignments
-abbrev first_at : List FoundAlignment → ℕ → Bool
+abbrev first_at : List AlignmentSpan → ℕ → Bool
 first_at ds k = is_first (age_in 0 ds k)
 
 -- where a search in a list from this octet on ends
@@ -63,7 +63,7 @@ lost_later s m q e = go (least (is_second_wrong (drop m s)) (length (drop m s)))
     go (Some (suc k)) l i = let same = same_Some (m + suc k) q i in omega arith
 
 -- the octet at which an alignment begins is its first
-begins_at : (m : ℕ) (o : Option ℕ) (ds : List FoundAlignment) → ((q : ℕ) → o ≡ Some q → m < q)
+begins_at : (m : ℕ) (o : Option ℕ) (ds : List AlignmentSpan) → ((q : ℕ) → o ≡ Some q → m < q)
     → first_at (record { start = m; lost = o } ∷ ds) m ≡ true
 begins_at m None ds later =
     let le = le-leb (m + 0) m (omega arith) in
@@ -86,7 +86,7 @@ none_before t n k lt =
     (loss-not_before F multiframe_is_framing t n) (omega arith))
 
 -- an alignment that is lost says nothing of the octets behind its loss
-behind_loss : (m q k : ℕ) (ds : List FoundAlignment) → q < k
+behind_loss : (m q k : ℕ) (ds : List AlignmentSpan) → q < k
     → first_at (record { start = m; lost = Some q } ∷ ds) k ≡ first_at ds k
 behind_loss m q k ds lt =
     ap is_first (age_in-over 0 (suc q) k (record { start = m; lost = Some q } ∷ []) ds (omega arith) (omega arith, tt))
@@ -104,7 +104,7 @@ module _ (s t : List ℕ) (len : length s ≡ length t) where
       ∙ begins_at n (loss multiframe_alignment t n) _ (lost_later t n)))
 
   -- what comes after two losses that are the same
-  after_both : (from m : ℕ) (ds : List FoundAlignment) (q r : Option ℕ) → q ≡ r
+  after_both : (from m : ℕ) (ds : List AlignmentSpan) (q r : Option ℕ) → q ≡ r
       → ds ≡ after_loss multiframe_alignment None s q → ((p : ℕ) → q ≡ Some p → m < p) → from ≤ m
       → ((k : ℕ) → from ≤ k → k < length s → first_at (record { start = m; lost = q } ∷ ds) k
       ≡ first_at (record { start = m; lost = r } ∷ after_loss multiframe_alignment None t r) k)
@@ -125,7 +125,7 @@ module _ (s t : List ℕ) (len : length s ≡ length t) where
       ∙ behind_loss m r k (alignments_from multiframe_alignment None t (suc r)) (omega arith))
 
   -- an alignment of the first list, and what is found in the second
-  found_so : (d : FoundAlignment) (ds : List FoundAlignment) (from : ℕ) → IsLostAlike multiframe_alignment s t d
+  found_so : (d : AlignmentSpan) (ds : List AlignmentSpan) (from : ℕ) → IsLostAlike multiframe_alignment s t d
       → ((g : ℕ) → ds ≡ alignments_from multiframe_alignment None s g
       → ((k : ℕ) → g ≤ k → k < length s → first_at ds k
       ≡ first_at (alignments_from multiframe_alignment None t g) k)
@@ -161,7 +161,7 @@ module _ (s t : List ℕ) (len : length s ≡ length t) where
               let lost : loss F s m ≡ loss F t n
               = loss-alike F s t m len (subst (IsLostAlike F s t) first_is alike) ∙ ap (loss F t) same in
               let others : ds ≡ after_loss F None t (loss F t n) = after_both from m ds (loss F s m) (loss F t n) lost
-              rest_is (lost_later s m) low (λ k a b. ap (λ (x : FoundAlignment). first_at (x ∷ ds) k) (sym first_is)
+              rest_is (lost_later s m) low (λ k a b. ap (λ (x : AlignmentSpan). first_at (x ∷ ds) k) (sym first_is)
               ∙ firsts k a b ∙ ap (λ (j : ℕ). first_at (record { start = j; lost = loss F t n }
               ∷ after_loss F None t (loss F t n)) k) (sym same)) again in
               let first : d ≡ record { start = n; lost = loss F t n } = first_is ∙ same_alignment m n (loss F s m)
@@ -171,7 +171,7 @@ module _ (s t : List ℕ) (len : length s ≡ length t) where
       ]
 
   -- from any position on
-  counted_from : (ds : List FoundAlignment) (from : ℕ) → ds ≡ alignments_from multiframe_alignment None s from
+  counted_from : (ds : List AlignmentSpan) (from : ℕ) → ds ≡ alignments_from multiframe_alignment None s from
       → ((k : ℕ) → from ≤ k → k < length s → first_at ds k
       ≡ first_at (alignments_from multiframe_alignment None t from) k)
       → AllByRecursion (IsLostAlike multiframe_alignment s t) ds
@@ -186,7 +186,7 @@ module _ (s t : List ℕ) (len : length s ≡ length t) where
       (λ k a b. firsts k a b ∙ ap (λ es. first_at es k) turns) ∙ sym turns
 
 -- lists whose octets of frame 0 are right or wrong alike lose an alignment alike
-kept_alike : (s t : List ℕ) (d : FoundAlignment) → IsAlikeAlong multiframes s t d
+kept_alike : (s t : List ℕ) (d : AlignmentSpan) → IsAlikeAlong multiframes s t d
     → IsLostAlike multiframe_alignment s t d
 kept_alike s t d alike k lt up = is_second_wrong-alike (drop d.start s) (drop d.start t) k (λ j le e.
     ap is_mfas (get_or-drop d.start s j 0)

@@ -10,7 +10,7 @@ use byteorder::{BigEndian, ByteOrder};
 use e1_g711::Law;
 use g704_cas::CircuitNo;
 use gw_circuit::Status;
-use gw_records::{RecordKind, octet_of_codec, octet_of_command};
+use gw_records::{RecordHead, octet_of_codec, octet_of_command};
 use gw_switch::Alarms;
 
 // The length of the fixed header of an RTP datagram (RFC 3550, 5.1).
@@ -62,24 +62,24 @@ fn rtp_numbers(octets: &[u8]) -> [u64; 3]
 }
 
 /// Adds the line of a record that was answered with this code, if it has one.
-pub fn push_event(text: &mut Text, head: &RecordKind, body: &[u8], code: u8)
+pub fn push_event(text: &mut Text, head: &RecordHead, body: &[u8], code: u8)
     requires { length text.old.items + 114 ≤ 3200 }
     ensures line { text.new.items ≡ text.old.items ++ event_line (named head.now body.now) code }
     ensures len { length text.new.items ≤ length text.old.items + 114 }
 {
     let code = u64::from(code);
     match *head {
-        RecordKind::Trunk => {}
-        RecordKind::Datagram(circuit) => {
+        RecordHead::Trunk => {}
+        RecordHead::Datagram(circuit) => {
             let [sequence, timestamp, source] = rtp_numbers(body);
             let numbers = [u64::from(circuit.get()), code, sequence, timestamp, source];
             push_line(text, b"datagram", &numbers);
         }
-        RecordKind::Command(circuit, command) => {
+        RecordHead::Command(circuit, command) => {
             let command = u64::from(octet_of_command(command));
             push_line(text, b"command", &[u64::from(circuit.get()), command, code]);
         }
-        RecordKind::Codec(circuit, codec, payload_type) => {
+        RecordHead::Codec(circuit, codec, payload_type) => {
             let codec = u64::from(octet_of_codec(codec));
             let numbers = [
                 u64::from(circuit.get()),

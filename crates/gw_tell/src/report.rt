@@ -13,7 +13,7 @@ use crate::text::{Text, push};
 use e1_g711::Law;
 use g704_cas::CircuitNo;
 use gw_circuit::Status;
-use gw_records::RecordKind;
+use gw_records::RecordHead;
 use gw_switch::Alarms;
 
 // How many octets of the trunk there are between two reports of counts.
@@ -83,11 +83,11 @@ fn report_alarms(told: &mut Alarms, is: &Alarms, text: &mut Text)
 }
 
 /// The place behind a record.
-pub fn place_after(place: u64, head: &RecordKind, body: &[u8]) -> u64
+pub fn place_after(place: u64, head: &RecordHead, body: &[u8]) -> u64
     ensures { result ≡ place_after place (named head.now body.now) }
 {
     match head {
-        RecordKind::Trunk => place.saturating_add(body.len() as u64),
+        RecordHead::Trunk => place.saturating_add(body.len() as u64),
         _ => place,
     }
 }
@@ -97,7 +97,7 @@ pub fn place_after(place: u64, head: &RecordKind, body: &[u8]) -> u64
 #[inline(never)]
 pub fn report(
     place: u64,
-    head: &RecordKind,
+    head: &RecordHead,
     body: &[u8],
     code: u8,
     told: &mut GatewayStatus,

@@ -16,7 +16,7 @@ use crate::report::{place_after, report, whole_state};
 use crate::seizures::count_seizures;
 use crate::text::Text;
 use e1_g711::Law;
-use gw_records::RecordKind;
+use gw_records::RecordHead;
 use gw_session::Watch;
 use gw_switch::Gateway;
 use gw_trunk::open_door;
@@ -131,7 +131,7 @@ impl Teller {
 
     // Counts seizures, and sends all clients what changed with a record.
     #[inline(never)]
-    fn tell(&mut self, head: &RecordKind, body: &[u8], code: u8, gateway: &Gateway)
+    fn tell(&mut self, head: &RecordHead, body: &[u8], code: u8, gateway: &Gateway)
         ensures changes { TellsChanges self.old.place (named head.now body.now) code gateway.now
             self.old.told self.new.told self.old.places self.new.places }
         ensures counted { AreCounted self.old.seized self.old.told.rows self.new.told.rows self.new.seized }
@@ -238,12 +238,12 @@ impl Teller {
 impl Watch for Teller {
     ghost shows = { λ old new r code gateway. TellsRecord old new r code gateway };
 
-    fn after(&mut self, head: &RecordKind, body: &[u8], code: u8, gateway: &Gateway) {
+    fn after(&mut self, head: &RecordHead, body: &[u8], code: u8, gateway: &Gateway) {
         let before = self.place;
         self.tell(head, body, code, gateway);
         self.place = place_after(self.place, head, body);
         match head {
-            RecordKind::Trunk if self.looks_at_clients(before) => {
+            RecordHead::Trunk if self.looks_at_clients(before) => {
                 self.listen();
                 self.let_in(gateway);
             }

@@ -11,8 +11,8 @@ use Rattle.gw_switch.specs.Standing.{HasHistory}
 use Rattle.gw_records.specs.declared.outcome.Totals.{Totals}
 use Rattle.gw_records.specs.declared.outcome.RunFault.{RunFault}
 use Rattle.gw_records.specs.declared.outcome.RunFault.TheVariants as faults
-use Rattle.gw_records.specs.declared.records.EndReason.{EndReason}
-use Rattle.gw_records.specs.declared.records.EndReason.TheVariants as endings
+use Rattle.gw_records.specs.declared.records.RecordsEnd.{RecordsEnd}
+use Rattle.gw_records.specs.declared.records.RecordsEnd.TheVariants as endings
 use Rattle.gw_records.specs.Records.{Record, Reads, IsGood, spelled, end_of}
 use Rattle.gw_records.specs.Streams.{AppendsBut}
 use Rattle.gw_records.specs.Outcome.{SessionTo, FailsToWrite}
@@ -156,7 +156,7 @@ pub record Trunked (came asked went told given taken : List ℕ) : Type 0 where
   pub told_are : told ≡ others taken
 
 -- A session in which no write failed: it came to the end of the records, and carried all.
-pub whole-session : {a a' : SessionStreams} {gateway gateway' : Gateway} {ending : EndReason} (config : GatewayConfig)
+pub whole-session : {a a' : SessionStreams} {gateway gateway' : Gateway} {ending : RecordsEnd} (config : GatewayConfig)
     (before : List Event) (came asked went told given taken : List ℕ) → SessionStreams-trunk a a' given taken
     → Trunked came asked went told given taken → HasHistory config gateway before
     → SessionTo served_kinds a.source a'.source a.sink a'.sink

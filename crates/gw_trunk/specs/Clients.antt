@@ -6,7 +6,7 @@ use Rattle.gw_trunk.specs.declared.client.ClientPoll.{ClientPoll}
 use Rattle.gw_trunk.specs.declared.client.ClientPoll.TheVariants.{Command, Nothing, End, Gone}
 use Rattle.gw_trunk.specs.declared.client.Client.{Client}
 use Rattle.gw_trunk.specs.Pieces.{AsksRecord, client_kinds}
-use Rattle.gw_records.specs.declared.records.EndReason.{EndReason}
+use Rattle.gw_records.specs.declared.records.RecordsEnd.{RecordsEnd}
 use Rattle.gw_records.specs.Records.{end_of}
 
 -- a client gave nothing more and got nothing more
@@ -21,7 +21,7 @@ pub record GaveOne (client client' : Client) (octets : List ℕ) : Type 0 where
 
 -- octets begin with no whole record of a client
 abbrev pub HasNoRecord : List ℕ → Type 0
-HasNoRecord octets = (ending : EndReason) × (end_of client_kinds octets ≡ Some ending)
+HasNoRecord octets = (ending : RecordsEnd) × (end_of client_kinds octets ≡ Some ending)
 
 -- what a client did that was asked: it gave a record, which stands at the front of a room; or it gave none
 -- and has nothing that is whole; or it asks for the end; or it is to be disconnected, and what is held of it

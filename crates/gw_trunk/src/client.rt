@@ -4,7 +4,7 @@ ghost use Rattle.std.specs.Prelude.{◌≡◌, ◌⊎◌, ◌≤◌, ◌++◌, [
 ghost use Rattle.gw_trunk.specs.Clients.{HasNoRecord, IsAnswered, Replies, Stays};
 
 use arrayvec::ArrayVec;
-use gw_records::{AcceptedKinds, EndReason, Log, first_record};
+use gw_records::{AcceptedKinds, Log, RecordsEnd, first_record};
 use mio::net::UnixStream;
 use std::io::{ErrorKind, Read, Write};
 
@@ -168,7 +168,7 @@ impl Client {
                 self.known = true;
                 ClientPoll::Command(first.len)
             }
-            Err(EndReason::End | EndReason::Truncated) => self.nothing(room),
+            Err(RecordsEnd::End | RecordsEnd::Truncated) => self.nothing(room),
             Err(_) => ClientPoll::Gone,
         }
     }

@@ -60,4 +60,4 @@ pub same-playout : (one other : Playout) (window : Buffer (Option ℕ)) → one.
 same-playout one other window s w p =
     ap (λ (n : ℕ). record { window = one.window; prefill = n; stream = one.stream }) p
     ∙ ap (λ (b : Buffer (Option ℕ)). record { window = b; prefill = other.prefill; stream = one.stream }) w
-    ∙ ap (λ (t : Option Stream). record { window = other.window; prefill = other.prefill; stream = t }) s
+    ∙ ap (λ (t : Option RtpStream). record { window = other.window; prefill = other.prefill; stream = t }) s

@@ -14,7 +14,7 @@ abbrev pub saved_places : List (Option ℕ) → List ℕ
 saved_places places = flat_map saved_place places
 
 -- a stream: 0 if there is none, otherwise 1, its SSRC, and the timestamp due at the next take
-abbrev pub saved_stream : Option Stream → List ℕ
+abbrev pub saved_stream : Option RtpStream → List ℕ
 saved_stream None = 0 ∷ []
 saved_stream (Some stream) = 1 ∷ four_octets stream.ssrc ++ four_octets stream.next
 
@@ -22,6 +22,6 @@ unfoldable pub saved_playout : Playout → List ℕ
 saved_playout playout = saved_stream playout.stream ++ saved_places playout.window.items
 
 -- the SSRC and the timestamp have 32 bits, as in every playout
-abbrev pub StreamFits : Option Stream → Type 0
+abbrev pub StreamFits : Option RtpStream → Type 0
 StreamFits None = Unit {0}
 StreamFits (Some stream) = (stream.ssrc < 2 ^ 32) × (stream.next < 2 ^ 32)

@@ -1,13 +1,13 @@
 use Rattle.std.proofs.Common.{◌≡◌, ℕ, ◌+◌, ◌%◌, ◌<◌, List, ◌∷◌, [], ◌++◌, Option, Bool, sym, ap, ◌∙◌, subst}
-use Rattle.g704_align.specs.Aligner.{IsAlignment, count_after}
+use Rattle.g704_align.specs.Aligner.{IsAlignedRun, count_after}
 use Rattle.g704_align.proofs.Steps.{age-below, fas-more, fas-lost, nfas-more, nfas-lost, other-more}
 use Rattle.g704_align.proofs.alignment.after_aligned.Goals as goal
 
 -- the age of the next octet, as `next_age` gives it
-with_age : (c : List ℕ) (x age ws wd ws' wd' next : ℕ) → IsAlignment age ws wd c → (age < 64 → next ≡ (age + 1) % 64)
-    → IsAlignment ((age + 1) % 64) ws' wd' (c ++ x ∷ []) → IsAlignment next ws' wd' (c ++ x ∷ [])
+with_age : (c : List ℕ) (x age ws wd ws' wd' next : ℕ) → IsAlignedRun age ws wd c → (age < 64 → next ≡ (age + 1) % 64)
+    → IsAlignedRun ((age + 1) % 64) ws' wd' (c ++ x ∷ []) → IsAlignedRun next ws' wd' (c ++ x ∷ [])
 with_age c x age ws wd ws' wd' next h is more =
-    subst (λ a. IsAlignment a ws' wd' (c ++ x ∷ [])) (sym (is (age-below c x age ws wd h))) more
+    subst (λ a. IsAlignedRun a ws' wd' (c ++ x ∷ [])) (sym (is (age-below c x age ws wd h))) more
 
 -- the count, as `count_after` gives it of what a test says of the octet
 counted : (o : Option ℕ) (count : ℕ) (test right : Bool) → o ≡ count_after count test → test ≡ right

@@ -1,14 +1,14 @@
 use Rattle.std.proofs.Common.{◌≡◌, ℕ, ◌+◌, ◌%◌, ◌<◌, List, ◌∷◌, [], ◌++◌, Option, Bool, sym, ap, ◌∙◌, subst, refl}
 use Rattle.g704_align.specs.Aligner.{count_after}
-use Rattle.g704_bits.specs.Aligner.{IsAlignment}
+use Rattle.g704_bits.specs.Aligner.{IsAlignedRun}
 use Rattle.g704_bits.proofs.Steps.{age-below, fas-more, fas-lost, nfas-more, nfas-lost, other-more}
 use Rattle.g704_bits.proofs.aligner.after_aligned.Goals as goal
 
 -- the age of the next window, as `next_age` gives it
-with_age : (c : List ℕ) (x age ws wd ws' wd' next : ℕ) → IsAlignment age ws wd c → (age < 512 → next ≡ (age + 1) % 512)
-    → IsAlignment ((age + 1) % 512) ws' wd' (c ++ x ∷ []) → IsAlignment next ws' wd' (c ++ x ∷ [])
+with_age : (c : List ℕ) (x age ws wd ws' wd' next : ℕ) → IsAlignedRun age ws wd c → (age < 512 → next ≡ (age + 1) % 512)
+    → IsAlignedRun ((age + 1) % 512) ws' wd' (c ++ x ∷ []) → IsAlignedRun next ws' wd' (c ++ x ∷ [])
 with_age c x age ws wd ws' wd' next h is more =
-    subst (λ a. IsAlignment a ws' wd' (c ++ x ∷ [])) (sym (is (age-below c x age ws wd h))) more
+    subst (λ a. IsAlignedRun a ws' wd' (c ++ x ∷ [])) (sym (is (age-below c x age ws wd h))) more
 
 -- the count, as `count_after` gives it of what a test says of the window
 counted : (o : Option ℕ) (count : ℕ) (test right : Bool) → o ≡ count_after count test → test ≡ right

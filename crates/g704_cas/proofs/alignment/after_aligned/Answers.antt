@@ -1,7 +1,7 @@
 use Rattle.std.proofs.Common.{◌≡◌, ◌∷◌, [], ◌++◌, false, not, sym, ap, ◌∙◌, subst}
 use Rattle.std.specs.Prelude.{◌&&◌}
 use Rattle.std.proofs.lemmas.Bool.{and_left, and_right}
-use Rattle.g704_cas.specs.Aligner.{IsAlignment}
+use Rattle.g704_cas.specs.Aligner.{IsAlignedRun}
 use Rattle.g704_cas.proofs.Steps.{frame-below, zero-more, zero-lost, other-more, not_zero-wrong}
 use Rattle.g704_cas.proofs.alignment.after_aligned.Goals as goal
 use Rattle.g704_cas.proofs.alignment.after_aligned.Goals.{else-wrong-via-then-wrong+else-not-right}
@@ -25,6 +25,6 @@ returns-else-wrong c before octets h =
 
 pub returns-else-frame-eq0 : goal.returns-else-frame-eq0
 returns-else-frame-eq0 c before octets h =
-    subst (λ frame. IsAlignment before frame c.args.wrong (octets ++ c.args.octet ∷ []))
+    subst (λ frame. IsAlignedRun before frame c.args.wrong (octets ++ c.args.octet ∷ []))
     (sym (c.next_frame.ensures (frame-below before octets c.args.octet _ _ h)))
     (other-more before octets c.args.octet _ _ h c.if-frame-eq0.false)

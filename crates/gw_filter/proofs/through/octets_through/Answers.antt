@@ -3,7 +3,8 @@ use Rattle.std.proofs.Common.{length-append, length-drop}
 use Rattle.gw_records.specs.declared.outcome.RunFault.TheVariants as faults
 use Rattle.gw_records.specs.declared.outcome.Totals.{Totals}
 use Rattle.gw_records.specs.Outcome.{nothing_counted}
-use Rattle.gw_records.proofs.Writes.{Appends-none, Appends-join, Appends-same, Yields-none, Yields-join, Yields-end}
+use Rattle.gw_records.proofs.Writes.{Appends-none, Appends-join, Appends-same, GivesOctets-none, GivesOctets-join}
+use Rattle.gw_records.proofs.Writes.{GivesOctets-end}
 use Rattle.gw_records.proofs.Writes.{FailsAfterPrefix-after, read_failed}
 use Rattle.gw_records.proofs.Sessions.{goes_up}
 use Rattle.gw_filter.proofs.Stages.{came-is, replaced}
@@ -15,7 +16,7 @@ reading-init g c = record {
     given = [];
     returned = [];
     stands = c.requires.begins;
-    gives = Yields-none _;
+    gives = GivesOctets-none _;
     took = Appends-none _;
     no_read = refl;
     no_write = refl;
@@ -38,7 +39,7 @@ reading-preserved g c =
             (w.stage.given ++ xs) (w.stage.returned ++ c.filter_buffer.new.octets))
             (came-is _ _ _ _ came)
             (e.stands w.stage.given w.stage.returned w.stage.stands);
-        gives = Yields-join _ _ _ _ _ w.stage.gives came.gives;
+        gives = GivesOctets-join _ _ _ _ _ w.stage.gives came.gives;
         took = Appends-same _ _ _ _
             (ap (λ (xs : List ℕ). w.stage.returned ++ xs) (replaced c.read_behind.new.buffer _ _ _ _ came e.len))
             (Appends-join _ _ _ _ _ w.stage.took c.in_ok-write_all.ensures.ok);
@@ -80,7 +81,7 @@ returns-in_err-write_all-clause-fault g c =
           (w.stage.given ++ xs) (w.stage.returned ++ c.filter_buffer.new.octets))
           (came-is _ _ _ _ came)
           (e.stands w.stage.given w.stage.returned w.stage.stands);
-      gives = Yields-join _ _ _ _ _ w.stage.gives came.gives;
+      gives = GivesOctets-join _ _ _ _ _ w.stage.gives came.gives;
       breaks = rw (← replaced c.read_behind.new.buffer _ _ _ _ came e.len)
           (FailsAfterPrefix-after _ _ _ _ _ w.stage.took w.stage.no_write broken.1);
       no_read = c.in-Ok.ensures.counts ∙ w.stage.no_read;
@@ -95,7 +96,7 @@ returns-then-n-eq0-clause-ok g c =
       octets = w.stage.given;
       returned = w.stage.returned;
       returns = w.stage.stands;
-      gives = Yields-end _ _ _ w.stage.given came.octets (came.counted ∙ c.if-n-eq0.true) w.stage.gives came.gives;
+      gives = GivesOctets-end _ _ _ w.stage.given came.octets (came.counted ∙ c.if-n-eq0.true) w.stage.gives came.gives;
       ended = came.ended c.if-n-eq0.true;
       took = w.stage.took;
       totals_are = ap (made) w.counted;
@@ -110,7 +111,7 @@ returns-in_default-clause-fault g c =
       octets = w.stage.given;
       returned = w.stage.returned;
       returns = w.stage.stands;
-      gives = Yields-end _ _ _ w.stage.given [] refl w.stage.gives c.in_default.ensures.none;
+      gives = GivesOctets-end _ _ _ w.stage.given [] refl w.stage.gives c.in_default.ensures.none;
       took = w.stage.took;
       cause = inl (read_failed _ _ _ w.stage.no_read c.requires.streams.reads c.in_default.ensures.counts);
       no_write = w.stage.no_write;

@@ -1,10 +1,10 @@
 use Rattle.gw_records.proofs.Common.{◌∙◌, err_from_is_err_and}
-use Rattle.gw_records.proofs.Writes.{TakesAllBut-after, FailsAfterPrefix-after, FailsAfterPrefix-more}
+use Rattle.gw_records.proofs.Writes.{TakesAllButWaiting-after, FailsAfterPrefix-after, FailsAfterPrefix-more}
 use Rattle.gw_records.proofs.writing.put.Goals as goal
 
 pub returns : goal.returns
 returns g c = (
-  TakesAllBut-after _ _ _ _ _ _ c.in_ok-flush.ensures.writes.0 c.in_ok-put_first.ensures.0,
+  TakesAllButWaiting-after _ _ _ _ _ _ c.in_ok-flush.ensures.writes.0 c.in_ok-put_first.ensures.0,
   c.in_ok-put_first.ensures.1 ∙ c.in_ok-flush.ensures.writes.1,
 )
 

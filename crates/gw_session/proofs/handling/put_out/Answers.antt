@@ -1,5 +1,5 @@
-use Rattle.gw_session.proofs.Common.{◌∙◌, arith, most_waiting, err_from_is_err_and, TakesAllBut-empty}
-use Rattle.gw_session.proofs.Common.{TakesAllBut-appended, FailsAfterPrefix-waiting}
+use Rattle.gw_session.proofs.Common.{◌∙◌, arith, most_waiting, err_from_is_err_and, TakesAllButWaiting-empty}
+use Rattle.gw_session.proofs.Common.{TakesAllButWaiting-appended, FailsAfterPrefix-waiting}
 use Rattle.gw_session.proofs.handling.put_out.Goals as goal
 
 pub returns-in_err-flush-clause-puts : goal.returns-in_err-flush-clause-puts
@@ -10,8 +10,8 @@ returns-in_err-flush-clause-puts g c =
 
 pub returns-in_ok-flush-clause-puts : goal.returns-in_ok-flush-clause-puts
 returns-in_ok-flush-clause-puts g c = (
-  TakesAllBut-empty _ _ _ c.in_ok-flush.ensures.empty
-      (TakesAllBut-appended _ _ _ _ _ c.in_ok-put.ensures.0 c.in_ok-flush.ensures.writes.0),
+  TakesAllButWaiting-empty _ _ _ c.in_ok-flush.ensures.empty
+      (TakesAllButWaiting-appended _ _ _ _ _ c.in_ok-put.ensures.0 c.in_ok-flush.ensures.writes.0),
   c.in_ok-flush.ensures.writes.1 ∙ c.in_ok-put.ensures.1,
 )
 

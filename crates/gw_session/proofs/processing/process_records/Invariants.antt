@@ -1,5 +1,6 @@
-use Rattle.gw_session.proofs.Common.{◌≡◌, ◌≤◌, List, ℕ, length, vec_len, Record, TakesAllBut, written_by, most_waiting}
-use Rattle.gw_session.proofs.Common.{WatchedTrace, ActsShown, nothing_counted, state_of, work_left, Stage}
+use Rattle.gw_session.proofs.Common.{◌≡◌, ◌≤◌, List, ℕ, length, vec_len, Record, TakesAllButWaiting, written_by}
+use Rattle.gw_session.proofs.Common.{most_waiting}
+use Rattle.gw_session.proofs.Common.{WatchedTrace, InputsShown, nothing_counted, state_of, work_left, Stage}
 use Rattle.gw_session.proofs.processing.process_records.Given as goal
 
 abbrev pub invariant-attending : goal.invariant-attending
@@ -10,9 +11,9 @@ invariant-attending g l = (octets : List ℕ) × (records : List Record) × reco
       (state_of (g.O.PacketPorts.tells l.initial.packet_ports) l.initial.gateway nothing_counted)
       (state_of (g.O.PacketPorts.tells l.packet_ports) l.gateway l.session.totals)
       (g.T.Tape.tells l.initial.tape) (g.T.Tape.tells l.tape)
-      (λ first xs. TakesAllBut (g.K.Sink.tells l.initial.sink).taken (g.K.Sink.tells l.sink).taken
+      (λ first xs. TakesAllButWaiting (g.K.Sink.tells l.initial.sink).taken (g.K.Sink.tells l.sink).taken
       l.session.waiting.items xs)
-      (ActsShown g.W.Watch.shows l.initial.gateway l.initial.watch l.watch) records;
+      (InputsShown g.W.Watch.shows l.initial.gateway l.initial.watch l.watch) records;
   none_waits : length records ≡ 0 → length l.session.waiting.items ≡ 0;
   few : length l.session.waiting.items ≤ most_waiting l.initial.session.at_once;
   at_once : l.session.at_once ≡ l.initial.session.at_once;

@@ -1,5 +1,6 @@
-use Rattle.gw_speech.proofs.Common.{◌++◌, [], ◌∷◌, ◌∙◌, nil_from_length, record_at, held, TakesAllBut-start}
-use Rattle.gw_speech.proofs.Common.{TakesAllBut-empty, TakesAllBut-join, TakesAllBut-appended, AppendsPrefix-behind}
+use Rattle.gw_speech.proofs.Common.{◌++◌, [], ◌∷◌, ◌∙◌, nil_from_length, record_at, held, TakesAllButWaiting-start}
+use Rattle.gw_speech.proofs.Common.{TakesAllButWaiting-empty, TakesAllButWaiting-join, TakesAllButWaiting-appended}
+use Rattle.gw_speech.proofs.Common.{AppendsPrefix-behind}
 use Rattle.gw_speech.proofs.Common.{FailsAfterPrefix-waiting, goes_up, starts, first_held, record_taken, stops_in}
 use Rattle.gw_speech.proofs.Common.{stops_behind, reads_more, ended, gives_up, words_in}
 use Rattle.gw_records.specs.declared.outcome.RunFault.TheVariants as faults
@@ -13,7 +14,7 @@ decoding-init g c = (
   record {
     stage = starts _ _ _ c.in-Ok.ensures.holds c.in-Ok.ensures.turns;
     passes = rw (nil_from_length _ ((c.words_are_counted.ensures c.args.spec.now.law c.args.spec.now.codec).1 []))
-        (TakesAllBut-start _ _ c.new-under_way.ensures.waiting);
+        (TakesAllButWaiting-start _ _ c.new-under_way.ensures.waiting);
     stands = c.new-under_way.ensures.stands;
     totals_are = c.new-under_way.ensures.totals;
   },
@@ -47,7 +48,7 @@ decoding-preserved-in-Ok-first_record g c =
       record {
         stage = record_taken f w.2.stage found c.pass.ensures.holds c.pass.ensures.turns put.1;
         passes = rw (decoded_more s w.1 it _ words c.prefixes_come_first.ensures)
-            (TakesAllBut-join _ _ _ _ _ _ _ w.2.passes put.0);
+            (TakesAllButWaiting-join _ _ _ _ _ _ _ w.2.passes put.0);
         stands = rw (words_more s w.1 it _ words) (done.stands (words_in s w.1) w.2.stands);
         totals_are = done.counts ∙ totals_more s _ w.1 it _ words w.2.totals_are;
       },
@@ -68,8 +69,8 @@ decoding-preserved g c =
       w.1,
       record {
         stage = reads_more w.2.stage r c.requires.turns c.in_ok-flush-in-Err.ensures.writes.1;
-        passes = TakesAllBut-empty _ _ _ c.in_ok-flush-in-Err.ensures.empty
-            (TakesAllBut-appended _ _ _ _ _ w.2.passes c.in_ok-flush-in-Err.ensures.writes.0);
+        passes = TakesAllButWaiting-empty _ _ _ c.in_ok-flush-in-Err.ensures.empty
+            (TakesAllButWaiting-appended _ _ _ _ _ w.2.passes c.in_ok-flush-in-Err.ensures.writes.0);
         stands = w.2.stands;
         totals_are = w.2.totals_are;
       },
@@ -81,7 +82,7 @@ returns-then-not-branch g c =
     let r = rw c.if-not-branch.true at c.in_ok-read_on-in-Err.ensures.ok in
     let e = ended c.decoding.under_way.totals w.2.stage r c.held.ensures c.in-Err.ensures.end
     c.in_ok-flush-in-Err.ensures.writes.1
-    (TakesAllBut-appended _ _ _ _ _ w.2.passes c.in_ok-flush-in-Err.ensures.writes.0, w.2.totals_are) in
+    (TakesAllButWaiting-appended _ _ _ _ _ w.2.passes c.in_ok-flush-in-Err.ensures.writes.0, w.2.totals_are) in
     let both = decode_ends c.args.spec.now _ _ _ e.0 r.ended e.1 c.answer.ensures in
     record { ok = both.0; fault = both.1 }
 
@@ -92,4 +93,4 @@ returns-in_err-read_on-in-Err-clause-fault g c =
     goes_up _ _ faults.Read c.from_residual-in_err-read_on-in-Err.ensures.1 fault.0
     (gives_up c.decoding.under_way.totals w.2.stage fault.1 c.held.ensures c.in-Err.ensures.end
     c.in_ok-flush-in-Err.ensures.writes.1
-    (TakesAllBut-appended _ _ _ _ _ w.2.passes c.in_ok-flush-in-Err.ensures.writes.0, w.2.totals_are))
+    (TakesAllButWaiting-appended _ _ _ _ _ w.2.passes c.in_ok-flush-in-Err.ensures.writes.0, w.2.totals_are))

@@ -1,5 +1,5 @@
 use Rattle.gw_speech.proofs.Common.{◌^◌, ◌<◌, ◌++◌, ◌∷◌, [], ap, sym, refl, ◌∙◌, append_assoc, append-nil, All-tail}
-use Rattle.gw_speech.proofs.Common.{err_from_is_err_and, CodecState, TakesAllBut-none, TakesAllBut-join}
+use Rattle.gw_speech.proofs.Common.{err_from_is_err_and, CodecState, TakesAllButWaiting-none, TakesAllButWaiting-join}
 use Rattle.gw_speech.proofs.Common.{FailsAfterPrefix-join, FailsAfterPrefix-more, word_bits}
 use Rattle.gw_speech.proofs.Speech.{speech_of_none, speech_joins, speech_more}
 use Rattle.gw_speech.proofs.decode.put_each.Goals as goal
@@ -14,7 +14,8 @@ loop-word-init g c = (
     fit = rw c.into_iter-word-iterator.ensures.into_iter_gives c.requires.fit;
     kind = c.requires.kind;
     stands = λ before at. rw (append-nil before) at;
-    passes = λ before at. rw (speech_of_none c.args.spec.now before c.words_are_counted.ensures) (TakesAllBut-none _ _);
+    passes = λ before at. rw (speech_of_none c.args.spec.now before c.words_are_counted.ensures)
+        (TakesAllButWaiting-none _ _);
     same = refl;
   },
 )
@@ -37,7 +38,7 @@ loop-word-preserved g c =
         passes = λ before at. rw (speech_more s c.args.waiting.now.items before w.0 word c.decode.result
             c.words_are_counted.ensures c.prefixes_come_first.ensures
             (c.decode.ensures.octets _ _ [] (before ++ w.0) (w.1.stands before at)))
-            (TakesAllBut-join _ _ _ _ _ _ _ (w.1.passes before at) c.in_ok-put_octet.ensures.0);
+            (TakesAllButWaiting-join _ _ _ _ _ _ _ (w.1.passes before at) c.in_ok-put_octet.ensures.0);
         same = c.in_ok-put_octet.ensures.1 ∙ w.1.same;
       },
     )

@@ -1,4 +1,4 @@
-use Rattle.gw_speech.proofs.Common.{◌≡◌, ◌^◌, ◌<◌, ◌++◌, ℕ, List, [], All, codec_after, TakesAllBut, word_bits}
+use Rattle.gw_speech.proofs.Common.{◌≡◌, ◌^◌, ◌<◌, ◌++◌, ℕ, List, [], All, codec_after, TakesAllButWaiting, word_bits}
 use Rattle.gw_speech.proofs.Common.{speech_behind}
 use Rattle.gw_speech.proofs.decode.put_each.Given as goal
 
@@ -12,7 +12,7 @@ invariant-loop-word g l = (done : List ℕ) × record {
   stands : (before : List ℕ) → l.initial.codec ≡ codec_after l.spec.law l.spec.codec [] before
       → l.codec ≡ codec_after l.spec.law l.spec.codec [] (before ++ done);
   passes : (before : List ℕ) → l.initial.codec ≡ codec_after l.spec.law l.spec.codec [] before
-      → TakesAllBut (g.K.Sink.tells l.initial.sink).taken (g.K.Sink.tells l.sink).taken l.waiting.items
+      → TakesAllButWaiting (g.K.Sink.tells l.initial.sink).taken (g.K.Sink.tells l.sink).taken l.waiting.items
       (l.initial.waiting.items ++ speech_behind l.spec before done);
   same : (g.K.Sink.tells l.sink).failures ≡ (g.K.Sink.tells l.initial.sink).failures;
 }

@@ -1,6 +1,7 @@
 use Rattle.gw_speech.proofs.Common.{◌+◌, ◌-◌, ◌^◌, ◌<◌, inl, inr, [], ◌++◌, refl, ap, ◌∙◌, length-append, arith}
 use Rattle.gw_speech.proofs.Common.{nil_from_length, All-nil, same_len_mid, CodecState, Appends-none, Appends-join}
-use Rattle.gw_speech.proofs.Common.{Yields-none, Yields-join, Yields-end, FailsAfterPrefix-after, FailsAfterPrefix-more}
+use Rattle.gw_speech.proofs.Common.{GivesOctets-none, GivesOctets-join, GivesOctets-end, FailsAfterPrefix-after}
+use Rattle.gw_speech.proofs.Common.{FailsAfterPrefix-more}
 use Rattle.gw_speech.proofs.Common.{read_failed, goes_up, word_bits, full_packets}
 use Rattle.gw_records.specs.declared.outcome.RunFault.TheVariants as faults
 use Rattle.gw_speech.proofs.PacketLemmas.{reads_no_more, coded_way, words_left, window_begins, last_written}
@@ -20,7 +21,7 @@ reading-init g c = record {
     fit = All-nil (λ w. w < 2 ^ word_bits c.args.spec.now);
     open_packet = omega (arith, c.args.spec.now.ptime_fits.least);
     fits = refl;
-    gives = Yields-none _;
+    gives = GivesOctets-none _;
     took = Appends-none _;
     no_read = refl;
     no_write = refl;
@@ -48,7 +49,7 @@ returns-in_default-clause-fault g c =
 pub returns-clause-fault : goal.returns-clause-fault
 returns-clause-fault g c =
     let w = c.reading.invariant in
-    reads_no_more c.words_are_counted.ensures w.stage (Yields-none _)
+    reads_no_more c.words_are_counted.ensures w.stage (GivesOctets-none _)
     (inr (omega (arith, w.calls), omega (arith, w.turns)))
 
 pub returns-then-n-eq0-clause-ok : goal.returns-then-n-eq0-clause-ok
@@ -60,7 +61,7 @@ returns-then-n-eq0-clause-ok g c =
     let wrote = c.in_ok-write_packets.ensures.writes w.stage.count w.at in
     record {
       octets = w.stage.given;
-      gives = Yields-end _ _ _ w.stage.given came.octets (came.counted ∙ c.if-n-eq0.true) w.stage.gives came.gives;
+      gives = GivesOctets-end _ _ _ w.stage.given came.octets (came.counted ∙ c.if-n-eq0.true) w.stage.gives came.gives;
       ended = came.ended c.if-n-eq0.true;
       took = rw (all.0) (Appends-join _ _ _ _ _ w.stage.took wrote.0);
       totals_are = rw ((c.in_ok-write_packets.ensures.next w.stage.count w.at).counted, all.1) refl;
@@ -77,7 +78,7 @@ returns-in_err-write_packets-clause-fault g c =
     let broken = c.in_err-write_packets.ensures.writes w.stage.count w.at in
     goes_up _ _ faults.Write c.from_residual.ensures.1 broken.0 (record {
       octets = w.stage.given;
-      gives = Yields-end _ _ _ w.stage.given came.octets (came.counted ∙ c.if-n-eq0.true) w.stage.gives came.gives;
+      gives = GivesOctets-end _ _ _ w.stage.given came.octets (came.counted ∙ c.if-n-eq0.true) w.stage.gives came.gives;
       breaks = rw (all.0) (FailsAfterPrefix-after _ _ _ _ _ w.stage.took w.stage.no_write broken.1);
       no_read = c.in-Ok.ensures.counts ∙ w.stage.no_read;
     })
@@ -93,7 +94,7 @@ returns-in_err-left-clause-fault g c =
     let broken = c.in_err-left.ensures.writes w.stage.count w.at in
     goes_up _ _ faults.Write c.from_residual-in_err-left.ensures.1 broken.0 (record {
       octets = w.stage.given ++ came.octets;
-      gives = Yields-join _ _ _ _ _ w.stage.gives came.gives;
+      gives = GivesOctets-join _ _ _ _ _ w.stage.gives came.gives;
       breaks = rw (all.1) (FailsAfterPrefix-more _ _ _ _
           (FailsAfterPrefix-after _ _ _ _ _ w.stage.took w.stage.no_write broken.1));
       no_read = c.in-Ok.ensures.counts ∙ w.stage.no_read;
@@ -119,7 +120,7 @@ reading-preserved g c =
         fit = left.1;
         open_packet = c.in_ok-left.ensures.left.0;
         fits = omega (arith, c.copy_within.ensures.len, long, c.in-Ok.ensures.len, w.stage.fits);
-        gives = Yields-join _ _ _ _ _ w.stage.gives came.gives;
+        gives = GivesOctets-join _ _ _ _ _ w.stage.gives came.gives;
         took = rw (left.0.records) (Appends-join _ _ _ _ _ w.stage.took wrote.0);
         no_read = c.in-Ok.ensures.counts ∙ w.stage.no_read;
         no_write = wrote.1 ∙ w.stage.no_write;

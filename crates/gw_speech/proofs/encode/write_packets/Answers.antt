@@ -1,5 +1,6 @@
 use Rattle.gw_speech.proofs.Common.{◌≡◌, ◌+◌, ◌*◌, ◌^◌, ◌<◌, length, refl, ◌∙◌, arith, All-drop, le-div}
-use Rattle.gw_speech.proofs.Common.{err_from_is_err_and, TakesAllBut-start, TakesAllBut-join, TakesAllBut-appended}
+use Rattle.gw_speech.proofs.Common.{err_from_is_err_and, TakesAllButWaiting-start, TakesAllButWaiting-join}
+use Rattle.gw_speech.proofs.Common.{TakesAllButWaiting-appended}
 use Rattle.gw_speech.proofs.Common.{FailsAfterPrefix-join, FailsAfterPrefix-more, FailsAfterPrefix-waiting, packet_len}
 use Rattle.gw_speech.proofs.Common.{word_bits, full_packets}
 use Rattle.gw_speech.proofs.PacketLemmas.{one_more_packet, first_packets, full_are, next_place}
@@ -13,7 +14,7 @@ packets-init g c = (
     whole = omega arith;
     fit = c.requires.fit;
     next = λ k at. let e : k + 0 ≡ k = omega arith in rw e at;
-    passes = λ k at. TakesAllBut-start _ _ c.requires.empty;
+    passes = λ k at. TakesAllButWaiting-start _ _ c.requires.empty;
     same = refl;
   },
 )
@@ -32,7 +33,8 @@ packets-preserved g c =
         next = λ k at. let e : k + (w.0 + 1) ≡ (k + w.0) + 1 = omega arith in rw e (c.next_packet.ensures (k + w.0)
             (w.1.next k at));
         passes = λ k at. rw (one_more_packet s _ k w.0 _ c.args.words.now _ _ (w.1.next k at) len w.1.place
-            c.split_at.ensures.front) (TakesAllBut-join _ _ _ _ _ _ _ (w.1.passes k at) c.in_ok-put_packet.ensures.0);
+            c.split_at.ensures.front) (TakesAllButWaiting-join _ _ _ _ _ _ _
+            (w.1.passes k at) c.in_ok-put_packet.ensures.0);
         same = c.in_ok-put_packet.ensures.1 ∙ w.1.same;
       },
     )
@@ -62,7 +64,7 @@ returns g c =
     record {
       left = (short, rw full w.1.whole);
       writes = λ k at. (
-        rw full (TakesAllBut-appended _ _ _ _ _ (w.1.passes k at) c.in_ok-flush.ensures.writes.0),
+        rw full (TakesAllButWaiting-appended _ _ _ _ _ (w.1.passes k at) c.in_ok-flush.ensures.writes.0),
         c.in_ok-flush.ensures.writes.1 ∙ w.1.same,
       );
       next = rw full w.1.next;

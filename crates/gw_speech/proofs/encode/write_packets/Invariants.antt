@@ -1,4 +1,5 @@
-use Rattle.gw_speech.proofs.Common.{◌≡◌, ◌+◌, ◌*◌, ◌^◌, ◌<◌, ℕ, length, drop, All, TakesAllBut, packet_len, word_bits}
+use Rattle.gw_speech.proofs.Common.{◌≡◌, ◌+◌, ◌*◌, ◌^◌, ◌<◌, ℕ, length, drop, All, TakesAllButWaiting, packet_len}
+use Rattle.gw_speech.proofs.Common.{word_bits}
 use Rattle.gw_speech.proofs.Common.{records_from, IsPacket}
 use Rattle.gw_speech.proofs.encode.write_packets.Given as goal
 
@@ -9,7 +10,7 @@ invariant-packets g l = (count : ℕ) × record {
   fit : All (λ w. w < 2 ^ word_bits l.spec) l.rest;
   next : (k : ℕ) → IsPacket l.spec l.initial.progress k → IsPacket l.spec l.progress (k + count);
   passes : (k : ℕ) → IsPacket l.spec l.initial.progress k
-      → TakesAllBut (g.K.Sink.tells l.initial.sink).taken (g.K.Sink.tells l.sink).taken
+      → TakesAllButWaiting (g.K.Sink.tells l.initial.sink).taken (g.K.Sink.tells l.sink).taken
       l.waiting.items (records_from l.spec k l.fn.words count);
   same : (g.K.Sink.tells l.sink).failures ≡ (g.K.Sink.tells l.initial.sink).failures;
 }

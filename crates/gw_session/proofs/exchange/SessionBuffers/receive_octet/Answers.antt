@@ -1,4 +1,4 @@
-use Rattle.gw_session.proofs.Common.{sym, ap, refl, append-nil, err_from_is_err_and, Sending, TakesAllBut-none}
+use Rattle.gw_session.proofs.Common.{sym, ap, refl, append-nil, err_from_is_err_and, Sending, TakesAllButWaiting-none}
 use Rattle.gw_session.proofs.Common.{sending_in}
 use Rattle.gw_session.proofs.PacketsSent.{sends_none}
 use Rattle.gw_session.proofs.exchange.SessionBuffers.receive_octet.Goals as goal
@@ -46,6 +46,6 @@ returns-in_default-clause-hears g c =
         c.octet_into-out.ensures.stands config before h,
         sym (c.octet_into-out.ensures.reply config before h),
       );
-      passes = rw c.in_default.is (TakesAllBut-none _ _);
+      passes = rw c.in_default.is (TakesAllButWaiting-none _ _);
       no_failure = refl;
     }

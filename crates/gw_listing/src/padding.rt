@@ -1,4 +1,4 @@
-//! Texts and numbers in columns of a fixed width.
+//! Texts and numbers padded to the width of a column.
 
 ghost use Rattle.std.specs.Prelude.{◌≡◌, ◌≤◌, ◌<◌, ◌+◌, ◌^◌, ◌∷◌, [], ◌++◌, length, replicate};
 ghost use Rattle.std.specs.Fmt.{decimal};
