@@ -124,7 +124,7 @@ carried-records : {s s' : SessionState} {tape tape' : TapeState} {Took : List �
     → sent ≡ bodies (written config before p.inputs) → told ≡ others (written config before p.inputs)
     → Carries config before s'.gateway tape tape' (traffic heard asked sent told)
 carried-records {records = records} config before heard asked sent told p new woven good is tells =
-    let all : AllByRecursion (IsGood served_kinds) (map session.told p.inputs) = rw (p.told_are) good in
+    let all : AllByRecursion (IsGood served_kinds) (map session.input_record p.inputs) = rw (p.told_are) good in
     let weave : without_datagrams (events_through p.inputs) ≡ events records
     = events_are_told p.inputs all ∙ ap events (p.told_are) in
     record {
@@ -169,7 +169,7 @@ whole-session {ending = ending} config before came asked went told given taken a
     let all = records-read w.records (all-good w.records w.woven.good) in
     let one = one_reading served_kinds (flat_map spelled w.records) s.records w.records ending
     endings.End (rw octets-are at s.reads) all in
-    let taken-is : taken ≡ written config before s.done.acts
+    let taken-is : taken ≡ written config before s.done.inputs
     = appends-first _ _ taken _ around.untaken around.took (s.done.took config before new) in
     let woven : Woven came asked s.records = rw (one.0) (w.woven) in (
       one.1,
@@ -196,13 +196,13 @@ cut-session config before came asked went told given taken around t new f =
     let served = f.begun.1 in
     let took = served.took config before new in
     let taken-is : taken ≡ took.written = appends-first _ _ taken _ around.untaken around.took took.appended in
-    let both : written config before served.acts ≡ taken ++ took.rest
+    let both : written config before served.inputs ≡ taken ++ took.rest
     = took.whole ∙ ap (λ (xs : List ℕ). xs ++ took.rest) (sym taken-is) in
     let lost = passed (place_after Kind taken) took.rest in
     let untold = answered (place_after Kind taken) took.rest in
-    let sent : went ++ lost ≡ bodies (written config before served.acts)
+    let sent : went ++ lost ≡ bodies (written config before served.inputs)
     = rw (t.went_are) (sym (ap bodies both ∙ passed-append Kind taken took.rest)) in
-    let tells : told ++ untold ≡ others (written config before served.acts)
+    let tells : told ++ untold ≡ others (written config before served.inputs)
     = rw (t.told_are) (sym (ap others both ∙ answered-append Kind taken took.rest)) in
     record {
       heard = flat_map trunk_part f.records;

@@ -1,7 +1,7 @@
 use Rattle.std.proofs.Math.Logic.{∥∥₁_map}
 use Rattle.std.proofs.Common.{◌≤◌, length, arith}
 use Rattle.gw_trunk.proofs.Thinning.{stepped, was-prompt}
-use Rattle.gw_trunk.proofs.multiframe_dropper.MultiframeDropperOutgoing.write.Goals as goal
+use Rattle.gw_trunk.proofs.multiframe_dropper.MultiframeDropperTrunkOutput.write.Goals as goal
 
 pub invariant_of-self-then-self-gt0 : goal.invariant_of-self-then-self-gt0
 invariant_of-self-then-self-gt0 g c =
