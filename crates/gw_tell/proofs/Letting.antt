@@ -6,9 +6,12 @@ use Rattle.gw_switch.specs.declared.gateway.Gateway.{Gateway}
 use Rattle.gw_tell.specs.declared.client.Client.{Client}
 use Rattle.gw_tell.specs.declared.gateway_status.GatewayStatus.{GatewayStatus}
 use Rattle.gw_tell.specs.declared.place.ClientSlot.{ClientSlot}
-use Rattle.gw_tell.specs.Clients.{at, sent, AllFree, Gets, StaysOrNew}
-use Rattle.gw_tell.specs.Reports.{Shows}
-use Rattle.gw_tell.specs.Telling.{IsNew, LetsIn}
+use Rattle.gw_records.specs.Records.{Record}
+use Rattle.gw_tell.specs.declared.teller.Teller.{Teller}
+use Rattle.gw_tell.specs.Clients.{at, sent, AllFree, Gets, StaysOrNew, TellsChanges}
+use Rattle.gw_tell.specs.Reports.{Shows, place_after}
+use Rattle.gw_tell.specs.Seizures.{AreCounted}
+use Rattle.gw_tell.specs.Telling.{IsNew, LetsIn, TellsRecord}
 
 -- Who stays and stays, stays; and who is new and stays, is new.
 still_here : (law : Law) (place : ℕ) (told : GatewayStatus) (seized : List ℕ) (old mid new : Option Client)
@@ -87,3 +90,21 @@ all_free a b c d e f g h a' b' c' d' e' f' g' h' = one
     one (suc (suc (suc (suc (suc (suc zero)))))) = g'
     one (suc (suc (suc (suc (suc (suc (suc zero))))))) = h'
     one (suc (suc (suc (suc (suc (suc (suc (suc k)))))))) = refl
+
+-- After a record a Teller that looks at no client has sent what changed, and that is all.
+pub unlooked : (t u : Teller) (place : ℕ) (r : Record) (code : ℕ) (gateway : Gateway) → u.law ≡ t.law
+    → place ≡ place_after t.place r → TellsChanges t.place r code gateway t.told u.told t.places u.places
+    → AreCounted t.seized t.told.rows u.told.rows u.seized
+    → TellsRecord t (record u { place = place }) r code gateway
+unlooked t u place r code gateway law is changes counted = record {
+  law_is = law;
+  place_is = is;
+  told = u.told;
+  between = u.places;
+  tells = changes;
+  counted = counted;
+  here = u.places;
+  listens = λ k. none_sent (at u.places k);
+  lets_in = none_let_in t.law place gateway u.told u.seized u.places;
+  others = λ _. (refl, refl);
+}

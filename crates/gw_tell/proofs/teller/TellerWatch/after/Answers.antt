@@ -1,21 +1,16 @@
-use Rattle.std.proofs.Common.{◌∙◌, refl}
-use Rattle.gw_tell.specs.Clients.{at}
-use Rattle.gw_tell.proofs.Letting.{none_let_in, none_sent}
+use Rattle.std.proofs.Common.{◌∙◌}
+use Rattle.gw_tell.proofs.Letting.{unlooked}
 use Rattle.gw_tell.proofs.teller.TellerWatch.after.Goals as goal
 
-pub returns-in_default : goal.returns-in_default
-returns-in_default c = record {
-  law_is = c.tell.ensures.law;
-  place_is = rw (c.tell.ensures.place) at c.place_after-self.ensures;
-  told = c.tell.new.self.told;
-  between = c.tell.new.self.places;
-  tells = c.tell.ensures.changes;
-  counted = c.tell.ensures.counted;
-  here = c.tell.new.self.places;
-  listens = λ k. none_sent (at c.tell.new.self.places k);
-  lets_in = none_let_in _ _ _ _ _ _;
-  others = λ _. (refl, refl);
-}
+pub returns : goal.returns
+returns c =
+    unlooked _ c.tell.new.self _ _ _ _ c.tell.ensures.law (rw (c.tell.ensures.place) at c.place_after-self.ensures)
+    c.tell.ensures.changes c.tell.ensures.counted
+
+pub returns-else-looks_at_clients : goal.returns-else-looks_at_clients
+returns-else-looks_at_clients c =
+    unlooked _ c.tell.new.self _ _ _ _ c.tell.ensures.law (rw (c.tell.ensures.place) at c.place_after-self.ensures)
+    c.tell.ensures.changes c.tell.ensures.counted
 
 pub returns-in-Trunk : goal.returns-in-Trunk
 returns-in-Trunk c = record {
