@@ -1,4 +1,4 @@
-//! Received check bits.
+//! Received check bits and E bits, and the counts of submultiframes.
 
 ghost use Rattle.std.specs.Prelude.{◌≡◌, ◌+◌, ◌%◌, ◌/◌, ◌<◌, ◌≤◌, ℕ, Bool, if◌then◌else◌, List, Option, []};
 ghost use Rattle.std.specs.Prelude.{◌∷◌, ◌++◌, length, true};

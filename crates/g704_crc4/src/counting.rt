@@ -1,4 +1,4 @@
-//! The counts of a trunk.
+//! The counts of a checked trunk: multiframes found and lost, submultiframes errored.
 
 ghost use Rattle.std.specs.Prelude.{◌≡◌, ◌∷◌, ◌++◌, ℕ, List, [], Some};
 ghost use Rattle.g704_crc4.specs.Receivers.{ChecksTrunk};

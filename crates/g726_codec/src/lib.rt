@@ -1,4 +1,4 @@
-//! ITU-T G.726: encoder and decoder of a circuit at all four rates, and ITU-T G.711.
+//! ITU-T G.726 at all four rates and ITU-T G.711: kinds of codec (`CodecKind`), encoders and decoders.
 #![tactic(auto)]
 
 ghost use Rattle.std.specs.Prelude.{◌≡◌};

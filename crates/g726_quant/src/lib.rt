@@ -1,4 +1,4 @@
-//! ITU-T G.726: code words, the adaptive quantiser and the inverse adaptive quantiser at all four rates.
+//! ITU-T G.726: code words, quantisers and their tables, and 16-bit two's complement (`wrap16`).
 #![tactic(auto)]
 
 ghost use Rattle.std.specs.Prelude.{◌≡◌};

@@ -1,4 +1,4 @@
-//! One telephone circuit of a trunk: its line, and the speech of its calls in RTP datagrams.
+//! One telephone circuit: its status, and why a datagram is dropped or a codec command refused.
 #![tactic(auto)]
 
 mod circuit;

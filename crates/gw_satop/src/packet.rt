@@ -1,4 +1,4 @@
-//! The packets of an emulated circuit in datagrams.
+//! The packets of an emulated circuit: the octets to play (ones if invalid), and datagrams to send.
 
 ghost use Rattle.std.specs.Prelude.{◌≡◌, ◌≤◌, replicate};
 ghost use Rattle.gw_satop.specs.Packets.{fits, malformed_by, malformed_number, octets_to_play, packet_in};
@@ -67,7 +67,7 @@ fn fits(size: usize, view: &SatopView<'_>) -> bool
     len == size || view.control().lost && len == 0
 }
 
-// This many ones.
+// This many octets of ones, played for a packet without valid octets.
 fn ones(size: usize) -> &'static [u8]
     requires { size ≤ 1280 }
     ensures { result.now ≡ replicate size 255 }

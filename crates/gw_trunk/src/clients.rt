@@ -1,4 +1,4 @@
-//! The clients of a trunk, each at its place, and what all is waited for by.
+//! The clients of a trunk: accepted, asked in turn, disconnected; and whether the trunk can be read now.
 
 ghost use Rattle.std.specs.Prelude.{◌≡◌, ◌⊎◌, ◌==◌, ◌||◌, ◌-◌, ◌<◌, ◌≤◌, Some, None, true, false, length};
 ghost use Rattle.std.specs.Prelude.{IfSome};

@@ -1,4 +1,4 @@
-//! Line signals of one telephone circuit: digital line signalling of ITU-T Q.421.
+//! Line signals of one circuit (ITU-T Q.421): roles, states, commands and their refusals.
 //!
 //! It uses bits a and b of the circuit's nibble of time slot 16.
 #![tactic(auto)]

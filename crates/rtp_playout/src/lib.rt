@@ -1,4 +1,4 @@
-//! Playout by timestamp: each code word of an admitted RTP datagram is due at one take (RFC 3550, 5.1).
+//! The jitter buffer by timestamp (RFC 3550, 5.1): why a datagram is refused.
 #![tactic(auto)]
 
 pub mod laws;

@@ -1,4 +1,4 @@
-//! Packets of SAToP, which carry a trunk as bits over UDP (RFC 4553), written and read in place.
+//! Packets of SAToP (RFC 4553), written and read in place: the control word, and why one is refused.
 #![tactic(auto)]
 
 mod fields;

@@ -1,4 +1,4 @@
-//! Playout of SAToP packets by sequence number, with octets that replace missing ones (RFC 4553, 6.2.2).
+//! The jitter buffer of SAToP packets (RFC 4553, 6.2.2): its settings, and why a packet is refused.
 #![tactic(auto)]
 
 mod filling;
