@@ -1,6 +1,6 @@
 //! Bit 1 of time slot 0 as sent.
 
-ghost use Rattle.std.specs.Prelude.{◌≡◌, ◌+◌, ◌%◌, ◌/◌, ◌<◌, ℕ, List, [], ◌∷◌, ◌++◌, length};
+ghost use Rattle.std.specs.Prelude.{◌≡◌, ◌==◌, ◌+◌, ◌%◌, ◌/◌, ◌<◌, ℕ, List, [], ◌∷◌, ◌++◌, length};
 ghost use Rattle.g704_crc4.specs.declared.remainder.Remainder.{Remainder};
 ghost use Rattle.g704_crc4.specs.Remainder.{no_remainder, crc_number};
 ghost use Rattle.g704_crc4.specs.Multiframe.{check_bit, signal_bit, si_at, with_si, sent_octet};
@@ -34,6 +34,14 @@ impl Crc4Inserter {
             before: 0,
             running: 0,
         }
+    }
+
+    /// Whether the next octet is the first of a frame. Only such octets can have an E bit.
+    pub fn begins_frame(&self) -> bool
+        ensures { (history : List ℕ) → SendsAfter self.now history
+            → result ≡ (length history % 32 == 0) }
+    {
+        self.place % FRAME == 0
     }
 
     /// Whether the next octet has an E bit.
@@ -87,13 +95,10 @@ impl Crc4Inserter {
     }
 }
 
-// Whether the octet at a place has an E bit. Thirty-one of thirty-two octets are answered by the first test.
+// Whether the octet at a place has an E bit.
 fn has_e_bit(place: u16) -> bool
     ensures { result ≡ has_e_bit place }
 {
-    if place % FRAME != 0 {
-        return false;
-    }
     let within = place % MULTIFRAME;
     within == 13 * FRAME || within == 15 * FRAME
 }

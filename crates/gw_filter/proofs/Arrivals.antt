@@ -1,12 +1,15 @@
 -- Octets and reports that arrive, one part after another.
 use Rattle.std.proofs.Common.{◌≡◌, ◌+◌, ◌<◌, ℕ, suc, Bool, List, [], ◌∷◌, ◌++◌, length, take, get_or, map, Option, Some}
-use Rattle.std.proofs.Common.{None}
+use Rattle.std.proofs.Common.{None, false, ◌%◌}
+use Rattle.std.specs.Prelude.{◌==◌}
+use Rattle.std.proofs.lemmas.Bool.{eq-eqb}
 use Rattle.std.proofs.Common.{refl, sym, ap, ◌∙◌, arith, append_assoc, append-nil}
 use Rattle.std.proofs.lemmas.List.{map-append}
 use Rattle.std.proofs.Math.Seq.{take-suc}
 use Rattle.std.specs.Io.KnownBytes.{Appends}
 use Rattle.g704_framing.specs.Replies.{replies_after}
 use Rattle.g704_framing.proofs.Replies.{replies-append}
+use Rattle.g704_crc4.proofs.Reports.{e-bit-frame}
 use Rattle.g704_crc4.specs.Multiframe.{sent_octet, sent_octets}
 use Rattle.g704_crc4.specs.Reporting.{SenderInput, Octet, Errored, octet_count, has_e_bit, octet_with_e}
 use Rattle.gw_filter.specs.Crc4.{trunk_octets_in, reports_in, with_e_bits}
@@ -61,6 +64,13 @@ with-e-length before (Errored n ∷ arrivals) = with-e-length (before ++ Errored
 pub same-e-bit : (arrivals : List SenderInput) (has : Bool) → has ≡ has_e_bit (length (with_e_bits [] arrivals))
     → has ≡ has_e_bit (octet_count arrivals)
 same-e-bit arrivals has e = e ∙ ap has_e_bit (with-e-length [] arrivals)
+
+-- An octet that begins no frame has no E bit.
+pub no-e-bit : (arrivals : List SenderInput) (begins : Bool)
+    → begins ≡ (length (with_e_bits [] arrivals) % 32 == 0) → begins ≡ false → has_e_bit (octet_count arrivals) ≡ false
+no-e-bit arrivals begins e none = e-bit-frame (octet_count arrivals)
+    (λ all. cc (sym none ∙ e ∙ eq-eqb (length (with_e_bits [] arrivals) % 32) 0
+    (ap (λ n. n % 32) (with-e-length [] arrivals) ∙ all)))
 
 -- What is sent, one octet more.
 pub sent-more : (octets : List ℕ) (x : ℕ) → sent_octets (octets ++ x ∷ [])

@@ -1,12 +1,13 @@
 -- A sender of CRC-4 multiframes, one arrival more.
-use Rattle.std.proofs.Common.{◌≡◌, ◌+◌, ◌<◌, ◌≤◌, ℕ, suc, List, [], ◌∷◌, ◌++◌, length, take, drop, get_or, slice_set}
+use Rattle.std.proofs.Common.{◌≡◌, false, ◌+◌, ◌<◌, ◌≤◌, ℕ, suc, List, [], ◌∷◌, ◌++◌, length, take, drop, get_or, slice_set}
 use Rattle.std.proofs.Common.{map}
 use Rattle.std.proofs.Common.{Option, Some, refl, sym, ap, ◌∙◌, arith, subst, append_assoc, append-nil, length-append}
 use Rattle.std.proofs.Math.Seq.{drop-cons, set-append_seam, get_or-append_seam}
 use Rattle.std.proofs.lemmas.List.{length-set, take_all, drop_all}
 use Rattle.std.specs.Io.KnownBytes.{Appends}
+use Rattle.g704_crc4.proofs.Reports.{without-bit}
 use Rattle.g704_crc4.specs.Multiframe.{sent_octet, sent_octets}
-use Rattle.g704_crc4.specs.Reporting.{SenderInput, Octet, Errored, ReportsAfter, octet_with_e}
+use Rattle.g704_crc4.specs.Reporting.{SenderInput, Octet, Errored, ReportsAfter, octet_count, has_e_bit, octet_with_e}
 use Rattle.g704_crc4.specs.States.{SendsAfter}
 use Rattle.gw_filter.specs.declared.sending.Crc4Sender.{Crc4Sender}
 use Rattle.gw_filter.specs.Crc4.{with_e_bits, sent_for, trunk_octets_in, reports_in, SendsCrc4, HasSent, IsSent}
@@ -33,6 +34,15 @@ octet-sent a b arrivals sent x with_bit y s is bits reply multiframer =
       sent_is = ap (λ xs. xs ++ y ∷ []) s.sent_is ∙ ap (λ z. sent_for arrivals ++ z ∷ []) reply
           ∙ sym (sent-more (with_e_bits [] arrivals) with_bit) ∙ ap sent_octets all;
     }
+
+-- After one octet more that has no E bit.
+pub octet-without : (a b : Crc4Sender) (arrivals : List SenderInput) (sent : List ℕ) (x y : ℕ)
+    → SendsCrc4 a arrivals sent → has_e_bit (octet_count arrivals) ≡ false → b.error_bits ≡ a.error_bits
+    → y ≡ sent_octet (with_e_bits [] arrivals) x → SendsAfter b.multiframer (with_e_bits [] arrivals ++ x ∷ [])
+    → SendsCrc4 b (arrivals ++ Octet x ∷ []) (sent ++ y ∷ [])
+octet-without a b arrivals sent x y s none same reply multiframer =
+    let unchanged = without-bit a.error_bits arrivals x s.bits none in
+    octet-sent a b arrivals sent x x y s (unchanged.0) (rw (same) (unchanged.1)) reply multiframer
 
 -- After one report more.
 pub report-taken : (a b : Crc4Sender) (arrivals : List SenderInput) (sent : List ℕ) (n : ℕ) → SendsCrc4 a arrivals sent

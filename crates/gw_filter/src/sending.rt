@@ -36,6 +36,9 @@ impl Crc4Sender {
         ensures { (arrivals : List SenderInput) (sent : List ℕ) → SendsCrc4 self.old arrivals sent
             → SendsCrc4 self.new (arrivals ++ Octet octet ∷ []) (sent ++ result ∷ []) }
     {
+        if !self.multiframer.begins_frame() {
+            return self.multiframer.octet(octet);
+        }
         let has_bit = self.multiframer.next_has_e_bit();
         let with_bit = self.error_bits.octet(octet, has_bit);
         self.multiframer.octet(with_bit)

@@ -1,10 +1,7 @@
 use Rattle.std.proofs.Common.{sym, ◌∙◌, ◌%◌}
 use Rattle.std.proofs.lemmas.Bool.{eq-eqb}
-use Rattle.g704_crc4.proofs.Reports.{e-bit-frame, e-bit-first, e-bit-second}
+use Rattle.g704_crc4.proofs.Reports.{e-bit-first, e-bit-second}
 use Rattle.g704_crc4.proofs.sending.has_e_bit.Goals as goal
-
-pub returns-then-place-ne0 : goal.returns-then-place-ne0
-returns-then-place-ne0 c = sym (e-bit-frame c.args.place c.if-place-ne0.true)
 
 pub returns-then-within : goal.returns-then-within
 returns-then-within c =
