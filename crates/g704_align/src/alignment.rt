@@ -1,4 +1,4 @@
-//! The frame aligner.
+//! The place of an octet in its frame, and when frame alignment is found and lost (`Aligner`).
 
 ghost use Rattle.std.specs.Prelude.{◌≡◌, ◌+◌, ◌%◌, ◌<◌, ℕ, List, Option, [], ◌∷◌, ◌++◌, length};
 ghost use Rattle.std.specs.Prelude.{nat_lt, ◌≢◌, IfSome, IfNone};

@@ -1,4 +1,4 @@
-//! The multiframe aligner, over the octets of time slot 16.
+//! The frame of an octet of slot 16, and when multiframe alignment is found and lost (`MfAligner`).
 
 ghost use Rattle.std.specs.Prelude.{◌≡◌, ◌+◌, ◌%◌, ◌<◌, ℕ, List, Option, [], ◌∷◌, ◌++◌, length};
 ghost use Rattle.g704_cas.specs.Search.{is_mfas, is_not_zero};

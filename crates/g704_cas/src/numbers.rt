@@ -1,4 +1,4 @@
-//! Circuit numbers, their places on the trunk, and the four signalling bits of a circuit.
+//! Circuit numbers (`CircuitNo`) by slot and by frame of slot 16, and ABCD bits (`Nibble`).
 
 ghost use Rattle.std.specs.Prelude.{◌≡◌, ◌↔◌, ◌⊎◌, ◌+◌, ◌*◌, ◌/◌, ◌%◌, ◌<◌, ◌≤◌, ℕ, Some, IsSomeAnd};
 ghost use Rattle.std.specs.Option.{SomeIff};

@@ -1,4 +1,4 @@
-//! Received check bits and E bits, and the counts of submultiframes.
+//! Whether a received CRC-4 submultiframe or E bit shows an error, and counts of both (`Checker`).
 
 ghost use Rattle.std.specs.Prelude.{◌≡◌, ◌+◌, ◌%◌, ◌/◌, ◌<◌, ◌≤◌, ℕ, Bool, if◌then◌else◌, List, Option, []};
 ghost use Rattle.std.specs.Prelude.{◌∷◌, ◌++◌, length, true};

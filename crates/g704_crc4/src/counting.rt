@@ -1,4 +1,4 @@
-//! The counts of a checked trunk: multiframes found and lost, submultiframes errored.
+//! The counts of a checked trunk: multiframes found and lost, submultiframes errored (`TrunkChecker`).
 
 ghost use Rattle.std.specs.Prelude.{◌≡◌, ◌∷◌, ◌++◌, ℕ, List, [], Some};
 ghost use Rattle.g704_crc4.specs.Receivers.{ChecksTrunk};

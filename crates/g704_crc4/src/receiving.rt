@@ -1,4 +1,4 @@
-//! CRC multiframe alignment of a trunk, and its received submultiframes.
+//! When CRC-4 multiframes are found, and when frame alignment is given up for them (`Receiver`).
 
 ghost use Rattle.std.specs.Prelude.{◌≡◌, ◌∷◌, ◌++◌, ◌+◌, ◌%◌, ◌<◌, ◌==◌, ℕ, Bool, true, false, List, []};
 ghost use Rattle.std.specs.Prelude.{length, slice_index, nat_le, if◌then◌else◌, Some};

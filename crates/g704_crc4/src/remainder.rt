@@ -1,4 +1,4 @@
-//! The remainder of a polynomial by x^4+x+1, computed octet by octet.
+//! The CRC-4 check bits C1 to C4 of octets: the remainder by x^4+x+1, octet by octet (`Remainder`).
 
 ghost use Rattle.std.specs.Prelude.{◌≡◌, ◌≤◌, ◌<◌, ℕ, Bool};
 ghost use Rattle.g704_crc4.specs.declared.remainder.Remainder.{Remainder};

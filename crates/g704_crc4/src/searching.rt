@@ -1,4 +1,4 @@
-//! The search for multiframes in received octets.
+//! Where the multiframe alignment signal begins in received octets (`find_multiframe`).
 
 ghost use Rattle.std.specs.Prelude.{◌≡◌, ◌*◌, ◌<◌, ◌^◌, ℕ, Bool, true, false, IfSome, IfNone};
 ghost use Rattle.g704_crc4.specs.Receiving.{si_of};

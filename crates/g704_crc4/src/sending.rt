@@ -1,4 +1,4 @@
-//! Bit 1 of time slot 0 as sent.
+//! Bit 1 of time slot 0 as sent: check bits, alignment signal and E bits (`Crc4Inserter`).
 
 ghost use Rattle.std.specs.Prelude.{◌≡◌, ◌+◌, ◌%◌, ◌/◌, ◌<◌, ℕ, List, [], ◌∷◌, ◌++◌, length};
 ghost use Rattle.g704_crc4.specs.declared.remainder.Remainder.{Remainder};

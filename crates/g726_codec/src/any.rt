@@ -1,4 +1,4 @@
-//! A codec of any kind: G.711, or G.726 at one of its rates.
+//! Encoder and decoder of a circuit by its codec's kind, G.711 or a rate of G.726 (`AnyCodec`).
 ghost use Rattle.std.specs.Prelude.{◌≡◌, ◌<◌, ◌^◌, ℕ, List, [], ◌∷◌, ◌++◌, length};
 ghost use Rattle.std.specs.List.{All};
 ghost use Rattle.g726_codec.specs.Codec.{at_reset};

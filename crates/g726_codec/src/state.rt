@@ -1,4 +1,4 @@
-//! The state that an encoder and a decoder of ITU-T G.726 share.
+//! The update of encoder and decoder by a code word (`State::step`): SUBTA and ADDB of ITU-T G.726.
 ghost use Rattle.std.specs.Prelude.{◌≡◌, ◌≤◌, pos, negsuc, ◌≤ℤ◌, ◌+ℤ◌, ◌-ℤ◌};
 ghost use Rattle.e1_g711.specs.Samples.{expand};
 ghost use Rattle.g726_quant.specs.Arithmetic.{signed, wrap16};

@@ -1,4 +1,4 @@
-//! Sums of products: blocks ACCUM and ADDC of ITU-T G.726.
+//! The signal estimates SEZ and SE, and P: blocks ACCUM and ADDC of ITU-T G.726.
 ghost use Rattle.std.specs.Prelude.{◌≡◌, ◌<◌, ◌+ℤ◌, take, drop, map, FitsSigned};
 ghost use Rattle.std.specs.Int.{int_shr, cast_unsigned, w16};
 ghost use Rattle.std.specs.Simd.Lanes.{Each1};

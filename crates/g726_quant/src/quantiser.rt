@@ -1,4 +1,4 @@
-//! The adaptive quantiser: blocks LOG, SUBTB and QUAN of ITU-T G.726.
+//! A difference to its code word I: blocks LOG, SUBTB and QUAN of ITU-T G.726 (`quantise`).
 
 ghost use Rattle.std.specs.Prelude.{◌≡◌, ◌≢◌, ◌≤◌, ◌<◌, negsuc, length, IsTrue};
 ghost use Rattle.g726_quant.specs.Tables.{is_rising};

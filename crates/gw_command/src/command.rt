@@ -1,4 +1,4 @@
-//! The command line: what the program is asked to do.
+//! Which subcommand the command line asks for (`request_of`), and the values of its options.
 ghost use Rattle.std.specs.Prelude.{◌≡◌, ◌≢◌, ℕ, true, Some, IfSome, IfNone, option_map, codes};
 ghost use Rattle.e1_g711.specs.declared.Law.{Law};
 ghost use Rattle.g726_codec.specs.declared.CodecKind.{CodecKind};

@@ -1,4 +1,4 @@
-//! CRC-4 multiframes of a trunk checked, and their errored submultiframes reported.
+//! The filter `crc4 --check`: CRC-4 multiframes checked, errored submultiframes reported.
 
 ghost use Rattle.std.specs.Prelude.{◌≡◌, ◌+◌, ◌-◌, ◌<◌, ◌≤◌, ◌++◌, ℕ, List, [], length, sum, IfOk, IfErr};
 ghost use Rattle.g704_crc4.specs.ReceiverCounts.{receiver_counts_of};

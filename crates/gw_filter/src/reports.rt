@@ -1,4 +1,4 @@
-//! Receivers of reports of errored submultiframes, and of the counts of a trunk.
+//! To whom errored submultiframes are reported (`ReportSink`), and counts told (`CountsTeller`).
 
 ghost use Rattle.std.specs.Prelude.{◌≡◌, ◌∷◌, ◌++◌, ℕ, List, [], Some, None, if◌then◌else◌};
 

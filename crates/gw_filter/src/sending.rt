@@ -1,4 +1,4 @@
-//! CRC-4 multiframes put into a trunk, with E bits for the errored submultiframes of the other direction.
+//! The filter `crc4`: CRC-4 multiframes put into a trunk, with E bits for what is reported.
 
 ghost use Rattle.std.specs.Prelude.{◌≡◌, ◌≤◌, ◌∷◌, ◌++◌, ℕ, List, [], length, map, take, Some, IfOk, IfErr};
 ghost use Rattle.std.specs.Io.KnownBytes.{Appends};

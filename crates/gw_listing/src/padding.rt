@@ -1,4 +1,4 @@
-//! Texts and numbers padded to the width of a column.
+//! Texts and decimal numbers padded to the width of a column, left or right.
 
 ghost use Rattle.std.specs.Prelude.{◌≡◌, ◌≤◌, ◌<◌, ◌+◌, ◌^◌, ◌∷◌, [], ◌++◌, length, replicate};
 ghost use Rattle.std.specs.Fmt.{decimal};

@@ -1,4 +1,4 @@
-//! The subcommands on standard streams, with what each takes from the system.
+//! In which order a session opens, runs, saves and ends (`perform_session`), by the trait `System`.
 
 ghost use Rattle.std.specs.Prelude.{◌≡◌, ◌⊎◌, ◌-◌, ◌^◌, ◌<◌, IfOk, IfErr, MatchResult};
 ghost use Rattle.gw_records.specs.Streams.{CanBegin};

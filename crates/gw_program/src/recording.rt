@@ -1,4 +1,4 @@
-//! Recordings of `serve`: where they are written, and how they end.
+//! Whether the file of `--record` is created, emptied or refused, and how a recording ends.
 
 ghost use Rattle.std.specs.Prelude.{IfOk};
 ghost use Rattle.gw_program.specs.Performing.{IsBegun};

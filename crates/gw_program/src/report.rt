@@ -1,4 +1,4 @@
-//! The report of a session that ended without a fault.
+//! The totals, CRC-4 counts and skipped datagrams that are printed on standard error.
 
 ghost use Rattle.std.specs.Prelude.{◌≡◌};
 ghost use Rattle.gw_program.specs.Report.{passed_over};

@@ -1,4 +1,4 @@
-//! Sessions of a gateway: `replay`, `check` and `serve`. Each has its buffers in a frame of its own.
+//! Which session `replay`, `check` and `serve` run, and what `check` lists after a fault.
 
 ghost use Rattle.std.specs.Prelude.{◌≡◌, ◌≤◌, ◌-◌, ◌^◌, ◌<◌, None};
 ghost use Rattle.gw_records.specs.Streams.{CanBegin};

@@ -1,4 +1,4 @@
-//! The configuration of a gateway, from a file.
+//! How the file of a configuration is read: at most 65,537 octets, then `gw_config` (`read_config`).
 
 ghost use Rattle.std.specs.Prelude.{◌≡◌, ◌++◌, IfSome, IfErr, OnOk, Option, List, ℕ, ⊤, option_map, take};
 ghost use Rattle.std.specs.declared.io.Error.{Error};

@@ -1,4 +1,4 @@
-//! The end of a session, and its totals.
+//! Why a session ends before its source (`RunFault`), and what it has counted (`Totals`).
 ghost use Rattle.std.specs.Prelude.{◌≡◌};
 ghost use Rattle.gw_records.specs.Outcome.{fault_number, answer_of};
 

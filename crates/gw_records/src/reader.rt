@@ -1,4 +1,4 @@
-//! The buffer of octets read, from which records are taken in place.
+//! When a session reads on, and where the octets that it has not used are kept (`Reader`).
 ghost use Rattle.std.specs.Prelude.{◌≡◌, ◌+◌, ◌<◌, ◌≤◌, [], vec_len, length, take, IfOk, OnErr};
 ghost use Rattle.gw_records.specs.Streams.{CountsRead, CountsTurn, Refills, GivesOctets};
 ghost use Rattle.gw_records.specs.Records.{is_open};

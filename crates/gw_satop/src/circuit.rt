@@ -1,4 +1,4 @@
-//! An emulated circuit between a trunk and its far end.
+//! A turn of an emulated circuit: receives, plays what is due, sends (`SatopCircuit`).
 
 ghost use Rattle.std.specs.Prelude.{◌≡◌, ◌++◌, ◌<◌, ◌≤◌, [], ℕ, Bool, List, length, drop, true, nat_lt, IfOk};
 ghost use Rattle.gw_satop.specs.declared.line.Receiver.{Receiver};

@@ -1,4 +1,4 @@
-//! What an emulated circuit counts.
+//! What an emulated circuit counts: packets lost, late, repeated, filled, malformed (`Counts`).
 
 ghost use Rattle.std.specs.Prelude.{◌≡◌, ◌&&◌, not, true};
 ghost use Rattle.gw_satop.specs.Counts.{counts_by_bits, counts_by_fault, counts_by_outcome, counts_by_play};

@@ -1,4 +1,4 @@
-//! The received half of an emulated circuit: datagrams come, and the octets of the time slots are played.
+//! What becomes of a received datagram, and where a stream begins with it (`Receiver`).
 
 ghost use Rattle.std.specs.Prelude.{◌≡◌};
 

@@ -1,4 +1,4 @@
-//! When packets are played, and when a stream begins.
+//! When a packet is due, a silence begins or a new stream is recognised (`PlayClock`).
 
 ghost use Rattle.std.specs.Prelude.{◌≡◌, ◌≤◌};
 ghost use Rattle.gw_satop.specs.Pace.{after_listening, after_packet, after_plan, after_play, after_refusal};

@@ -1,4 +1,4 @@
-//! The far end of an emulated circuit.
+//! The far end of an emulated circuit: its UDP address, and the socket that hears it alone (`Peer`).
 
 ghost use Rattle.std.specs.Prelude.{◌≡◌, ◌≤◌, ◌++◌, ◌∷◌, ℕ, List, [], length, take, IfSome, IfNone, IfOk};
 ghost use Rattle.std.specs.Prelude.{IfErr};

@@ -1,4 +1,4 @@
-//! A trunk that is read only if it has something.
+//! The trunk of `satop` on standard input, read only if the system reports octets (`WhenReady`).
 
 ghost use Rattle.std.specs.Prelude.{◌≡◌, [], IfOk, IfErr};
 ghost use Rattle.gw_satop.specs.Opening.{SystemRefusesTrunk};

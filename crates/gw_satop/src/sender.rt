@@ -1,4 +1,4 @@
-//! The sent half of an emulated circuit: the octets of a trunk as packets.
+//! How the octets of a trunk become packets: sequence number, timestamp, bit R (`Sender`).
 
 ghost use Rattle.std.specs.Prelude.{◌≡◌, ◌++◌, ◌∷◌, ◌*◌, ◌<◌, ◌≤◌, [], nat_le, ◌-◌, length, take, drop};
 ghost use Rattle.std.specs.Prelude.{IsTrue, IsFalse, IfSome, ◌^◌, ◌%◌, ◌+◌, ◌/◌};

@@ -1,4 +1,4 @@
-//! A recorder, which writes what it records to a sink until a write fails.
+//! What a recording writes to its sink, and when it has ended (`Recorder`).
 ghost use Rattle.std.specs.Prelude.{◌≡◌, ◌-◌, ◌^◌, ◌<◌, false, length};
 ghost use Rattle.gw_records.specs.Records.{IsGood, named, spelled, record_of};
 ghost use Rattle.gw_records.specs.Streams.{CanCount};

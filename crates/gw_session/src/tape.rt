@@ -1,4 +1,4 @@
-//! Tapes, on which events are recorded as they happen.
+//! In which order events are recorded, and which are collected for one write (`Tape`).
 ghost use Rattle.std.specs.Prelude.{◌≡◌, ◌+◌, ◌^◌, ◌<◌, ◌≤◌, ◌∷◌, ◌++◌, [], length, map, true, false, None};
 ghost use Rattle.gw_switch.specs.Events.{Event};
 ghost use Rattle.gw_records.specs.Records.{IsGood, named};

@@ -1,4 +1,4 @@
-//! Records of datagrams to speech.
+//! Which datagrams are decoded to speech, and which are skipped (`decode_stream`).
 ghost use Rattle.std.specs.Prelude.{◌≡◌, ◌-◌, ◌^◌, ◌<◌, ◌∷◌, ◌++◌, ℕ, List, []};
 ghost use Rattle.std.specs.Prelude.{Some, None, MatchOption, OnOk, IfOk, IfErr, is_some, unwrap_or};
 ghost use Rattle.std.specs.List.{All};

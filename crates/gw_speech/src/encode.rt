@@ -1,4 +1,4 @@
-//! Speech to records of datagrams.
+//! Speech cut into packets and the last one filled, as records of datagrams (`encode_stream`).
 ghost use Rattle.std.specs.Prelude.{◌≡◌, ◌+◌, ◌-◌, ◌*◌, ◌^◌, ◌<◌, ◌≤◌, ◌++◌};
 ghost use Rattle.std.specs.Prelude.{ℕ, List, [], length, take, IfOk, OnOk, IfErr};
 ghost use Rattle.std.specs.List.{All};

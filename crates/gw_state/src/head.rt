@@ -1,4 +1,4 @@
-//! What stands in a state before its gateway.
+//! The octets of a state before its gateway: mark, version, configuration (`state_head`).
 
 ghost use Rattle.std.specs.Prelude.{◌≡◌, ◌+◌, ◌++◌, ◌∷◌, [], OnOk, IfOk, flat_map, length};
 ghost use Rattle.gw_state.specs.Layout.{law_octet, role_octet, saved_start, saved_settings, state_head};

@@ -1,4 +1,4 @@
-//! A gateway from the octets of its state.
+//! Whether octets are a state: mark, version, check sum, configuration, gateway (`load_gateway`).
 
 ghost use Rattle.std.specs.Prelude.{◌≡◌, ◌≢◌, ◌≤◌, ◌<◌, ◌++◌, ◌∷◌, [], ℕ, List, IfOk, IfErr, IfSome, IfNone};
 ghost use Rattle.std.specs.Prelude.{length, take};

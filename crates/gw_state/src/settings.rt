@@ -1,4 +1,4 @@
-//! How circuits are set up, read from the octets of a state.
+//! Whether the configuration in a state's octets is one of thirty circuits, and its values.
 
 ghost use Rattle.std.specs.Prelude.{◌≡◌, ◌<◌, ◌^◌, ◌++◌, ◌∷◌, ℕ, List, IfSome, OnOk, IfErr, Some, Ok, All};
 ghost use Rattle.std.specs.Prelude.{flat_map, length, true};

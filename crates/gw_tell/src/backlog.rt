@@ -1,4 +1,4 @@
-//! Octets that a client has not taken yet.
+//! The octets that a client of `--tell` has not taken yet, and when their room is full (`Backlog`).
 
 ghost use Rattle.std.specs.Prelude.{◌≡◌, ◌+◌, ◌≤◌, ◌++◌, length, take, vec_len};
 

@@ -1,4 +1,4 @@
-//! A client that is sent what changes.
+//! When a client of `--tell` gets lines, and when it is disconnected (`Client`).
 
 ghost use Rattle.std.specs.Prelude.{◌≡◌, ◌≤◌, ◌++◌, [], length, take, drop, IfOk, OnOk};
 ghost use Rattle.gw_tell.specs.Backlog.{waiting};

@@ -1,4 +1,4 @@
-//! How a trunk stands: its alarms, and the status of each circuit.
+//! The alarms of a trunk and the status of its circuits at one moment (`GatewayStatus`).
 
 ghost use Rattle.std.specs.Prelude.{◌≡◌, ◌≤◌};
 

@@ -1,4 +1,4 @@
-//! The lines that a client gets.
+//! The text of each line that a client of `--tell` gets: alarms, events, circuits, seizures.
 
 ghost use Rattle.std.specs.Prelude.{◌≡◌, ◌≤◌, ◌+◌, ◌++◌, length};
 ghost use Rattle.gw_records.specs.Records.{named};

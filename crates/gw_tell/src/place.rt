@@ -1,4 +1,4 @@
-//! A place of a client, with the room that it has while it is free.
+//! One of eight places for clients of `--tell`: its client, or the room that it has (`ClientSlot`).
 
 ghost use Rattle.std.specs.Prelude.{◌≡◌, ◌≤◌, ◌++◌, [], length, take, drop, IfOk, None};
 ghost use Rattle.gw_tell.specs.Clients.{Gets, IsTold};

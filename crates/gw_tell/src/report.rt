@@ -1,4 +1,4 @@
-//! What is reported of a record, and to a new client.
+//! Which changes a record brings to clients of `--tell`, and what a new client gets.
 
 ghost use Rattle.std.specs.Prelude.{◌≡◌, ◌≤◌, ◌+◌, ◌*◌, ◌++◌, [], length};
 ghost use Rattle.gw_records.specs.Records.{named};

@@ -1,4 +1,4 @@
-//! A watch of a session that sends clients the state of the trunk.
+//! When clients of `--tell` are accepted, looked at and sent what changed (`Teller`).
 
 ghost use Rattle.std.specs.Prelude.{◌≡◌, ◌⊎◌, ◌<◌, ◌≤◌, ◌++◌, ℕ, [], length, take, drop, IfSome, None};
 ghost use Rattle.std.specs.Prelude.{IsTrue, IfOk};

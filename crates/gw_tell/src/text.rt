@@ -1,4 +1,4 @@
-//! Text that is put together in room of its own.
+//! Lines of a word and numbers, put together without taking memory (`Text`).
 
 ghost use Rattle.std.specs.Prelude.{◌≡◌, ◌≤◌, ◌+◌, ◌*◌, ◌++◌, length};
 ghost use Rattle.gw_tell.specs.Lines.{spaced, number_line};

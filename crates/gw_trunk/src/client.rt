@@ -1,4 +1,4 @@
-//! A client of a trunk, who gives commands and takes their answers.
+//! Whether a client's command has come whole, and when the client is disconnected (`Client`).
 
 ghost use Rattle.std.specs.Prelude.{◌≡◌, ◌⊎◌, ◌≤◌, ◌++◌, [], true, false, length, drop, OnOk, OnErr};
 ghost use Rattle.gw_trunk.specs.Clients.{HasNoRecord, IsAnswered, Replies, Stays};

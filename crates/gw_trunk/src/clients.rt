@@ -1,4 +1,4 @@
-//! The clients of a trunk: accepted, asked in turn, disconnected; and whether the trunk can be read now.
+//! Clients that give commands: accepted, asked in turn, disconnected; whether the trunk can be read now.
 
 ghost use Rattle.std.specs.Prelude.{◌≡◌, ◌⊎◌, ◌==◌, ◌||◌, ◌-◌, ◌<◌, ◌≤◌, Some, None, true, false, length};
 ghost use Rattle.std.specs.Prelude.{IfSome};

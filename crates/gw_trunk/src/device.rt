@@ -1,4 +1,4 @@
-//! What the octets of a trunk come from, and what they go to.
+//! How a trunk's descriptor is read and written without waiting (`TrunkInput`, `TrunkOutput`).
 
 ghost use Rattle.std.specs.Prelude.{◌≡◌, ◌<◌, ◌≤◌, ◌++◌, ℕ, List, [], length, take, IfOk, IfSome, IfNone, ⊤};
 ghost use Rattle.std.specs.Prelude.{Bool, true, false, if◌then◌else◌};

@@ -1,5 +1,4 @@
-//! The octets of a trunk to a device that may be slow. If it does not take octets in time, whole multiframes
-//! are discarded, so that the far end keeps the alignment of frames and multiframes.
+//! When octets for a slow device are discarded: whole multiframes, so that the far end keeps alignment.
 
 ghost use Rattle.std.specs.Prelude.{◌≡◌, ◌<◌, ◌≤◌, ◌+◌, ◌++◌, [], true, false, length, take, drop};
 ghost use Rattle.std.specs.Prelude.{IfOk, IfSome, IfNone, OnErr};

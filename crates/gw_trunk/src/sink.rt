@@ -1,4 +1,4 @@
-//! The records that answer, whose octets go to a trunk.
+//! Which octets of a session's answers go to the trunk, and which to clients (`TrunkRecordSink`).
 
 ghost use Rattle.std.specs.Prelude.{◌≡◌, ◌≤◌, ◌<◌, ◌++◌, [], length, take, IfOk, OnErr, Some, if◌then◌else◌};
 ghost use Rattle.std.specs.Prelude.{slice_index};

@@ -1,4 +1,4 @@
-//! When a resting socket asks the one inside.
+//! How many receives of a socket rest after one that found none.
 
 ghost use Rattle.std.specs.Prelude.{◌≡◌, ◌≤◌, ℕ, List, length, Ok, None, IfOk, IfErr, IfSome, IsTrue};
 ghost use Rattle.std.specs.Prelude.{IsFalse};

@@ -1,4 +1,4 @@
-//! The ports of circuits: one socket for each circuit.
+//! How each circuit's socket is opened, receives from accepted senders and sends (`UdpPorts`).
 
 ghost use Rattle.std.specs.Prelude.{◌≡◌, ◌≤◌, ℕ, List, vec_len, length, Ok, None, IfOk, IfErr, IfSome};
 ghost use Rattle.std.specs.Prelude.{IsSomeAnd};

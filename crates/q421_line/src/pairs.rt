@@ -1,4 +1,4 @@
-//! The two signalling bits of one direction.
+//! Bits a and b of one direction, from and to a nibble (`Pair`).
 
 ghost use Rattle.std.specs.Prelude.{◌≡◌, ◌<◌};
 ghost use Rattle.q421_line.specs.Recognition.{pair_of};

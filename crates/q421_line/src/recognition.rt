@@ -1,4 +1,4 @@
-//! Recognition of received pairs.
+//! When a received pair of bits a and b is recognised: after ten equal ones (`Recognition`).
 
 ghost use Rattle.std.specs.Prelude.{◌≡◌, ℕ, ◌↔◌, List, [], ◌∷◌, ◌++◌, min, IsTrue};
 ghost use Rattle.q421_line.specs.Recognition.{run_of};

@@ -1,4 +1,4 @@
-//! The state machine of one line.
+//! What a line does with a signal and a command, and when a seizure is released (`Line`).
 
 ghost use Rattle.std.specs.Prelude.{◌≡◌, ℕ, ◌<◌, List, [], ◌∷◌, ◌++◌, OnErr};
 ghost use Rattle.q421_line.specs.Recognition.{recognised};

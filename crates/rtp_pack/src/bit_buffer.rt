@@ -1,4 +1,4 @@
-//! Bits between words and octets.
+//! The bits that are left between words and octets, the first lowest (`BitBuffer`).
 
 ghost use Rattle.std.specs.Prelude.{◌≡◌, ◌+◌, ◌*◌, ◌/◌, ◌%◌, ◌^◌, ◌<◌, ◌≤◌};
 

@@ -1,4 +1,4 @@
-//! The fields of a fixed header (RFC 3550, 5.1).
+//! Where the fields of a fixed RTP header are in its octets (RFC 3550, 5.1).
 
 ghost use Rattle.std.specs.Prelude.{◌≡◌, ◌≤◌, length};
 ghost use Rattle.rtp_packet.specs.Fault.{version_of, says_padded, says_extended, sources_end};

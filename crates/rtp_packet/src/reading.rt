@@ -1,4 +1,4 @@
-//! Reads octets as a datagram.
+//! Whether octets are an RTP datagram, or its first fault: extension, padding (`parse`).
 
 ghost use Rattle.std.specs.Prelude.{◌≡◌, ◌+◌, ◌≤◌, ℕ, List, true, false, length, IfOk, IsOkAnd, MatchResult};
 ghost use Rattle.rtp_packet.specs.Rtp.{Parts, IsDatagram, as_extension};

@@ -1,4 +1,4 @@
-//! Reads octets as a packet.
+//! Whether octets are a SAToP packet, or its first fault (`parse`).
 
 ghost use Rattle.std.specs.Prelude.{◌≡◌, ◌+◌, ◌≤◌, None, Some, IfOk, IsOkAnd, MatchResult};
 ghost use Rattle.satop_packet.specs.Satop.{Content};

@@ -1,4 +1,4 @@
-//! Writes a packet.
+//! The octets of a SAToP packet, by its control word and payload (`write`).
 
 ghost use Rattle.std.specs.Prelude.{◌≡◌, ◌<◌, ◌↔◌, length, IsErr, OnOk, OnErr};
 ghost use Rattle.satop_packet.specs.Satop.{IsRtp, control_word, length_said, plain_packet};

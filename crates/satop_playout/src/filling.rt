@@ -1,4 +1,4 @@
-//! The octets that replace a missing packet.
+//! The octets that replace a missing SAToP packet: the multiframe before it again, or ones.
 
 ghost use Rattle.std.specs.Prelude.{◌≡◌, ◌≤◌, ℕ, List, length, min, slice_index};
 ghost use Rattle.circular_buffer.specs.Buffer.{keep_last};

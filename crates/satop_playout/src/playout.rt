@@ -1,4 +1,4 @@
-//! The jitter buffer: packets arrive, and each is played in its turn or replaced.
+//! Whether a SAToP packet is late, a repeat or accepted, and what is played (`SatopPlayout`).
 
 ghost use Rattle.std.specs.Prelude.{◌≡◌, ◌≤◌, ◌<◌, length};
 ghost use Rattle.satop_playout.specs.Plays.{number_after};

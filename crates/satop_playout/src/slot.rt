@@ -1,4 +1,4 @@
-//! A slot, which holds the octets of a packet or nothing.
+//! A slot of the SAToP jitter buffer, with the octets of a packet or nothing (`PacketSlot`).
 
 ghost use Rattle.std.specs.Prelude.{◌≡◌, ◌≤◌, ℕ, length, None, Some, is_some};
 ghost use Rattle.satop_playout.specs.Plays.{octets_or_fill};

@@ -1,4 +1,4 @@
-//! A reader of octets.
+//! Numbers and flags read from the octets of a saved state (`OctetReader`).
 
 ghost use Rattle.std.specs.Prelude.{◌≡◌, ◌++◌, ◌∷◌, ◌^◌, ◌<◌, ℕ, Bool, ◌==◌, List, length, IfSome, IfNone};
 ghost use Rattle.std.specs.Prelude.{Some, All, flat_map};
