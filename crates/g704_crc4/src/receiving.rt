@@ -184,7 +184,7 @@ impl Receiver {
     }
 }
 
-// Whether frame alignment is given up.
+// Whether frame alignment is given up by 915 errored submultiframes.
 fn gives_up(learned: Option<ReceiverEvent>) -> bool
     ensures { result ≡ tells_given_up learned }
 {
@@ -234,7 +234,7 @@ impl SubmultiframeCheck {
         }
     }
 
-    // Counts a submultiframe.
+    // Counts a submultiframe in the present thousand.
     //
     // Returns whether too many of its thousand are errored.
     fn is_excess(&mut self, right: bool) -> bool

@@ -43,7 +43,7 @@ pub(crate) fn add(a: bool, b: bool) -> bool
     if a { !b } else { b }
 }
 
-// The remainder with this number.
+// The check bits C1 to C4 with this number.
 pub(crate) fn of_number(number: u8) -> Remainder
     ensures { (bits : Remainder) → number ≡ crc_number bits → result ≡ bits }
 {

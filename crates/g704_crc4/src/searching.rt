@@ -24,7 +24,7 @@ pub fn find_multiframe(octets: &[u8]) -> Option<usize>
     None
 }
 
-// Whether a multiframe begins at this frame.
+// Whether a CRC-4 multiframe begins at a frame of the octets.
 #[tactic(auto, unfolding(crate::specs::Searching::begins_multiframe))]
 fn begins_multiframe(octets: &[u8], frame: usize) -> bool
     requires { frame < 2 ^ 60 }

@@ -117,7 +117,7 @@ impl Model for AnyCodec {
 }
 
 impl AnyCodec {
-    /// A codec at reset.
+    /// An encoder and a decoder of this kind, at reset.
     pub fn new(law: Law, kind: CodecKind) -> AnyCodec
         ensures { result ≡ codec_after law kind [] [] }
     {
@@ -180,7 +180,7 @@ impl AnyCodec {
         self.codec.decode(self.law, word)
     }
 
-    /// Resets encoder and decoder.
+    /// Resets encoder and decoder of the circuit.
     pub fn reset(&mut self)
         ensures { self.new ≡ codec_after self.old.law self.old.kind [] [] }
     {

@@ -21,7 +21,7 @@ pub fn quantise<R: Rate>(d: i16, y: u16) -> Word<R>
     quan(d < 0, subtb(dl, y))
 }
 
-// SUBTB: DLN.
+// SUBTB: DLN, the logarithm DL less the scale factor.
 fn subtb(dl: u16, y: u16) -> i16
     requires dl { dl < 1920 }
     requires y { y ≤ 5120 }

@@ -69,7 +69,7 @@ impl<R: ReportSink, T: CountsTeller + Drop> ReportingChecker<R, T> {
         }
     }
 
-    // Reports the errored submultiframes of these octets.
+    // Reports the errored submultiframes of one buffer, at most 255.
     fn report(&mut self)
         ensures { (octets returned : List ℕ) → HasReported self.old.checker self.old.reported
             (R.sent self.old.reports) octets returned

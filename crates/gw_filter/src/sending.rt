@@ -31,7 +31,7 @@ impl Crc4Sender {
         }
     }
 
-    // Takes the next octet and returns it as sent.
+    // Takes the next octet and returns it with its CRC-4 bit.
     fn octet(&mut self, octet: u8) -> u8
         ensures { (arrivals : List SenderInput) (sent : List ℕ) → SendsCrc4 self.old arrivals sent
             → SendsCrc4 self.new (arrivals ++ Octet octet ∷ []) (sent ++ result ∷ []) }
@@ -51,7 +51,7 @@ impl Crc4Sender {
         }
     }
 
-    // Replaces the next octets by those that are sent.
+    // Replaces the next octets by those with CRC-4 bits.
     fn send_all(&mut self, octets: &mut [u8])
         ensures len { length octets.new ≡ length octets.old }
         ensures sent { (arrivals : List SenderInput) (sent : List ℕ) → SendsCrc4 self.old arrivals sent

@@ -28,7 +28,7 @@ pub fn replay<S: Source, K: Sink>(
     run(alloc, gateway, source, sink)
 }
 
-/// The same, and shows each record to a watch.
+/// Processes records as `replay` does, and shows each to a watch.
 #[inline(never)]
 pub fn replay_watched<S: Source, K: Sink, W: Watch>(
     alloc: Global,

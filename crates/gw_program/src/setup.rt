@@ -14,7 +14,7 @@ use std::{fs, io};
 // The most octets of the file that are read: one more than the longest configuration.
 const MOST_OCTETS: u64 = 65_537;
 
-// The configuration in these octets.
+// The configuration in the octets of a file.
 fn meaning_of(alloc: Global, octets: &[u8]) -> Result<Config, ProgramFault>
     ensures says { Says result (meaning_of_octets octets.now) }
     ensures read { IfErr result (FailsToRead (λ _. ⊥)) }

@@ -77,7 +77,7 @@ impl RunFault {
     }
 }
 
-/// The result of a session whose records end so.
+/// The result of a session by the end of its records.
 pub fn answer(ending: RecordsEnd, totals: Totals) -> Result<Totals, RunFault>
     ensures { result ≡ answer_of ending totals }
 {

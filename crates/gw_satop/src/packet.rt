@@ -47,7 +47,7 @@ impl PacketFault {
     }
 }
 
-// The fault of a datagram that is no packet.
+// The circuit's fault for a datagram that is no SAToP packet.
 fn malformed_by(fault: SatopFault) -> PacketFault
     ensures { result ≡ malformed_by fault }
 {

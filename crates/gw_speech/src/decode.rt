@@ -146,7 +146,7 @@ fn put_datagram<K: Sink>(
     }
 }
 
-// The totals after one more record.
+// The totals of decoding after one more record.
 fn count_record(totals: Totals, is_decoded: bool) -> Totals
     ensures { result ≡ count_record totals is_decoded }
 {

@@ -55,7 +55,7 @@ fn first_packet(sequence: u16, timestamp: u32) -> NextPacket
     }
 }
 
-// The state after one more packet.
+// The numbers of the packet after this one.
 #[tactic(auto, unfolding(crate::specs::Encode::header_at))]
 fn next_packet(spec: &StreamSpec, progress: &NextPacket) -> NextPacket
     ensures { (k : ℕ) → IsPacket spec.now progress.now k → IsPacket spec.now result (k + 1) }

@@ -59,7 +59,7 @@ fn front_of(octets: &[u8]) -> Result<&[u8], LoadFault>
     summed_front(octets).ok_or(LoadFault::of(StateKind::Sum))
 }
 
-// The fault of a value.
+// The fault of a state by that of its gateway's octets.
 fn of_value(fault: StateFault) -> LoadFault
     ensures { IsOfValue result }
 {

@@ -35,7 +35,7 @@ impl GatewayStatus {
         rows
     }
 
-    /// How a gateway stands.
+    /// The alarms and circuit statuses of a gateway now.
     #[inline(never)]
     pub fn of(gateway: &Gateway) -> GatewayStatus
         ensures { Shows result gateway.now }

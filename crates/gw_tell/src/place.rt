@@ -30,7 +30,7 @@ impl ClientSlot {
         }
     }
 
-    // Lets its client go, and keeps the room.
+    // Disconnects the client of the place, and keeps the room.
     fn let_go(&mut self)
         ensures { self.new.client ≡ None }
     {

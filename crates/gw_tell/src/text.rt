@@ -9,7 +9,7 @@ use itoa::Buffer;
 /// Room for the longest text, which the whole state stands in.
 pub type Text = ArrayVec<u8, 3_200>;
 
-/// Adds octets.
+/// Adds octets to a text.
 pub fn push(text: &mut Text, octets: &[u8])
     requires { length text.old.items + length octets.now ≤ 3200 }
     ensures { text.new.items ≡ text.old.items ++ octets.now }

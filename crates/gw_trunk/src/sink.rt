@@ -137,7 +137,7 @@ fn put_body<O: TrunkOutput, A: TrunkOutput>(
     put_out(answers, octets)
 }
 
-// Takes octets from this place on, and returns how many.
+// Takes octets of answering records from this place on, returns how many.
 fn pass<O: TrunkOutput, A: TrunkOutput>(
     outgoing: &mut O,
     answers: &mut A,
@@ -189,7 +189,7 @@ impl<O: TrunkOutput, A: TrunkOutput> TrunkRecordSink<O, A> {
 }
 
 impl<O: TrunkOutput, A: TrunkOutput + Drop> TrunkRecordSink<O, A> {
-    /// What the octets of the trunk go to.
+    /// The device that the trunk's octets go to.
     pub fn into_outgoing(self) -> O
         ensures { result ≡ self.outgoing }
     {

@@ -219,7 +219,7 @@ fn rests_at<S: Socket>(
     }
 }
 
-// Asks the socket of a circuit.
+// Receives at a circuit's socket, by a call of the system.
 #[inline(never)]
 fn ask_at<S: Socket>(
     endpoints: &mut Vec<Option<Endpoint<S>>>,

@@ -51,7 +51,7 @@ impl Pair {
         self.bits
     }
 
-    // The pair with this number.
+    // Bits a and b by their number, 2a + b.
     pub(crate) fn of_bits(bits: u8) -> Self
         requires { bits < 4 }
         ensures { result ≡ bits }

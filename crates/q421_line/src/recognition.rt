@@ -45,7 +45,7 @@ impl Recognition {
         }
     }
 
-    // Takes one more known pair.
+    // Takes one more known pair, and recognises it after ten equal.
     fn hear_pair(&mut self, pair: Pair)
         ensures { (pairs : List ℕ) → HasHeard self.old pairs → HasHeard self.new (pairs ++ pair ∷ []) }
     {

@@ -11,7 +11,7 @@ pub(crate) struct BitBuffer {
 }
 
 impl BitBuffer {
-    // An empty buffer.
+    // A buffer without bits.
     pub(crate) fn none() -> Self
         ensures number { result.number ≡ 0 }
         ensures count { result.count ≡ 0 }

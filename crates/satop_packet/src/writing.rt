@@ -56,7 +56,7 @@ fn length_said(size: usize) -> u8
     if size < LEAST_UNSAID { size as u8 } else { 0 }
 }
 
-// The control word.
+// The four octets of the control word.
 fn control_octets(control: &Control, len: u8) -> [u8; 4]
     ensures { result ≡ control_word control.now 0 0 len }
 {

@@ -62,7 +62,7 @@ impl SatopPlayout {
         })
     }
 
-    /// How it is set up.
+    /// The settings of the playout.
     pub fn settings(&self) -> Settings
         ensures { result ≡ self.now.settings }
     {
@@ -203,7 +203,7 @@ impl SatopPlayout {
     }
 }
 
-// The number after one, modulo 2^16.
+// The sequence number after one, modulo 2^16.
 fn number_after(number: Option<u16>) -> Option<u16>
     ensures { result ≡ number_after number }
 {
