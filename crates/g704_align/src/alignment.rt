@@ -1,4 +1,4 @@
-//! The frame aligner.
+//! The place of an octet in its frame, and when frame alignment is found and lost (`Aligner`).
 
 ghost use Rattle.std.specs.Prelude.{◌≡◌, ◌+◌, ◌%◌, ◌<◌, ℕ, List, Option, [], ◌∷◌, ◌++◌, length};
 ghost use Rattle.std.specs.Prelude.{nat_lt, ◌≢◌, IfSome, IfNone};
@@ -142,7 +142,7 @@ impl Aligner {
         place_between(before, self.phase)
     }
 
-    /// Whether there is no alignment, as before the first octet.
+    /// Whether there is no frame alignment, as before the first octet.
     pub fn alarm(&self) -> bool
         ensures { (history : List ℕ) → HasHistory self.now history → result ≡ alarm_after history }
     {
@@ -171,7 +171,7 @@ pub fn is_nfas(octet: u8) -> bool
     octet & BIT_2 != 0
 }
 
-// The phase after an octet.
+// The phase of the search after an octet.
 fn phase_after(phase: SyncState, octet: u8) -> SyncState
     ensures { (before : Option ℕ) (octets : List ℕ) → Describes phase octets
         → Follows result before (octets ++ octet ∷ []) }
@@ -256,14 +256,14 @@ fn after_aligned(age: u8, wrong_fas: u8, wrong_nfas: u8, octet: u8) -> SyncState
     }
 }
 
-// The age of the next octet, modulo two frames.
+// The age of the next octet, from the FAS, modulo two frames.
 fn next_age(age: u8) -> u8
     ensures { age < 64 → result ≡ (age + 1) % 64 }
 {
     age.wrapping_add(1) % TWO_FRAMES
 }
 
-// The place of an octet with this age.
+// The place in its frame of an octet of this age.
 fn slot_at(age: u8) -> Place
     ensures { result ≡ Slot (age % 32) (nat_lt age 32) }
 {

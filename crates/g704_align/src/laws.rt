@@ -1,4 +1,4 @@
-//! Laws of frame alignment, by its definitions alone.
+//! Laws of frame alignment: which signal a search finds, and that places depend on slot 0 alone.
 
 ghost use Rattle.g704_framing.specs.Laws.{IsFraming};
 ghost use Rattle.g704_align.specs.Search.{SearchMeetsLeast};

@@ -1,4 +1,4 @@
-//! The frame aligner over bits: it reads windows, each the octet that ends at a bit.
+//! When frame alignment is found and lost in bits at any offset: a window ends at each bit.
 
 ghost use Rattle.std.specs.Prelude.{◌≡◌, ◌+◌, ◌%◌, ◌<◌, ◌≤◌, ◌&&◌, ℕ, nat_le, List, Option, [], ◌∷◌, ◌++◌};
 ghost use Rattle.std.specs.Prelude.{length, slice_index};

@@ -1,4 +1,4 @@
-//! Octets received to octets of the aligned stream, one for one.
+//! Octets received at any bit offset to octets of the time slots, one for one (`BitAligner`).
 
 ghost use Rattle.std.specs.Prelude.{◌≡◌, ◌+◌, ◌<◌, ℕ, List, [], ◌∷◌, ◌++◌};
 ghost use Rattle.g704_bits.specs.Bits.{aligned_octet, window_at};

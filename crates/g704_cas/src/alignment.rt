@@ -1,4 +1,4 @@
-//! The multiframe aligner, over the octets of time slot 16.
+//! The frame of an octet of slot 16, and when multiframe alignment is found and lost (`MfAligner`).
 
 ghost use Rattle.std.specs.Prelude.{◌≡◌, ◌+◌, ◌%◌, ◌<◌, ℕ, List, Option, [], ◌∷◌, ◌++◌, length};
 ghost use Rattle.g704_cas.specs.Search.{is_mfas, is_not_zero};
@@ -72,7 +72,7 @@ impl MfAligner {
         self.phase = AT_FIRST;
     }
 
-    /// Whether there is no alignment, as before the first octet.
+    /// Whether there is no multiframe alignment, as before the first octet.
     pub fn alarm(&self) -> bool
         ensures { (history : List ℕ) → HasHistory self.now history → result ≡ alarm_after history }
     {
@@ -83,7 +83,7 @@ impl MfAligner {
     }
 }
 
-// Whether the octet is right for frame 0.
+// Whether an octet of slot 16 is right for frame 0.
 #[tactic(auto, unfolding(crate::specs::Search::is_mfas))]
 fn is_mfas(octet: u8) -> bool
     ensures { result ≡ is_mfas octet }
@@ -91,7 +91,7 @@ fn is_mfas(octet: u8) -> bool
     octet & SIGNAL_BITS == 0
 }
 
-// The phase after an octet.
+// The phase of multiframe alignment after an octet of slot 16.
 fn phase_after(phase: SyncState, octet: u8) -> SyncState
     ensures { (before : Option ℕ) (octets : List ℕ) → Describes phase before octets
         → Follows result before (octets ++ octet ∷ []) }
@@ -143,7 +143,7 @@ fn after_aligned(frame: u8, wrong: bool, octet: u8) -> SyncState
     }
 }
 
-// The frame of the next octet.
+// The frame of the next octet of slot 16.
 fn next_frame(frame: u8) -> u8
     ensures { frame < 16 → result ≡ (frame + 1) % 16 }
 {

@@ -1,4 +1,4 @@
-//! Laws of multiframe alignment, by its definitions alone.
+//! Laws of multiframe alignment: where a search ends, and that places depend on frame 0 alone.
 
 ghost use Rattle.g704_framing.specs.Laws.{IsFraming};
 ghost use Rattle.g704_cas.specs.Search.{SearchIsLeast};

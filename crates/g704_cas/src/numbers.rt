@@ -1,4 +1,4 @@
-//! Circuit numbers, their places on the trunk, and the four signalling bits of a circuit.
+//! Circuit numbers (`CircuitNo`) by slot and by frame of slot 16, and ABCD bits (`Nibble`).
 
 ghost use Rattle.std.specs.Prelude.{◌≡◌, ◌↔◌, ◌⊎◌, ◌+◌, ◌*◌, ◌/◌, ◌%◌, ◌<◌, ◌≤◌, ℕ, Some, IsSomeAnd};
 ghost use Rattle.std.specs.Option.{SomeIff};
@@ -91,7 +91,7 @@ impl CircuitNo {
         }
     }
 
-    /// The number, 1 to 30.
+    /// The number of the circuit, 1 to 30.
     pub fn get(self) -> u8
         ensures value { result ≡ self }
         ensures range { (1 ≤ self) × (self ≤ 30) }
@@ -136,7 +136,7 @@ impl Model for Nibble {
 }
 
 impl Nibble {
-    /// The nibble with this value; `None` above 15.
+    /// The ABCD bits with this value; `None` above 15.
     pub fn new(bits: u8) -> Option<Nibble>
         ensures { SomeIff result (bits < 16) bits }
     {
@@ -147,7 +147,7 @@ impl Nibble {
         }
     }
 
-    /// The value, below 16.
+    /// The ABCD bits as a number, below 16.
     pub fn get(self) -> u8
         ensures value { result ≡ self }
         ensures range { self < 16 }

@@ -1,4 +1,4 @@
-//! Received check bits and E bits, and the counts of submultiframes.
+//! Whether a received CRC-4 submultiframe or E bit shows an error, and counts of both (`Checker`).
 
 ghost use Rattle.std.specs.Prelude.{◌≡◌, ◌+◌, ◌%◌, ◌/◌, ◌<◌, ◌≤◌, ℕ, Bool, if◌then◌else◌, List, Option, []};
 ghost use Rattle.std.specs.Prelude.{◌∷◌, ◌++◌, length, true};
@@ -76,7 +76,7 @@ impl Checker {
         }
     }
 
-    /// Takes the next octet and returns what it shows.
+    /// Takes the next octet and returns what it shows of CRC-4.
     pub fn octet(&mut self, octet: u8) -> Option<Crc4Event>
         ensures reply { (history : List ℕ) → ChecksAfter self.old history
             → result ≡ event_of (history ++ octet ∷ []) }
@@ -112,7 +112,7 @@ impl Checker {
         far_end_event(place, si)
     }
 
-    // Ends a complete submultiframe.
+    // Compares received check bits with the submultiframe before.
     #[inline(never)]
     fn end_submultiframe(&mut self) -> Option<Crc4Event>
         ensures reply { result ≡ block_event self.old.begun (same self.old.check_bits self.old.before) }
@@ -128,7 +128,7 @@ impl Checker {
     }
 }
 
-/// Checks octets whose multiframes begin at the first one.
+/// Counts submultiframes and E bits of octets that begin a multiframe.
 ///
 /// Returns the counts.
 pub fn check(octets: &[u8]) -> Counts
@@ -142,7 +142,7 @@ pub fn check(octets: &[u8]) -> Counts
     counts
 }
 
-// The counts with an event.
+// The counts of submultiframes and E bits with an event.
 fn counts_with(counts: Counts, event: Option<Crc4Event>) -> Counts
     ensures { result ≡ counts_with counts event }
 {
@@ -161,7 +161,7 @@ fn counts_with(counts: Counts, event: Option<Crc4Event>) -> Counts
     }
 }
 
-// A count of errors after one more block.
+// The count of errored submultiframes or E bits, after one more.
 fn errors_with(count: u64, right: bool) -> u64
     ensures { result ≡ errors_with count right }
 {
@@ -207,7 +207,7 @@ fn check_bits_with(check_bits: Remainder, place: u16, si: bool) -> Remainder
     }
 }
 
-// One of two values.
+// The first of two values if `first` is set, else the second.
 fn either(first: bool, a: bool, b: bool) -> bool
     ensures { result ≡ (if first then a else b) }
 {

@@ -1,4 +1,4 @@
-//! The counts of a checked trunk: multiframes found and lost, submultiframes errored.
+//! The counts of a checked trunk: multiframes found and lost, submultiframes errored (`TrunkChecker`).
 
 ghost use Rattle.std.specs.Prelude.{◌≡◌, ◌∷◌, ◌++◌, ℕ, List, [], Some};
 ghost use Rattle.g704_crc4.specs.Receivers.{ChecksTrunk};
@@ -26,7 +26,7 @@ pub struct ReceiverCounts {
     pub given_up: u64,
 }
 
-/// Follows a trunk and counts.
+/// Follows a trunk and counts its CRC-4 multiframes and errors.
 #[derive(Clone, Copy, Debug, PartialEq, Eq)]
 pub struct TrunkChecker {
     receiver: Receiver,
@@ -61,7 +61,7 @@ impl TrunkChecker {
         }
     }
 
-    /// The counts so far.
+    /// The counts of the trunk so far.
     pub fn receiver_counts(&self) -> ReceiverCounts
         ensures { (history : List ℕ) → ChecksTrunk self.now history → result ≡ receiver_counts_of history }
     {
@@ -69,7 +69,7 @@ impl TrunkChecker {
     }
 }
 
-// The counts after one more octet's event.
+// The counts of a trunk after one more octet's event.
 #[inline(never)]
 fn receiver_counts_with(receiver_counts: ReceiverCounts, learned: ReceiverEvent) -> ReceiverCounts
     ensures { result ≡ receiver_counts_with receiver_counts (Some learned) }
@@ -102,7 +102,7 @@ fn receiver_counts_with(receiver_counts: ReceiverCounts, learned: ReceiverEvent)
     }
 }
 
-// A count, one higher if `more` is set.
+// A count of the trunk, one higher if `more` is set.
 fn count_with(count: u64, more: bool) -> u64
     ensures { result ≡ count_with count more }
 {

@@ -1,4 +1,4 @@
-//! Laws of what is sent, by the definitions alone.
+//! Laws of CRC-4: what is sent is found right, a bit error is found, and E bits report it.
 
 ghost use Rattle.g704_crc4.specs.Polynomials.{RemainderIsLeft};
 ghost use Rattle.g704_crc4.specs.Checking.{SentIsRight, OneErrorIsFound};

@@ -1,4 +1,4 @@
-//! CRC multiframe alignment of a trunk, and its received submultiframes.
+//! When CRC-4 multiframes are found, and when frame alignment is given up for them (`Receiver`).
 
 ghost use Rattle.std.specs.Prelude.{◌≡◌, ◌∷◌, ◌++◌, ◌+◌, ◌%◌, ◌<◌, ◌==◌, ℕ, Bool, true, false, List, []};
 ghost use Rattle.std.specs.Prelude.{length, slice_index, nat_le, if◌then◌else◌, Some};
@@ -184,7 +184,7 @@ impl Receiver {
     }
 }
 
-// Whether frame alignment is given up.
+// Whether frame alignment is given up by 915 errored submultiframes.
 fn gives_up(learned: Option<ReceiverEvent>) -> bool
     ensures { result ≡ tells_given_up learned }
 {
@@ -234,7 +234,7 @@ impl SubmultiframeCheck {
         }
     }
 
-    // Counts a submultiframe.
+    // Counts a submultiframe in the present thousand.
     //
     // Returns whether too many of its thousand are errored.
     fn is_excess(&mut self, right: bool) -> bool

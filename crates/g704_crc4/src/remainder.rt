@@ -1,4 +1,4 @@
-//! The remainder of a polynomial by x^4+x+1, computed octet by octet.
+//! The CRC-4 check bits C1 to C4 of octets: the remainder by x^4+x+1, octet by octet (`Remainder`).
 
 ghost use Rattle.std.specs.Prelude.{◌≡◌, ◌≤◌, ◌<◌, ℕ, Bool};
 ghost use Rattle.g704_crc4.specs.declared.remainder.Remainder.{Remainder};
@@ -43,7 +43,7 @@ pub(crate) fn add(a: bool, b: bool) -> bool
     if a { !b } else { b }
 }
 
-// The remainder with this number.
+// The check bits C1 to C4 with this number.
 pub(crate) fn of_number(number: u8) -> Remainder
     ensures { (bits : Remainder) → number ≡ crc_number bits → result ≡ bits }
 {

@@ -1,4 +1,4 @@
-//! E bits that report errored submultiframes.
+//! Which E bits are sent as 0, to report errored submultiframes (`EBitReporter`).
 
 ghost use Rattle.std.specs.Prelude.{◌≡◌, ◌∷◌, ◌++◌, List, []};
 ghost use Rattle.g704_crc4.specs.Reporting.{SenderInput, Octet, Errored, octet_count, has_e_bit};

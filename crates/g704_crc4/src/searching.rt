@@ -1,4 +1,4 @@
-//! The search for multiframes in received octets.
+//! Where the multiframe alignment signal begins in received octets (`find_multiframe`).
 
 ghost use Rattle.std.specs.Prelude.{◌≡◌, ◌*◌, ◌<◌, ◌^◌, ℕ, Bool, true, false, IfSome, IfNone};
 ghost use Rattle.g704_crc4.specs.Receiving.{si_of};
@@ -24,7 +24,7 @@ pub fn find_multiframe(octets: &[u8]) -> Option<usize>
     None
 }
 
-// Whether a multiframe begins at this frame.
+// Whether a CRC-4 multiframe begins at a frame of the octets.
 #[tactic(auto, unfolding(crate::specs::Searching::begins_multiframe))]
 fn begins_multiframe(octets: &[u8], frame: usize) -> bool
     requires { frame < 2 ^ 60 }

@@ -1,4 +1,4 @@
-//! Bit 1 of time slot 0 as sent.
+//! Bit 1 of time slot 0 as sent: check bits, alignment signal and E bits (`Crc4Inserter`).
 
 ghost use Rattle.std.specs.Prelude.{◌≡◌, ◌==◌, ◌+◌, ◌%◌, ◌/◌, ◌<◌, ℕ, List, [], ◌∷◌, ◌++◌, length};
 ghost use Rattle.g704_crc4.specs.declared.remainder.Remainder.{Remainder};
@@ -51,7 +51,7 @@ impl Crc4Inserter {
         has_e_bit(self.place)
     }
 
-    /// Takes the next octet and returns it as sent.
+    /// Takes the next octet and returns it with its CRC-4 bit.
     pub fn octet(&mut self, octet: u8) -> u8
         ensures reply { (history : List ℕ) → SendsAfter self.old history
             → result ≡ sent_octet history octet }
@@ -125,7 +125,7 @@ fn signal_bit(number: u16, came: bool) -> bool
     }
 }
 
-// An octet with a bit 1.
+// An octet with this bit 1, the Si bit.
 pub(crate) fn with_si(octet: u8, si: bool) -> u8
     ensures { result ≡ with_si si octet }
 {

@@ -1,4 +1,4 @@
-//! The remainders of octets.
+//! The table of CRC-4 remainders, one for each octet.
 
 // The remainder of each octet times x^4 by x^4+x+1: C1 to C4 as a number, C1 on top.
 pub(crate) static REMAINDERS: [u8; 256] = [

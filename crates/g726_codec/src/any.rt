@@ -1,4 +1,4 @@
-//! A codec of any kind: G.711, or G.726 at one of its rates.
+//! Encoder and decoder of a circuit by its codec's kind, G.711 or a rate of G.726 (`AnyCodec`).
 ghost use Rattle.std.specs.Prelude.{◌≡◌, ◌<◌, ◌^◌, ℕ, List, [], ◌∷◌, ◌++◌, length};
 ghost use Rattle.std.specs.List.{All};
 ghost use Rattle.g726_codec.specs.Codec.{at_reset};
@@ -117,7 +117,7 @@ impl Model for AnyCodec {
 }
 
 impl AnyCodec {
-    /// A codec at reset.
+    /// An encoder and a decoder of this kind, at reset.
     pub fn new(law: Law, kind: CodecKind) -> AnyCodec
         ensures { result ≡ codec_after law kind [] [] }
     {
@@ -180,7 +180,7 @@ impl AnyCodec {
         self.codec.decode(self.law, word)
     }
 
-    /// Resets encoder and decoder.
+    /// Resets encoder and decoder of the circuit.
     pub fn reset(&mut self)
         ensures { self.new ≡ codec_after self.old.law self.old.kind [] [] }
     {

@@ -1,4 +1,4 @@
-//! The decoder of ITU-T G.726 with the synchronous coding adjustment.
+//! The decoder of ITU-T G.726, with the synchronous coding adjustment, block SYNC (`Decoder`).
 ghost use Rattle.std.specs.Prelude.{◌≡◌, ℕ, List, [], ◌∷◌, ◌++◌};
 ghost use Rattle.g726_codec.specs.Codec.{at_reset, stepped, adjusted, sync, decoded, after_words};
 

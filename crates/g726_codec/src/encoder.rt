@@ -1,4 +1,4 @@
-//! The encoder of ITU-T G.726.
+//! The encoder of ITU-T G.726 at one rate, octets of G.711 to code words (`Encoder`).
 ghost use Rattle.std.specs.Prelude.{◌≡◌, ◌<◌, ◌^◌, ℕ, List, [], ◌∷◌, ◌++◌, length};
 ghost use Rattle.std.specs.List.{All};
 ghost use Rattle.e1_g711.specs.Samples.{expand};

@@ -1,4 +1,4 @@
-//! Laws of the definitions, each proved by a function that does nothing.
+//! Laws of codecs: one word for each octet, prefixes give prefixes, and G.711 words are octets.
 ghost use Rattle.g726_codec.specs.Laws.{OneWordAnOctet, WordsFit, PrefixesComeFirst, NothingIsCoded};
 ghost use Rattle.g726_codec.specs.Laws.{SpeechIsItsOwnWords, NothingIsKept};
 

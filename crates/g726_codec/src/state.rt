@@ -1,4 +1,4 @@
-//! The state that an encoder and a decoder of ITU-T G.726 share.
+//! The update of encoder and decoder by a code word (`State::step`): SUBTA and ADDB of ITU-T G.726.
 ghost use Rattle.std.specs.Prelude.{◌≡◌, ◌≤◌, pos, negsuc, ◌≤ℤ◌, ◌+ℤ◌, ◌-ℤ◌};
 ghost use Rattle.e1_g711.specs.Samples.{expand};
 ghost use Rattle.g726_quant.specs.Arithmetic.{signed, wrap16};
@@ -79,7 +79,7 @@ impl State {
     }
 }
 
-// SUBTA: D. Both are far from the ends of 16 bits, and so is D.
+// SUBTA: D, the difference of SL and SE. Both are far from the ends of 16 bits, and so is D.
 fn subta(sl: i16, se: i16) -> i16
     requires sl_low { negsuc 8063 ≤ℤ sl }
     requires sl_high { sl ≤ℤ pos 8064 }
@@ -98,7 +98,7 @@ pub(crate) fn word_of<R: Rate>(law: Law, octet: u8, forecast: EstimateAndScale) 
     quantise::<R>(subta(expand(law, octet), forecast.se), forecast.y)
 }
 
-// ADDB: SR.
+// ADDB: SR, the reconstructed signal.
 fn addb(dq: Dq, se: i16) -> i16
     ensures { result ≡ wrap16 (signed dq.negative dq.mag +ℤ se) }
 {

@@ -1,4 +1,4 @@
-//! Sums of products: blocks ACCUM and ADDC of ITU-T G.726.
+//! The signal estimates SEZ and SE, and P: blocks ACCUM and ADDC of ITU-T G.726.
 ghost use Rattle.std.specs.Prelude.{◌≡◌, ◌<◌, ◌+ℤ◌, take, drop, map, FitsSigned};
 ghost use Rattle.std.specs.Int.{int_shr, cast_unsigned, w16};
 ghost use Rattle.std.specs.Simd.Lanes.{Each1};
@@ -27,7 +27,7 @@ fn bits_of(numbers: [i16; 8]) -> u16x8
     ])
 }
 
-// ACCUM: SEZ and SE.
+// ACCUM: SEZ and SE, the signal estimates.
 //
 // They come from B1 to B6, A1 and A2 and the words of DQ1 to DQ6, SR1 and SR2. All sums have 16 bits, so SEZ
 // is the sum of all products without the two of the poles.
@@ -47,7 +47,7 @@ pub(crate) fn estimates(coefficients: [i16; 8], words: [u16; 8]) -> (i16, i16)
     (zeros.cast_signed() >> 1, all.cast_signed() >> 1)
 }
 
-// ADDC: P.
+// ADDC: P, the sum of DQ and SEZ.
 pub(crate) fn addc(dq: Dq, sez: i16) -> i16
     ensures { result ≡ wrap16 (signed dq.negative dq.mag +ℤ sez) }
 {

@@ -1,4 +1,4 @@
-//! The inverse adaptive quantiser: blocks RECONST, ADDA and ANTILOG of ITU-T G.726.
+//! A code word to its quantised difference DQ: blocks RECONST, ADDA and ANTILOG of ITU-T G.726.
 
 ghost use Rattle.std.specs.Prelude.{◌≡◌, ◌≤◌, ◌<◌, pos, negsuc, ◌≤ℤ◌};
 ghost use Rattle.g726_quant.specs.Arithmetic.{signed};

@@ -1,4 +1,4 @@
-//! Laws of the definitions, each proved by a function that does nothing.
+//! Laws of `wrap16`, numbers of bits, DLN and code words: which are sent, which magnitudes they have.
 
 ghost use Rattle.g726_quant.specs.Laws.{WrapsTo16Bits, NumberOfBitsIsLeast, DlnHasTwelveBits};
 ghost use Rattle.g726_quant.specs.Laws.{AllZerosNeverSent, MagnitudesComeBack};

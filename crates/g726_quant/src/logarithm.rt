@@ -1,4 +1,4 @@
-//! Logarithms to base 2 with seven fractional bits.
+//! Logarithms to base 2 and their inverse: blocks LOG and ANTILOG of ITU-T G.726.
 
 ghost use Rattle.std.specs.Prelude.{◌≡◌, ◌≤◌, ◌<◌, ◌-◌};
 ghost use Rattle.g726_quant.specs.Blocks.{exponent, log, antilog};

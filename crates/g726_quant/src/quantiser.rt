@@ -1,4 +1,4 @@
-//! The adaptive quantiser: blocks LOG, SUBTB and QUAN of ITU-T G.726.
+//! A difference to its code word I: blocks LOG, SUBTB and QUAN of ITU-T G.726 (`quantise`).
 
 ghost use Rattle.std.specs.Prelude.{◌≡◌, ◌≢◌, ◌≤◌, ◌<◌, negsuc, length, IsTrue};
 ghost use Rattle.g726_quant.specs.Tables.{is_rising};
@@ -21,7 +21,7 @@ pub fn quantise<R: Rate>(d: i16, y: u16) -> Word<R>
     quan(d < 0, subtb(dl, y))
 }
 
-// SUBTB: DLN.
+// SUBTB: DLN, the logarithm DL less the scale factor.
 fn subtb(dl: u16, y: u16) -> i16
     requires dl { dl < 1920 }
     requires y { y ≤ 5120 }

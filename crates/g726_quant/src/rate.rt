@@ -1,4 +1,4 @@
-//! The four rates of ITU-T G.726, by their tables.
+//! The tables of the four rates of ITU-T G.726 (`Rate`): thresholds, levels, multipliers, speeds.
 
 ghost use Rattle.std.specs.Prelude.{◌≡◌, ◌<◌, ◌≤◌, ℕ, pos, negsuc, ◌≤ℤ◌, IsTrue, refl};
 ghost use Rattle.g726_quant.specs.Tables.{RateTables, magnitudes, has_its_places, is_rising, is_in_range};

@@ -1,4 +1,4 @@
-//! Code words of a rate.
+//! The range, sign and magnitude of a code word (`Word`), and the order in which SYNC compares words.
 
 ghost use Rattle.std.specs.Prelude.{◌≡◌, ◌<◌, ◌≤◌, ◌^◌, ℕ, SomeIff};
 ghost use Rattle.g726_quant.specs.Tables.{magnitudes};

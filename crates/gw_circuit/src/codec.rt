@@ -1,4 +1,4 @@
-//! The steps of a codec, which G.711 passes by: its words are its octets, and its codec keeps nothing.
+//! The step of a circuit's codec; in G.711 there is none, since its words are its octets.
 
 ghost use Rattle.std.specs.Prelude.{◌≡◌, ◌<◌, ◌^◌, ◌++◌, ◌∷◌, [], ℕ, List};
 ghost use Rattle.e1_g711.specs.declared.Law.{Law};

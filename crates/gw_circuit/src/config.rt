@@ -1,4 +1,4 @@
-//! How a circuit is set up.
+//! How a circuit is set up, and which packet times and prefills it may have (`CircuitConfig`).
 
 ghost use Rattle.std.specs.Prelude.{◌≡◌, ◌≤◌, ◌<◌, ◌%◌, ◌↔◌, IsSome, IfSome};
 ghost use Rattle.rtp_pack.specs.PacketTime.{IsPacketTime};

@@ -1,4 +1,4 @@
-//! The command line: what the program is asked to do.
+//! Which subcommand the command line asks for (`request_of`), and the values of its options.
 ghost use Rattle.std.specs.Prelude.{◌≡◌, ◌≢◌, ℕ, true, Some, IfSome, IfNone, option_map, codes};
 ghost use Rattle.e1_g711.specs.declared.Law.{Law};
 ghost use Rattle.g726_codec.specs.declared.CodecKind.{CodecKind};
@@ -82,7 +82,7 @@ pub fn wants_totals(matches: &ArgMatches<'_>) -> bool {
     }
 }
 
-// The law of this name.
+// The law `a` or `mu` by its name.
 fn law_named(name: &str) -> Option<Law>
     ensures found { IfSome result (λ law. name.now ≡ law_name law) }
     ensures none { IfNone result ((law : Law) → name.now ≢ law_name law) }
@@ -109,7 +109,7 @@ fn codec_named(name: &str) -> Option<CodecKind>
     }
 }
 
-// The job of this name on a stream.
+// The job `encode` or `decode` by its name, on a stream.
 fn job_named(name: &str, spec: StreamSpec) -> Option<SpeechJob>
     ensures found { IfSome result (λ job. (name.now ≡ job_name job) × (job_spec job ≡ spec)) }
     ensures none { IfNone result ((job : SpeechJob) → name.now ≢ job_name job) }
@@ -160,7 +160,7 @@ pub fn job_of(matches: &ArgMatches<'_>) -> Option<SpeechJob>
     job_named(name, stream_spec(options)?)
 }
 
-// The session of this name.
+// The session `replay`, `check` or `serve` by its name.
 fn session_named(name: &str) -> Option<SessionKind>
     ensures found { IfSome result (λ session. name.now ≡ session_name session) }
     ensures none { IfNone result ((session : SessionKind) → name.now ≢ session_name session) }
@@ -183,7 +183,7 @@ pub fn session_of(matches: &ArgMatches<'_>) -> Option<SessionKind>
     session_named(name)
 }
 
-// The filter of this name.
+// The filter `align` or `crc4` by its name.
 fn filter_named(name: &str) -> Option<Filter>
     ensures found { IfSome result (λ filter. name.now ≡ filter_name filter) }
     ensures none { IfNone result ((filter : Filter) → name.now ≢ filter_name filter) }
@@ -229,7 +229,7 @@ fn satop_of(matches: &ArgMatches<'_>) -> Option<()>
     }
 }
 
-/// What the matches ask for.
+/// The subcommand, session, job or filter that the matches ask for.
 pub fn request_of(matches: &ArgMatches<'_>) -> Option<Request>
     ensures found { IfSome result (IsRequest (subcommand_rows_of matches.now)) }
     ensures none { IfNone result ((request : Request)
@@ -355,7 +355,7 @@ pub fn save_of<'m>(matches: &'m ArgMatches<'_>) -> Option<&'m str>
     text_of(matches, "save")
 }
 
-// Whether the flag is there.
+// Whether the matches of a subcommand have a flag.
 fn asks(matches: &ArgMatches<'_>, flag: &str) -> bool
     ensures yes { text_in flag.now (subcommand_rows_of matches.now) ≡ Some (codes "true") → result ≡ true }
     ensures no { result ≡ true → text_in flag.now (subcommand_rows_of matches.now) ≡ Some (codes "true") }
@@ -402,35 +402,35 @@ pub fn records_over(matches: &ArgMatches<'_>) -> bool {
     }
 }
 
-/// The host and port of the socket that the matches name.
+/// The host and port of the SAToP socket here.
 pub fn satop_local_of<'m>(matches: &'m ArgMatches<'_>) -> Option<&'m str>
     ensures { option_map (λ text. text.now) result ≡ text_in (codes "local") (subcommand_rows_of matches.now) }
 {
     text_of(matches, "local")
 }
 
-/// The host and port of the far end that the matches name.
+/// The host and port of the SAToP far end.
 pub fn satop_peer_of<'m>(matches: &'m ArgMatches<'_>) -> Option<&'m str>
     ensures { option_map (λ text. text.now) result ≡ text_in (codes "peer") (subcommand_rows_of matches.now) }
 {
     text_of(matches, "peer")
 }
 
-/// What replaces lost packets, as the matches name it.
+/// What replaces lost SAToP packets, as the matches name it.
 pub fn fill_of<'m>(matches: &'m ArgMatches<'_>) -> Option<&'m str>
     ensures { option_map (λ text. text.now) result ≡ text_in (codes "fill") (subcommand_rows_of matches.now) }
 {
     text_of(matches, "fill")
 }
 
-/// What times the packets, as the matches name it.
+/// What times the SAToP packets, as the matches name it.
 pub fn clock_of<'m>(matches: &'m ArgMatches<'_>) -> Option<&'m str>
     ensures { option_map (λ text. text.now) result ≡ text_in (codes "clock") (subcommand_rows_of matches.now) }
 {
     text_of(matches, "clock")
 }
 
-/// The octets of a packet that the matches name.
+/// The octets of a SAToP packet, as the matches name them.
 pub fn size_of(matches: &ArgMatches<'_>) -> Option<u16>
     ensures found { IfSome result (SaysNumberIn 16 (codes "size") (subcommand_rows_of matches.now)) }
     ensures none { IfNone result ((n : ℕ)

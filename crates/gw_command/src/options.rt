@@ -1,4 +1,4 @@
-//! The options of the command line, as they are declared.
+//! The options of each subcommand as declared to `clap`: names, help, defaults, allowed values.
 
 use clap::{Arg, ArgAction, ArgMatches, Command, Error, value_parser};
 use g726_codec::names::{G726_16, G726_24, G726_32, G726_40};
@@ -309,12 +309,12 @@ const SUBCOMMANDS: [Subcommand; 9] = [
 /// G.711 in the law of `--law`.
 pub const G711: &str = "g711";
 
-// An option of this name.
+// An option with a value, of this name.
 fn option<'a>(alloc: Global, name: &'a str, help: &'a str) -> Arg<'a> {
     Arg::new(alloc, name).long(name).help(help)
 }
 
-// An option that is there or not.
+// An option without a value, which is there or not.
 fn flag<'a>(alloc: Global, name: &'a str, help: &'a str) -> Arg<'a> {
     option(alloc, name, help).action(ArgAction::SetTrue)
 }
@@ -415,7 +415,7 @@ fn over_option<'a>(alloc: Global) -> Arg<'a> {
     )
 }
 
-// Whose datagrams are accepted.
+// The option `--senders`: whose datagrams are accepted.
 fn senders_option<'a>(alloc: Global) -> Arg<'a> {
     option(alloc, "senders", SENDERS_TEXT)
         .value_parser(["any", "host", "peer"].as_slice())
@@ -437,7 +437,7 @@ fn seizure_wait_option<'a>(alloc: Global) -> Arg<'a> {
         .value_parser(value_parser!(u16).range(200..=8000))
 }
 
-// Where clients connect.
+// The option `--control`: where clients connect.
 fn control_option<'a>(alloc: Global) -> Arg<'a> {
     option(alloc, "control", CONTROL_TEXT).value_name("SOCKET")
 }
@@ -483,7 +483,7 @@ fn rtp_option<'a>(alloc: Global) -> Arg<'a> {
         .value_parser(value_parser!(u8).range(0..=127))
 }
 
-// What replaces lost packets.
+// The option `--fill`: what replaces lost packets.
 fn fill_option<'a>(alloc: Global) -> Arg<'a> {
     option(alloc, "fill", FILL_TEXT)
         .value_parser(["again", "ones"].as_slice())
@@ -491,7 +491,7 @@ fn fill_option<'a>(alloc: Global) -> Arg<'a> {
         .hide_possible_values(true)
 }
 
-// What times the circuit.
+// The option `--clock`: what times the circuit.
 fn clock_option<'a>(alloc: Global) -> Arg<'a> {
     option(alloc, "clock", CLOCK_TEXT)
         .value_parser(["packets", "own"].as_slice())
@@ -499,7 +499,7 @@ fn clock_option<'a>(alloc: Global) -> Arg<'a> {
         .hide_possible_values(true)
 }
 
-// The option that is meant.
+// The option of this name as it is declared.
 fn declared<'a>(alloc: Global, option: OptionName) -> Arg<'a> {
     match option {
         OptionName::Law => law_option(alloc),
@@ -555,7 +555,7 @@ fn with_options<'a>(alloc: Global, asked: &Subcommand) -> Result<Command<'a>, Al
     Ok(command)
 }
 
-// The program, without its subcommands.
+// The command line of the program, without its subcommands.
 fn program<'a>(alloc: Global) -> Command<'a> {
     Command::new(alloc, "e1gw")
         .about("E1 trunk to RTP gateway, from standard input to standard output")
@@ -563,7 +563,7 @@ fn program<'a>(alloc: Global) -> Command<'a> {
         .subcommand_required(true)
 }
 
-// The program with its subcommands.
+// The command line of the program, with its subcommands.
 fn whole<'a>(alloc: Global) -> Result<Command<'a>, AllocError> {
     let mut command = program(alloc);
     for asked in &SUBCOMMANDS {
@@ -572,7 +572,7 @@ fn whole<'a>(alloc: Global) -> Result<Command<'a>, AllocError> {
     Ok(command)
 }
 
-/// What the arguments say.
+/// The arguments matched against the declared subcommands and options.
 #[inline(never)]
 pub fn matches<'a>(alloc: Global, arguments: &'a [String]) -> Result<ArgMatches<'a>, Error> {
     whole(alloc)?.try_get_matches_from(arguments)

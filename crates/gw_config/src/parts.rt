@@ -1,4 +1,4 @@
-//! The values of the top level and of one table.
+//! Types for the values read from the top level and from one table, before circuits are built.
 
 ghost use Rattle.std.specs.Prelude.{◌≡◌, ◌≤◌, true, is_some};
 ghost use Rattle.toml.specs.View.{items_view};

@@ -1,4 +1,4 @@
-//! The values of one table of the list `circuit`.
+//! Whether one table of the list `circuit` is valid, and its values (`entry_of`).
 
 ghost use Rattle.std.specs.Prelude.{◌≡◌, ◌≤◌, ◌||◌, ◌==◌, IsTrue, IfOk, Some, None, codes, option_map, Ok};
 ghost use Rattle.toml.specs.Data.{as_integer};

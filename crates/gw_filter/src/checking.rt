@@ -1,4 +1,4 @@
-//! CRC-4 multiframes of a trunk checked, and their errored submultiframes reported.
+//! The filter `crc4 --check`: CRC-4 multiframes checked, errored submultiframes reported.
 
 ghost use Rattle.std.specs.Prelude.{◌≡◌, ◌+◌, ◌-◌, ◌<◌, ◌≤◌, ◌++◌, ℕ, List, [], length, sum, IfOk, IfErr};
 ghost use Rattle.g704_crc4.specs.ReceiverCounts.{receiver_counts_of};
@@ -69,7 +69,7 @@ impl<R: ReportSink, T: CountsTeller + Drop> ReportingChecker<R, T> {
         }
     }
 
-    // Reports the errored submultiframes of these octets.
+    // Reports the errored submultiframes of one buffer, at most 255.
     fn report(&mut self)
         ensures { (octets returned : List ℕ) → HasReported self.old.checker self.old.reported
             (R.sent self.old.reports) octets returned

@@ -1,4 +1,4 @@
-//! The alignment of a trunk.
+//! The filter `align`: a trunk at any bit offset to octets of its time slots (`align_stream`).
 
 ghost use Rattle.std.specs.Prelude.{◌≡◌, IfOk, IfErr};
 ghost use Rattle.g704_framing.specs.Replies.{stream_replies};

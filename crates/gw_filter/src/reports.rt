@@ -1,4 +1,4 @@
-//! Receivers of reports of errored submultiframes, and of the counts of a trunk.
+//! To whom errored submultiframes are reported (`ReportSink`), and counts told (`CountsTeller`).
 
 ghost use Rattle.std.specs.Prelude.{◌≡◌, ◌∷◌, ◌++◌, ℕ, List, [], Some, None, if◌then◌else◌};
 
@@ -29,7 +29,7 @@ pub struct NoReports {
 }
 
 impl NoReports {
-    /// No read has failed.
+    /// No reports, before any read.
     pub fn new() -> NoReports
         ensures { result.failed ≡ 0 }
     {
@@ -62,7 +62,7 @@ pub struct ToReports<W> {
 }
 
 impl<W: Drop> ToReports<W> {
-    /// None was sent.
+    /// A receiver of reports at the writer, before the first one.
     pub fn new(writer: W) -> ToReports<W>
         ensures { result.log.octets ≡ [] }
     {

@@ -1,4 +1,4 @@
-//! CRC-4 multiframes put into a trunk, with E bits for the errored submultiframes of the other direction.
+//! The filter `crc4`: CRC-4 multiframes put into a trunk, with E bits for what is reported.
 
 ghost use Rattle.std.specs.Prelude.{◌≡◌, ◌≤◌, ◌∷◌, ◌++◌, ℕ, List, [], length, map, take, Some, IfOk, IfErr};
 ghost use Rattle.std.specs.Io.KnownBytes.{Appends};
@@ -31,7 +31,7 @@ impl Crc4Sender {
         }
     }
 
-    // Takes the next octet and returns it as sent.
+    // Takes the next octet and returns it with its CRC-4 bit.
     fn octet(&mut self, octet: u8) -> u8
         ensures { (arrivals : List SenderInput) (sent : List ℕ) → SendsCrc4 self.old arrivals sent
             → SendsCrc4 self.new (arrivals ++ Octet octet ∷ []) (sent ++ result ∷ []) }
@@ -54,7 +54,7 @@ impl Crc4Sender {
         }
     }
 
-    // Replaces the next octets by those that are sent.
+    // Replaces the next octets by those with CRC-4 bits.
     fn send_all(&mut self, octets: &mut [u8])
         ensures len { length octets.new ≡ length octets.old }
         ensures sent { (arrivals : List SenderInput) (sent : List ℕ) → SendsCrc4 self.old arrivals sent

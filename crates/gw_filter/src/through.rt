@@ -1,4 +1,4 @@
-//! The trait of a filter, and its loop from a source to a sink.
+//! The traits of filters, and their one loop from a source to a sink (`octets_through`).
 
 ghost use Rattle.std.specs.Prelude.{◌≡◌, ◌-◌, ◌^◌, ◌<◌, ◌∷◌, ◌++◌, ℕ, List, [], length, IfOk, IfErr};
 ghost use Rattle.g704_framing.specs.Replies.{replies_after};

@@ -1,4 +1,4 @@
-//! Texts and numbers padded to the width of a column.
+//! Texts and decimal numbers padded to the width of a column, left or right.
 
 ghost use Rattle.std.specs.Prelude.{◌≡◌, ◌≤◌, ◌<◌, ◌+◌, ◌^◌, ◌∷◌, [], ◌++◌, length, replicate};
 ghost use Rattle.std.specs.Fmt.{decimal};
@@ -7,7 +7,7 @@ ghost use Rattle.gw_listing.specs.Row.{space, left, right};
 
 use arrayvec::ArrayString;
 
-// Adds spaces.
+// Adds spaces to a line.
 fn push_spaces(line: &mut ArrayString<96>, count: usize)
     requires { array_string_len line.old + count ≤ 96 }
     ensures bytes { line.new.bytes ≡ line.old.bytes ++ replicate count space }
@@ -36,7 +36,7 @@ fn decimal_len(n: u32) -> usize
     if n < 10 { 1 } else { decimal_len(n / 10) + 1 }
 }
 
-// Adds a digit.
+// Adds a decimal digit to a line.
 pub(crate) fn push_digit(line: &mut ArrayString<96>, digit: u32)
     requires digit { digit < 10 }
     requires room { array_string_len line.old + 1 ≤ 96 }

@@ -1,4 +1,4 @@
-//! The row of a circuit: names and columns.
+//! The columns of a circuit's line, and the names of roles and states in it (`line`).
 
 ghost use Rattle.std.specs.Prelude.{◌≡◌, ◌≤◌, ◌+◌, [], ◌++◌, length};
 ghost use Rattle.arrayvec.specs.ArrayString.{array_string_len};

@@ -1,4 +1,4 @@
-//! Filters of a trunk: `align` and `crc4`.
+//! What `align`, `crc4` and `crc4 --check` do on standard input and output.
 
 ghost use Rattle.std.specs.Prelude.{◌≡◌, [], IfOk, IfErr};
 ghost use Rattle.gw_records.specs.Streams.{CanBegin};

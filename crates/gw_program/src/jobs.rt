@@ -1,4 +1,4 @@
-//! Streams of speech: `encode` and `decode`.
+//! What `encode` and `decode` do from a source to a sink (`do_job`).
 
 ghost use Rattle.std.specs.Prelude.{◌-◌, ◌^◌, ◌<◌, IfOk, IfErr};
 ghost use Rattle.gw_records.specs.Streams.{CanBegin};

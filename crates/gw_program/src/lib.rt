@@ -1,5 +1,4 @@
-//! What the program does: speech streams, filters of a trunk, sessions of a gateway with a configuration,
-//! trunks, and the reports of them.
+//! What the program does for each subcommand: speech, filters, sessions, trunks, SAToP, and their reports.
 #![tactic(auto)]
 
 mod filters;

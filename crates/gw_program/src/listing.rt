@@ -1,4 +1,4 @@
-//! A line for each circuit of a gateway.
+//! The thirty lines that `check` prints, one for each circuit of a gateway.
 
 ghost use Rattle.std.specs.Prelude.{◌≡◌, ◌≤◌, ◌+◌, ◌++◌, List, length};
 ghost use Rattle.gw_switch.specs.declared.GatewayConfig.{GatewayConfig};

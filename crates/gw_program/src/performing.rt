@@ -1,4 +1,4 @@
-//! The subcommands on standard streams, with what each takes from the system.
+//! In which order a session opens, runs, saves and ends (`perform_session`), by the trait `System`.
 
 ghost use Rattle.std.specs.Prelude.{◌≡◌, ◌⊎◌, ◌-◌, ◌^◌, ◌<◌, IfOk, IfErr, MatchResult};
 ghost use Rattle.gw_records.specs.Streams.{CanBegin};
@@ -66,7 +66,7 @@ pub trait System {
     /// Holds of the fault if the watch of a replay was not opened.
     ghost lacks_watch: { Self → ProgramFault → Type 0 };
 
-    /// Reads the configuration.
+    /// Reads the configuration of the session.
     fn read_config(&self) -> Result<Config, ProgramFault>
         ensures ok { IfOk result (λ config. reads self.now config) }
         ensures err { IfErr result (λ program_fault. lacks_config self.now program_fault) };

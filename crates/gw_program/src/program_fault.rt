@@ -1,4 +1,4 @@
-//! The program's faults, their lines and exit statuses.
+//! Why the program failed, as the line that it prints and its exit status (`ProgramFault`).
 
 ghost use Rattle.std.specs.Prelude.{◌≡◌, ◌≤◌};
 ghost use Rattle.std.specs.IoError.{error_kind};

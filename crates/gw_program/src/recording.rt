@@ -1,4 +1,4 @@
-//! Recordings of `serve`: where they are written, and how they end.
+//! Whether the file of `--record` is created, emptied or refused, and how a recording ends.
 
 ghost use Rattle.std.specs.Prelude.{IfOk};
 ghost use Rattle.gw_program.specs.Performing.{IsBegun};
@@ -85,8 +85,9 @@ fn open(rt: &HostRuntime, recording: Recording<'_>) -> Result<File, ProgramFault
     }
 }
 
-// Has each write that would wait fail. (What is set is set of all descriptors of this opening of the file, so
-// it is set through another one, by a type that can set it. What was opened by its path has no others.)
+// Has each write to a file fail that would wait. (What is set is set of all descriptors of this opening of
+// the file, so it is set through another one, by a type that can set it. What was opened by its path has no
+// others.)
 pub(crate) fn never_wait(file: &File) -> io::Result<()> {
     let other = UnixStream::from(OwnedFd::from(file.try_clone()?));
     other.set_nonblocking(true)

@@ -1,4 +1,4 @@
-//! The report of a session that ended without a fault.
+//! The totals, CRC-4 counts and skipped datagrams that are printed on standard error.
 
 ghost use Rattle.std.specs.Prelude.{◌≡◌};
 ghost use Rattle.gw_program.specs.Report.{passed_over};
@@ -86,7 +86,7 @@ impl<E: Eprint> CountsTeller for LiveCounts<'_, E> {
     }
 }
 
-// Prints what was counted up to now as a line.
+// Prints the CRC-4 counts up to now as a line.
 fn print_live(rt: &impl Eprint, counts: &ReceiverCounts) {
     let _ = eprintln!(rt;
         "live submultiframes {} errored {} far_end_errored {} multiframes_found {} multiframes_lost {} given_up {}",

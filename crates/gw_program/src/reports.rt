@@ -1,4 +1,4 @@
-//! The file through which `crc4 --check` reports errored submultiframes to `crc4`.
+//! How the FIFO of `--reports` is opened, between `crc4 --check` and `crc4`.
 
 use crate::program_fault::ProgramFault;
 use crate::recording::never_wait;

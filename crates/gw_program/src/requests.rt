@@ -1,4 +1,4 @@
-//! The calls that do what the command line requests.
+//! Which method is called for the subcommand of the command line (`perform`).
 
 ghost use Rattle.std.specs.Prelude.{◌⊎◌};
 ghost use Rattle.clap.specs.Words.{subcommand_rows_of};

@@ -1,4 +1,4 @@
-//! A trunk over SAToP: `satop`.
+//! What `satop` does: carries an emulated circuit until the trunk ends (`perform_satop`).
 
 ghost use Rattle.gw_program.specs.Satop.{CarriesSatop};
 ghost use Rattle.gw_satop.specs.Session.{HasSettings};

@@ -1,4 +1,4 @@
-//! The streams that commands are performed on: standard input and standard output, and no other type.
+//! Which streams commands are performed on: standard input and output, and no other type.
 //!
 //! These traits are public in a module that is not, so no other crate says so of a type of its own. What
 //! passes octets on to standard output, or puts others in their place, is refused by its type.

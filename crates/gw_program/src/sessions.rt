@@ -1,4 +1,4 @@
-//! Sessions of a gateway: `replay`, `check` and `serve`. Each has its buffers in a frame of its own.
+//! Which session `replay`, `check` and `serve` run, and what `check` lists after a fault.
 
 ghost use Rattle.std.specs.Prelude.{◌≡◌, ◌≤◌, ◌-◌, ◌^◌, ◌<◌, None};
 ghost use Rattle.gw_records.specs.Streams.{CanBegin};
@@ -28,7 +28,7 @@ pub fn replay<S: Source, K: Sink>(
     run(alloc, gateway, source, sink)
 }
 
-/// The same, and shows each record to a watch.
+/// Processes records as `replay` does, and shows each to a watch.
 #[inline(never)]
 pub fn replay_watched<S: Source, K: Sink, W: Watch>(
     alloc: Global,

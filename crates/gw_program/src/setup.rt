@@ -1,4 +1,4 @@
-//! The configuration of a gateway, from a file.
+//! How the file of a configuration is read: at most 65,537 octets, then `gw_config` (`read_config`).
 
 ghost use Rattle.std.specs.Prelude.{◌≡◌, ◌++◌, IfSome, IfErr, OnOk, Option, List, ℕ, ⊤, option_map, take};
 ghost use Rattle.std.specs.declared.io.Error.{Error};
@@ -14,7 +14,7 @@ use std::{fs, io};
 // The most octets of the file that are read: one more than the longest configuration.
 const MOST_OCTETS: u64 = 65_537;
 
-// The configuration in these octets.
+// The configuration in the octets of a file.
 fn meaning_of(alloc: Global, octets: &[u8]) -> Result<Config, ProgramFault>
     ensures says { Says result (meaning_of_octets octets.now) }
     ensures read { IfErr result (FailsToRead (λ _. ⊥)) }

@@ -22,7 +22,7 @@ pub struct ReservedDescriptors {
     error: Option<File>,
 }
 
-// The file, if its descriptor is at most this one.
+// The opened file, if its descriptor is at most this standard one.
 fn up_to(most: RawFd, opened: io::Result<File>) -> Option<File>
     ensures { IfSome result (λ file. file_raw_fd file ≤ℤ most) }
 {

@@ -1,4 +1,4 @@
-//! The state of a gateway: loaded from a file, and saved to one.
+//! How a state's file is read for `--load`, and written, synced and renamed for `--save`.
 
 ghost use Rattle.std.specs.Prelude.{◌≡◌, ◌≤◌, ◌<◌, ◌^◌, [], length, IfOk, IfErr, OnOk};
 ghost use Rattle.std.specs.Io.KnownBytes.{Appends};

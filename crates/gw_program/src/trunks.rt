@@ -1,4 +1,4 @@
-//! A trunk in service: `trunk`.
+//! What `trunk` does: opens tape and ports, serves a trunk and its clients (`perform_trunk`).
 
 ghost use Rattle.std.specs.Prelude.{◌≡◌, ◌⊎◌, []};
 ghost use Rattle.gw_session.specs.Serve.{around};

@@ -1,4 +1,4 @@
-//! Laws of records, proved by functions that do nothing.
+//! Laws of records: octets are read as records in one way, and more octets keep them.
 ghost use Rattle.gw_records.specs.Laws.{AtMostOneReading, MoreKeepsRecords, EachIsRead};
 
 /// Octets are read as records in one way.

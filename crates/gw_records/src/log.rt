@@ -101,7 +101,7 @@ impl<T> Model for AtStart<T> {
 }
 
 impl<T> AtStart<T> {
-    /// The present value.
+    /// The value as it is at this start.
     pub fn of(_value: &T) -> AtStart<T>
         ensures { result.value ≡ _value.now }
     {

@@ -1,4 +1,4 @@
-//! The octets of commands and codecs in records.
+//! Which octet stands for a command or a codec in a record, and back.
 ghost use Rattle.std.specs.Prelude.{◌≡◌, ◌≤◌, SomeIff};
 ghost use Rattle.gw_records.specs.Octets.{command_of, octet_of_command, codec_of, octet_of_codec};
 

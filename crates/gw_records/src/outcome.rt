@@ -1,4 +1,4 @@
-//! The end of a session, and its totals.
+//! Why a session ends before its source (`RunFault`), and what it has counted (`Totals`).
 ghost use Rattle.std.specs.Prelude.{◌≡◌};
 ghost use Rattle.gw_records.specs.Outcome.{fault_number, answer_of};
 
@@ -77,7 +77,7 @@ impl RunFault {
     }
 }
 
-/// The result of a session whose records end so.
+/// The result of a session by the end of its records.
 pub fn answer(ending: RecordsEnd, totals: Totals) -> Result<Totals, RunFault>
     ensures { result ≡ answer_of ending totals }
 {

@@ -1,4 +1,4 @@
-//! The ports of circuits: datagrams received and sent.
+//! The trait of the circuits' ports, which receive and send datagrams (`Ports`).
 ghost use Rattle.std.specs.Prelude.{◌≤◌, length, IfOk, IfSome};
 ghost use Rattle.gw_records.specs.Ports.{PortsState, Receives, Sends, CountsFault, KeepsSends, KeepsReceives};
 

@@ -1,4 +1,4 @@
-//! The buffer of octets read, from which records are taken in place.
+//! When a session reads on, and where the octets that it has not used are kept (`Reader`).
 ghost use Rattle.std.specs.Prelude.{◌≡◌, ◌+◌, ◌<◌, ◌≤◌, [], vec_len, length, take, IfOk, OnErr};
 ghost use Rattle.gw_records.specs.Streams.{CountsRead, CountsTurn, Refills, GivesOctets};
 ghost use Rattle.gw_records.specs.Records.{is_open};
@@ -64,7 +64,7 @@ impl Reader {
     ghost use Rattle.gw_records.specs.Records.{end_of};
     ghost use Rattle.gw_records.specs.Reader.{held, ReadsOn, FailsToRead};
 
-    /// An empty reader.
+    /// An empty buffer, with its memory.
     #[tactic(auto, unfolding(crate::specs::Reader::held))]
     pub fn new(alloc: Global) -> Result<Reader, AllocError>
         ensures holds { IfOk result (λ r. held r ≡ []) }
@@ -86,7 +86,7 @@ impl Reader {
         &self.buffer[self.start..self.filled]
     }
 
-    /// Consumes octets.
+    /// Consumes the first octets in the buffer.
     #[tactic(auto, unfolding(crate::specs::Reader::held))]
     pub fn pass(&mut self, len: usize)
         requires { len ≤ length (held self.old) }
@@ -149,7 +149,7 @@ impl Reader {
         Ok(n)
     }
 
-    /// Reads more if that may change how the octets end.
+    /// Reads the source if that may change how the octets end.
     ///
     /// Returns whether octets arrived. It does not read while a whole or an invalid record is first.
     pub fn read_on<S: Source>(

@@ -1,4 +1,4 @@
-//! Records, and the first one in octets.
+//! Whether octets begin with a whole and valid record: kind, circuit, length (`first_record`).
 ghost use Rattle.std.specs.Prelude.{◌≡◌, ◌≢◌, ◌+◌, ◌<◌, ◌≤◌, ◌^◌};
 ghost use Rattle.std.specs.Prelude.{false, length, slice_index, Some, SomeIff, IfOk, IfErr};
 ghost use Rattle.gw_records.specs.Records.{IsCircuit, IsFirst, head_of, end_of, body_len, record_of};

@@ -1,4 +1,4 @@
-//! Octets to write to a sink.
+//! When octets are written to a sink, and when they wait in a buffer (`put`, `flush`).
 ghost use Rattle.std.specs.Prelude.{◌≡◌, ◌-◌, ◌<◌, ◌++◌, [], length, IfErr, OnOk, OnErr};
 ghost use Rattle.std.specs.Io.KnownBytes.{Appends};
 ghost use Rattle.gw_records.specs.Streams.{CanCount, Puts, Writes, FailsAfterPrefix};

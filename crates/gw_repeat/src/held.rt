@@ -1,4 +1,4 @@
-//! The datagrams of a circuit that are to be sent again.
+//! Which datagrams of a circuit wait for their repetition, and which is due (`RecentDatagrams`).
 
 ghost use Rattle.std.specs.Prelude.{◌≡◌, ◌<◌, ◌≤◌, ◌++◌, [], length, take, drop, option_to_list};
 ghost use Rattle.std.specs.Prelude.{IfOk, IfSome};

@@ -1,4 +1,4 @@
-//! A datagram in the queue.
+//! Whether a datagram can be kept for its repetition, by its length (`Packet`).
 
 ghost use Rattle.std.specs.Prelude.{◌≡◌, ◌≤◌, length, true, false, IfSome, IfNone};
 ghost use Rattle.gw_repeat.specs.Repetition.{has_room};

@@ -1,4 +1,4 @@
-//! Ports over other ports that send each datagram of a circuit twice.
+//! When a datagram of a circuit is sent again, behind a later one (`Repeating`).
 
 ghost use Rattle.std.specs.Prelude.{◌≡◌, ◌<◌, ◌≤◌, ◌-◌, ◌+◌, [], length, drop, vec_len, slice_index};
 ghost use Rattle.std.specs.Prelude.{slice_index_or, take, ℕ, IfOk, IfSome};

@@ -1,4 +1,4 @@
-//! The loop of an emulated circuit.
+//! The loop of `satop` until its trunk ends, and when its counts are reported (`carry_satop`).
 
 ghost use Rattle.std.specs.Prelude.{◌≡◌, ◌++◌, [], IfOk};
 ghost use Rattle.gw_satop.specs.Session.{HasSettings, PlaysAll, SendsAll};

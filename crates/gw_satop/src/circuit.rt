@@ -1,4 +1,4 @@
-//! An emulated circuit between a trunk and its far end.
+//! A turn of an emulated circuit: receives, plays what is due, sends (`SatopCircuit`).
 
 ghost use Rattle.std.specs.Prelude.{◌≡◌, ◌++◌, ◌<◌, ◌≤◌, [], ℕ, Bool, List, length, drop, true, nat_lt, IfOk};
 ghost use Rattle.gw_satop.specs.declared.line.Receiver.{Receiver};
@@ -46,7 +46,7 @@ pub struct SatopCircuit<I: TrunkInput, O: TrunkOutput, P: Peer> {
     ghost sends: { SendsAll sender (P.sent peer) (I.came incoming) },
 }
 
-// Drops the first octets.
+// Drops the first octets that are left for the trunk.
 fn drop_first(left: &mut ArrayVec<u8, 1280>, len: usize)
     requires { len ≤ length left.old.items }
     ensures { left.new.items ≡ drop len left.old.items }
@@ -180,14 +180,14 @@ impl<I: TrunkInput, O: TrunkOutput, P: Peer> SatopCircuit<I, O, P> {
         self.left.is_empty()
     }
 
-    /// What was counted.
+    /// The counts of the circuit.
     pub fn counts(&self) -> Counts
         ensures { result ≡ self.now.counts }
     {
         self.counts
     }
 
-    // A turn begins at this time.
+    // Moves the circuit's clock to the time of this turn.
     fn advance(&mut self, now: u64)
         ensures same { HasSettings self.old.receiver self.new.receiver self.old.sender self.new.sender
             self.old.pace self.new.pace }
@@ -212,7 +212,7 @@ impl<I: TrunkInput, O: TrunkOutput, P: Peer> SatopCircuit<I, O, P> {
         true
     }
 
-    /// Gives the trunk what is left for it.
+    /// Gives the trunk the played octets that are left for it.
     pub fn flush(&mut self) -> Result<(), DeviceFault>
         ensures all { IfOk result (λ _. self.new.left.items ≡ []) }
         ensures same { HasSettings self.old.receiver self.new.receiver self.old.sender self.new.sender
@@ -317,7 +317,7 @@ impl<I: TrunkInput, O: TrunkOutput, P: Peer> SatopCircuit<I, O, P> {
         Ok(())
     }
 
-    // All that came was read: a silence may begin.
+    // Notes that all that came was read, so a silence may begin.
     fn listen(&mut self)
         ensures same { HasSettings self.old.receiver self.new.receiver self.old.sender self.new.sender
             self.old.pace self.new.pace }
@@ -341,7 +341,7 @@ impl<I: TrunkInput, O: TrunkOutput, P: Peer> SatopCircuit<I, O, P> {
         self.take()
     }
 
-    /// When something is due if nothing comes.
+    /// The time at which the next turn is due if nothing comes.
     pub fn plan(&mut self) -> u64
         ensures same { HasSettings self.old.receiver self.new.receiver self.old.sender self.new.sender
             self.old.pace self.new.pace }

@@ -1,4 +1,4 @@
-//! What an emulated circuit counts.
+//! What an emulated circuit counts: packets lost, late, repeated, filled, malformed (`Counts`).
 
 ghost use Rattle.std.specs.Prelude.{◌≡◌, ◌&&◌, not, true};
 ghost use Rattle.gw_satop.specs.Counts.{counts_by_bits, counts_by_fault, counts_by_outcome, counts_by_play};
@@ -56,14 +56,14 @@ pub struct Counts {
     pub other_size: u64,
 }
 
-// One more.
+// Adds one to a count, up to the greatest u64.
 fn add(count: &mut u64)
     ensures { count.new ≡ more count.old }
 {
     *count = count.saturating_add(1);
 }
 
-// One more if this holds.
+// Adds one to a count if `holds` is set.
 fn add_if(holds: bool, count: &mut u64)
     ensures { count.new ≡ more_if holds count.old }
 {
@@ -73,7 +73,7 @@ fn add_if(holds: bool, count: &mut u64)
 }
 
 impl Counts {
-    /// Nothing is counted.
+    /// The counts before the first datagram, all 0.
     pub fn new() -> Counts
         ensures { result ≡ no_counts }
     {
@@ -99,7 +99,7 @@ impl Counts {
         }
     }
 
-    /// Counts what became of a datagram.
+    /// Counts a datagram: malformed, accepted, refused, or a stream's first.
     pub fn receive(&mut self, outcome: DatagramOutcome)
         ensures { self.new ≡ counts_by_outcome self.old outcome }
     {
@@ -114,7 +114,7 @@ impl Counts {
         }
     }
 
-    // Counts a packet that is refused.
+    // Counts a refused packet as late, repeated or too far ahead.
     fn receive_refused(&mut self, fault: ArrivalFault)
         ensures { self.new ≡ counts_by_refusal self.old fault }
     {
@@ -127,7 +127,7 @@ impl Counts {
         }
     }
 
-    // Counts a datagram that is no packet of the circuit.
+    // Counts a datagram that is malformed, by its fault.
     fn refuse(&mut self, fault: PacketFault)
         ensures { self.new ≡ counts_by_fault self.old fault }
     {

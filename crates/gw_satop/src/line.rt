@@ -1,4 +1,4 @@
-//! The received half of an emulated circuit: datagrams come, and the octets of the time slots are played.
+//! What becomes of a received datagram, and where a stream begins with it (`Receiver`).
 
 ghost use Rattle.std.specs.Prelude.{◌≡◌};
 
@@ -64,7 +64,7 @@ impl Receiver {
         })
     }
 
-    /// A datagram comes. Says what became of it.
+    /// Receives a datagram of the far end. Says what became of it.
     pub fn receive(&mut self, pace: &mut PlayClock, now: u64, datagram: &[u8]) -> DatagramOutcome
         ensures receipt { (calls : List PlayoutCall) → HasPlayed self.old calls
             → result ≡ receipt_of self.old.settings calls pace.old now

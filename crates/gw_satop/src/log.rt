@@ -27,7 +27,7 @@ impl Model for History {
 }
 
 impl History {
-    /// The history before anything.
+    /// The history before any datagram and packet.
     pub fn new() -> History
         ensures { result ≡ record { datagrams = []; flags = [] } }
     {

@@ -1,4 +1,4 @@
-//! When packets are played, and when a stream begins.
+//! When a packet is due, a silence begins or a new stream is recognised (`PlayClock`).
 
 ghost use Rattle.std.specs.Prelude.{◌≡◌, ◌≤◌};
 ghost use Rattle.gw_satop.specs.Pace.{after_listening, after_packet, after_plan, after_play, after_refusal};
@@ -39,7 +39,7 @@ struct Run {
     packets: u32,
 }
 
-// A run of one packet.
+// A run of one packet outside the window.
 fn new_run(sequence: u16, now: u64) -> Run
     ensures { result ≡ new_run sequence now }
 {
@@ -50,7 +50,7 @@ fn new_run(sequence: u16, now: u64) -> Run
     }
 }
 
-// The run with one more packet.
+// The run of packets outside the window with one more.
 fn run_with(run: Option<Run>, sequence: u16, now: u64) -> Run
     ensures { result ≡ run_with run sequence now }
 {
@@ -64,14 +64,14 @@ fn run_with(run: Option<Run>, sequence: u16, now: u64) -> Run
     }
 }
 
-// Whether it has lasted.
+// Whether a run has eight packets and 50 ms.
 fn is_long(run: Run, now: u64) -> bool
     ensures { result ≡ is_long run now }
 {
     run.packets >= RUN_PACKETS && now.saturating_sub(run.since) >= RUN_US
 }
 
-// Whether it came at no more than one and a half times the rate of the trunk.
+// Whether a run came at most at 1.5 times the trunk's rate.
 fn is_in_step(packet: u64, run: Run, now: u64) -> bool
     requires { packet ≤ 5000 }
     ensures { result ≡ is_in_step packet run now }
@@ -101,7 +101,7 @@ pub struct PlayClock {
 }
 
 impl PlayClock {
-    /// The pace from now on.
+    /// The playing of packets by this timing, from now on.
     pub fn new(timing: Timing, now: u64) -> PlayClock
         ensures { result ≡ new_pace timing now }
     {
@@ -132,7 +132,7 @@ impl PlayClock {
         self.silent
     }
 
-    /// A packet of the stream has come.
+    /// Notes a packet of the stream, which ends a silence.
     pub fn accept(&mut self, now: u64)
         ensures stands { self.new ≡ after_packet self.old now }
         ensures timing { self.new.timing ≡ self.old.timing }
@@ -156,7 +156,7 @@ impl PlayClock {
         }
     }
 
-    // A packet outside the window. Returns whether a new stream began.
+    // Notes a packet outside the window. Returns whether a new stream began.
     fn joins(&mut self, sequence: u16, now: u64) -> bool
         ensures joins { result ≡ is_stream self.old.timing.packet (run_with self.old.run sequence now) now }
         ensures stays { self.new ≡ record self.old {
@@ -177,7 +177,7 @@ impl PlayClock {
         false
     }
 
-    /// A packet was refused. Returns the number at which a stream begins with it, if one does.
+    /// Notes that a packet was refused. Returns the number at which a stream begins with it, if one does.
     pub fn refuse(&mut self, fault: ArrivalFault, sequence: u16, now: u64) -> Option<u16>
         ensures begins { result ≡ beginning self.old fault sequence now }
         ensures stands { self.new ≡ after_refusal self.old fault sequence now }
@@ -196,7 +196,7 @@ impl PlayClock {
         }
     }
 
-    // Whether this machine's clock plays.
+    // Whether this machine's clock says when packets are played.
     fn by_clock(&self) -> bool
         ensures { result ≡ by_clock self.now }
     {
@@ -215,7 +215,7 @@ impl PlayClock {
         waits && 1000 * self.timing.packet <= self.credit
     }
 
-    /// A packet was played.
+    /// Notes that a packet was played.
     pub fn play(&mut self)
         ensures stands { self.new ≡ after_play self.old }
         ensures timing { self.new.timing ≡ self.old.timing }
@@ -227,7 +227,7 @@ impl PlayClock {
         }
     }
 
-    /// It is now so late.
+    /// Moves the time on to now.
     pub fn advance(&mut self, now: u64)
         ensures stands { self.new ≡ at_time self.old now }
         ensures timing { self.new.timing ≡ self.old.timing }
@@ -244,7 +244,7 @@ impl PlayClock {
         }
     }
 
-    /// All that came was read. Returns whether a silence begins.
+    /// Notes that all that came was read. Returns whether a silence begins.
     pub fn listen(&mut self, now: u64) -> bool
         ensures begins { result ≡ falls_silent self.old now }
         ensures stands { self.new ≡ after_listening self.old now }

@@ -1,4 +1,4 @@
-//! The packets of an emulated circuit: the octets to play (ones if invalid), and datagrams to send.
+//! Whether a datagram is a packet of the circuit, and what is played for it: with bit L ones.
 
 ghost use Rattle.std.specs.Prelude.{◌≡◌, ◌≤◌, replicate};
 ghost use Rattle.gw_satop.specs.Packets.{fits, malformed_by, malformed_number, octets_to_play, packet_in};
@@ -47,7 +47,7 @@ impl PacketFault {
     }
 }
 
-// The fault of a datagram that is no packet.
+// The circuit's fault for a datagram that is no SAToP packet.
 fn malformed_by(fault: SatopFault) -> PacketFault
     ensures { result ≡ malformed_by fault }
 {

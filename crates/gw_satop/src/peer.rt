@@ -1,4 +1,4 @@
-//! The far end of an emulated circuit.
+//! The far end of an emulated circuit: its UDP address, and the socket that hears it alone (`Peer`).
 
 ghost use Rattle.std.specs.Prelude.{◌≡◌, ◌≤◌, ◌++◌, ◌∷◌, ℕ, List, [], length, take, IfSome, IfNone, IfOk};
 ghost use Rattle.std.specs.Prelude.{IfErr};
@@ -90,7 +90,7 @@ fn address_of<N: Net>(net: &N, text: &str) -> io::Result<SocketAddr>
     }
 }
 
-// Asks the system for it.
+// Asks the system for an address of host and port.
 #[tactic(auto, unfolding(crate::specs::Opening::SystemFinds))]
 fn find<N: Net>(net: &N, text: &str) -> io::Result<Option<SocketAddr>>
     ensures { SystemFinds text.now result }
@@ -98,7 +98,7 @@ fn find<N: Net>(net: &N, text: &str) -> io::Result<Option<SocketAddr>>
     Ok(text.to_socket_addrs(net)?.next())
 }
 
-// A socket at this address.
+// Opens a UDP socket at an address here.
 #[tactic(auto, unfolding(crate::specs::Opening::SystemRefusesSocket))]
 fn socket_at<S: Socket, N: Net>(net: &N, here: SocketAddr) -> io::Result<S>
     ensures ok { IfOk result (λ s. S.is_bound s here) }
@@ -107,7 +107,7 @@ fn socket_at<S: Socket, N: Net>(net: &N, here: SocketAddr) -> io::Result<S>
     S::bind(net, here)
 }
 
-// Has the socket take datagrams from this address alone.
+// Connects the socket, so that it takes datagrams of the peer alone.
 #[tactic(auto, unfolding(crate::specs::Opening::SystemRefusesPeer))]
 fn take_from<S: Socket>(socket: &S, peer: SocketAddr) -> io::Result<()>
     ensures err { IfErr result (SystemRefusesPeer peer) }

@@ -1,4 +1,4 @@
-//! A trunk that is read only if it has something.
+//! The trunk of `satop` on standard input, read only if the system reports octets (`WhenReady`).
 
 ghost use Rattle.std.specs.Prelude.{◌≡◌, [], IfOk, IfErr};
 ghost use Rattle.gw_satop.specs.Opening.{SystemRefusesTrunk};
@@ -18,7 +18,7 @@ pub struct WhenReady<I: TrunkInput> {
 }
 
 impl<I: TrunkInput + Drop> WhenReady<I> {
-    /// What comes from `incoming`, whose descriptor this is. The error is the system's.
+    /// A trunk read from `incoming` only when its descriptor is ready. The error is the system's.
     #[tactic(auto, unfolding(crate::specs::Opening::SystemRefusesTrunk))]
     pub fn open(rt: &HostRuntime, incoming: I, descriptor: i32) -> io::Result<WhenReady<I>>
         ensures ok { IfOk result (λ r. r.incoming ≡ incoming) }
@@ -31,7 +31,7 @@ impl<I: TrunkInput + Drop> WhenReady<I> {
     }
 }
 
-// What comes from a reader, whose descriptor this is.
+// A trunk's input from a reader with this descriptor.
 #[tactic(auto, unfolding(crate::specs::Opening::SystemRefusesTrunk))]
 fn device<R: Drop>(rt: &HostRuntime, reader: R, descriptor: i32) -> io::Result<FromDevice<R>>
     ensures ok { IfOk result (λ d. d.log.octets ≡ []) }
@@ -40,7 +40,7 @@ fn device<R: Drop>(rt: &HostRuntime, reader: R, descriptor: i32) -> io::Result<F
     FromDevice::open(rt, reader, descriptor)
 }
 
-/// What comes from a reader, whose descriptor this is, if it has something. The error is the system's.
+/// A trunk's input from a reader, only when its descriptor is ready. The error is the system's.
 pub fn open_input<R: Read + Drop>(
     rt: &HostRuntime,
     reader: R,
@@ -53,7 +53,7 @@ pub fn open_input<R: Read + Drop>(
     WhenReady::open(rt, incoming, descriptor)
 }
 
-/// What goes to a writer, whose descriptor this is. The error is the system's.
+/// A trunk's output to a writer with this descriptor. The error is the system's.
 #[tactic(auto, unfolding(crate::specs::Opening::SystemRefusesTrunk))]
 pub fn open_output<W: Drop>(rt: &HostRuntime, writer: W, descriptor: i32) -> io::Result<ToDevice<W>>
     ensures ok { IfOk result (λ d. d.log.octets ≡ []) }

@@ -1,4 +1,4 @@
-//! The sent half of an emulated circuit: the octets of a trunk as packets.
+//! How the octets of a trunk become packets: sequence number, timestamp, bit R (`Sender`).
 
 ghost use Rattle.std.specs.Prelude.{◌≡◌, ◌++◌, ◌∷◌, ◌*◌, ◌<◌, ◌≤◌, [], nat_le, ◌-◌, length, take, drop};
 ghost use Rattle.std.specs.Prelude.{IsTrue, IsFalse, IfSome, ◌^◌, ◌%◌, ◌+◌, ◌/◌};
@@ -127,7 +127,7 @@ impl Sender {
         true
     }
 
-    // Writes the packet of the octets that are held.
+    // Writes the SAToP packet of the octets that are held.
     fn write_packet(&self, missing: bool, out: &mut ArrayVec<u8, 1296>)
         ensures { out.new.items
             ≡ packet_at self.now.start (length self.now.log.flags) missing self.now.held.items }

@@ -1,4 +1,4 @@
-//! What an emulated circuit has of this system: its clock, what is waited for, and standard error.
+//! How `satop` waits, for the socket and the trunk until a time, and reports counts (`SystemClock`).
 
 ghost use Rattle.std.specs.Prelude.{◌≡◌, IfErr};
 ghost use Rattle.gw_satop.specs.Opening.{SystemRefusesTrunk};

@@ -1,4 +1,4 @@
-//! How an emulated circuit is timed.
+//! The length of a packet in time, the jitter and whose clock plays (`Timing`).
 
 ghost use Rattle.std.specs.Prelude.{◌≡◌, ◌≤◌, ◌*◌};
 ghost use Rattle.gw_satop.specs.Times.{IsPacketMicros};

@@ -1,4 +1,4 @@
-//! Octets of the trunk, and the datagrams that come and go with them.
+//! What a session does for each octet of the trunk: datagrams received, packets sent.
 ghost use Rattle.std.specs.Prelude.{◌≡◌, ◌∷◌, List, [], Some};
 ghost use Rattle.gw_switch.specs.declared.GatewayConfig.{GatewayConfig};
 ghost use Rattle.gw_switch.specs.Events.{Event};

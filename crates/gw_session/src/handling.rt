@@ -1,4 +1,4 @@
-//! Records that a gateway inputs on, and what is written for them.
+//! What a session does for one record of any kind, and how it is answered (`handle_record`).
 ghost use Rattle.std.specs.Prelude.{◌≡◌, ◌^◌, ◌<◌, ◌≤◌, ◌∷◌, ◌++◌, length, OnOk};
 ghost use Rattle.byteorder.specs.Endian.{big_bytes};
 ghost use Rattle.gw_switch.specs.Events.{Event};

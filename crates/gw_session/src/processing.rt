@@ -1,4 +1,4 @@
-//! A session: records of a source, acted on one after another.
+//! The loop of a session over the records of its source, and how it ends (`process_records`).
 ghost use Rattle.std.specs.Prelude.{◌≡◌, ◌^◌, ◌≤◌, [], vec_len, IfOk, IfErr};
 ghost use Rattle.std.specs.Io.KnownBytes.{Appends};
 ghost use Rattle.gw_records.specs.Streams.{CanBegin};

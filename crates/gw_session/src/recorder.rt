@@ -1,4 +1,4 @@
-//! A recorder, which writes what it records to a sink until a write fails.
+//! What a recording writes to its sink, and when it has ended (`Recorder`).
 ghost use Rattle.std.specs.Prelude.{◌≡◌, ◌-◌, ◌^◌, ◌<◌, false, length};
 ghost use Rattle.gw_records.specs.Records.{IsGood, named, spelled, record_of};
 ghost use Rattle.gw_records.specs.Streams.{CanCount};
@@ -12,7 +12,7 @@ use gw_records::{
     octet_of_command, write_all,
 };
 
-// Fills a record.
+// Fills the room with a record of this kind, circuit and body.
 fn fill(room: &mut TrunkRecord, kind: u8, circuit: u8, body: &[u8])
     requires { length body.now < 2 ^ 16 }
     ensures { room.new.items ≡ record_of kind circuit body.now }
@@ -21,7 +21,7 @@ fn fill(room: &mut TrunkRecord, kind: u8, circuit: u8, body: &[u8])
     append(room, kind, circuit, body);
 }
 
-// Spells a record.
+// Fills the room with the record of a head and a body.
 fn spell(room: &mut TrunkRecord, head: RecordHead, body: &[u8])
     requires { IsGood all_kinds (named head body.now) }
     ensures { room.new.items ≡ spelled (named head body.now) }
@@ -87,7 +87,7 @@ impl<K: Sink> Recorder<K> {
         }
     }
 
-    /// Where it is written to.
+    /// The sink that the recording is written to.
     pub fn sink(&self) -> &K
         ensures { result.now ≡ self.now.sink }
     {

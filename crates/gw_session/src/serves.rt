@@ -1,4 +1,4 @@
-//! Sessions of a gateway whose datagrams come and go through ports.
+//! A session whose datagrams come and go through ports, also recorded (`serve`).
 ghost use Rattle.std.specs.Prelude.{IfOk, IfErr};
 ghost use Rattle.gw_records.specs.Streams.{CanBegin};
 ghost use Rattle.gw_session.specs.Tape.{no_tape};

@@ -1,4 +1,4 @@
-//! Records as octets, one behind the other.
+//! A record appended as octets: kind, circuit, length and body (`append`).
 ghost use Rattle.std.specs.Prelude.{◌≡◌, ◌+◌, ◌^◌, ◌<◌, ◌≤◌, ◌++◌, length};
 ghost use Rattle.gw_records.specs.Records.{record_of};
 

@@ -1,4 +1,4 @@
-//! Tapes, on which events are recorded as they happen.
+//! In which order events are recorded, and which are collected for one write (`Tape`).
 ghost use Rattle.std.specs.Prelude.{◌≡◌, ◌+◌, ◌^◌, ◌<◌, ◌≤◌, ◌∷◌, ◌++◌, [], length, map, true, false, None};
 ghost use Rattle.gw_switch.specs.Events.{Event};
 ghost use Rattle.gw_records.specs.Records.{IsGood, named};
@@ -90,7 +90,7 @@ pub struct OnTape {
 impl OnTape {
     ghost use Rattle.std.specs.Prelude.{◌≡◌};
 
-    // A record of this head is on the tape.
+    // The mark that a record of this head is on the tape.
     #[tactic(auto, unfolding(crate::specs::Tape::kind_and_circuit))]
     fn of(head: &RecordHead) -> OnTape
         ensures { result ≡ kind_and_circuit head.now }
@@ -115,7 +115,7 @@ impl OnTape {
         }
     }
 
-    /// The kind of the record, as an octet.
+    /// The kind of the recorded record, as an octet.
     pub fn kind(&self) -> u8
         ensures { result ≡ self.now.kind }
     {
@@ -141,7 +141,7 @@ pub fn record<T: Tape>(tape: &mut T, head: RecordHead, body: &[u8]) -> OnTape
     on_tape
 }
 
-// Records the batch, which is empty then.
+// Puts the batch on the tape, which empties it.
 fn write_batch<T: Tape>(tape: &mut T, batch: &mut Batch)
     ensures written { WritesRecords (T.tells tape.old) (T.tells tape.new) batch.old.items }
     ensures empty { batch.new.items ≡ [] }

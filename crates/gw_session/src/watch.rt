@@ -1,4 +1,4 @@
-//! What watches a session: it sees the gateway after each record, and changes nothing of it.
+//! The trait of a watch, which sees record, answer and gateway after each record (`Watch`).
 
 ghost use Rattle.std.specs.Prelude.{◌≡◌};
 ghost use Rattle.gw_records.specs.Records.{named};

@@ -1,4 +1,4 @@
-//! Octets of speech to code words.
+//! Octets of speech coded in place to the words of a stream's codec.
 ghost use Rattle.std.specs.Prelude.{◌≡◌, ◌^◌, ◌<◌, ◌++◌, ℕ, List, length};
 ghost use Rattle.std.specs.List.{All};
 ghost use Rattle.rtp_pack.specs.Payload.{IsWordSize};

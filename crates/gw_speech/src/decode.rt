@@ -1,4 +1,4 @@
-//! Records of datagrams to speech.
+//! Which datagrams are decoded to speech, and which are skipped (`decode_stream`).
 ghost use Rattle.std.specs.Prelude.{◌≡◌, ◌-◌, ◌^◌, ◌<◌, ◌∷◌, ◌++◌, ℕ, List, []};
 ghost use Rattle.std.specs.Prelude.{Some, None, MatchOption, OnOk, IfOk, IfErr, is_some, unwrap_or};
 ghost use Rattle.std.specs.List.{All};
@@ -146,7 +146,7 @@ fn put_datagram<K: Sink>(
     }
 }
 
-// The totals after one more record.
+// The totals of decoding after one more record.
 fn count_record(totals: Totals, is_decoded: bool) -> Totals
     ensures { result ≡ count_record totals is_decoded }
 {

@@ -1,4 +1,4 @@
-//! Speech to records of datagrams.
+//! Speech cut into packets and the last one filled, as records of datagrams (`encode_stream`).
 ghost use Rattle.std.specs.Prelude.{◌≡◌, ◌+◌, ◌-◌, ◌*◌, ◌^◌, ◌<◌, ◌≤◌, ◌++◌};
 ghost use Rattle.std.specs.Prelude.{ℕ, List, [], length, take, IfOk, OnOk, IfErr};
 ghost use Rattle.std.specs.List.{All};
@@ -55,7 +55,7 @@ fn first_packet(sequence: u16, timestamp: u32) -> NextPacket
     }
 }
 
-// The state after one more packet.
+// The numbers of the packet after this one.
 #[tactic(auto, unfolding(crate::specs::Encode::header_at))]
 fn next_packet(spec: &StreamSpec, progress: &NextPacket) -> NextPacket
     ensures { (k : ℕ) → IsPacket spec.now progress.now k → IsPacket spec.now result (k + 1) }

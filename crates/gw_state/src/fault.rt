@@ -1,4 +1,4 @@
-//! Why octets are not the state of a gateway.
+//! Why octets are not the state of a gateway, and the number of each kind (`LoadFault`).
 
 ghost use Rattle.std.specs.Prelude.{◌≡◌};
 ghost use Rattle.gw_state.specs.Faults.{kind_number};

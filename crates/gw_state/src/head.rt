@@ -1,4 +1,4 @@
-//! What stands in a state before its gateway.
+//! The octets of a state before its gateway: mark, version, configuration (`state_head`).
 
 ghost use Rattle.std.specs.Prelude.{◌≡◌, ◌+◌, ◌++◌, ◌∷◌, [], OnOk, IfOk, flat_map, length};
 ghost use Rattle.gw_state.specs.Layout.{law_octet, role_octet, saved_start, saved_settings, state_head};
@@ -45,7 +45,7 @@ fn kind_number(codec: CodecKind) -> u8
     }
 }
 
-// What a circuit sends at first.
+// Appends the SSRC, sequence number and timestamp a circuit begins with.
 fn append_start(out: &mut Vec<u8>, circuit: &CircuitConfig) -> Result<(), AllocError>
     ensures { OnOk result (out.new.items
         ≡ out.old.items ++ saved_start circuit.now.ssrc circuit.now.sequence circuit.now.timestamp) }
@@ -55,7 +55,7 @@ fn append_start(out: &mut Vec<u8>, circuit: &CircuitConfig) -> Result<(), AllocE
     append_u32(out, circuit.timestamp)
 }
 
-// How a circuit is set up.
+// Appends the octets of a circuit's configuration.
 #[tactic(auto, unfolding(crate::specs::Layout::saved_settings))]
 fn append_settings(out: &mut Vec<u8>, circuit: &CircuitConfig) -> Result<(), AllocError>
     ensures { OnOk result (out.new.items ≡ out.old.items ++ saved_settings circuit.now) }
@@ -81,7 +81,7 @@ fn append_all(out: &mut Vec<u8>, circuits: &[CircuitConfig; 30]) -> Result<(), A
     Ok(())
 }
 
-// The mark, the version, the configuration.
+// The octets before the gateway: mark, version and configuration.
 #[tactic(auto, unfolding(crate::specs::Layout::state_head))]
 pub(crate) fn state_head(alloc: Global, config: &GatewayConfig) -> Result<Vec<u8>, AllocError>
     ensures octets { IfOk result (λ head. head.items ≡ state_head config.now) }

@@ -1,4 +1,4 @@
-//! A gateway from the octets of its state.
+//! Whether octets are a state: mark, version, check sum, configuration, gateway (`load_gateway`).
 
 ghost use Rattle.std.specs.Prelude.{◌≡◌, ◌≢◌, ◌≤◌, ◌<◌, ◌++◌, ◌∷◌, [], ℕ, List, IfOk, IfErr, IfSome, IfNone};
 ghost use Rattle.std.specs.Prelude.{length, take};
@@ -59,7 +59,7 @@ fn front_of(octets: &[u8]) -> Result<&[u8], LoadFault>
     summed_front(octets).ok_or(LoadFault::of(StateKind::Sum))
 }
 
-// The fault of a value.
+// The fault of a state by that of its gateway's octets.
 fn of_value(fault: StateFault) -> LoadFault
     ensures { IsOfValue result }
 {

@@ -1,4 +1,4 @@
-//! The state of a gateway as octets.
+//! The octets of a gateway's state, with their SHA-256 at the end (`state_file`).
 
 ghost use Rattle.std.specs.Prelude.{◌≡◌, IfOk, OnOk, ◌++◌};
 ghost use Rattle.sha2.specs.Sha256.{sha256};

@@ -1,4 +1,4 @@
-//! How circuits are set up, read from the octets of a state.
+//! Whether the configuration in a state's octets is one of thirty circuits, and its values.
 
 ghost use Rattle.std.specs.Prelude.{◌≡◌, ◌<◌, ◌^◌, ◌++◌, ◌∷◌, ℕ, List, IfSome, OnOk, IfErr, Some, Ok, All};
 ghost use Rattle.std.specs.Prelude.{flat_map, length, true};
@@ -113,7 +113,7 @@ fn read_numbers(octets: &mut OctetReader<'_>) -> Option<(u16, Start)>
     Some((prefill, start))
 }
 
-// How a circuit is set up; None if the octets are those of no circuit.
+// Reads a circuit's configuration; None if the octets are not one.
 #[tactic(auto, unfolding(crate::specs::Layout::saved_settings))]
 fn read_settings(octets: &mut OctetReader<'_>) -> Option<CircuitConfig>
     ensures next { (c : settings.CircuitConfig) (rest : List ℕ) → SettingsFit c
@@ -149,8 +149,8 @@ fn read_or(other: &CircuitConfig, octets: &mut OctetReader<'_>) -> (CircuitConfi
     }
 }
 
-// How thirty circuits are set up, into these. The error is the number of the first one whose octets are those
-// of no circuit.
+// Reads the configurations of thirty circuits into these. The error is the number of the first one whose
+// octets are those of no circuit.
 pub(crate) fn read_circuits(
     circuits: &mut [CircuitConfig; 30],
     octets: &mut OctetReader<'_>,

@@ -1,4 +1,4 @@
-//! Octets that a client has not taken yet.
+//! The octets that a client of `--tell` has not taken yet, and when their room is full (`Backlog`).
 
 ghost use Rattle.std.specs.Prelude.{◌≡◌, ◌+◌, ◌≤◌, ◌++◌, length, take, vec_len};
 
@@ -47,7 +47,7 @@ impl Backlog {
         })
     }
 
-    /// Drops all that waits.
+    /// Drops all octets that wait.
     #[tactic(auto, unfolding(crate::specs::Backlog::waiting))]
     pub fn clear(&mut self)
         ensures { waiting self.new ≡ [] }
@@ -56,7 +56,7 @@ impl Backlog {
         self.filled = 0;
     }
 
-    /// What waits.
+    /// The octets that wait for the client.
     #[tactic(auto, unfolding(crate::specs::Backlog::waiting))]
     pub fn octets(&self) -> &[u8]
         ensures { result.now ≡ waiting self.now }
@@ -64,7 +64,7 @@ impl Backlog {
         &self.room[self.start..self.filled]
     }
 
-    /// Drops the first octets that wait.
+    /// Drops the first octets, which the client has taken.
     #[tactic(auto, unfolding(crate::specs::Backlog::waiting))]
     pub fn pass(&mut self, len: usize)
         requires { len ≤ length (waiting self.old) }

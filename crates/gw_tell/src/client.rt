@@ -1,4 +1,4 @@
-//! A client that is sent what changes.
+//! When a client of `--tell` gets lines, and when it is disconnected (`Client`).
 
 ghost use Rattle.std.specs.Prelude.{◌≡◌, ◌≤◌, ◌++◌, [], length, take, drop, IfOk, OnOk};
 ghost use Rattle.gw_tell.specs.Backlog.{waiting};
@@ -90,8 +90,8 @@ impl Client {
         write_now(&mut self.stream, &mut self.got, octets)
     }
 
-    /// Sends it octets. What it does not take at once waits for it, behind what waits already. A client for
-    /// whom there is no room for all of them is to be disconnected.
+    /// Sends the client octets. What it does not take at once waits for it, behind what waits already. A
+    /// client for whom there is no room for all of them is to be disconnected.
     pub fn give(&mut self, octets: &[u8]) -> Result<(), Away>
         ensures ok { OnOk result (sent self.new ≡ sent self.old ++ octets.now) }
         ensures last { self.new.last ≡ self.old.last }
@@ -123,7 +123,7 @@ impl Client {
         self.give(text)
     }
 
-    /// Writes what waits for it, and reads what it sent, if anything.
+    /// Writes what waits for the client, and reads what it sent.
     pub fn listen(&mut self) -> Result<(), Away>
         ensures sent { OnOk result (sent self.new ≡ sent self.old) }
         ensures last { self.new.last ≡ self.old.last }

@@ -1,4 +1,4 @@
-//! How a trunk stands: its alarms, and the status of each circuit.
+//! The alarms of a trunk and the status of its circuits at one moment (`GatewayStatus`).
 
 ghost use Rattle.std.specs.Prelude.{◌≡◌, ◌≤◌};
 
@@ -35,7 +35,7 @@ impl GatewayStatus {
         rows
     }
 
-    /// How a gateway stands.
+    /// The alarms and circuit statuses of a gateway now.
     #[inline(never)]
     pub fn of(gateway: &Gateway) -> GatewayStatus
         ensures { Shows result gateway.now }

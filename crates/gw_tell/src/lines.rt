@@ -1,4 +1,4 @@
-//! The lines that a client gets.
+//! The text of each line that a client of `--tell` gets: alarms, events, circuits, seizures.
 
 ghost use Rattle.std.specs.Prelude.{◌≡◌, ◌≤◌, ◌+◌, ◌++◌, length};
 ghost use Rattle.gw_records.specs.Records.{named};
@@ -16,7 +16,7 @@ use gw_switch::Alarms;
 // The length of the fixed header of an RTP datagram (RFC 3550, 5.1).
 const HEADER_LEN: usize = 12;
 
-/// Adds the line of a place.
+/// Adds the line `at` of a place on the trunk.
 pub fn push_at(text: &mut Text, place: u64)
     requires { length text.old.items + 24 ≤ 3200 }
     ensures line { text.new.items ≡ text.old.items ++ at_line place }
@@ -113,7 +113,7 @@ pub fn push_seizures(text: &mut Text, counts: &[u64; 30])
     push_line(text, b"seizures", counts);
 }
 
-/// The first line.
+/// The first line that a client gets, with the law.
 pub fn hello_line(law: Law) -> &'static [u8]
     ensures line { result.now ≡ hello_line law }
     ensures len { length result.now ≤ 15 }

@@ -1,4 +1,4 @@
-//! A place of a client, with the room that it has while it is free.
+//! One of eight places for clients of `--tell`: its client, or the room that it has (`ClientSlot`).
 
 ghost use Rattle.std.specs.Prelude.{◌≡◌, ◌≤◌, ◌++◌, [], length, take, drop, IfOk, None};
 ghost use Rattle.gw_tell.specs.Clients.{Gets, IsTold};
@@ -30,7 +30,7 @@ impl ClientSlot {
         }
     }
 
-    // Lets its client go, and keeps the room.
+    // Disconnects the client of the place, and keeps the room.
     fn let_go(&mut self)
         ensures { self.new.client ≡ None }
     {

@@ -1,4 +1,4 @@
-//! What is reported of a record, and to a new client.
+//! Which changes a record brings to clients of `--tell`, and what a new client gets.
 
 ghost use Rattle.std.specs.Prelude.{◌≡◌, ◌≤◌, ◌+◌, ◌*◌, ◌++◌, [], length};
 ghost use Rattle.gw_records.specs.Records.{named};
@@ -37,14 +37,14 @@ fn counted_as(is: &Status, was: &Status) -> Status
     }
 }
 
-// What a circuit has to have been for nothing to be reported of it.
+// The status a circuit must have had for nothing to be reported.
 fn quiet_at(due: bool, was: &Status, is: &Status) -> Status
     ensures { result ≡ quiet_at due was.now is.now }
 {
     if due { *is } else { counted_as(is, was) }
 }
 
-// Reports a circuit if there is anything to report of it.
+// Reports a circuit that has changed, by its counts only when due.
 fn report_row(circuit: CircuitNo, due: bool, told: &mut Status, is: &Status, text: &mut Text)
     requires { length text.old.items + 80 ≤ 3200 }
     ensures step { RowStep due circuit told.old is.now told.new text.old.items text.new.items }
@@ -57,7 +57,7 @@ fn report_row(circuit: CircuitNo, due: bool, told: &mut Status, is: &Status, tex
     *told = *is;
 }
 
-// Reports the circuits.
+// Reports the circuits that have changed.
 fn report_rows(due: bool, told: &mut [Status; 30], is: &[Status; 30], text: &mut Text)
     requires { length text.old.items + 2400 ≤ 3200 }
     ensures steps { RowSteps due told.old is.now told.new text.old.items text.new.items 30 }

@@ -1,4 +1,4 @@
-//! How often the lines were seized.
+//! When a line counts as seized, and how often each was.
 
 ghost use Rattle.std.specs.Prelude.{◌≡◌};
 ghost use Rattle.gw_tell.specs.Seizures.{is_seizure, AreCounted};

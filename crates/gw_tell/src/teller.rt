@@ -1,4 +1,4 @@
-//! A watch of a session that sends clients the state of the trunk.
+//! When clients of `--tell` are accepted, looked at and sent what changed (`Teller`).
 
 ghost use Rattle.std.specs.Prelude.{◌≡◌, ◌⊎◌, ◌<◌, ◌≤◌, ◌++◌, ℕ, [], length, take, drop, IfSome, None};
 ghost use Rattle.std.specs.Prelude.{IsTrue, IfOk};
@@ -58,7 +58,7 @@ fn tell_all(places: &mut [ClientSlot; 8], text: &[u8], front: usize, at: u64)
     }
 }
 
-// Whether there is no client.
+// Whether all places for clients are free.
 fn are_free(places: &[ClientSlot; 8]) -> bool
     ensures { IsTrue result → AllFree places.now }
 {
@@ -82,7 +82,7 @@ fn free_place(places: &[ClientSlot; 8]) -> Option<usize>
     None
 }
 
-// Takes the room of a place.
+// Takes the room of a free place, for a new client.
 fn take_room(place: &mut ClientSlot) -> Option<Backlog>
     ensures { place.new.client ≡ place.old.client }
 {

@@ -1,4 +1,4 @@
-//! Text that is put together in room of its own.
+//! Lines of a word and numbers, put together without taking memory (`Text`).
 
 ghost use Rattle.std.specs.Prelude.{◌≡◌, ◌≤◌, ◌+◌, ◌*◌, ◌++◌, length};
 ghost use Rattle.gw_tell.specs.Lines.{spaced, number_line};
@@ -9,7 +9,7 @@ use itoa::Buffer;
 /// Room for the longest text, which the whole state stands in.
 pub type Text = ArrayVec<u8, 3_200>;
 
-/// Adds octets.
+/// Adds octets to a text.
 pub fn push(text: &mut Text, octets: &[u8])
     requires { length text.old.items + length octets.now ≤ 3200 }
     ensures { text.new.items ≡ text.old.items ++ octets.now }

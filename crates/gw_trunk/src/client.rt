@@ -1,4 +1,4 @@
-//! A client of a trunk, who gives commands and takes their answers.
+//! Whether a client's command has come whole, and when the client is disconnected (`Client`).
 
 ghost use Rattle.std.specs.Prelude.{◌≡◌, ◌⊎◌, ◌≤◌, ◌++◌, [], true, false, length, drop, OnOk, OnErr};
 ghost use Rattle.gw_trunk.specs.Clients.{HasNoRecord, IsAnswered, Replies, Stays};
@@ -79,7 +79,7 @@ impl Client {
         }
     }
 
-    /// Something may have come from it, or it has hung up.
+    /// Notes that the client may have sent something, or has hung up.
     pub fn wake(&mut self, has_left: bool)
         ensures stays { Stays self.old self.new }
         ensures ready { self.new.ready ≡ true }
@@ -88,7 +88,7 @@ impl Client {
         self.left = self.left || has_left;
     }
 
-    // Notes that its end was read. What came before the end is still to be acted on.
+    // Notes that the client's end was read. What came before the end is still to be acted on.
     fn end(&mut self)
         ensures { Stays self.old self.new }
     {
@@ -129,7 +129,7 @@ impl Client {
         }
     }
 
-    // Drops the first octets that are held.
+    // Drops the first octets held from the client.
     fn pass(&mut self, len: usize)
         requires { len ≤ length self.old.held.items }
         ensures { Stays self.old self.new }
@@ -139,8 +139,8 @@ impl Client {
         self.held = rest;
     }
 
-    // What it comes to if no record is whole: it has none yet, unless its end was read, or so much has come
-    // that it is none.
+    // The poll of a client without a whole record: none yet, unless its end was read, or it has sent too
+    // much.
     fn nothing(&self, room: &[u8]) -> ClientPoll
         requires { HasNoRecord self.now.held.items }
         ensures { Replies result self.now self.now room.now }
@@ -152,7 +152,7 @@ impl Client {
         }
     }
 
-    // Its next record, of those octets that are held.
+    // The client's next record, in the octets that are held.
     fn next_record(&mut self, room: &mut [u8]) -> ClientPoll
         ensures { Replies result self.old self.new room.new }
     {
@@ -173,8 +173,8 @@ impl Client {
         }
     }
 
-    /// Takes its next record to the front of `room`, if it has a whole one. A client that has hung up is
-    /// disconnected only behind its last whole record.
+    /// Takes the client's next record to `room`, if it is whole. A client that has hung up is disconnected
+    /// only behind its last whole record.
     pub fn ask(&mut self, room: &mut [u8]) -> ClientPoll
         ensures { Replies result self.old self.new room.new }
     {
@@ -189,8 +189,8 @@ impl Client {
         self.next_record(room)
     }
 
-    /// Gives it an answer. A client that does not take it whole at once is to be disconnected, unless it has
-    /// hung up: then nobody gets the answer.
+    /// Gives the client an answer. A client that does not take it whole at once is to be disconnected, unless
+    /// it has hung up: then nobody gets the answer.
     pub fn answer(&mut self, answer: &[u8]) -> Result<(), Away>
         ensures gave { self.new.gave.octets ≡ self.old.gave.octets }
         ensures ok { OnOk result (IsAnswered self.old self.new answer.now) }

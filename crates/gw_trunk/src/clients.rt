@@ -1,4 +1,4 @@
-//! The clients of a trunk: accepted, asked in turn, disconnected; and whether the trunk can be read now.
+//! Clients that give commands: accepted, asked in turn, disconnected; whether the trunk can be read now.
 
 ghost use Rattle.std.specs.Prelude.{◌≡◌, ◌⊎◌, ◌==◌, ◌||◌, ◌-◌, ◌<◌, ◌≤◌, Some, None, true, false, length};
 ghost use Rattle.std.specs.Prelude.{IfSome};
@@ -126,7 +126,7 @@ fn note(
     }
 }
 
-// Notes that something has come for each token of these events.
+// Notes events for the trunk, the door and clients, by their tokens.
 fn note_all(events: &Events, octets: &mut bool, knocks: &mut bool, places: &mut [Option<Client>; 8])
     ensures { AllKeep places.old places.new }
 {
@@ -141,8 +141,8 @@ fn note_all(events: &Events, octets: &mut bool, knocks: &mut bool, places: &mut 
     }
 }
 
-// A new client takes the place of the lowest rank: a free one, else that of a client that has left, else that
-// of the oldest client that never gave a record.
+// The rank of a place: a new client takes the lowest, a free one, else that of a client that has left, else
+// that of the oldest client that never gave a record.
 fn rank(place: &Option<Client>) -> u64 {
     match place {
         None => 0,
@@ -200,7 +200,7 @@ impl Clients {
         })
     }
 
-    // Notes what has come, and waits for it if asked to.
+    // Notes the events of trunk, door and clients; waits if asked to.
     fn look(&mut self, timeout: Option<Duration>)
         ensures asker { self.new.asker ≡ self.old.asker }
         ensures keep { AllKeep self.old.places self.new.places }
@@ -223,8 +223,9 @@ impl Clients {
         let _ = registry.reregister(trunk, Token(TRUNK), Interest::READABLE);
     }
 
-    // Waits until something comes. Each end answered that it has nothing, and no event has come since. (The
-    // trunk is registered again, so that octets that came before are reported too.)
+    // Waits until an event of the trunk, the door or a client. Each end answered that it has nothing, and no
+    // event has come since. (The trunk is registered again, so that octets that came before are reported
+    // too.)
     fn sleep(&mut self)
         requires octets { self.old.octets ≡ false }
         requires knocks { self.old.knocks ≡ false }
@@ -304,8 +305,8 @@ impl Clients {
         }
     }
 
-    /// Accepts connections, without waiting. What has come was noted before the trunk was read; if that is a
-    /// regular file, it is noted here.
+    /// Accepts the clients that wait at the door, without waiting. What has come was noted before the trunk
+    /// was read; if that is a regular file, it is noted here.
     pub fn let_in(&mut self)
         ensures { self.new.asker ≡ self.old.asker }
     {

@@ -1,4 +1,4 @@
-//! What the octets of a trunk come from, and what they go to.
+//! How a trunk's descriptor is read and written without waiting (`TrunkInput`, `TrunkOutput`).
 
 ghost use Rattle.std.specs.Prelude.{◌≡◌, ◌<◌, ◌≤◌, ◌++◌, ℕ, List, [], length, take, IfOk, IfSome, IfNone, ⊤};
 ghost use Rattle.std.specs.Prelude.{Bool, true, false, if◌then◌else◌};
@@ -134,7 +134,7 @@ pub struct NoClients {
 }
 
 impl NoClients {
-    /// Nothing was taken yet.
+    /// A receiver of answers that has taken none.
     pub fn new() -> NoClients
         ensures { result.log.octets ≡ [] }
     {
@@ -143,7 +143,7 @@ impl NoClients {
 }
 
 impl<R: Drop> FromDevice<R> {
-    /// What comes from the reader, whose descriptor this is, without clients. The error is the system's.
+    /// A trunk's input from a reader with this descriptor, without clients. The error is the system's.
     pub fn open(rt: &HostRuntime, reader: R, descriptor: i32) -> io::Result<FromDevice<R>>
         ensures { IfOk result (λ d. d.log.octets ≡ []) }
     {
@@ -156,7 +156,7 @@ impl<R: Drop> FromDevice<R> {
 }
 
 impl<W: Drop> ToDevice<W> {
-    /// What goes to the writer, whose descriptor this is. The error is the system's.
+    /// A trunk's output to a writer with this descriptor. The error is the system's.
     pub fn open(rt: &HostRuntime, writer: W, descriptor: i32) -> io::Result<ToDevice<W>>
         ensures { IfOk result (λ d. d.log.octets ≡ []) }
     {
@@ -170,7 +170,7 @@ impl<W: Drop> ToDevice<W> {
     }
 }
 
-/// Whether a call is to be made again later.
+/// Whether an error says only that a call is to be repeated.
 pub fn is_for_later(error: &io::Error) -> bool {
     matches!(error.kind(), ErrorKind::WouldBlock | ErrorKind::Interrupted)
 }

@@ -1,4 +1,4 @@
-//! The Unix socket that clients connect to.
+//! Whether the clients' Unix socket can be opened, and an old one at its path replaced.
 
 use mio::net::{UnixListener, UnixStream};
 use std::fs::{self, Permissions};

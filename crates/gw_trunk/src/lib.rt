@@ -1,5 +1,4 @@
-//! A trunk in service: its octets and the commands of clients as the records of a session, and the records
-//! that answer as its octets and the answers to clients.
+//! A trunk in service: its octets and its clients' commands as records of a session, and answers to both.
 #![tactic(auto)]
 
 mod client;

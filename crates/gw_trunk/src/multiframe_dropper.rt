@@ -1,5 +1,4 @@
-//! The octets of a trunk to a device that may be slow. If it does not take octets in time, whole multiframes
-//! are discarded, so that the far end keeps the alignment of frames and multiframes.
+//! When octets for a slow device are discarded: whole multiframes, so that the far end keeps alignment.
 
 ghost use Rattle.std.specs.Prelude.{◌≡◌, ◌<◌, ◌≤◌, ◌+◌, ◌++◌, [], true, false, length, take, drop};
 ghost use Rattle.std.specs.Prelude.{IfOk, IfSome, IfNone, OnErr};
@@ -32,7 +31,7 @@ struct MultiframePosition {
     discarded: u64,
 }
 
-// The position after this many octets of the multiframe.
+// The position in the multiframe after this many octets of it.
 fn position_after(position: MultiframePosition, n: usize) -> MultiframePosition
     requires { position.place + n ≤ 512 }
     ensures { result ≡ position_after position n }
@@ -51,7 +50,7 @@ fn position_after(position: MultiframePosition, n: usize) -> MultiframePosition
     }
 }
 
-// The position if this multiframe is discarded.
+// The position in the multiframe if it is discarded.
 fn position_discarding(position: MultiframePosition) -> MultiframePosition
     ensures { result ≡ position_discarding position }
 {
@@ -83,7 +82,7 @@ fn give<O: TrunkOutput>(outgoing: &mut O, octets: &[u8]) -> Result<Option<usize>
     Err(DeviceFault)
 }
 
-// Drops the first octets that are held.
+// Drops the first held octets, which the device has taken.
 fn drop_first(held: &mut Held, len: usize)
     requires { len ≤ length held.old.items }
     ensures { held.new.items ≡ drop len held.old.items }

@@ -1,4 +1,4 @@
-//! A trunk, served by a gateway.
+//! Serves a trunk and its clients by a gateway, until no octet comes any more (`serve_trunk`).
 
 ghost use Rattle.std.specs.Prelude.{◌≡◌, List, [], IfOk, IfErr};
 ghost use Rattle.gw_switch.specs.declared.GatewayConfig.{GatewayConfig};

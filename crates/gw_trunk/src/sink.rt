@@ -1,4 +1,4 @@
-//! The records that answer, whose octets go to a trunk.
+//! Which octets of a session's answers go to the trunk, and which to clients (`TrunkRecordSink`).
 
 ghost use Rattle.std.specs.Prelude.{◌≡◌, ◌≤◌, ◌<◌, ◌++◌, [], length, take, IfOk, OnErr, Some, if◌then◌else◌};
 ghost use Rattle.std.specs.Prelude.{slice_index};
@@ -137,7 +137,7 @@ fn put_body<O: TrunkOutput, A: TrunkOutput>(
     put_out(answers, octets)
 }
 
-// Takes octets from this place on, and returns how many.
+// Takes octets of answering records from this place on, returns how many.
 fn pass<O: TrunkOutput, A: TrunkOutput>(
     outgoing: &mut O,
     answers: &mut A,
@@ -189,7 +189,7 @@ impl<O: TrunkOutput, A: TrunkOutput> TrunkRecordSink<O, A> {
 }
 
 impl<O: TrunkOutput, A: TrunkOutput + Drop> TrunkRecordSink<O, A> {
-    /// What the octets of the trunk go to.
+    /// The device that the trunk's octets go to.
     pub fn into_outgoing(self) -> O
         ensures { result ≡ self.outgoing }
     {

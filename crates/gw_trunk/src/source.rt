@@ -1,4 +1,4 @@
-//! The octets of a trunk, as the records of a session.
+//! Whether octets of the trunk or a client's command are the next record (`TrunkRecordSource`).
 
 ghost use Rattle.std.specs.Prelude.{◌≡◌, ◌<◌, ◌≤◌, ◌^◌, ◌++◌, ◌∷◌, [], length, take, IfOk, IfSome, IfNone};
 ghost use Rattle.std.specs.Prelude.{Some, None, true, false};

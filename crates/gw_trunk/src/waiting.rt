@@ -1,4 +1,4 @@
-//! What waits for a descriptor.
+//! How a descriptor is waited for, with or without a time limit (`Waiting`).
 
 use mio::unix::SourceFd;
 use mio::{Events, Interest, Poll, Token};

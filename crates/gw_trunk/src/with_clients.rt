@@ -1,4 +1,4 @@
-//! A trunk with clients: what comes from a descriptor, and from connections to a Unix socket.
+//! A trunk with clients: when it is read, when a client is asked, and what ends it (`WithClients`).
 
 ghost use Rattle.std.specs.Prelude.{◌≡◌, ◌||◌, ◌&&◌, [], true, IfOk};
 ghost use Rattle.std.specs.List.{list_all};

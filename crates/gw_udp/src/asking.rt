@@ -1,4 +1,4 @@
-//! When a resting socket asks the one inside.
+//! How many receives of a socket rest after one that found none.
 
 ghost use Rattle.std.specs.Prelude.{◌≡◌, ◌≤◌, ℕ, List, length, Ok, None, IfOk, IfErr, IfSome, IsTrue};
 ghost use Rattle.std.specs.Prelude.{IsFalse};
@@ -20,7 +20,7 @@ const RESTS: u16 = 7;
 // The same if the system says what comes: with these a circuit asks at least each 100 ms.
 const WATCHED_RESTS: u16 = 799;
 
-// How many receives rest after one with this answer, of which `most` may.
+// How many receives rest after one: `most` if it found none, else none.
 #[inline]
 fn rests_after<X>(most: u16, answer: &Result<Option<X>, PortFault>) -> u16
     ensures { result ≡ rests_after most answer.now }

@@ -1,4 +1,4 @@
-//! Laws of ports over sockets, proved by functions that do nothing.
+//! A law of ports over sockets: each circuit has its own socket, and calls at no other.
 
 ghost use Rattle.gw_udp.specs.Calls.{EachHasItsSocket};
 

@@ -1,4 +1,4 @@
-//! Lookups of host names.
+//! The address of a host by its name (`NameLookup`).
 
 ghost use Rattle.gw_udp.specs.Names.{LookUp, SystemLooksUp};
 

@@ -1,4 +1,4 @@
-//! The results of the system's socket calls.
+//! Which errors of the system's socket calls are faults of a port, and which mean none waits.
 
 ghost use Rattle.std.specs.Prelude.{◌↔◌, IsTrue};
 ghost use Rattle.std.specs.IoError.{error_kind};

@@ -30,14 +30,14 @@ pub(crate) struct Readiness {
     receives: u8,
 }
 
-// What asks the system. The error is the system's.
+// Opens the system's poller of sockets. The error is the system's.
 fn open_poller(net: &impl Net, alloc: Global) -> io::Result<Poller> {
     let poll = Poll::new(net)?;
     let events = Events::with_capacity(alloc, 30)?;
     Ok(Poller { poll, events })
 }
 
-// Notes the circuits of these events, whose tokens are their numbers less 1.
+// Notes the circuits of the sockets' events: token plus 1.
 fn note_all(events: &Events, came: &mut [bool; 30]) {
     for event in events.iter() {
         let token = event.token().0;
@@ -47,7 +47,7 @@ fn note_all(events: &Events, came: &mut [bool; 30]) {
     }
 }
 
-// Asks the system what has come since it was last asked.
+// Notes the sockets that datagrams have come to since the last look.
 #[inline(never)]
 fn look(poller: &mut Option<Poller>, came: &mut [bool; 30]) {
     let Some(poller) = poller else {
@@ -63,7 +63,7 @@ fn look(poller: &mut Option<Poller>, came: &mut [bool; 30]) {
 }
 
 impl Readiness {
-    /// What asks the system, for no socket yet. If the system has none, nothing ever comes by it.
+    /// The readiness of sockets, with none watched yet. If the system has none, nothing ever comes by it.
     pub(crate) fn open(net: &impl Net, alloc: Global) -> Readiness {
         Readiness {
             poller: open_poller(net, alloc).ok(),

@@ -1,4 +1,4 @@
-//! A socket that asks the one inside less often.
+//! The socket that asks the system less often while no datagram comes (`Resting`).
 
 ghost use Rattle.std.specs.Prelude.{◌≤◌};
 

@@ -1,4 +1,4 @@
-//! A non-blocking datagram socket, and std's as one.
+//! The trait of a non-blocking datagram socket, and std's as one (`Socket`).
 
 ghost use Rattle.std.specs.Prelude.{◌≡◌, ◌≤◌, ℕ, List, length, Ok, None, IfOk, IfErr, IfSome, IsTrue};
 ghost use Rattle.std.specs.Prelude.{IsFalse, ⊤};

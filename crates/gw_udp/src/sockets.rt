@@ -1,4 +1,4 @@
-//! The sockets of a configuration.
+//! Opens the sockets of a whole configuration (`open_sockets`).
 
 ghost use Rattle.std.specs.Prelude.{IfOk, IfErr, string_bytes};
 ghost use Rattle.gw_udp.specs.Names.{SystemLooksUp};

@@ -1,4 +1,4 @@
-//! The senders whose datagrams are accepted.
+//! Whether a sender's datagrams are accepted: any, the peer's host, the peer (`SourceFilter`).
 
 ghost use Rattle.std.specs.Prelude.{◌≡◌, ◌≢◌, ◌↔◌, IfSome, IfNone, IsTrue};
 ghost use Rattle.gw_udp.specs.SourceFilter.{IsAccepted, senders_name};

@@ -1,4 +1,4 @@
-//! The ports of circuits: one socket for each circuit.
+//! How each circuit's socket is opened, receives from accepted senders and sends (`UdpPorts`).
 
 ghost use Rattle.std.specs.Prelude.{◌≡◌, ◌≤◌, ℕ, List, vec_len, length, Ok, None, IfOk, IfErr, IfSome};
 ghost use Rattle.std.specs.Prelude.{IsSomeAnd};
@@ -219,7 +219,7 @@ fn rests_at<S: Socket>(
     }
 }
 
-// Asks the socket of a circuit.
+// Receives at a circuit's socket, by a call of the system.
 #[inline(never)]
 fn ask_at<S: Socket>(
     endpoints: &mut Vec<Option<Endpoint<S>>>,

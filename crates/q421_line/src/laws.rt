@@ -1,4 +1,4 @@
-//! Laws of line signals, by their definitions alone.
+//! Laws of line signals: ten equal pairs, the release of seizures, refusals that change nothing.
 
 ghost use Rattle.q421_line.specs.Laws.{PairsAreRecognisedByTen, SeizuresAreReleased};
 ghost use Rattle.q421_line.specs.Laws.{SeizuresAreReleasedByTheHundredth, RefusedCommandsChangeNothing};

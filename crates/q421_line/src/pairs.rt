@@ -1,4 +1,4 @@
-//! The two signalling bits of one direction.
+//! Bits a and b of one direction, from and to a nibble (`Pair`).
 
 ghost use Rattle.std.specs.Prelude.{◌≡◌, ◌<◌};
 ghost use Rattle.q421_line.specs.Recognition.{pair_of};
@@ -51,7 +51,7 @@ impl Pair {
         self.bits
     }
 
-    // The pair with this number.
+    // Bits a and b by their number, 2a + b.
     pub(crate) fn of_bits(bits: u8) -> Self
         requires { bits < 4 }
         ensures { result ≡ bits }

@@ -1,4 +1,4 @@
-//! Recognition of received pairs.
+//! When a received pair of bits a and b is recognised: after ten equal ones (`Recognition`).
 
 ghost use Rattle.std.specs.Prelude.{◌≡◌, ℕ, ◌↔◌, List, [], ◌∷◌, ◌++◌, min, IsTrue};
 ghost use Rattle.q421_line.specs.Recognition.{run_of};
@@ -45,7 +45,7 @@ impl Recognition {
         }
     }
 
-    // Takes one more known pair.
+    // Takes one more known pair, and recognises it after ten equal.
     fn hear_pair(&mut self, pair: Pair)
         ensures { (pairs : List ℕ) → HasHeard self.old pairs → HasHeard self.new (pairs ++ pair ∷ []) }
     {

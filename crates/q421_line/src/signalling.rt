@@ -1,4 +1,4 @@
-//! The state machine of one line.
+//! What a line does with a signal and a command, and when a seizure is released (`Line`).
 
 ghost use Rattle.std.specs.Prelude.{◌≡◌, ℕ, ◌<◌, List, [], ◌∷◌, ◌++◌, OnErr};
 ghost use Rattle.q421_line.specs.Recognition.{recognised};
@@ -81,7 +81,7 @@ impl Line {
         self.sent().nibble()
     }
 
-    /// Does what an operator asks.
+    /// Does an operator's command, or refuses it.
     ///
     /// `WrongRole` if the command is for the other role; otherwise the command's own fault if it is not
     /// possible in the state. A refused command changes nothing.
@@ -116,7 +116,7 @@ impl Line {
         self.released_after
     }
 
-    /// The state.
+    /// The state of the line.
     pub fn state(&self) -> State
         ensures { (role : Role) (items : List LineEvent) → HasHistory self.now role items
             → result ≡ (signalling role items).state }

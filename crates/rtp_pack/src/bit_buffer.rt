@@ -1,4 +1,4 @@
-//! Bits between words and octets.
+//! The bits that are left between words and octets, the first lowest (`BitBuffer`).
 
 ghost use Rattle.std.specs.Prelude.{◌≡◌, ◌+◌, ◌*◌, ◌/◌, ◌%◌, ◌^◌, ◌<◌, ◌≤◌};
 
@@ -11,7 +11,7 @@ pub(crate) struct BitBuffer {
 }
 
 impl BitBuffer {
-    // An empty buffer.
+    // A buffer without bits.
     pub(crate) fn none() -> Self
         ensures number { result.number ≡ 0 }
         ensures count { result.count ≡ 0 }

@@ -1,4 +1,4 @@
-//! Packs words into octets.
+//! Packs code words into the octets of a payload (`pack`).
 
 ghost use Rattle.std.specs.Prelude.{◌≡◌, []};
 ghost use Rattle.rtp_pack.specs.Payload.{IsWordSize, IsPayload, octets_of};

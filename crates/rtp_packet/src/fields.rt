@@ -1,4 +1,4 @@
-//! The fields of a fixed header (RFC 3550, 5.1).
+//! Where the fields of a fixed RTP header are in its octets (RFC 3550, 5.1).
 
 ghost use Rattle.std.specs.Prelude.{◌≡◌, ◌≤◌, length};
 ghost use Rattle.rtp_packet.specs.Fault.{version_of, says_padded, says_extended, sources_end};
@@ -25,7 +25,7 @@ const MARKER_BIT: u8 = 0x80;
 // In the second octet: the payload type, PT.
 const PAYLOAD_TYPE: u8 = 0x7F;
 
-// The version.
+// The version field of a header.
 pub(crate) fn version(octets: &[u8]) -> u8
     requires { 12 ≤ length octets.now }
     ensures { result ≡ version_of octets.now }
@@ -59,7 +59,7 @@ pub(crate) fn sources_end_in(octets: &[u8]) -> usize
     HEADER_LEN + 4 * usize::from(octets[0] & SOURCE_COUNT)
 }
 
-// The marker.
+// The marker bit of a header.
 #[tactic(auto, unfolding(crate::specs::Read::marker_of))]
 pub(crate) fn marker_in(octets: &[u8]) -> bool
     requires { 12 ≤ length octets.now }

@@ -1,4 +1,4 @@
-//! Makes datagrams of words.
+//! Code words to an RTP datagram, by its header (`packetise`).
 
 ghost use Rattle.std.specs.Prelude.{◌≡◌, ◌<◌};
 ghost use Rattle.rtp_pack.specs.Payload.{IsWordSize, IsPayload, octets_of};

@@ -1,4 +1,4 @@
-//! Reads octets as a datagram.
+//! Whether octets are an RTP datagram, or its first fault: extension, padding (`parse`).
 
 ghost use Rattle.std.specs.Prelude.{◌≡◌, ◌+◌, ◌≤◌, ℕ, List, true, false, length, IfOk, IsOkAnd, MatchResult};
 ghost use Rattle.rtp_packet.specs.Rtp.{Parts, IsDatagram, as_extension};
@@ -36,7 +36,7 @@ pub fn parse(octets: &[u8]) -> Result<RtpView<'_>, RtpFault>
     view_in(octets)
 }
 
-// The parts, or the first fault.
+// The parts of a datagram, or its first fault.
 #[tactic(auto, unfolding(crate::specs::Read::read_of, crate::specs::Read::parts_of))]
 fn view_in(octets: &[u8]) -> Result<RtpView<'_>, RtpFault>
     ensures { result ≡ read_of octets.now }

@@ -1,4 +1,4 @@
-//! A datagram, read in place.
+//! The header, sources, extension and payload of an RTP datagram read in place (`RtpView`).
 
 use crate::Header;
 use std::marker::Model;

@@ -1,4 +1,4 @@
-//! Writes a datagram.
+//! The octets of an RTP datagram, by its header and payload (`write`).
 
 ghost use Rattle.std.specs.Prelude.{◌≡◌, ◌<◌, ◌↔◌, [], false, length, IsErr, OnOk, OnErr};
 ghost use Rattle.rtp_packet.specs.Rtp.{FitsHeader, IsDatagram, fixed_header, plain_datagram};

@@ -1,4 +1,4 @@
-//! Laws of packets: what holds by the definitions alone, proved by functions that do nothing.
+//! Laws of SAToP packets: one reading for each, the first fault, and what is written is read.
 
 ghost use Rattle.satop_packet.specs.Laws.{FaultlessIsPacket, PacketIsFaultless, PartsAreUnique};
 ghost use Rattle.satop_packet.specs.Laws.{LeastFaultIsTold, PlainIsPacket, PlainIsRead};

@@ -1,4 +1,4 @@
-//! Reads octets as a packet.
+//! Whether octets are a SAToP packet, or its first fault (`parse`).
 
 ghost use Rattle.std.specs.Prelude.{◌≡◌, ◌+◌, ◌≤◌, None, Some, IfOk, IsOkAnd, MatchResult};
 ghost use Rattle.satop_packet.specs.Satop.{Content};
@@ -32,7 +32,7 @@ pub fn parse(octets: &[u8], rtp: bool) -> Result<SatopView<'_>, SatopFault>
     view_in(octets, rtp)
 }
 
-// The parts, or the first fault.
+// The parts of a packet, or its first fault.
 #[tactic(auto, unfolding(crate::specs::Read::reading_of, crate::specs::Read::content_of))]
 fn view_in(octets: &[u8], rtp: bool) -> Result<SatopView<'_>, SatopFault>
     ensures { result ≡ reading_of rtp octets.now }

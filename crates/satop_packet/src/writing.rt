@@ -1,4 +1,4 @@
-//! Writes a packet.
+//! The octets of a SAToP packet, by its control word and payload (`write`).
 
 ghost use Rattle.std.specs.Prelude.{◌≡◌, ◌<◌, ◌↔◌, length, IsErr, OnOk, OnErr};
 ghost use Rattle.satop_packet.specs.Satop.{IsRtp, control_word, length_said, plain_packet};
@@ -56,7 +56,7 @@ fn length_said(size: usize) -> u8
     if size < LEAST_UNSAID { size as u8 } else { 0 }
 }
 
-// The control word.
+// The four octets of the control word.
 fn control_octets(control: &Control, len: u8) -> [u8; 4]
     ensures { result ≡ control_word control.now 0 0 len }
 {

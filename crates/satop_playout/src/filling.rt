@@ -1,4 +1,4 @@
-//! The octets that replace a missing packet.
+//! The octets that replace a missing SAToP packet: the multiframe before it again, or ones.
 
 ghost use Rattle.std.specs.Prelude.{◌≡◌, ◌≤◌, ℕ, List, length, min, slice_index};
 ghost use Rattle.circular_buffer.specs.Buffer.{keep_last};
@@ -34,7 +34,7 @@ pub(crate) fn replace(
     }
 }
 
-// Gives each octet the one a multiframe before it.
+// Fills the room with the octets of the multiframe before it.
 fn repeat(given: &HeapCircularBuffer<u8>, room: &mut [u8])
     ensures { (all : List ℕ) → given.now.items ≡ keep_last 512 all → 512 ≤ length given.now.items
         → room.new ≡ again (length room.old) all }

@@ -1,4 +1,4 @@
-//! Laws of the playout: what holds by the definitions alone, proved by functions that do nothing.
+//! Laws of the SAToP playout: accepted packets are played once, in any order of arrival.
 
 ghost use Rattle.satop_playout.specs.Laws.{NothingIsGiven, BeginningsGiveNothing, ArrivalsGiveNothing};
 ghost use Rattle.satop_playout.specs.Laws.{PlaysGiveTheirOctets, RefusalsChangeNothing, AcceptedIsPlayed};

@@ -1,4 +1,4 @@
-//! The jitter buffer: packets arrive, and each is played in its turn or replaced.
+//! Whether a SAToP packet is late, a repeat or accepted, and what is played (`SatopPlayout`).
 
 ghost use Rattle.std.specs.Prelude.{◌≡◌, ◌≤◌, ◌<◌, length};
 ghost use Rattle.satop_playout.specs.Plays.{number_after};
@@ -62,7 +62,7 @@ impl SatopPlayout {
         })
     }
 
-    /// How it is set up.
+    /// The settings of the playout.
     pub fn settings(&self) -> Settings
         ensures { result ≡ self.now.settings }
     {
@@ -203,7 +203,7 @@ impl SatopPlayout {
     }
 }
 
-// The number after one, modulo 2^16.
+// The sequence number after one, modulo 2^16.
 fn number_after(number: Option<u16>) -> Option<u16>
     ensures { result ≡ number_after number }
 {

@@ -1,4 +1,4 @@
-//! A slot, which holds the octets of a packet or nothing.
+//! A slot of the SAToP jitter buffer, with the octets of a packet or nothing (`PacketSlot`).
 
 ghost use Rattle.std.specs.Prelude.{◌≡◌, ◌≤◌, ℕ, length, None, Some, is_some};
 ghost use Rattle.satop_playout.specs.Plays.{octets_or_fill};
@@ -31,14 +31,14 @@ impl PacketSlot {
         self.held
     }
 
-    // Forgets the packet.
+    // Forgets the packet in the slot.
     pub(crate) fn clear(&mut self)
         ensures { (size : ℕ) → packet_in size self.new ≡ None }
     {
         self.held = false;
     }
 
-    // Holds these octets.
+    // Holds the octets of a packet in the slot.
     pub(crate) fn put(&mut self, octets: &[u8])
         requires { length octets.now ≤ 1280 }
         ensures { packet_in (length octets.now) self.new ≡ Some octets.now }

@@ -1,4 +1,4 @@
-//! A reader of octets.
+//! Numbers and flags read from the octets of a saved state (`OctetReader`).
 
 ghost use Rattle.std.specs.Prelude.{◌≡◌, ◌++◌, ◌∷◌, ◌^◌, ◌<◌, ℕ, Bool, ◌==◌, List, length, IfSome, IfNone};
 ghost use Rattle.std.specs.Prelude.{Some, All, flat_map};
@@ -39,7 +39,7 @@ impl<'a> OctetReader<'a> {
         self.left.is_empty()
     }
 
-    /// Reads one octet; None if no octet is left.
+    /// Reads one octet as a number; None if no octet is left.
     pub fn read_u8(&mut self) -> Option<u8>
         ensures next { (n : ℕ) (rest : List ℕ) → self.old ≡ n ∷ rest
             → (result ≡ Some n) × (self.new ≡ rest) }

@@ -1,4 +1,4 @@
-//! The aligner saved as octets, and loaded from them.
+//! The frame aligner saved as octets, and loaded from them.
 
 ghost use Rattle.std.specs.Prelude.{◌≡◌, ◌++◌, ℕ, List, OnOk, IfSome, Some};
 ghost use Rattle.g704_align.specs.declared.alignment.Aligner.{Aligner};

@@ -1,4 +1,4 @@
-//! A circuit saved as octets, and loaded from them.
+//! A circuit's line, speech and counts saved as octets, and loaded from them.
 
 ghost use Rattle.std.specs.Prelude.{◌≡◌, ◌<◌, ◌^◌, ◌++◌, [], ℕ, List, OnOk, IfSome, IfNone, Some, true};
 ghost use Rattle.std.specs.Prelude.{false};

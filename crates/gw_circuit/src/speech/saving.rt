@@ -1,4 +1,4 @@
-//! The speech of a call saved as octets, and loaded from them.
+//! Codec, unfinished packet and playout of a circuit saved as octets, and loaded.
 
 ghost use Rattle.std.specs.Prelude.{◌≡◌, ◌<◌, ◌≤◌, ◌^◌, ◌++◌, ◌∷◌, [], ℕ, List, length, All};
 ghost use Rattle.std.specs.Prelude.{OnOk, IfSome, IfNone, Some, option_map, nat_lt};

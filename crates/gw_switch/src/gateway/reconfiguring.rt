@@ -1,4 +1,4 @@
-//! The gateway with another configuration.
+//! Which circuits of a gateway begin as new with another configuration.
 
 use super::Gateway;
 use crate::GatewayConfig;

@@ -23,7 +23,7 @@ impl Line {
         self.recognition.save(out)
     }
 
-    // Each number has its width.
+    // Each number of a line fits its saved width.
     fn fits(&self)
         ensures { LineFits self.now }
     {
