@@ -3,14 +3,27 @@ in packets of SAToP. Nothing of the driver's own SAToP is used here."""
 from __future__ import annotations
 
 import random
+import select
 import socket
 import struct
+import time
 from dataclasses import dataclass
+from typing import Callable, Iterator
 
 import paths    # noqa: F401 (makes e1gw known)
 from e1gw.exchange import Exchange
 
 SIZE = 256
+PATIENCE = 20.0             # seconds in which what is due has to come
+
+
+def wait_for(what: str, files: list[int], take: Callable[[], object], is_there: Callable[[], bool]) -> None:
+    """Takes what comes to these files until all that is due is there."""
+    end = time.monotonic() + PATIENCE
+    while not is_there():
+        if not select.select(files, [], [], max(0.0, end - time.monotonic()))[0]:
+            raise SystemExit(f'after {PATIENCE:g} s still not: {what}')
+        take()
 
 
 @dataclass
@@ -76,11 +89,16 @@ class Multiplexer:
         self.socket.setblocking(False)
         self.sequence, self._before = 65500, 0xFF
         self.sent = self.heard = self.remote = self.gaps = self.losses = 0
-        self.packets: list[bytes] = []          # the first ones that came and went, with who sent them
+        self.reach = 0                          # packets sent up to the last one that the network has let through
+        self.received: list[bytes] = []         # the first packets that came
         self._next: int | None = None
 
-    def send(self) -> None:
-        """Sends two packets, a multiframe."""
+    def wait(self, heard: int) -> None:
+        """Waits until so many packets have come."""
+        wait_for('packets', [self.socket.fileno()], self.hear, lambda: self.heard >= heard)
+
+    def packets(self) -> Iterator[bytes]:
+        """The next two packets, a multiframe."""
         octets = self.exchange.multiframe()
         line = int.from_bytes(bytes([self._before]) + octets, 'big') >> self.bits
         self._before = octets[-1]
@@ -90,9 +108,19 @@ class Multiplexer:
             if self.rtp is not None:
                 packet = struct.pack('>BBHII', 0x80, self.rtp, self.sequence, self.sequence * 8, 9) + packet
             self.sequence = (self.sequence + 1) % 65536
-            self.sent += 1
-            for each in self.network.carry(packet):
-                self._put(each)
+            yield packet
+
+    def send(self) -> None:
+        """Sends a multiframe."""
+        for packet in self.packets():
+            self.send_packet(packet)
+
+    def send_packet(self, packet: bytes) -> None:
+        self.sent += 1
+        for each in self.network.carry(packet):
+            self._put(each)
+            if each is packet:
+                self.reach = self.sent
 
     def _put(self, packet: bytes) -> None:
         try:
@@ -109,8 +137,8 @@ class Multiplexer:
                 return
             except ConnectionError:
                 continue
-            if len(self.packets) < 4000:
-                self.packets.append(packet)
+            if len(self.received) < 4000:
+                self.received.append(packet)
             self._hear(packet)
 
     def _hear(self, packet: bytes) -> None:

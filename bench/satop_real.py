@@ -32,6 +32,7 @@ PATIENCE = 20
 NOTED = 0.020                       # seconds that somebody stands still for before it is kept
 SILENCE = 0.1                       # seconds of the far end's that the carrier has to take for silence
 AFTER = 3.0                         # seconds after that in which nothing of speech and alarms is held against it
+SETTLED = 10.0                      # seconds after which memory does not grow
 BEFORE = 2.0                        # seconds before something is told in which its cause may lie
 QUIET = ('state', 'command', 'codec', 'trunk', 'aligned')   # events that are no trouble
 Row = tuple[str, object, bool, str]     # what was looked at, what was seen, whether that is good, and the bar
@@ -296,7 +297,9 @@ def measure(world: World, control: Control, seconds: float, path: str, near: 'Ne
     """Thirty calls for so long. At `path` are the events of the trunk."""
     begun, since, used = control.status(), time.time(), near.processor()
     world.begin()
-    world.run(seconds)
+    world.run(min(seconds, SETTLED))
+    memory = near.memory('satop')
+    world.run(max(0.0, seconds - SETTLED))
     stolen_share = (stolen() - world.stolen) / seconds
     spent = {name: f'{100 * (each - used[name]) / seconds:.1f} %' for name, each in near.processor().items()
              if name in used}
@@ -307,6 +310,7 @@ def measure(world: World, control: Control, seconds: float, path: str, near: 'Ne
         f'load {load} on {os.cpu_count()} processors; a host took {100 * stolen_share:.0f} % of one away',
         *_looked_at(world, seconds, begun, status),
         f'of a core: {", ".join(f"{name} {share}" for name, share in spent.items())}',
+        grown(memory, near.memory('satop')),
         f'datagrams: {dict(refused(status) - refused(begun))}; playouts begun anew: '
         f'{status["renewed"] - begun["renewed"]}',
         *(f'{event["time"] - since:7.2f} s  {words_of(event)}; {stood.before(event["time"])}'
@@ -339,6 +343,10 @@ def _looked_at(world: World, seconds: float, begun: dict[str, Any], status: dict
         ('others beside these, after silences of the far end', excused, True, 'told'),
         ('gaps in what comes back, losses of its alignment', f'{world.far.gaps}, {world.far.losses}',
          not (world.far.gaps or world.far.losses), '0, 0')]
+
+
+def grown(before: int, after: int) -> Row:
+    return 'KB of e1gw satop after 10 s, and at the end', f'{before}, {after}', after <= before, 'no more'
 
 
 def hurry() -> None:
@@ -380,6 +388,11 @@ class Near:
                 continue            # another one was begun in its place
             found[name] = (int(words[11]) + int(words[12])) / os.sysconf('SC_CLK_TCK')
         return found
+
+    def memory(self, name: str) -> int:
+        """The kilobytes of a process that are in memory."""
+        with open(f'/proc/{self.processes[name]}/status', encoding='ascii') as file:
+            return next(int(line.split()[1]) for line in file if line.startswith('VmRSS:'))
 
 
 def stands_still(world: World, what: str, process: int, seconds: float) -> Row:

@@ -57,9 +57,10 @@ class Carrier:
         self._earlier = self.owed + len(self._rest)
 
     def may_read(self) -> bool:
-        """Whether the trunk is read now: all that was given and answered before has gone. A file waits for a
-        program."""
-        if not self.trunk or self.trunk.waiting() or not (self.trunk.paced or self.program):
+        """Whether the trunk is read now: all that was given and answered before has gone, or is kept for a trunk that
+        must be read. A file waits for a program."""
+        trunk = self.trunk
+        if not trunk or trunk.waiting() and not trunk.must_be_read or not (trunk.paced or self.program):
             return False
         return not (self.program and self.program.waiting())
 

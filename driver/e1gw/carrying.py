@@ -19,6 +19,7 @@ import socket
 import threading
 import time
 from collections import deque
+from functools import partial
 from typing import Callable, NoReturn
 
 from . import satop
@@ -43,7 +44,6 @@ ALIVE = 0.5                 # seconds between two signs of life
 GRACE = 1.0                 # seconds for a program to end
 MOST_FOLLOWERS = 8          # at the socket of --tell
 LASTS = MULTIFRAME / OCTETS_A_SECOND    # seconds of a multiframe
-NOTHING = -1, 0             # no descriptor, no events
 
 
 def parser() -> argparse.ArgumentParser:
@@ -78,7 +78,7 @@ class Carriage:
         self._opens, self._reopens, self._reopen_after = opens, asked.reopen, 1.0
         self._opened: deque[Trunk | Exception] = deque()        # from another thread
         self._began, self._notify = time.monotonic(), Notify()
-        self._trunk_watched = NOTHING
+        self._trunk_watched: dict[int, int] = {}    # descriptors, with the events that are waited for
         self._program_events, self._says_more = 0, False
         self._due: float | None = None      # when the trunk is read next, if that is not when octets come
         self._json = to_json(asked.json, lambda _, why: journal.line(
@@ -126,7 +126,7 @@ class Carriage:
         except (EOFError, OSError) as fault:
             trunk = self.carrier.trunk
             where = f': {trunk.name}' if trunk and trunk.name else ''
-            self._watch_trunk(*NOTHING)
+            self._watch_trunk({})
             self._due = None
             if isinstance(fault, EOFError) and trunk and not trunk.paced:
                 self._finish_file()
@@ -155,26 +155,33 @@ class Carriage:
 
     def _watch(self) -> None:
         trunk, program = self.carrier.trunk, self.carrier.program
+        wanted: dict[int, int] = {}
         if trunk and trunk.waiting():
-            self._watch_trunk(trunk.writer(), WRITE)
-        elif trunk and self.carrier.may_read() and self._due is None:
-            self._watch_trunk(trunk.fileno(), READ)
-        else:
-            self._watch_trunk(*NOTHING)
+            wanted[trunk.writer()] = WRITE
+        if trunk and self.carrier.may_read() and self._due is None:
+            wanted[trunk.fileno()] = wanted.get(trunk.fileno(), 0) | READ
+        self._watch_trunk(wanted)
         if program:
             events = (READ if self.carrier.owed or not self._says_more else 0) | (WRITE if program.waiting() else 0)
             if events != self._program_events:
                 self._program_events = events
                 self.loop.change(program.fileno(), events)
 
-    def _watch_trunk(self, file: int, events: int) -> None:
-        if self._trunk_watched == (file, events):
-            return
-        if self._trunk_watched != NOTHING:
-            self.loop.forget(self._trunk_watched[0])
-        self._trunk_watched = file, events
-        if events:
-            self.loop.watch(file, events, lambda _: self._do(self._flush if events == WRITE else self._carry))
+    def _watch_trunk(self, wanted: dict[int, int]) -> None:
+        for file in self._trunk_watched.keys() - wanted.keys():
+            self.loop.forget(file)
+        for file, events in wanted.items():
+            if file not in self._trunk_watched:
+                self.loop.watch(file, events, partial(self._trunk_ready, file))
+            elif events != self._trunk_watched[file]:
+                self.loop.change(file, events)
+        self._trunk_watched = wanted
+
+    def _trunk_ready(self, file: int, _: int) -> None:
+        if self._trunk_watched.get(file, 0) & WRITE:
+            self._do(self._flush)
+        if self._trunk_watched.get(file, 0) & READ:
+            self._do(self._carry)
 
     def _carry(self) -> None:
         """Reads the trunk. The next multiframe can't be whole before one has lasted; till then each read is in vain."""
@@ -271,7 +278,7 @@ class Carriage:
         self._open_trunk()
         while self.status is None:
             trunk, deadline = self.carrier.trunk, self._due
-            if trunk and self._trunk_watched[1] == READ:
+            if trunk and self._trunk_watched.get(trunk.fileno(), 0) & READ:
                 deadline = trunk.deadline
             self.loop.turn(deadline)
             if self._opened:

@@ -54,7 +54,7 @@ class Filtered(Trunk):
 
     def __init__(self, device: Trunk, through: Filter, what: str) -> None:
         self._device, self._filter, self._what = device, through, what
-        self.name, self.paced = device.name, device.paced
+        self.name, self.paced, self.must_be_read = device.name, device.paced, device.must_be_read
         self._ready = Ready()
         self._always = not self._ready.can_watch(device.fileno())   # nobody can wait for the device, as for a file
 

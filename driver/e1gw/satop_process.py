@@ -76,7 +76,11 @@ class SatopCondition:
 
 class SatopProcess(Stream):
     """The trunk. `tell` is called with {'event': 'satop', 'what': 'packets missing', 'on': true or false} if it is set,
-    and alike for the other conditions. OSError if the program cannot be started, and where it has ended."""
+    and alike for the other conditions. OSError if the program cannot be started, and where it has ended.
+
+    After a stall the program plays up to a second before it takes octets again."""
+
+    must_be_read = True
 
     def __init__(self, program: str, words: list[str]) -> None:
         ours, its = socket.socketpair()

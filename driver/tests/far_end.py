@@ -1,6 +1,8 @@
 """The far end of an emulated circuit, for the tests of `e1gw satop`."""
 from __future__ import annotations
 
+import os
+import select
 import socket
 import struct
 import subprocess
@@ -13,9 +15,9 @@ PATIENCE = 30.0
 
 
 class FarEnd:
-    """`e1gw satop`, and a socket at its far end."""
+    """`e1gw satop`, and a socket at its far end. With `plays` what it plays is read."""
 
-    def __init__(self, *options: str) -> None:
+    def __init__(self, *options: str, plays: bool = False) -> None:
         self.line = socket.socket(socket.AF_INET, socket.SOCK_DGRAM)
         self.line.bind(('127.0.0.1', 0))
         self.line.settimeout(PATIENCE)
@@ -24,8 +26,10 @@ class FarEnd:
         ends = [f'{host}:{each.getsockname()[1]}' for each in (near, self.line)]
         near.close()
         self.program = subprocess.Popen([support.program(), 'satop', *ends, *options], stdin=subprocess.PIPE,
-                                        stdout=subprocess.DEVNULL, stderr=subprocess.PIPE)
-        self.near = int(ends[0].rpartition(':')[2])
+                                        stdout=subprocess.PIPE if plays else subprocess.DEVNULL,
+                                        stderr=subprocess.PIPE)
+        self.near = host, int(ends[0].rpartition(':')[2])
+        self.out = b''       # what it has played, from the first packet on
 
     def packets(self, octets: bytes, count: int) -> list[bytes]:
         """The packets of these octets."""
@@ -36,7 +40,27 @@ class FarEnd:
 
     def send(self, sequence: int, flags: int = 0, octets: bytes = bytes(256)) -> None:
         """Sends a packet, with bits L (8) and R (4)."""
-        self.line.sendto(struct.pack('>BBH', flags, 0, sequence % 65536) + octets, ('127.0.0.1', self.near))
+        self.send_datagram(struct.pack('>BBH', flags, 0, sequence % 65536) + octets)
+
+    def send_datagram(self, datagram: bytes) -> None:
+        self.line.sendto(datagram, self.near)
+
+    def take(self) -> None:
+        """Reads what it plays, when something is there."""
+        assert self.program.stdout
+        file = self.program.stdout.fileno()
+        if not select.select([file], [], [], PATIENCE)[0]:
+            raise TimeoutError(f'nothing comes after {len(self.out)} octets')
+        octets = os.read(file, 65536)
+        if not octets:
+            raise EOFError(f'it ended after {len(self.out)} octets')
+        self.out = (self.out + octets).lstrip(b'\xff')
+
+    def played(self, count: int) -> bytes:
+        """The first octets that it plays, so many. (What comes before a packet, ones, is not among them.)"""
+        while len(self.out) < count:
+            self.take()
+        return self.out[:count]
 
     def counts(self) -> dict[str, int]:
         """Ends the program; returns its last counts."""
@@ -50,4 +74,6 @@ class FarEnd:
         self.program.stdin.close()
         self.program.wait(PATIENCE)
         self.program.stderr.close()
+        if self.program.stdout:
+            self.program.stdout.close()
         self.line.close()

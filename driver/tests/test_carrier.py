@@ -7,6 +7,7 @@ import os
 import random
 import select
 import socket
+import stat
 import subprocess
 import sys
 import termios
@@ -27,6 +28,20 @@ from e1gw.trunks import Stream, Trunk
 
 LAUNCHER = os.path.join(support.TOP, 'driver', 'e1gw-carry')
 AIS = ONES * MULTIFRAME
+LATE_OCTETS = 1200 * MULTIFRAME     # more than the sockets both ways hold
+# Plays so many octets, and only then takes as many.
+LATE = f'''
+import os, sys
+octets = bytes({LATE_OCTETS})
+while octets:
+    octets = octets[os.write(1, octets):]
+left = {LATE_OCTETS}
+while left > 0:
+    left -= len(os.read(0, 65536))
+print('satop received=1', file=sys.stderr, flush=True)
+while os.read(0, 65536):
+    pass
+'''
 
 
 def stream_of(line: socket.socket) -> Stream:
@@ -188,6 +203,8 @@ class CarrierTests(unittest.TestCase):
         program = self.joined()
         with mock.patch.object(self.carrier.trunk, 'waiting', return_value=1):
             self.assertFalse(self.carrier.may_read())
+            with mock.patch.object(self.carrier.trunk, 'must_be_read', True):
+                self.assertTrue(self.carrier.may_read())
         self.assertTrue(self.carrier.may_read())
         self.far.close()
         self.assertRaises(EOFError, self.carrier.carry)
@@ -317,6 +334,27 @@ class CarrierCase(support.FolderCase):
         while len(out) < count:
             out += line.recv(count - len(out)) or self.fail('the connection has ended')
         return out
+
+
+class CarrierSatopTests(CarrierCase):
+    """An emulated circuit, whose program is a script."""
+
+    def starts(self, *words: str) -> None:
+        path = self.write('e1gw', f'#!{sys.executable}{LATE}')
+        os.chmod(path, stat.S_IRWXU)
+        self.process = subprocess.Popen(
+            [sys.executable, '-B', LAUNCHER, '--listen', self.path('listen'), '--status', self.path('status'),
+             '--satop', '127.0.0.1:5000,127.0.0.1:5001', '--program', path, *words], stderr=subprocess.PIPE)
+        self.addCleanup(self.ends)
+
+    def test_a_program_that_plays_before_it_takes_octets(self) -> None:
+        """After a stall `e1gw satop` plays up to a second at once; it takes octets after that."""
+        self.starts()
+        until = time.monotonic() + SECONDS
+        while not self.status()['transport'].get('received'):
+            self.assertLess(time.monotonic(), until)
+            time.sleep(.01)
+        self.assertEqual(self.status()['ones'], LATE_OCTETS)
 
 
 class CarrierServiceTests(CarrierCase):
