@@ -41,7 +41,7 @@ SIGNALS = (signal.SIGTERM, signal.SIGINT, signal.SIGHUP, signal.SIGUSR2, signal.
 
 
 @dataclass
-class Asked:
+class KeeperOptions:
     """What the keeper was asked for. `words` are further options of the program for a configuration, `both` those that
     its shadow has, too; `reopens` opens a trunk that has ended, if that is asked."""
 
@@ -72,7 +72,7 @@ class Phase(Enum):
 class Keeper:
     """One trunk. Each turn looks at all that may have happened, and does what follows from it."""
 
-    def __init__(self, asked: Asked, journal: Journal, notify: Notify, trunk: tuple[int, int],
+    def __init__(self, asked: KeeperOptions, journal: Journal, notify: Notify, trunk: tuple[int, int],
                  held: Iterable[str] = ()) -> None:
         """`held` are the names of the descriptors that systemd has kept from a keeper before."""
         self.asked, self.journal, self.notify, self.trunk = asked, journal, notify, trunk

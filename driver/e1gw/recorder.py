@@ -52,7 +52,7 @@ class Recording:
 
 
 @dataclass(frozen=True)
-class Part:
+class RecordingPart:
     """One program's part of it, from a place of the trunk on. `lost` are seconds of the trunk that are known to be lost
     before it; `passed` is the file that says that all was passed on; one that `waits` writes nothing before the
     recorder before it has written all."""
@@ -64,7 +64,7 @@ class Part:
     waits: bool
 
 
-def words_of(recording: Recording, part: Part) -> list[str]:
+def words_of(recording: Recording, part: RecordingPart) -> list[str]:
     """The command line of a recorder."""
     return [sys.executable, '-BP', '-m', 'e1gw.recorder', json.dumps([asdict(recording), asdict(part)])]
 
@@ -98,7 +98,7 @@ class Records:
 class Kept:
     """What is kept: nothing, a file, or a ring."""
 
-    def __init__(self, recording: Recording, part: Part, journal: Journal) -> None:
+    def __init__(self, recording: Recording, part: RecordingPart, journal: Journal) -> None:
         self._journal, self._place, self.is_over = journal, part.place, False
         self._ring: Ring | None = None
         self._outlet: Writer | None = None
@@ -107,7 +107,7 @@ class Kept:
         if recording.session:
             self._outlet = (self._open_ring if recording.keep else self._open_file)(recording.session, recording, part)
 
-    def _open_file(self, path: str, recording: Recording, part: Part) -> Writer:
+    def _open_file(self, path: str, recording: Recording, part: RecordingPart) -> Writer:
         file = AppendedFile(path)
 
         def opened() -> None:
@@ -115,7 +115,7 @@ class Kept:
             file.open()
         return Writer('session', file.write, self._ended, file.close, opened, path)
 
-    def _open_ring(self, folder: str, recording: Recording, part: Part) -> Writer:
+    def _open_ring(self, folder: str, recording: Recording, part: RecordingPart) -> Writer:
         assert recording.keep
         behind = FinishedPieces(part.program, wait=recording.wait, failed=functools.partial(self._ended, 'states'))
         ring = self._ring = Ring(folder, recording.name, f'/dev/fd/{CONFIG_FILE}', recording.keep, behind,
@@ -154,7 +154,7 @@ class Kept:
             self._outlet.close(FLUSH)
 
 
-def _begin_writing(part: Part) -> None:
+def _begin_writing(part: RecordingPart) -> None:
     """To be called in the thread that writes, before it writes."""
     put_behind(threading.get_native_id(), NICE)
     if part.waits:
@@ -175,7 +175,7 @@ def _read_state() -> bytes:
 class Flows:
     """Notes how octets flow, if that is asked, and measures it for what is kept."""
 
-    def __init__(self, recording: Recording, part: Part, journal: Journal) -> None:
+    def __init__(self, recording: Recording, part: RecordingPart, journal: Journal) -> None:
         self._first, self._clock = part.place, Clock(time.monotonic())
         self._flow: Flow | None = None
         if recording.flow:
@@ -243,7 +243,7 @@ class RingRetry:
 class Recorder:
     """Passes the recording on, keeps it, and notes how it flows."""
 
-    def __init__(self, recording: Recording, part: Part, journal: Journal) -> None:
+    def __init__(self, recording: Recording, part: RecordingPart, journal: Journal) -> None:
         self._part = part
         self._records, self._kept = Records(part.place), Kept(recording, part, journal)
         self._flows = Flows(recording, part, journal)
@@ -303,7 +303,7 @@ def main() -> None:
     sys.setswitchinterval(0.001)
     recording, part = json.loads(sys.argv[1])
     journal = Journal(name='e1gw-keep')
-    Recorder(Recording(**recording), Part(**part), journal).run()
+    Recorder(Recording(**recording), RecordingPart(**part), journal).run()
     journal.close()
     # A thread may still wait for a disk; nothing waits for it.
     os._exit(0)
