@@ -13,8 +13,9 @@ from .naming import note_of
 from .parent import parent
 from .recorder import FLUSH
 from .recovery import Notes
-from .renewal import SIGNALS, Renewal
+from .renewal import Renewal
 from .running import Process, Run, lines_in, started, unlink
+from .signals import Signals
 from .standby import GRACE
 from .succession import ANEW, LOST, Phase, Succession
 from .systemd import Notify
@@ -36,20 +37,9 @@ class Keeper:
         self.renewal = Renewal(self.succession, journal, notify, self._kept)
         self._own = [os.getpid(), started(os.getpid())]
         self._notes = Notes(asked.folder, notify, held, journal)
-        self._wake, self._parent = self._catch_signals(), parent()
+        self._signals, self._parent = Signals(self._caught, [signal.SIGUSR1]), parent()
 
     # ---- what is waited for ----
-
-    def _catch_signals(self) -> int:
-        reads, writes = os.pipe()
-        for end in (reads, writes):
-            os.set_blocking(end, False)
-        signal.set_wakeup_fd(writes, warn_on_full_buffer=False)
-        for number in SIGNALS:
-            signal.signal(number, lambda which, _: self._caught(which))
-        signal.signal(signal.SIGUSR1, signal.SIG_IGN)
-        signal.pthread_sigmask(signal.SIG_SETMASK, [])
-        return reads
 
     def _caught(self, number: int) -> None:
         if number in (signal.SIGTERM, signal.SIGINT):
@@ -68,15 +58,8 @@ class Keeper:
         return [process for process in found if process and process.status is None and process.file >= 0]
 
     def _wait(self) -> None:
-        poll, hello = select.poll(), self.succession.run.hello()
-        for file in (self._wake, self._parent, hello, *(process.file for process in self._processes())):
-            if file >= 0:
-                poll.register(file, select.POLLIN)
-        poll.poll(self._patience())
-        try:
-            os.read(self._wake, 4096)
-        except BlockingIOError:
-            pass
+        files = [process.file for process in self._processes()]
+        self._signals.wait([self._parent, self.succession.run.hello(), *files], self._patience())
         for process in self._processes():
             process.ended()
         self._look_at_parent()
@@ -89,13 +72,13 @@ class Keeper:
             self._end('what started the keeper has ended')
 
     def _patience(self) -> float:
-        """Milliseconds until all is looked at again although nothing has come."""
+        """Seconds until all is looked at again although nothing has come."""
         its = self.succession
         if its.phase is Phase.BEGINS and its.run.hello() < 0:
-            return 1
+            return 0.001
         if its.standby.run and not its.standby.ready():
-            return 5
-        return 500 if its.phase is Phase.UP and not (its.wanted or its.retired.runs) else 50
+            return 0.005
+        return 0.5 if its.phase is Phase.UP and not (its.wanted or its.retired.runs) else 0.05
 
     def turn(self) -> None:
         """Waits until something has happened, and does what follows."""

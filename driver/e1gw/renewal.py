@@ -9,13 +9,13 @@ import sys
 from typing import Any, Callable
 
 from .running import Version, spawn
+from .signals import SIGNALS
 from .standby import Trial
 from .succession import Phase, Succession
 from .systemd import Notify
 from .writers import Journal
 
 KEPT = 'E1GW_KEPT'          # the variable that leads through an exec
-SIGNALS = (signal.SIGTERM, signal.SIGINT, signal.SIGHUP, signal.SIGUSR2, signal.SIGCHLD)
 
 
 class Renewal:
