@@ -5,7 +5,6 @@ that another program goes on. What it hears is what one uncut replay of all reco
 from __future__ import annotations
 
 import contextlib
-import fcntl
 import itertools
 import os
 import random
@@ -16,7 +15,6 @@ import socket
 import subprocess
 import sys
 import tempfile
-import termios
 import threading
 import time
 import unittest
@@ -65,14 +63,6 @@ class KeeperDevice:
                 raise EOFError
             got += piece
         return got
-
-    def all_read(self) -> None:
-        """Returns once the other end has read all that was sent."""
-        until = time.monotonic() + SECONDS
-        while int.from_bytes(fcntl.ioctl(self.line, termios.TIOCOUTQ, bytes(4)), sys.byteorder):
-            if time.monotonic() > until:
-                raise AssertionError('the device is not read')
-            time.sleep(0.001)
 
     def close(self) -> None:
         self.line.close()
@@ -293,7 +283,7 @@ class KeeperFailureTests(KeeperCase):
 
     def settled(self) -> bytes:
         """What has come back, once all that was sent is read and answered: a client's answer comes behind that."""
-        self.device.all_read()
+        support.all_read(self.device.line)
         with self.client() as line:
             line.sendall(HELLO)
             self.assertEqual(len(line.recv(6)), 6)

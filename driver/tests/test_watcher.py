@@ -13,9 +13,9 @@ import unittest
 import urllib.request
 from typing import Any
 
-from .support import FolderCase
+from .support import FolderCase, free_port
 from .telling import IDLE, LAUNCHER, StandInProgram, StandInShadow, WatchedTrunk, row
-from .test_web import free_port, samples
+from .test_web import samples
 from .world import SECONDS
 from e1gw.loop import Loop
 from e1gw.running import HELLO
