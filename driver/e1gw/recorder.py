@@ -29,7 +29,7 @@ from .session import HEAD, Kind
 from .writers import AppendedFile, Journal, Writer, write_all
 
 PIECE = 1 << 16
-REST = 8                    # milliseconds in which octets gather
+FRONT, TRUNK = HEAD.size, int(Kind.TRUNK)     # (as plain numbers, since each record is looked at)
 FLUSH = 5.0                 # seconds at the end for what is not written yet
 NICE = 10                   # of the thread that writes
 AGAIN = 60.0                # seconds between two looks whether a ring that has ended can be written again
@@ -81,17 +81,16 @@ class Records:
 
     def whole(self, octets: bytes) -> bytes:
         """The records that are whole now."""
-        held, at = self._held + octets, 0
-        upto = len(held) - HEAD.size
+        held, at, place, unpack = self._held + octets, 0, self.place, HEAD.unpack_from
+        upto = len(held) - FRONT
         while at <= upto:
-            kind, _, length = HEAD.unpack_from(held, at)
-            after = at + HEAD.size + length
-            if after > len(held):
+            kind, _, length = unpack(held, at)
+            if at + length > upto:
                 break
-            if kind == Kind.TRUNK:
-                self.place += length
-            at = after
-        self._held = held[at:]
+            if kind == TRUNK:
+                place += length
+            at += FRONT + length
+        self.place, self._held = place, held[at:]
         return held[:at]
 
 
@@ -253,21 +252,20 @@ class Recorder:
         self._due = time.monotonic() + TICK
 
     def run(self) -> None:
-        """Until the recording ends. After each read it rests, unless the program has ended."""
-        poll, ended = select.poll(), select.poll()
-        poll.register(0, select.POLLIN)
+        """Until the recording ends. It rests between two looks, unless the program has ended."""
+        ended, comes = select.poll(), select.poll()
         ended.register(0, 0)        # (an end is told in any case)
+        comes.register(0, select.POLLIN)
         while True:
-            now = time.monotonic()
-            if now >= self._due:
-                self._look(now)
-            if poll.poll(max(0.0, self._due - now) * 1000):
+            ended.poll(max(0.0, self._due - time.monotonic()) * 1000)
+            while comes.poll(0):
                 octets = os.read(0, PIECE)
                 if not octets:
-                    break
+                    return self._end()
                 self._pass(octets, time.monotonic())
-                ended.poll(REST)
-        self._end()
+                if len(octets) < PIECE:
+                    break
+            self._look(time.monotonic())
 
     def _look(self, now: float) -> None:
         self._due = now + TICK
