@@ -39,6 +39,8 @@ class Ready:
 
     def watch(self, wanted: dict[int, int]) -> None:
         """From now on these descriptors and no others, each for its events. To be called before one is closed."""
+        if wanted == self._watched:
+            return
         for file in self._watched.keys() - wanted.keys():
             self._epoll.unregister(file)
         for file in wanted.keys() - self._watched.keys():

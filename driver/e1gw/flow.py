@@ -12,6 +12,7 @@ from .clock import Clock, ClockFinding
 from .session import OCTETS_A_SECOND
 
 LINE, LOOKS = 96, 1024      # octets of a line; lines, 20 s
+AT_ONCE = 8                 # lines that are read at once
 MEASURED = frozenset(('gap', 'ahead', 'rate'))
 
 
@@ -100,12 +101,17 @@ class Flowing:
         """The looks behind the last one, or all that are there if the next one was written over."""
         found: list[Look] = []
         number = self._number + 1
-        while (look := look_of(os.pread(file, LINE, number % LOOKS * LINE))) and look.number >= number:
-            if look.number > number:
-                return [each for each in _all(file) if each.number > self._number]
-            found.append(look)
-            number += 1
-        return found
+        while True:
+            at = number % LOOKS
+            octets = os.pread(file, LINE * min(AT_ONCE, LOOKS - at), LINE * at)
+            for begin in range(0, max(1, len(octets)), LINE):
+                look = look_of(octets[begin:begin + LINE])
+                if look is None or look.number < number:
+                    return found
+                if look.number > number:
+                    return [each for each in _all(file) if each.number > self._number]
+                found.append(look)
+                number += 1
 
     def _take(self, look: Look) -> list[ClockFinding]:
         if look.came and (self.clock is None or look.came[1] < self._place):

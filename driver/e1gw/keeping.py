@@ -22,15 +22,18 @@ from typing import Any, Callable, NoReturn
 from .command import NoTrunk, Usage, run
 from .faults import Parser, words_of_fault
 from .keep import seconds_of
-from .keeper import KEPT, MOST_REOPEN, REOPEN, TRUNK_NAMES, Asked, Keeper
+from .keeper import TRUNK_NAMES, Keeper
 from .keeper_files import folder_of, is_taken
 from .lines import wait_words
 from .parent import parent
 from .programs import SENDERS, add_program, add_session, check_config, program_of, senders_of
 from .recorder import Recording
 from .recovery import end_left_overs, end_others, left_in, state_of
+from .renewal import KEPT
+from .standby import MOST_REOPEN, REOPEN
 from .systemd import Notify, given
 from .trunks import Stream, add_device, device_of
+from .versions import KeeperOptions
 from .writers import Journal
 
 RUN_NAMES = 'tape', 'hello', 'program'          # of the descriptors of a run
@@ -91,11 +94,12 @@ def recording_of(asked: argparse.Namespace) -> Recording | None:
     return Recording(session, keep, name, os.path.abspath(asked.config), asked.seizure_wait, flow)
 
 
-def _asked_of(words: argparse.Namespace, folder: str) -> Asked:
+def _asked_of(words: argparse.Namespace, folder: str) -> KeeperOptions:
     program = shutil.which(program_of(words.program)) or program_of(words.program)
-    return Asked(os.path.abspath(program), words.config, lambda config: program_words(words, config),
-                 wait_words(words.seizure_wait), words.control, words.state, folder, words.tell, words.totals,
-                 trunk_of(words) if words.reopen else None, recording_of(words), opens_of(words))
+    return KeeperOptions(
+        os.path.abspath(program), words.config, lambda config: program_words(words, config),
+        wait_words(words.seizure_wait), words.control, words.state, folder, words.tell, words.totals,
+        trunk_of(words) if words.reopen else None, recording_of(words), opens_of(words))
 
 
 def _first(opens: Callable[[], Stream], again: bool, journal: Journal) -> Stream:

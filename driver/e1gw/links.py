@@ -3,6 +3,8 @@ from __future__ import annotations
 
 import socket
 import struct
+import time
+from math import inf
 from typing import Callable
 
 from .connections import Connection
@@ -14,19 +16,23 @@ class LinkConnection(Connection):
     """This end of a connection."""
 
     def __init__(self, link: Link, line: socket.socket) -> None:
-        self._link, self.why = link, 'it has closed the connection'
+        self._link, self.why, self._rests = link, 'it has closed the connection', False
         Connection.__init__(self, link.loop, line, lambda _: link.lost(self.why))
 
     def took(self, octets: bytes) -> None:
         self._link.took(octets)
         if self.open and self._link.rest:
+            self._rests = True
             self.loop.forget(self.line.fileno())
-            self.loop.later(self._link.rest, self.again)
+            self._link.wait()
 
     def again(self) -> None:
-        """Reads it again."""
-        if self.open and not self.loop.watches(self.line.fileno()):
-            self.loop.watch(self.line.fileno(), READ, self._ready, beside=True)
+        """Ends a rest: what has come meanwhile is read, and if that is nothing, the next octets are waited for."""
+        if self._rests and self.open:
+            self._rests = False
+            self._receive()
+            if self.open and not self._rests:
+                self.loop.watch(self.line.fileno(), READ, self._ready, beside=True)
 
 
 class Link:
@@ -38,6 +44,7 @@ class Link:
         self.loop, self.path, self.took, self.rest = loop, path, took, rest
         self._came, self._gone = came, gone
         self._end: LinkConnection | None = None
+        self._rest_ends = loop.every(inf, self.read)
 
     def look(self) -> None:
         """To be called now and then: connects. `came` is called with the number of the other end's process."""
@@ -66,8 +73,17 @@ class Link:
 
     def rests(self, seconds: float) -> None:
         """From now on it rests for so long after a read."""
-        self.rest = seconds
-        if self._end and not seconds:
+        is_shorter, self.rest = seconds < self.rest, seconds
+        if is_shorter:
+            self.wait()
+
+    def wait(self) -> None:
+        """A rest begins."""
+        self.loop.put_off(self._rest_ends, time.monotonic() + self.rest)
+
+    def read(self) -> None:
+        """Ends a rest: what has come is read now."""
+        if self._end:
             self._end.again()
 
     def close(self, why: str) -> None:

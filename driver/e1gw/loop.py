@@ -87,6 +87,11 @@ class Loop:
         self._due = min(self._due, timer.due)
         return timer
 
+    def put_off(self, timer: Timer, due: float) -> None:
+        """A timer is due at this moment next. (One of `inf` seconds then waits to be put off again.)"""
+        timer.due = due
+        self._due = min(self._due, due)
+
     def soon(self, call: Callable[[], None]) -> None:
         """Calls it when octets do not wait, one such call a turn."""
         self._soon.append(call)

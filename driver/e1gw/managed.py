@@ -198,10 +198,14 @@ class Managed:
             self.calls.took(event)
         self.pass_on(event)
 
+    def followers(self) -> list[ControlConnection]:
+        """Who has asked for events."""
+        return [each for each in self.connections if isinstance(each, ControlConnection) and each.follows]
+
     def pass_on(self, event: Event) -> None:
         """Tells a change to all who follow."""
         self.snapshots.changed()
-        followers = [each for each in self.connections if isinstance(each, ControlConnection) and each.follows]
+        followers = self.followers()
         if followers or self._json:
             text = json_line(event)
             for connection in followers:

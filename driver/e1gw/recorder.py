@@ -29,7 +29,7 @@ from .session import HEAD, Kind
 from .writers import AppendedFile, Journal, Writer, write_all
 
 PIECE = 1 << 16
-REST = 8                    # milliseconds in which octets gather
+FRONT, TRUNK = HEAD.size, int(Kind.TRUNK)     # (as plain numbers, since each record is looked at)
 FLUSH = 5.0                 # seconds at the end for what is not written yet
 NICE = 10                   # of the thread that writes
 AGAIN = 60.0                # seconds between two looks whether a ring that has ended can be written again
@@ -52,7 +52,7 @@ class Recording:
 
 
 @dataclass(frozen=True)
-class Part:
+class RecordingPart:
     """One program's part of it, from a place of the trunk on. `lost` are seconds of the trunk that are known to be lost
     before it; `passed` is the file that says that all was passed on; one that `waits` writes nothing before the
     recorder before it has written all."""
@@ -64,7 +64,7 @@ class Part:
     waits: bool
 
 
-def words_of(recording: Recording, part: Part) -> list[str]:
+def words_of(recording: Recording, part: RecordingPart) -> list[str]:
     """The command line of a recorder."""
     return [sys.executable, '-BP', '-m', 'e1gw.recorder', json.dumps([asdict(recording), asdict(part)])]
 
@@ -81,24 +81,23 @@ class Records:
 
     def whole(self, octets: bytes) -> bytes:
         """The records that are whole now."""
-        held, at = self._held + octets, 0
-        upto = len(held) - HEAD.size
+        held, at, place, unpack = self._held + octets, 0, self.place, HEAD.unpack_from
+        upto = len(held) - FRONT
         while at <= upto:
-            kind, _, length = HEAD.unpack_from(held, at)
-            after = at + HEAD.size + length
-            if after > len(held):
+            kind, _, length = unpack(held, at)
+            if at + length > upto:
                 break
-            if kind == Kind.TRUNK:
-                self.place += length
-            at = after
-        self._held = held[at:]
+            if kind == TRUNK:
+                place += length
+            at += FRONT + length
+        self.place, self._held = place, held[at:]
         return held[:at]
 
 
 class Kept:
     """What is kept: nothing, a file, or a ring."""
 
-    def __init__(self, recording: Recording, part: Part, journal: Journal) -> None:
+    def __init__(self, recording: Recording, part: RecordingPart, journal: Journal) -> None:
         self._journal, self._place, self.is_over = journal, part.place, False
         self._ring: Ring | None = None
         self._outlet: Writer | None = None
@@ -107,7 +106,7 @@ class Kept:
         if recording.session:
             self._outlet = (self._open_ring if recording.keep else self._open_file)(recording.session, recording, part)
 
-    def _open_file(self, path: str, recording: Recording, part: Part) -> Writer:
+    def _open_file(self, path: str, recording: Recording, part: RecordingPart) -> Writer:
         file = AppendedFile(path)
 
         def opened() -> None:
@@ -115,7 +114,7 @@ class Kept:
             file.open()
         return Writer('session', file.write, self._ended, file.close, opened, path)
 
-    def _open_ring(self, folder: str, recording: Recording, part: Part) -> Writer:
+    def _open_ring(self, folder: str, recording: Recording, part: RecordingPart) -> Writer:
         assert recording.keep
         behind = FinishedPieces(part.program, wait=recording.wait, failed=functools.partial(self._ended, 'states'))
         ring = self._ring = Ring(folder, recording.name, f'/dev/fd/{CONFIG_FILE}', recording.keep, behind,
@@ -154,7 +153,7 @@ class Kept:
             self._outlet.close(FLUSH)
 
 
-def _begin_writing(part: Part) -> None:
+def _begin_writing(part: RecordingPart) -> None:
     """To be called in the thread that writes, before it writes."""
     put_behind(threading.get_native_id(), NICE)
     if part.waits:
@@ -175,7 +174,7 @@ def _read_state() -> bytes:
 class Flows:
     """Notes how octets flow, if that is asked, and measures it for what is kept."""
 
-    def __init__(self, recording: Recording, part: Part, journal: Journal) -> None:
+    def __init__(self, recording: Recording, part: RecordingPart, journal: Journal) -> None:
         self._first, self._clock = part.place, Clock(time.monotonic())
         self._flow: Flow | None = None
         if recording.flow:
@@ -243,7 +242,7 @@ class RingRetry:
 class Recorder:
     """Passes the recording on, keeps it, and notes how it flows."""
 
-    def __init__(self, recording: Recording, part: Part, journal: Journal) -> None:
+    def __init__(self, recording: Recording, part: RecordingPart, journal: Journal) -> None:
         self._part = part
         self._records, self._kept = Records(part.place), Kept(recording, part, journal)
         self._flows = Flows(recording, part, journal)
@@ -253,21 +252,20 @@ class Recorder:
         self._due = time.monotonic() + TICK
 
     def run(self) -> None:
-        """Until the recording ends. After each read it rests, unless the program has ended."""
-        poll, ended = select.poll(), select.poll()
-        poll.register(0, select.POLLIN)
+        """Until the recording ends. It rests between two looks, unless the program has ended."""
+        ended, comes = select.poll(), select.poll()
         ended.register(0, 0)        # (an end is told in any case)
+        comes.register(0, select.POLLIN)
         while True:
-            now = time.monotonic()
-            if now >= self._due:
-                self._look(now)
-            if poll.poll(max(0.0, self._due - now) * 1000):
+            ended.poll(max(0.0, self._due - time.monotonic()) * 1000)
+            while comes.poll(0):
                 octets = os.read(0, PIECE)
                 if not octets:
-                    break
+                    return self._end()
                 self._pass(octets, time.monotonic())
-                ended.poll(REST)
-        self._end()
+                if len(octets) < PIECE:
+                    break
+            self._look(time.monotonic())
 
     def _look(self, now: float) -> None:
         self._due = now + TICK
@@ -303,7 +301,7 @@ def main() -> None:
     sys.setswitchinterval(0.001)
     recording, part = json.loads(sys.argv[1])
     journal = Journal(name='e1gw-keep')
-    Recorder(Recording(**recording), Part(**part), journal).run()
+    Recorder(Recording(**recording), RecordingPart(**part), journal).run()
     journal.close()
     # A thread may still wait for a disk; nothing waits for it.
     os._exit(0)

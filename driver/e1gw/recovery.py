@@ -10,20 +10,49 @@ import shutil
 import signal
 import socket
 import time
-from typing import Any, Sequence
+from typing import Any, Iterable, Mapping, Sequence
 
 from .running import END, Adopted, Process, folder_path, started
+from .systemd import Notify
+from .writers import Journal
 
 NOTE = 'kept'               # the file of a keeper's folder in which it notes what it has
 GRACE = 1.0                 # seconds for an orderly end, and for a state to be saved
 
 
-def note(folder: str, text: str) -> None:
-    """Puts what a keeper has into its folder, whole."""
-    path = os.path.join(folder, NOTE)
-    with open(f'{path}.new', 'w', encoding='utf-8') as file:
-        file.write(text)
-    os.replace(f'{path}.new', path)
+class Notes:
+    """What a keeper leaves for another one if it is killed: a note in its folder, and descriptors that systemd keeps.
+    `held` are the names of those that it has kept from a keeper before."""
+
+    def __init__(self, folder: str, notify: Notify, held: Iterable[str], journal: Journal) -> None:
+        self._path, self._notify, self._journal = os.path.join(folder, NOTE), notify, journal
+        self._noted, self._held = '', frozenset(held)
+
+    def put(self, kept: dict[str, Any], files: Mapping[str, int]) -> None:
+        """This is what another keeper has to know, and to have."""
+        if (text := json.dumps(kept)) != self._noted:
+            self._noted = text
+            try:
+                self._write(text)
+            except OSError as fault:
+                self._journal.line(Journal.WARNING, f'it is not noted what another keeper would need: {fault}')
+        for name, file in files.items():
+            if name not in self._held:
+                self._notify.keep(name, file)
+        for name in self._held - {*files}:
+            self._notify.forget(name)
+        self._held = frozenset(files)
+
+    def _write(self, text: str) -> None:
+        """Puts the note in its place, whole."""
+        with open(f'{self._path}.new', 'w', encoding='utf-8') as file:
+            file.write(text)
+        os.replace(f'{self._path}.new', self._path)
+
+    def forget(self) -> None:
+        """Nothing is kept any more."""
+        for name in self._held:
+            self._notify.forget(name)
 
 
 def left_in(within: str, trunk: Sequence[str | None]) -> dict[str, Any] | None:

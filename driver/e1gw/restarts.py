@@ -28,8 +28,8 @@ _OF_TIME = {0: False, int(DatagramRefusal.LATE): True, int(DatagramRefusal.FULL)
 class OpenCall:
     """An open call."""
 
-    seen: deque[tuple[int, bool]] = field(default_factory=deque)    # datagrams: the place, whether it was refused
-    refused: int = 0
+    seen: deque[int] = field(default_factory=deque)         # the places of datagrams
+    refused: deque[int] = field(default_factory=deque)      # those of them that were refused
     fresh: bool = False                 # a datagram has come since the last look
     since: int = 0                      # datagrams before this place are of a playout that has ended
     lost_at: float = -inf               # when it was restarted for lost octets
@@ -40,19 +40,26 @@ class OpenCall:
         """What was answered to a datagram."""
         if place < self.since:
             return
-        seen = self.seen
-        seen.append((place, refused))
-        self.refused += refused
-        self.fresh = True
-        while seen[0][0] <= place - _SPAN:
-            self.refused -= seen.popleft()[1]
+        self.fresh, first, seen = True, place - _SPAN, self.seen
+        seen.append(place)
+        while seen[0] <= first:
+            seen.popleft()
+        if refused:
+            self.refused.append(place)
+            self._drop_refused(first)
+
+    def _drop_refused(self, first: int) -> None:
+        while self.refused and self.refused[0] <= first:
+            self.refused.popleft()
 
     def is_refused(self) -> bool:
         """Whether half of the datagrams are refused, for more than a moment."""
-        if not self.fresh or self.refused < FEWEST or 2 * self.refused < len(self.seen):
+        refused = self.refused
+        if refused:
+            self._drop_refused(self.seen[-1] - _SPAN)
+        if not self.fresh or len(refused) < FEWEST or 2 * len(refused) < len(self.seen):
             return False
-        places = [place for place, refused in self.seen if refused]
-        return places[-1] - places[0] >= _SPAN // 2
+        return refused[-1] - refused[0] >= _SPAN // 2
 
     def due(self, now: float, counts: bool) -> str | None:
         """Why it is restarted now, if it is."""
@@ -66,7 +73,8 @@ class OpenCall:
 
     def restarted(self, place: int) -> None:
         self.seen.clear()
-        self.refused, self.since, self.why = 0, place, None
+        self.refused.clear()
+        self.since, self.why = place, None
 
 
 class Restarts:

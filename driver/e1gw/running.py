@@ -15,7 +15,7 @@ import termios
 from dataclasses import asdict, dataclass, field
 from typing import Any, Mapping, Sequence
 
-from .recorder import AROUND, BEFORE_FILE, CONFIG_FILE, ROOM, STATE_FROM, Part, Recording, words_of
+from .recorder import AROUND, BEFORE_FILE, CONFIG_FILE, ROOM, STATE_FROM, Recording, RecordingPart, words_of
 from .session import Kind, encode_record
 
 TAPE_ROOM = 1 << 20         # octets: two seconds of thirty calls
@@ -310,7 +310,7 @@ class Run:
         """As `follow`, with what keeps the recording in between, behind another that did so `before`. The program began
         at this place of the trunk, and so many seconds of the trunk are lost before it."""
         before = before if before and before.file >= 0 else None
-        part = Part(place, lost, self.version.program, self.path('passed'), before is not None)
+        part = RecordingPart(place, lost, self.version.program, self.path('passed'), before is not None)
         source, sink = os.pipe()
         try:
             _widen(sink, TAPE_ROOM)

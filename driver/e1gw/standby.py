@@ -1,16 +1,23 @@
-"""What the keeper has beside the run in service: the program that waits, what is tried, what is over, what died."""
+"""What the keeper has beside the run in service: the program that waits, what is tried, what is over, what died, when
+another one follows for its shadow, and a trunk that is opened again."""
 from __future__ import annotations
 
 import os
 import signal
+import threading
 import time
 from collections import deque
+from math import inf
 from typing import Callable, Mapping
 
 from .recorder import FLUSH
 from .running import Process, Run, Version, unlink
+from .trunks import Stream
 
 GRACE = 1.0                 # seconds for an orderly end, and for a state to be saved
+APART, MOST_APART = 1.0, 60.0       # seconds between two handovers for a shadow that has ended
+QUICK = 5.0                 # seconds within which a shadow that ends has the next one wait longer
+REOPEN, MOST_REOPEN = 0.25, 30.0    # seconds before a trunk is opened again
 DEATHS, WITHIN = 5, 2.0     # so many in so many seconds: the program begins without a state
 MOST_PAUSE = 10.0
 NewRun = Callable[[Version, 'str | None', bool], Run]
@@ -139,3 +146,69 @@ class Trial:
             said = '; '.join(os.read(self._said, 4096).decode(errors='replace').splitlines())
             os.close(self._said)
             self._then(status, said or f'status {status}')
+
+
+class ShadowWatch:
+    """Whether the shadow of the program in service does its work, and its recorder."""
+
+    def __init__(self) -> None:
+        self._apart = APART
+
+    def fault(self, run: Run) -> str:
+        """Why another program is to follow, or nothing. What stands still is killed."""
+        shadow, recorder = run.shadow, run.recorder
+        assert shadow
+        if recorder and recorder.ended():
+            return f'the recorder {recorder.words()}'
+        if recorder and recorder.stopped():
+            recorder.signal(signal.SIGKILL)
+            return 'the recorder stood still'
+        if shadow.ended():
+            return f'the shadow {run.shadow_words()}'
+        if shadow.stopped() or run.is_behind():
+            shadow.signal(signal.SIGKILL)
+            return 'the shadow stood still'
+        return 'the recording begins again' if run.asks_again() else ''
+
+    def due(self, now: float, up: float) -> float:
+        """When it follows one that is up since then."""
+        if now - up > QUICK:
+            self._apart = APART
+        due, self._apart = up + self._apart, min(MOST_APART, 2 * self._apart)
+        return due
+
+
+class Reopening:
+    """A trunk that has ended, and is opened again: in a thread, since that may wait."""
+
+    def __init__(self, opens: Callable[[], Stream] | None, folder: str) -> None:
+        self.state: str | None = None       # the file of the state that goes on with it, in this folder
+        self._opens, self._folder, self._pause, self._due = opens, folder, REOPEN, inf
+        self._found: Stream | OSError | None = None     # from the thread
+
+    def begin(self, up: float, state: str | None) -> None:
+        """The trunk has ended, whose program was up since then, with this state."""
+        self.state = os.path.join(self._folder, 'held') if state else None
+        if state and self.state:
+            os.replace(state, self.state)
+        now = time.monotonic()
+        self._pause = REOPEN if now - up > QUICK else min(MOST_REOPEN, 2 * self._pause)
+        self._due = now + self._pause
+
+    def look(self, now: float) -> Stream | OSError | None:
+        """The trunk once it is open, or why it can't be opened; then it is tried again."""
+        found, self._found = self._found, None
+        if isinstance(found, OSError):
+            self._pause = min(MOST_REOPEN, 2 * self._pause)
+            self._due = now + self._pause
+        elif not found and now >= self._due:
+            self._due = inf
+            threading.Thread(target=self._open, name='opening the trunk', daemon=True).start()
+        return found
+
+    def _open(self) -> None:
+        assert self._opens
+        try:
+            self._found = self._opens()
+        except OSError as fault:
+            self._found = fault

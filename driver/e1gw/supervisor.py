@@ -14,11 +14,11 @@ from math import inf
 
 from .parent import PARENT
 from .running import Process
+from .signals import Signals
 from .systemd import Notify, Store
 from .watcher import QUIT
 from .writers import Journal
 
-SIGNALS = (signal.SIGTERM, signal.SIGINT, signal.SIGHUP, signal.SIGUSR2, signal.SIGCHLD)
 PAUSE, MOST_PAUSE = 0.2, 10.0       # seconds before a program that has ended is begun again
 LASTS = 10.0                # seconds after which one that has ended is begun again after PAUSE
 GRACE = 10.0                # seconds for a program to end in order, before it is killed
@@ -127,18 +127,7 @@ class Supervisor:
         self._until = inf                   # when what has not ended is killed
         self._has_told = self._waits = False        # it is told that the trunk is in service, or not open yet
         self._caught: list[int] = []
-        self._wake = self._catch_signals()
-
-    def _catch_signals(self) -> int:
-        reads, writes = os.pipe()
-        for end in (reads, writes):
-            os.set_blocking(end, False)
-        signal.set_wakeup_fd(writes, warn_on_full_buffer=False)
-        for number in (signal.SIGTTIN, signal.SIGTTOU, signal.SIGUSR1):
-            signal.signal(number, signal.SIG_IGN)
-        for number in SIGNALS:
-            signal.signal(number, lambda which, _: self._caught.append(which))
-        return reads
+        self._signals = Signals(self._caught.append, (signal.SIGTTIN, signal.SIGTTOU, signal.SIGUSR1))
 
     # ---- the whole ----
 
@@ -178,15 +167,8 @@ class Supervisor:
                 break
 
     def _wait(self, now: float) -> None:
-        poll = select.poll()
-        for file in (self._wake, *(file for part in self.parts.every() for file in part.files())):
-            poll.register(file, select.POLLIN)
         due = min([now + ALIVE, self._until, *(part.due for part in self.parts.every() if part.is_tried)])
-        poll.poll(max(0.0, due - now) * 1000)
-        try:
-            os.read(self._wake, 4096)
-        except BlockingIOError:
-            pass
+        self._signals.wait([file for part in self.parts.every() for file in part.files()], due - now)
 
     def _obey(self, number: int) -> None:
         """A signal."""

@@ -32,12 +32,14 @@ class Told(TrunkState):
         self._before = 0                    # octets of the sessions before this one
         self._session: object = None
         self._is_placed = False
-        self._held = b''
+        self._held = ''
         self.seizures: dict[int, int] = {}  # how often each line was seized in this session, if that is told
         self._led: dict[int, State] = {}    # where commands have led lines whose state is still to be told
-        self._words: dict[str, Callable[..., None]] = {
+        self._greeting: dict[str, Callable[..., None]] = {'e1gw': self._greet}
+        self._changes: dict[str, Callable[..., None]] = {
             'at': self._at, 'alarms': self._alarms, 'line': self._row, 'seizures': self._seizures, 'now': self._now,
             'datagram': self._datagram, 'command': self._command, 'codec': self._change}
+        self._words = self._greeting        # those that may come now
 
     def when(self, place: int) -> float:
         return self._clock()
@@ -46,7 +48,7 @@ class Told(TrunkState):
         """A shadow is there that will tell the whole state; `session` is equal for one that told before."""
         if session != self._session:
             self._session, self._before = session, self.place
-        self._held, self.live, self._is_placed, self._words['e1gw'] = b'', False, False, self._greet
+        self._held, self.live, self._is_placed, self._words = '', False, False, self._greeting
         self._led.clear()
         self.seizures = {}
         for row in self.counts.circuits.values():
@@ -58,33 +60,30 @@ class Told(TrunkState):
 
     def take(self, octets: bytes) -> None:
         """Octets that are told. BadTelling where they are not understood; what stands before that was done."""
-        *lines, self._held = (self._held + octets).split(b'\n')
+        *lines, self._held = (self._held + octets.decode('ascii', 'replace')).split('\n')
         if len(self._held) > MOST_LINE:
             raise BadTelling(f'a line of more than {MOST_LINE} octets')
         for line in lines:
-            self._take(line.decode(errors='replace'))
-
-    def _take(self, line: str) -> None:
-        name, *words = line.split() or ['']
-        if 'e1gw' in self._words and name != 'e1gw':
-            raise BadTelling(f'it does not begin with "e1gw tell": {line[:80]}')
-        word = self._words.get(name)
-        if word is None:
-            return          # of a later version
-        try:
-            word(*words)
-        except (KeyError, TypeError, ValueError):
-            raise BadTelling(f'not understood: {line[:80]}') from None
+            name, *words = line.split() or ['']
+            word = self._words.get(name)
+            if word is None and self._words is self._greeting:
+                raise BadTelling(f'it does not begin with "e1gw tell": {line[:80]}')
+            if word:            # (others are of a later version)
+                try:
+                    word(*words)
+                except (KeyError, TypeError, ValueError):
+                    raise BadTelling(f'not understood: {line[:80]}') from None
 
     def _greet(self, tell: str, version: str, law: str) -> None:
         if (tell, version) != ('tell', VERSION):
             raise BadTelling(f'it speaks version {version}, and {VERSION} is known')
         self.law = law
-        del self._words['e1gw']
+        self._words = self._changes
 
-    def reach(self, place: int) -> None:
-        """The session is at this place, or was."""
+    def reach(self, place: int) -> int:
+        """The session is at this place, or was. Returns the place of the trunk."""
         self.place = max(self.place, self._before + place)
+        return self.place
 
     def _at(self, place: str) -> None:
         if not self._is_placed and self._before + int(place) < self.place:
@@ -109,9 +108,8 @@ class Told(TrunkState):
         self._remote(Alignment.FRAME, bool(int(far_frame)))
         self._remote(Alignment.MULTIFRAME, bool(int(far_multiframe)))
 
-    def _datagram(self, circuit: str, code: str, *numbers: str) -> None:
-        sequence, timestamp, ssrc = map(int, numbers)
-        self.counts.count(int(circuit), int(code), self.place, sequence, timestamp, ssrc)
+    def _datagram(self, circuit: str, code: str, sequence: str, timestamp: str, ssrc: str) -> None:
+        self.counts.count(int(circuit), int(code), self.place, int(sequence), int(timestamp), int(ssrc))
 
     def _command(self, circuit: str, command: str, code: str) -> None:
         line, given = self.lines[int(circuit)], Command(int(command))

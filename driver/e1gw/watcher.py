@@ -27,11 +27,13 @@ from .told import BadTelling, Told
 from .writers import Journal
 
 TICK = 0.1                  # seconds between two looks, and two tries to connect
-REST = 0.01                 # seconds between two reads of what the shadow tells
+REST = 0.05                 # seconds between two reads of what the shadow tells
+SHORT_REST = 0.01           # the same if somebody follows events, as a tie does
 FIRST = 2.0                 # seconds before it is told that somebody was never there
 PATIENCE = 0.3              # seconds that an answer of the program waits for the shadow
 QUIT = 3                    # the status by which e1gw-trunk knows that the trunk is to end
 EACH = 10                   # ticks between two looks whether octets flow, and in which one has to be answered
+SOON = 2                    # ticks after which it is looked whether they still do, if no other place is told
 
 
 @dataclass(kw_only=True)
@@ -117,16 +119,19 @@ class Program:
 
 
 class Pulse:
-    """Connects to the shadow each second for the place of the trunk alone: who comes is told it at the next octets, and
-    nothing is while none come. `flows` is called with it."""
+    """Connects to the shadow for the place of the trunk alone, each second if it tells no other place by itself: who
+    comes is told it at the next octets, and nothing is while none come. `flows` is called with it, and returns the
+    place that is known then."""
 
-    def __init__(self, loop: Loop, path: str, flows: Callable[[int], None]) -> None:
+    def __init__(self, loop: Loop, path: str, flows: Callable[[int], int]) -> None:
         self._link = Link(loop, path, lambda _: None, self._took, lambda _: self._over())
-        self._flows, self._held = flows, b''
+        self._flows, self._held, self._place = flows, b'', -1
         self._wait, self.quiet = 0, -1      # ticks until the next one, and since one that has no answer
 
-    def look(self) -> None:
-        """To be called each TICK."""
+    def look(self, place: int) -> None:
+        """To be called each TICK, with the place of the trunk that is known."""
+        if place != self._place:
+            self._place, self._wait = place, SOON
         self._wait -= 1
         if self.quiet >= 0:
             self.quiet += 1
@@ -138,7 +143,7 @@ class Pulse:
         self._held += octets
         for line in self._held.split(b'\n')[:-1]:
             if line.startswith(b'at ') and line[3:].isdigit():
-                self._flows(int(line[3:]))
+                self._place = self._flows(int(line[3:]))
                 return self._link.close('')
 
     def _over(self) -> None:
@@ -231,7 +236,7 @@ class Watcher(Managed):
     def _settle(self, now: float) -> None:
         """Passes answers on. While one waits, what the shadow tells is read at once."""
         self._program.settle(now, self.lines.live)
-        self._shadow.rests(0.0 if self._program.waits() else REST)
+        self._shadow.rests(0.0 if self._program.waits() else SHORT_REST if self.followers() else REST)
 
     def _told_all(self) -> None:
         self._naming.begin(self._session, self._before, self.lines.seizures, self.lines.lines)
@@ -242,7 +247,7 @@ class Watcher(Managed):
     def _look_at_flow(self, now: float) -> None:
         """Whether octets of the trunk come. A shadow that is there tells nothing before some do."""
         if self.lines.live:
-            self._pulse.look()
+            self._pulse.look(self.lines.place)
         self._silent = self._silent + 1 if self._shadow.is_there() and not self.lines.live else 0
         stalled = self._silent > EACH or self.lines.live and self._pulse.quiet > EACH
         if stalled and not self._stood:
@@ -299,6 +304,7 @@ class Watcher(Managed):
         return clock.status() if clock else {}
 
     def status(self) -> dict[str, Any]:
+        self._shadow.read()
         status = super().status() | {
             'version': self._program.version, 'life': self._naming.life or None,
             'trunk_up': self._connected.get('program', False),

@@ -1,10 +1,14 @@
 """What the tests share: the program that is looked at, an exchange, and a trunk in service."""
 from __future__ import annotations
 
+import fcntl
 import os
+import socket
 import subprocess
 import sys
 import tempfile
+import termios
+import time
 import unittest
 
 from e1gw.exchange import Exchange
@@ -13,7 +17,7 @@ from e1gw.testing.service import Service
 TOP = os.path.dirname(os.path.dirname(os.path.dirname(os.path.abspath(__file__))))
 sys.dont_write_bytecode = True
 
-__all__ = ['Exchange', 'FolderCase', 'Service', 'TOP', 'program', 'run', 'without']
+__all__ = ['Exchange', 'FolderCase', 'Service', 'TOP', 'all_read', 'free_port', 'program', 'run', 'without']
 
 
 class FolderCase(unittest.TestCase):
@@ -40,6 +44,22 @@ def program() -> str:
     if not os.access(path, os.X_OK):
         raise unittest.SkipTest('no program: E1GW names one, scripts/drivers builds it')
     return path
+
+
+def all_read(line: socket.socket, seconds: float = 60.0) -> None:
+    """Returns once the other end of a Unix socket has read all that was sent."""
+    until = time.monotonic() + seconds
+    while int.from_bytes(fcntl.ioctl(line, termios.TIOCOUTQ, bytes(4)), sys.byteorder):
+        if time.monotonic() > until:
+            raise AssertionError('the trunk is not read')
+        time.sleep(0.001)
+
+
+def free_port() -> int:
+    """A TCP port at 127.0.0.1 that is free now."""
+    with socket.create_server(('127.0.0.1', 0)) as listener:
+        port: int = listener.getsockname()[1]
+        return port
 
 
 def without(sent: bytes, circuit: int) -> bytes:

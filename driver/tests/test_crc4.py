@@ -234,7 +234,7 @@ class Crc4ServiceTests(unittest.TestCase):
         """Its CRC-4 goes on with the gateway's frames: no octet of another slot is touched, and all is right."""
         world = aligned(self.world('--reopen'))
         world.line.sendall(b'\xD5' * 77)
-        world.all_read()
+        support.all_read(world.line)
         with world.new_listener() as listener:
             world.line.close()
             world.take(listener)

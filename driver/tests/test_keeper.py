@@ -5,7 +5,6 @@ that another program goes on. What it hears is what one uncut replay of all reco
 from __future__ import annotations
 
 import contextlib
-import fcntl
 import itertools
 import os
 import random
@@ -16,7 +15,6 @@ import socket
 import subprocess
 import sys
 import tempfile
-import termios
 import threading
 import time
 import unittest
@@ -65,14 +63,6 @@ class KeeperDevice:
                 raise EOFError
             got += piece
         return got
-
-    def all_read(self) -> None:
-        """Returns once the other end has read all that was sent."""
-        until = time.monotonic() + SECONDS
-        while int.from_bytes(fcntl.ioctl(self.line, termios.TIOCOUTQ, bytes(4)), sys.byteorder):
-            if time.monotonic() > until:
-                raise AssertionError('the device is not read')
-            time.sleep(0.001)
 
     def close(self) -> None:
         self.line.close()
@@ -293,7 +283,7 @@ class KeeperFailureTests(KeeperCase):
 
     def settled(self) -> bytes:
         """What has come back, once all that was sent is read and answered: a client's answer comes behind that."""
-        self.device.all_read()
+        support.all_read(self.device.line)
         with self.client() as line:
             line.sendall(HELLO)
             self.assertEqual(len(line.recv(6)), 6)
@@ -338,8 +328,9 @@ class KeeperFailureTests(KeeperCase):
         self.assertNotIn('at most', self.told())
         self.as_uncut()
 
-    def told_now(self) -> list[str]:
-        """What a new client of --tell is told first."""
+    def told_now(self, began: int) -> list[str]:
+        """What a new client of --tell is told first, once the shadow has acted on all multiframes of its session, which
+        began behind so many."""
         until = time.monotonic() + SECONDS
         while True:
             with socket.socket(socket.AF_UNIX) as line:
@@ -348,19 +339,22 @@ class KeeperFailureTests(KeeperCase):
                     line.connect(self.path('tell'))
                     self.step()
                     with line.makefile() as lines:
-                        return list(itertools.takewhile(lambda text: text != 'now\n', lines))
+                        told = list(itertools.takewhile(lambda text: text != 'now\n', lines))
+                    if f'at {MULTIFRAME * (len(self.heard) - began)}\n' in told:
+                        return told
             self.assertLess(time.monotonic(), until)
-            time.sleep(0.01)
 
     def test_shadow_that_tells(self) -> None:
         """Its clients see the calls, also at the next shadow."""
         self.starts('--tell', self.path('tell'))
         self.calls()
+        began = 0
         for _ in range(2):
-            rows = [line.split()[3] for line in self.told_now() if line.startswith('line')]
+            rows = [line.split()[3] for line in self.told_now(began) if line.startswith('line')]
             self.assertEqual(rows, ['answered'] * 30)
             os.kill(self.program, signal.SIGKILL)
             self.goes_on()
+            began = len(self.heard)
         self.ends()
         self.assertEqual([name for name in os.listdir(self.folder) if name.startswith('tell')], [])
 

@@ -13,8 +13,8 @@ from typing import Any
 from unittest import mock
 
 from .readers import EVENTS
+from .support import free_port
 from .test_trunk import FOUR, aligned, call
-from .test_web import free_port
 from .world import SECONDS, World, config_of, descendant
 from e1gw import control, loop, snapshots
 from e1gw.loop import READ, SAVED, SHARE, Loop

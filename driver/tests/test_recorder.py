@@ -5,6 +5,7 @@ be full: the calls go on."""
 from __future__ import annotations
 
 import glob
+import itertools
 import json
 import os
 import re
@@ -21,7 +22,7 @@ from .test_keeper import LAUNCHER, SECONDS, KeeperCase
 from e1gw import recorder
 from e1gw.archive import run_last
 from e1gw.kept import beside, kept, octets_of
-from e1gw.session import MULTIFRAME, Kind, records_in
+from e1gw.session import MULTIFRAME, Kind, encode_record, records_in
 
 RECORDER = re.compile(r'recorder (\d+)')
 
@@ -230,6 +231,22 @@ class RecordedRingTests(RecorderCase):
                 self.assertEqual(json.load(file)['config'], self.config)
             status, said = run_last([os.path.join(support.TOP, 'tools', 'records'), f'{front}.e1gw'])
             self.assertEqual(status, 0, said)
+
+
+class RecordCutTests(unittest.TestCase):
+    def test_pieces_of_any_length(self) -> None:
+        """Whole records come out as early as they can, with the place of the trunk behind them."""
+        bodies = [(Kind.TRUNK, 0), (Kind.TRUNK, 256), (Kind.DATAGRAM, 172), (Kind.COMMAND, 1), (Kind.TRUNK, 2048)]
+        records = [encode_record(kind, 1, bytes(length)) for kind, length in bodies]
+        places = list(itertools.accumulate(length * (kind is Kind.TRUNK) for kind, length in bodies))
+        given = b''.join(records)
+        for step in (1, 3, 4, 5, 260, len(given)):
+            cut, out = recorder.Records(7), b''
+            for at in range(0, len(given), step):
+                out += cut.whole(given[at:at + step])
+                whole = [n for n in range(len(records) + 1) if len(b''.join(records[:n])) <= at + step][-1]
+                self.assertEqual(out, b''.join(records[:whole]))
+                self.assertEqual(cut.place, 7 + (places[whole - 1] if whole else 0))
 
 
 class RingRetryTests(unittest.TestCase):

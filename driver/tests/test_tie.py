@@ -26,6 +26,7 @@ from e1gw.tie.pairs import BadPairs, agreed, pairs_of
 from e1gw.tie.site import Site, context_of, has_name
 from e1gw.tie.strangers import Stranger, StrangerStage, Strangers, address_of
 from e1gw.tie.tie import Tie, TieOptions
+from tests.support import free_port
 from tests.test_tie_circuit import CALLED, COLUMN, DONE, INCOMING, OUTGOING
 
 HERE = os.path.dirname(os.path.dirname(os.path.abspath(__file__)))
@@ -677,12 +678,6 @@ class WantedCodecTests(unittest.TestCase):
         self.assertIsNone(made.wants(1, State.IDLE))
         made.answered(1, PCMA, True)
         self.assertEqual(made.wants(1, State.ANSWERED), G726)
-
-
-def free_port() -> int:
-    with socket.socket() as line:
-        line.bind(('127.0.0.1', 0))
-        return int(line.getsockname()[1])
 
 
 @unittest.skipUnless(shutil.which('openssl'), 'openssl makes the certificates')

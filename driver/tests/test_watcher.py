@@ -13,10 +13,11 @@ import unittest
 import urllib.request
 from typing import Any
 
-from .support import FolderCase
-from .telling import IDLE, LAUNCHER, StandInProgram, StandInShadow, WatchedTrunk, row
-from .test_web import free_port, samples
+from .support import FolderCase, free_port
+from .telling import IDLE, LAUNCHER, StandInListener, StandInProgram, StandInShadow, WatchedTrunk, row
+from .test_web import samples
 from .world import SECONDS
+from e1gw.links import Link
 from e1gw.loop import Loop
 from e1gw.running import HELLO
 from e1gw.session import Codec, Command, Record, codec_record, command_record
@@ -86,6 +87,65 @@ class CommandAnswerTests(FolderCase):
     def test_no_shadow(self) -> None:
         self.program.settle(0.0, False)
         self.assertEqual(self.said, ['1 None', '2 None'])
+
+
+class LinkRestTests(FolderCase):
+    """A link that rests for a minute after each read."""
+
+    def setUp(self) -> None:
+        super().setUp()
+        listener = StandInListener(self.path('tell'))
+        self.addCleanup(listener.close)
+        self.loop, self.took, self.gone = Loop(1.0), list[bytes](), list[str]()
+        self.link = Link(self.loop, listener.path, lambda _: None, self.took.append, self.gone.append, 60.0)
+        self.link.look()
+        while not listener.clients:
+            self.loop.turn(time.monotonic())
+        self.line = listener.clients[0]
+
+    def comes(self, octets: bytes) -> None:
+        """Octets come, and are read by the next turns."""
+        self.line.sendall(octets)
+        while self.took[-1:] != [octets]:
+            self.loop.turn()
+
+    def waits(self, octets: bytes) -> None:
+        """Octets come, and are not read."""
+        self.line.sendall(octets)
+        before = [*self.took]
+        for _ in range(3):
+            self.loop.turn(time.monotonic())
+        self.assertEqual(self.took, before)
+
+    def test_what_comes_in_a_rest_is_read_when_it_is_asked_for(self) -> None:
+        self.comes(b'one')
+        self.waits(b'two')
+        self.link.read()
+        self.waits(b'three')
+        self.waits(b'four')
+        self.link.read()
+        self.assertEqual(self.took, [b'one', b'two', b'threefour'])
+
+    def test_where_nothing_has_come_the_next_octets_are_waited_for(self) -> None:
+        self.comes(b'one')
+        self.link.read()
+        self.comes(b'two')
+        self.waits(b'three')
+
+    def test_a_shorter_rest_is_one_from_now_on(self) -> None:
+        self.comes(b'one')
+        self.waits(b'two')
+        self.link.rests(0.0)
+        while len(self.took) < 2:
+            self.loop.turn()
+        self.comes(b'three')
+        self.comes(b'four')
+
+    def test_an_end_in_a_rest(self) -> None:
+        self.comes(b'one')
+        self.line.close()
+        self.link.read()
+        self.assertEqual((len(self.gone), self.link.is_there()), (1, False))
 
 
 class WatcherServiceTests(WatcherCase):

@@ -10,6 +10,7 @@ import urllib.error
 import urllib.request
 
 from . import support
+from .support import free_port
 from .test_trunk import FOUR, aligned, call
 from .world import SECONDS, World, config_of
 from e1gw.crc4 import Crc4
@@ -30,12 +31,6 @@ def samples(text: str) -> dict[str, float]:
             assert match and match[1] in declared and line.rpartition(' ')[0] not in found, line
             found[line.rpartition(' ')[0]] = float(match[3])
     return found
-
-
-def free_port() -> int:
-    with socket.create_server(('127.0.0.1', 0)) as listener:
-        port: int = listener.getsockname()[1]
-        return port
 
 
 class PageTextTests(unittest.TestCase):

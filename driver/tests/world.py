@@ -2,14 +2,12 @@
 from __future__ import annotations
 
 import contextlib
-import fcntl
 import json
 import os
 import socket
 import subprocess
 import sys
 import tempfile
-import termios
 import time
 from typing import Any, Callable, Self
 
@@ -226,14 +224,6 @@ class World(ServedProgram):
         """The socket anew, for a driver that opens its trunk again."""
         os.unlink(self.path('card'))
         return self._listener()
-
-    def all_read(self) -> None:
-        """Returns once the other end has read all that was sent."""
-        until = time.monotonic() + SECONDS
-        while int.from_bytes(fcntl.ioctl(self.line, termios.TIOCOUTQ, bytes(4)), sys.byteorder):
-            if time.monotonic() > until:
-                raise AssertionError('the trunk is not read')
-            time.sleep(0.001)
 
     def comes_again(self) -> None:
         """Takes whoever opens the trunk again, and waits until the watcher knows it."""
