@@ -1,4 +1,4 @@
-//! The tables of the four rates of ITU-T G.726 (`Rate`): thresholds, levels, multipliers, speeds.
+//! The tables of the four rates of ITU-T G.726 (`Rate`): blocks FUNCTW, FUNCTF, thresholds, levels, leak.
 
 ghost use Rattle.std.specs.Prelude.{◌≡◌, ◌<◌, ◌≤◌, ℕ, pos, negsuc, ◌≤ℤ◌, IsTrue, refl};
 ghost use Rattle.g726_quant.specs.Tables.{RateTables, magnitudes, has_its_places, is_rising, is_in_range};

@@ -1,4 +1,4 @@
-//! The options of each subcommand as declared to `clap`: names, help, defaults, allowed values.
+//! The options as declared to `clap` (names, help, defaults, allowed values), and matched by it.
 
 use clap::{Arg, ArgAction, ArgMatches, Command, Error, value_parser};
 use g726_codec::names::{G726_16, G726_24, G726_32, G726_40};

@@ -1,4 +1,4 @@
-//! In which order a session opens, runs, saves and ends (`perform_session`), by the trait `System`.
+//! In which order a job or a session opens, runs, saves and ends, by what it has of the system (`System`).
 
 ghost use Rattle.std.specs.Prelude.{◌≡◌, ◌⊎◌, ◌-◌, ◌^◌, ◌<◌, IfOk, IfErr, MatchResult};
 ghost use Rattle.gw_records.specs.Streams.{CanBegin};

@@ -1,4 +1,4 @@
-//! Whether the file of `--record` is created, emptied or refused, and how a recording ends.
+//! Whether the file of `--record` is created, emptied or refused, and whether its writes wait.
 
 ghost use Rattle.std.specs.Prelude.{IfOk};
 ghost use Rattle.gw_program.specs.Performing.{IsBegun};

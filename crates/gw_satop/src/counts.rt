@@ -56,7 +56,7 @@ pub struct Counts {
     pub other_size: u64,
 }
 
-// Adds one to a count, up to the greatest u64.
+// Adds one to a count of packets, up to the greatest u64.
 fn add(count: &mut u64)
     ensures { count.new ≡ more count.old }
 {

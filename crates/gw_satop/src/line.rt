@@ -1,4 +1,4 @@
-//! What becomes of a received datagram, and where a stream begins with it (`Receiver`).
+//! What becomes of a received datagram, and what the jitter buffer plays next (`Receiver`).
 
 ghost use Rattle.std.specs.Prelude.{◌≡◌};
 

@@ -30,11 +30,14 @@ pub struct Client {
     pub waits: Backlog,
 }
 
-// Writes octets, and returns how many the client takes now.
+// Writes octets, if there are any, and returns how many the client takes now.
 fn write_now(stream: &mut UnixStream, got: &mut Log, octets: &[u8]) -> Result<usize, Away>
     ensures bound { IfOk result (λ n. n ≤ length octets.now) }
     ensures got { IfOk result (λ n. got.new.octets ≡ got.old.octets ++ take n octets.now) }
 {
+    if octets.is_empty() {
+        return Ok(0);
+    }
     match stream.write(octets) {
         Ok(n) => {
             got.append(octets, n);
