@@ -42,6 +42,8 @@ pub struct Clients {
     is_waited_for: bool,
     // Whether octets may have come from it since it was read.
     octets: bool,
+    // Whether the last read took all octets that had come.
+    is_drained: bool,
     door: UnixListener,
     knocks: bool,
     pub places: [Option<Client>; 8],
@@ -189,6 +191,7 @@ impl Clients {
             descriptor,
             is_waited_for: registered.is_ok(),
             octets: false,
+            is_drained: false,
             door,
             knocks: true,
             places: [None, None, None, None, None, None, None, None],
@@ -245,6 +248,12 @@ impl Clients {
         }
     }
 
+    /// Notes that a read of the trunk took all octets that had come, so that the system is not asked for more
+    /// before the next wait.
+    pub fn note_drained(&mut self) {
+        self.is_drained = true;
+    }
+
     /// Whether the trunk can be read without waiting: octets have come, or its end, as far as the system
     /// reports it. It never waits.
     pub fn can_read(&mut self) -> bool
@@ -254,10 +263,11 @@ impl Clients {
         if !self.is_waited_for {
             return true;
         }
-        if !self.octets {
+        if !self.octets && !self.is_drained {
             self.report_octets();
             self.look(Some(Duration::ZERO));
         }
+        self.is_drained = false;
         let octets = self.octets;
         self.octets = false;
         octets

@@ -27,7 +27,7 @@ pub struct WithClients<R> {
     clients: Clients,
     // Whether the trunk was read since the last record of a client.
     turn: bool,
-    // Whether the last read of the trunk found none.
+    // Whether the last read of the trunk found none, or the one before took all.
     empty: bool,
     // Whether nothing will come any more.
     ended: bool,
@@ -121,6 +121,9 @@ impl<R: Read> TrunkInput for WithClients<R> {
             Ok(n) => {
                 self.note(true, false, false);
                 self.log.append(room, n);
+                if n < room.len() {
+                    self.clients.note_drained();
+                }
                 Ok(DeviceRead::Octets(n))
             }
             Err(error) if is_for_later(&error) => {
