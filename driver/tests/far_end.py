@@ -66,14 +66,16 @@ class FarEnd:
         """Ends the program; returns its last counts."""
         assert self.program.stdin and self.program.stderr
         self.program.stdin.close()
+        while self.program.stdout and os.read(self.program.stdout.fileno(), 65536):
+            pass
         lines = self.program.stderr.read().decode().splitlines()
         return counts_of(lines[-1]) or {}
 
     def close(self) -> None:
         assert self.program.stdin and self.program.stderr
         self.program.stdin.close()
-        self.program.wait(PATIENCE)
-        self.program.stderr.close()
         if self.program.stdout:
             self.program.stdout.close()
+        self.program.wait(PATIENCE)
+        self.program.stderr.close()
         self.line.close()

@@ -178,6 +178,17 @@ class SatopClockTests(SatopPlayedCase):
         self.send(far, *range(20))
         self.see(far, packets(*range(20)), received=20, late=0, too_far=0, restarts=0)
 
+    def test_packets_that_come_too_fast(self) -> None:
+        """After a second's packets, no more than a thousandth above the rate are played."""
+        far, begun, count = self.far_end(), time.monotonic(), 1200
+        for n in range(count + JITTER):
+            self.send(far, n)
+            far.played((n - JITTER + 1) * SIZE)
+        self.assertLessEqual(count, 1000 + 1001 * (time.monotonic() - begun))
+        counts = far.counts()
+        self.assertEqual([counts[name] for name in ('received', 'lost', 'too_far')], [count + JITTER, 0, 0])
+        self.assertTrue(far.played(count * SIZE) == packets(*range(count)))
+
     def test_a_stall_is_no_silence(self) -> None:
         """What came while the process stood still is read first."""
         far = self.far_end()
