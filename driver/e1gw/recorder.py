@@ -29,7 +29,8 @@ from .session import HEAD, Kind
 from .writers import AppendedFile, Journal, Writer, write_all
 
 PIECE = 1 << 16
-FRONT, TRUNK = HEAD.size, int(Kind.TRUNK)     # (as plain numbers, since each record is looked at)
+FRONT, TRUNK, DATAGRAM = HEAD.size, int(Kind.TRUNK), int(Kind.DATAGRAM)     # (plain numbers: each record is looked at)
+BRISK, BRISK_FOR = 0.005, 0.5   # seconds between two reads after a command, since another one waits for what is told
 FLUSH = 5.0                 # seconds at the end for what is not written yet
 NICE = 10                   # of the thread that writes
 AGAIN = 60.0                # seconds between two looks whether a ring that has ended can be written again
@@ -73,10 +74,11 @@ AROUND: Mapping[str, str] = {'PYTHONPATH': os.path.dirname(os.path.dirname(os.pa
 
 
 class Records:
-    """Cuts a recording into whole records. `place` is that of the trunk behind them."""
+    """Cuts a recording into whole records. `place` is that of the trunk behind them, `commands` how many were commands
+    or changes of a codec."""
 
     def __init__(self, place: int) -> None:
-        self.place = place
+        self.place, self.commands = place, 0
         self._held = b''
 
     def whole(self, octets: bytes) -> bytes:
@@ -89,6 +91,8 @@ class Records:
                 break
             if kind == TRUNK:
                 place += length
+            elif kind != DATAGRAM:
+                self.commands += 1
             at += FRONT + length
         self.place, self._held = place, held[at:]
         return held[:at]
@@ -249,15 +253,18 @@ class Recorder:
         ring = recording.session if recording.keep else None
         self._again = RingRetry(ring, os.path.join(os.path.dirname(part.passed), ROOM)) if ring else None
         self._has_shadow = True
-        self._due = time.monotonic() + TICK
+        self._due, self._brisk_until = time.monotonic() + TICK, 0.0
 
     def run(self) -> None:
-        """Until the recording ends. It rests between two looks, unless the program has ended."""
+        """Until the recording ends. It rests between two looks, and less after a command, unless the program has
+        ended."""
         ended, comes = select.poll(), select.poll()
         ended.register(0, 0)        # (an end is told in any case)
         comes.register(0, select.POLLIN)
         while True:
-            ended.poll(max(0.0, self._due - time.monotonic()) * 1000)
+            now = time.monotonic()
+            until = min(self._due, now + BRISK) if now < self._brisk_until else self._due
+            ended.poll(max(0.0, until - now) * 1000)
             while comes.poll(0):
                 octets = os.read(0, PIECE)
                 if not octets:
@@ -265,7 +272,8 @@ class Recorder:
                 self._pass(octets, time.monotonic())
                 if len(octets) < PIECE:
                     break
-            self._look(time.monotonic())
+            if (now := time.monotonic()) >= self._due:
+                self._look(now)
 
     def _look(self, now: float) -> None:
         self._due = now + TICK
@@ -283,7 +291,10 @@ class Recorder:
                 write_all(1, octets)
             except OSError:
                 self._has_shadow = False
+        commands = self._records.commands
         self._kept.add(self._records.whole(octets))
+        if self._records.commands > commands:
+            self._brisk_until = now + BRISK_FOR
         if len(octets) < PIECE:
             self._flows.came(now, self._records.place)
 

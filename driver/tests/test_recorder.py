@@ -247,6 +247,7 @@ class RecordCutTests(unittest.TestCase):
                 whole = [n for n in range(len(records) + 1) if len(b''.join(records[:n])) <= at + step][-1]
                 self.assertEqual(out, b''.join(records[:whole]))
                 self.assertEqual(cut.place, 7 + (places[whole - 1] if whole else 0))
+            self.assertEqual(cut.commands, 1)
 
 
 class RingRetryTests(unittest.TestCase):
