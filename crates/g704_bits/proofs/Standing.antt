@@ -1,5 +1,5 @@
 -- An aligner with a history, one more window.
-use Rattle.std.proofs.Common.{◌≡◌, ℕ, ◌+◌, ◌<◌, ◌%◌, List, [], ◌∷◌, ◌++◌, length, map, true, false}
+use Rattle.std.proofs.Common.{◌≡◌, ℕ, ◌+◌, ◌<◌, ◌≤◌, ◌%◌, List, [], ◌∷◌, ◌++◌, length, map, true, false}
 use Rattle.std.proofs.Common.{None, refl, sym, ap, ◌∙◌, arith, append_assoc, subst}
 use Rattle.std.specs.Prelude.{slice_set}
 use Rattle.std.proofs.lemmas.List.{length-append, append-nil}
@@ -15,6 +15,7 @@ use Rattle.g704_bits.specs.Aligner.{IsHunting, IsAlignedRun, Describes, FollowsA
 use Rattle.g704_bits.specs.Aligner.{next_seen, confirms}
 use Rattle.g704_bits.proofs.Framing.{confirmed-append}
 use Rattle.g704_bits.proofs.Spans.{none-yet, one-stands, one-lost, over-lost, offset-since}
+use Rattle.g704_bits.proofs.Steps.{other-more}
 use Rattle.g704_bits.proofs.Hunts.{hunting-nothing, hunting-more, aligned-found}
 
 -- the offset while nothing was found since the last restart
@@ -168,3 +169,30 @@ stands-aligned age ws wd o memory history x (Hunting seen) s follows =
           ∙ ap (λ s. offset_after (h.earlier ++ s)) whole);
       room = s.room;
     }
+
+-- Windows between those of slot 0 keep an alignment.
+pub stands-skipped : (x : ℕ) (xs : List ℕ) (age ws wd o : ℕ) (memory history : List ℕ) → 0 < age % 256
+    → age % 256 + length (x ∷ xs) ≤ 256
+    → HasHistory (record { phase = Aligned age ws wd; offset = o; memory = memory }) history
+    → HasHistory (record { phase = Aligned ((age + length (x ∷ xs)) % 512) ws wd; offset = o; memory = memory })
+    (history ++ x ∷ xs)
+stands-skipped x [] age ws wd o memory history lt le s =
+    stands-aligned age ws wd o memory history x (Aligned ((age + 1) % 512) ws wd) s
+    (λ windows h. other-more windows x age ws wd h (λ e. absurd (omega (arith, e))) (λ e. absurd (omega (arith, e))))
+stands-skipped x (y ∷ xs) age ws wd o memory history lt le s =
+    let first = stands-aligned age ws wd o memory history x (Aligned ((age + 1) % 512) ws wd) s
+    (λ windows h. other-more windows x age ws wd h (λ e. absurd (omega (arith, e))) (λ e. absurd (omega (arith, e)))) in
+    let all = stands-skipped y xs ((age + 1) % 512) ws wd o memory (history ++ x ∷ []) (omega arith) (omega arith) first in
+    let same : ((age + 1) % 512 + length (y ∷ xs)) % 512 ≡ (age + length (x ∷ (y ∷ xs))) % 512 = omega arith in
+    rw (← same, ← append_assoc history (x ∷ []) (y ∷ xs)) all
+
+-- So do the eight windows of an octet.
+pub stands-octet-skipped : (age ws wd o next : ℕ) (memory history windows : List ℕ) → 0 < age % 256
+    → age % 256 ≤ 248 → next ≡ (age + 8) % 512 → length windows ≡ 8
+    → HasHistory (record { phase = Aligned age ws wd; offset = o; memory = memory }) history
+    → HasHistory (record { phase = Aligned next ws wd; offset = o; memory = memory }) (history ++ windows)
+stands-octet-skipped age ws wd o next memory history [] lt le is eight s = absurd (omega (arith, eight))
+stands-octet-skipped age ws wd o next memory history (x ∷ xs) lt le is eight s =
+    let same : next ≡ (age + length (x ∷ xs)) % 512 = omega (arith, eight, is) in
+    subst (λ n. HasHistory (record { phase = Aligned n ws wd; offset = o; memory = memory }) (history ++ x ∷ xs))
+    (sym same) (stands-skipped x xs age ws wd o memory history lt (omega (arith, eight)) s)

@@ -1,7 +1,7 @@
 //! When frame alignment is found and lost in bits at any offset: a window ends at each bit.
 
 ghost use Rattle.std.specs.Prelude.{◌≡◌, ◌+◌, ◌%◌, ◌<◌, ◌≤◌, ◌&&◌, ℕ, nat_le, List, Option, [], ◌∷◌, ◌++◌};
-ghost use Rattle.std.specs.Prelude.{length, slice_index};
+ghost use Rattle.std.specs.Prelude.{length, slice_index, IsTrue, false};
 ghost use Rattle.g704_bits.specs.Aligner.{HasHistory, IsAlignedRun, FollowsAlignment, confirms, next_seen};
 
 use g704_align::{count_after, is_fas, is_nfas};
@@ -9,6 +9,9 @@ use g704_align::{count_after, is_fas, is_nfas};
 const FRAME: u16 = 256;
 
 const TWO_FRAMES: u16 = 512;
+
+// The bits of an octet.
+const BITS: u16 = 8;
 
 // The greatest count of windows seen; the count after it is that of two frames, so its remainder is right.
 const LAST_SEEN: u16 = 1023;
@@ -78,6 +81,31 @@ impl Aligner {
                 wrong_nfas,
             } => self.phase = after_aligned(age, wrong_fas, wrong_nfas, window),
         }
+    }
+
+    // Takes the eight windows of an octet at once if none of them is one of slot 0, and returns whether it did.
+    pub(crate) fn skip(&mut self) -> bool
+        ensures skipped { IsTrue result → (history windows : List ℕ) → HasHistory self.old history
+            → length windows ≡ 8 → HasHistory self.new (history ++ windows) }
+        ensures kept { result ≡ false → self.new ≡ self.old }
+    {
+        let SyncState::Aligned {
+            age,
+            wrong_fas,
+            wrong_nfas,
+        } = self.phase
+        else {
+            return false;
+        };
+        if age % FRAME == 0 || age % FRAME > FRAME - BITS {
+            return false;
+        }
+        self.phase = SyncState::Aligned {
+            age: age.wrapping_add(BITS) % TWO_FRAMES,
+            wrong_fas,
+            wrong_nfas,
+        };
+        true
     }
 
     // Takes a window without alignment.

@@ -1,7 +1,8 @@
 //! Octets received at any bit offset to octets of the time slots, one for one (`BitAligner`).
 
 ghost use Rattle.std.specs.Prelude.{◌≡◌, ◌+◌, ◌<◌, ℕ, List, [], ◌∷◌, ◌++◌};
-ghost use Rattle.g704_bits.specs.Bits.{aligned_octet, window_at};
+ghost use Rattle.g704_bits.specs.Aligner.{HasHistory};
+ghost use Rattle.g704_bits.specs.Bits.{aligned_octet, window_at, windows_in, windows_of};
 ghost use Rattle.g704_bits.specs.Standing.{StandsAfter};
 
 use crate::aligner::Aligner;
@@ -50,10 +51,30 @@ impl BitAligner {
     {
         let before = self.before;
         self.before = octet;
-        for bit in 0..8u8 {
-            self.aligner.window(window_at(before, octet, bit), bit);
-        }
+        take_octet(&mut self.aligner, before, octet);
         window_at(before, octet, self.aligner.offset())
+    }
+}
+
+// Takes the eight windows of an octet, at once if the aligner checks none of them.
+fn take_octet(aligner: &mut Aligner, before: u8, octet: u8)
+    ensures { (history : List ℕ) → HasHistory aligner.old (windows_of history)
+        → HasHistory aligner.new (windows_of history ++ windows_in before octet) }
+{
+    if aligner.skip() {
+        return;
+    }
+    take_windows(aligner, before, octet);
+}
+
+// Takes the eight windows of an octet, one after another.
+#[inline(never)]
+fn take_windows(aligner: &mut Aligner, before: u8, octet: u8)
+    ensures { (history : List ℕ) → HasHistory aligner.old (windows_of history)
+        → HasHistory aligner.new (windows_of history ++ windows_in before octet) }
+{
+    for bit in 0..8u8 {
+        aligner.window(window_at(before, octet, bit), bit);
     }
 }
 

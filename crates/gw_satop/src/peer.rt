@@ -12,6 +12,9 @@ use std::io;
 use std::io::{Error, ErrorKind};
 use std::net::{Net, SocketAddr, ToSocketAddrs};
 
+// Octets of datagrams that may wait: those of a second and a half, if the system allows them.
+const ROOM: i32 = 1_048_576;
+
 /// The far end of an emulated circuit.
 ///
 /// What came from it and what was sent to it is the type's own: a caller that does not know the type has it
@@ -104,7 +107,9 @@ fn socket_at<S: Socket, N: Net>(net: &N, here: SocketAddr) -> io::Result<S>
     ensures ok { IfOk result (λ s. S.is_bound s here) }
     ensures err { IfErr result (SystemRefusesSocket here) }
 {
-    S::bind(net, here)
+    let socket = S::bind(net, here)?;
+    socket.make_room(ROOM);
+    Ok(socket)
 }
 
 // Connects the socket, so that it takes datagrams of the peer alone.

@@ -52,6 +52,10 @@ impl<S: Socket> Socket for Resting<S> {
         self.socket.connect(peer)
     }
 
+    fn make_room(&self, octets: i32) {
+        self.socket.make_room(octets);
+    }
+
     fn watch(&mut self, registry: &Registry, token: Token) -> bool
         ensures bound { KeepsBound (RestingIsBound S.is_bound) self.old self.new }
         ensures most { self.new.most ≡ (if result then 799 else self.old.most) }

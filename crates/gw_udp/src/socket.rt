@@ -6,6 +6,7 @@ ghost use Rattle.gw_udp.specs.Socket.{Bound, KeepsBound, BindRefused, Received, 
 
 use crate::outcome::{received, sent, was_refused};
 use gw_records::PortFault;
+use libc::net;
 use mio::unix::SourceFd;
 use mio::{Interest, Registry, Token};
 use std::io;
@@ -41,6 +42,9 @@ pub trait Socket: Drop {
     ///
     /// The error is the system's; then all senders are accepted.
     fn connect(&self, peer: SocketAddr) -> io::Result<()>;
+
+    /// Asks the system to keep this many octets of datagrams that wait. It may keep fewer.
+    fn make_room(&self, octets: i32);
 
     /// Has the system say what comes to the socket, by this token. False if it does not.
     fn watch(&mut self, registry: &Registry, token: Token) -> bool
@@ -83,6 +87,14 @@ impl Socket for UdpSocket {
 
     fn connect(&self, peer: SocketAddr) -> io::Result<()> {
         UdpSocket::connect(self, peer)
+    }
+
+    fn make_room(&self, octets: i32) {
+        let mut value = [0u8; 16];
+        value[..4].copy_from_slice(&octets.to_ne_bytes());
+        let _ = unsafe {
+            net::setsockopt(self.as_raw_fd(), net::SOL_SOCKET, net::SO_RCVBUF, &value, 4)
+        };
     }
 
     fn watch(&mut self, registry: &Registry, token: Token) -> bool {
