@@ -5,7 +5,7 @@ import os
 import re
 
 TOP = os.path.dirname(os.path.dirname(os.path.realpath(__file__)))
-PORTED = {'arrayvec', 'byteorder', 'circular_buffer', 'clap', 'itoa', 'mio', 'sha2', 'thiserror', 'toml'}
+PORTED = {'arrayvec', 'byteorder', 'circular_buffer', 'clap', 'itoa', 'libc', 'mio', 'sha2', 'thiserror', 'toml'}
 TEST = re.compile(r'#\[test\]\n(?:#\[.*\]\n)*fn (\w+)')
 
 
