@@ -28,6 +28,7 @@ from e1gw.standby import DEATHS, MOST_PAUSE, WITHIN, Deaths
 
 LAUNCHER = os.path.join(support.TOP, 'driver', 'e1gw-keep')
 SECONDS = 60
+LOOK = 4                    # multiframes from one look of the shadow at its clients to the next
 CIRCUITS = range(1, 31)
 GOES_ON = re.compile(r'program (\d+) (?:goes on|carries)(.*?); shadow (\d+)')
 
@@ -331,16 +332,16 @@ class KeeperFailureTests(KeeperCase):
     def told_now(self, began: int) -> list[str]:
         """What a new client of --tell is told first, once the shadow has acted on all multiframes of its session, which
         began behind so many."""
-        until = time.monotonic() + SECONDS
+        until, least = time.monotonic() + SECONDS, MULTIFRAME * (len(self.heard) - began)
         while True:
             with socket.socket(socket.AF_UNIX) as line:
                 line.settimeout(SECONDS)
                 with contextlib.suppress(FileNotFoundError, ConnectionRefusedError):
                     line.connect(self.path('tell'))
-                    self.step()
+                    self.step(LOOK)
                     with line.makefile() as lines:
                         told = list(itertools.takewhile(lambda text: text != 'now\n', lines))
-                    if f'at {MULTIFRAME * (len(self.heard) - began)}\n' in told:
+                    if any(text.startswith('at ') and int(text[3:]) >= least for text in told):
                         return told
             self.assertLess(time.monotonic(), until)
 
