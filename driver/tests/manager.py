@@ -17,13 +17,16 @@ class Manager:
         self.line = socket.socket(socket.AF_UNIX, socket.SOCK_DGRAM)
         self.line.bind(path)
         self.told: list[str] = []
-        threading.Thread(target=self._take, daemon=True).start()
+        self._taker = threading.Thread(target=self._take, daemon=True)
+        self._taker.start()
 
     def _take(self) -> None:
         while True:
             try:
                 text, rights, _, _ = self.line.recvmsg(4096, socket.CMSG_SPACE(16))
             except OSError:
+                return
+            if not text:                    # the socket is shut down
                 return
             words = dict(line.split('=', 1) for line in text.decode().split('\n'))
             self.told += text.decode().split('\n')
@@ -62,6 +65,8 @@ class Manager:
                 os.close(file)
 
     def close(self) -> None:
+        self.line.shutdown(socket.SHUT_RDWR)
+        self._taker.join()                  # (else it could read from a later file with this number)
         self.line.close()
         for file in self.files.values():
             os.close(file)
