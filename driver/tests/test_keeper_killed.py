@@ -135,6 +135,7 @@ class KilledKeeperTests(RestartedKeeperCase):
             self.keeper.send_signal(signal.SIGHUP)
             time.sleep(self.chance.random() * 0.05)
             self.kill_keeper()
+            self.told_from = len(self.told())       # what the next keeper says
             self.again()
             self.awaits('(the keeper was killed|behind octet).*')
             time.sleep(0.3)
