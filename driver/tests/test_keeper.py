@@ -364,7 +364,8 @@ class KeeperFailureTests(KeeperCase):
         self.starts()
         self.calls()
         os.kill(self.shadow, signal.SIGSTOP)
-        os.kill(self.shadow, signal.SIGKILL)
+        with contextlib.suppress(ProcessLookupError):   # (the keeper may have killed it already)
+            os.kill(self.shadow, signal.SIGKILL)
         os.kill(self.program, signal.SIGKILL)
         self.awaits('no state is known|the shadow ended')
         if 'no state is known' in self.told():
