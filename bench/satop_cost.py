@@ -55,7 +55,7 @@ class Ends:
                  lambda: self.played >= SIZE * (self.far.sent - JITTER) and self.far.heard > self.played // SIZE)
 
     def run(self, packets: int) -> int:
-        """Sends so many packets; returns how many octets came and went."""
+        """Sends this many packets; returns how many octets came and went."""
         self.line.sendall(b'\xff' * SIZE)       # a packet comes when the program has its socket
         self.wait()
         while self.far.sent < packets:
@@ -68,7 +68,7 @@ class Ends:
 
 
 def run(program: str, packets: int, out: str = '/dev/null') -> tuple[int, int]:
-    """The instructions of a run over so many packets, and the octets that came and went."""
+    """The instructions of a run over this many packets, and the octets that came and went."""
     near, there = free_ports()
     far = Multiplexer(('127.0.0.1', there), ('127.0.0.1', near), Network(random.Random(7)), BITS)
     ours, its = socket.socketpair()

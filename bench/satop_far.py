@@ -94,7 +94,7 @@ class Multiplexer:
         self._next: int | None = None
 
     def wait(self, heard: int) -> None:
-        """Waits until so many packets have come."""
+        """Waits until this many packets have come."""
         wait_for('packets', [self.socket.fileno()], self.hear, lambda: self.heard >= heard)
 
     def packets(self) -> Iterator[bytes]:
