@@ -57,6 +57,7 @@ def tests() -> dict[str, list[str]]:
 
 
 def wrong_bodies_of(crate: str) -> list[str]:
-    """The names of the edits that the prover must refuse."""
-    folder = os.path.join(TOP, 'crates', crate, 'must-fail')
-    return sorted(name.removesuffix('.edit') for name in os.listdir(folder)) if os.path.isdir(folder) else []
+    """The names of the edits that the prover must refuse: those that rt ci tries, and those of scripts/wrong-bodies."""
+    folders = [os.path.join(TOP, 'crates', crate, part) for part in ('must-fail', 'wrong-bodies')]
+    return sorted(name.removesuffix('.edit') for folder in folders if os.path.isdir(folder)
+                  for name in os.listdir(folder))

@@ -47,7 +47,7 @@ esac
 def loaded() -> ModuleType:
     """scripts/libraries as a module, with nothing kept of it."""
     sys.dont_write_bytecode = True
-    loader = SourceFileLoader('libraries', f'{SCRIPTS}/libraries')
+    loader = SourceFileLoader('libraries', f'{SCRIPTS}/libraries.py')
     spec = spec_from_loader('libraries', loader)
     assert spec is not None
     module = module_from_spec(spec)
@@ -63,7 +63,7 @@ class Tree(unittest.TestCase):
         self.notes = f'{self.top}/notes'
         os.makedirs(f'{self.top}/bin')
         os.makedirs(f'{self.top}/tree/scripts')
-        for name in ('build', 'libraries'):
+        for name in ('build', 'libraries', 'libraries.py', 'kit.py'):
             shutil.copy(f'{SCRIPTS}/{name}', f'{self.top}/tree/scripts/{name}')
         self.write('bin/rt', RT)
         os.chmod(f'{self.top}/bin/rt', 0o755)

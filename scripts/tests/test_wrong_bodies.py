@@ -1,0 +1,92 @@
+#!/usr/bin/env python3
+"""Tests scripts/wrong-bodies on a small crate, with the prover, and which function a place is in.
+
+usage: scripts/tests/test_wrong_bodies.py
+"""
+import os
+import shutil
+import subprocess
+import sys
+import tempfile
+import unittest
+
+SCRIPTS = os.path.dirname(os.path.dirname(os.path.realpath(__file__)))
+sys.dont_write_bytecode = True
+sys.path.insert(0, SCRIPTS)
+import rattle_source  # noqa: E402
+
+SOURCE = '''//! Sums of small numbers.
+#![tactic(auto)]
+
+ghost use Rattle.std.specs.Prelude.{◌≡◌, ◌+◌, ◌<◌, ◌≤◌};
+
+/// One more.
+pub fn one_more(n: u32) -> u32
+    requires { n < 1000 }
+    ensures { result ≡ n + 1 }
+{
+    n + 1
+}
+
+/// Two more.
+pub fn two_more(n: u32) -> u32
+    requires { n < 900 }
+    ensures { result ≡ n + 2 }
+{
+    one_more(one_more(n))
+}
+'''
+TWO = 'old: one_more(one_more(n))\nnew: '
+# The wrong bodies, each with what is said of it.
+EDITS = {
+    'adds_nothing': ('old:     n + 1\nnew:     n', 'refused: '),
+    'adds_one': (f'{TWO}one_more(n)', 'refused: '),
+    'right_body': (f'{TWO}one_more(n) + 1', 'NOT REFUSED: two_more: proved'),
+    'not_there': ('old: one_less(n)\nnew: n', 'BAD EDIT: its old: text is in src/lib.rt 0 times'),
+    'name_that_is_gone': (f'{TWO}one_less(one_more(n))', 'cannot be read: '),
+    'refused_in_its_caller': ('old: ensures { result ≡ n + 1 }\nnew: ensures { result ≤ n + 1 }',
+                              'NOT REFUSED: one_more: proved'),
+    'without_a_function': ('old: //! Sums of small numbers.\nnew: //! Sums.', 'BAD EDIT: it edits what is in no'),
+}
+
+
+class WrongBodiesTests(unittest.TestCase):
+    def test_each_kind(self) -> None:
+        top = tempfile.mkdtemp()
+        self.addCleanup(shutil.rmtree, top)
+        for folder in ('scripts', 'crates/small/src', 'crates/small/wrong-bodies'):
+            os.makedirs(f'{top}/{folder}')
+        for name in ('wrong-bodies', 'libraries.py', 'kit.py', 'rattle_source.py'):
+            shutil.copy(f'{SCRIPTS}/{name}', f'{top}/scripts/{name}')
+        texts = {'crates.txt': 'small:\n', 'crates/small/src/lib.rt': SOURCE}
+        texts |= {f'crates/small/wrong-bodies/{name}.edit': f'file: src/lib.rt\n{text}\n'
+                  for name, (text, _) in EDITS.items()}
+        for path, text in texts.items():
+            with open(f'{top}/{path}', 'w', encoding='utf-8') as file:
+                file.write(text)
+        ran = subprocess.run([f'{top}/scripts/wrong-bodies'], stdout=subprocess.PIPE, text=True)
+        *lines, last = ran.stdout.splitlines()
+        told = dict(line.removeprefix('small/').split(': ', 1) for line in lines)
+        self.assertEqual(sorted(told), sorted(EDITS))
+        for name, (_, said) in EDITS.items():
+            self.assertTrue(told[name].startswith(said), f'{name}: {told[name]}')
+        self.assertEqual((ran.returncode, last), (1, '2 passed, 5 failed'))
+
+
+class FunctionTests(unittest.TestCase):
+    def test_methods_of_a_type_of_another_file(self) -> None:
+        method = ("    fn put(&self, room: [u8; 4]) -> char\n        ensures value { result ≡ f { x = 1 } }\n"
+                  "    {\n        '}'\n    }\n}\n")
+        heads = {"impl<'a, T: Fn() -> u8> Line<T>": 'lines::Line::put',
+                 'impl<T> Sink for Line<T>': 'saving::LineSink::put',
+                 'impl<T: Read> Sink for T': 'saving::AnySink::put'}
+        for head, path in heads.items():
+            sources = {'src/lines.rt': 'pub struct Line<T> { x: T }', 'src/saving.rt': f'{head} {{\n{method}'}
+            types, text = rattle_source.types_of(sources), sources['src/saving.rt']
+            its = rattle_source.function_at('src/saving.rt', text, text.index("'}'"), types)
+            self.assertEqual(its and (its.path, text[its.body:its.body + 2]), (path, '{\n'))
+            self.assertIsNone(rattle_source.function_at('src/saving.rt', text, 3, types))
+
+
+if __name__ == '__main__':
+    unittest.main()
