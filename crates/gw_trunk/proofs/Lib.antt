@@ -5,3 +5,4 @@ pub mod Carrying
 pub mod Placing
 pub mod Thinning
 mod Rows
+pub mod KnownOctets

@@ -4,3 +4,4 @@ pub mod Bodies
 pub mod Clients
 pub mod Serving
 pub mod Multiframes
+pub mod KnownOctets

@@ -1,15 +1,18 @@
 //! How a trunk's descriptor is read and written without waiting (`TrunkInput`, `TrunkOutput`).
 
-ghost use Rattle.std.specs.Prelude.{◌≡◌, ◌<◌, ◌≤◌, ◌++◌, ℕ, List, [], length, take, IfOk, IfSome, IfNone, ⊤};
+ghost use Rattle.std.specs.Prelude.{◌≡◌, ◌<◌, ◌≤◌, ◌++◌, ℕ, List, [], length, take, IfOk, IfErr, IfSome, ⊤};
+ghost use Rattle.std.specs.Prelude.{IfNone, Some, None};
 ghost use Rattle.std.specs.Prelude.{Bool, true, false, if◌then◌else◌};
-ghost use Rattle.gw_trunk.specs.Device.{IsTaken, WasRead, octets_taken, written_of};
+ghost use Rattle.std.specs.Io.KnownBytes.{IsAtEnd};
+ghost use Rattle.gw_trunk.specs.Device.{IsTaken, WasRead, octets_taken, written_of, IsForLater, HasFailed};
 ghost use Rattle.gw_trunk.specs.Pieces.{AsksRecord};
 
+use crate::device_calls::{DeviceReader, DeviceWriter, is_for_later};
+use crate::logged_reader::LoggedReader;
 use crate::waiting::Waiting;
-use gw_records::Log;
+use gw_records::{AtStart, Log};
 use mio::Interest;
 use std::io;
-use std::io::{ErrorKind, Read, Write};
 use std::time::Duration;
 use thiserror::Error;
 
@@ -46,6 +49,12 @@ pub trait TrunkInput {
     /// Holds of a device if a read reported that it has ended.
     ghost has_ended: { Self → Type 0 } = { λ _. ⊤ };
 
+    /// Holds of a device if a read found that no octet has come yet.
+    ghost has_none: { Self → Type 0 } = { λ _. ⊤ };
+
+    /// Holds of a device if a read of it has failed.
+    ghost has_failed: { Self → Type 0 } = { λ _. ⊤ };
+
     /// Whether the trunk was read since the last record of a client.
     ghost is_turn: { Self → Bool } = { λ _. true };
 
@@ -63,7 +72,9 @@ pub trait TrunkInput {
         ensures asked { asked self.new ≡ asked self.old }
         ensures turn { IfOk result (λ t. WasRead t → is_turn self.new ≡ true) }
         ensures empty { IfOk result (λ t. t ≡ DeviceRead.NoneNow → is_empty self.new ≡ true) }
-        ensures ended { IfOk result (λ t. t ≡ DeviceRead.Ended → has_ended self.new) };
+        ensures ended { IfOk result (λ t. t ≡ DeviceRead.Ended → has_ended self.new) }
+        ensures none { IfOk result (λ t. t ≡ DeviceRead.NoneNow → has_none self.new) }
+        ensures err { IfErr result (λ _. has_failed self.new) };
 
     /// Takes the next record of a client to the front of `room`, and returns its length; None if no client
     /// has a whole one. Each record of a client comes behind a read of the trunk. It never waits.
@@ -87,6 +98,12 @@ pub trait TrunkOutput {
     /// The octets that went.
     ghost went: { Self → List ℕ };
 
+    /// Holds of a device if a write found no room.
+    ghost is_full: { Self → Type 0 } = { λ _. ⊤ };
+
+    /// Holds of a device if a write to it has failed.
+    ghost has_failed: { Self → Type 0 } = { λ _. ⊤ };
+
     /// Whether it ever took none for as long as it is waited for a while.
     ghost was_slow: { Self → Bool } = { λ _. false };
 
@@ -95,7 +112,9 @@ pub trait TrunkOutput {
     fn write(&mut self, octets: &[u8]) -> Result<Option<usize>, DeviceFault>
         ensures bound { IfOk result (λ n. IfSome n (λ m. m ≤ length octets.now)) }
         ensures went { went self.new ≡ went self.old ++ written_of result octets.now }
-        ensures slow { was_slow self.new ≡ was_slow self.old };
+        ensures slow { was_slow self.new ≡ was_slow self.old }
+        ensures full { IfOk result (λ n. IfNone n (is_full self.new)) }
+        ensures err { IfErr result (λ _. has_failed self.new) };
 
     /// Waits until it may take octets.
     fn wait(&mut self)
@@ -108,23 +127,26 @@ pub trait TrunkOutput {
         ensures slow { was_slow self.new ≡ (if result then was_slow self.old else true) };
 }
 
-/// A reader of std over a descriptor. What came is what the calls of the reader gave.
+/// A reader over a descriptor. What came is what the calls of the reader gave.
 #[derive(Drop)]
-pub struct FromDevice<R> {
-    reader: R,
+pub struct FromDevice<R: DeviceReader> {
+    reader: LoggedReader<R>,
     waiting: Waiting,
-    log: Log,
 }
 
-/// A writer of std over a descriptor. What went is what the calls of the writer took.
+/// A writer over a descriptor. What went is what the calls of the writer took: if it is known what it holds,
+/// that is what it held at the start and what went.
 #[derive(Drop)]
-pub struct ToDevice<W> {
+pub struct ToDevice<W: DeviceWriter> {
     writer: W,
     waiting: Waiting,
     // Whether a wait ended before it took octets, since the last ones or ever.
     is_slow: bool,
     was_slow: bool,
+    start: AtStart<W>,
     log: Log,
+    ghost holds: { (before : List ℕ) → W.contents start.value ≡ Some before
+        → W.contents writer ≡ Some (before ++ log.octets) },
 }
 
 /// Takes the answers where there are no clients.
@@ -142,52 +164,56 @@ impl NoClients {
     }
 }
 
-impl<R: Drop> FromDevice<R> {
+impl<R: DeviceReader + Drop> FromDevice<R> {
     /// A trunk's input from a reader with this descriptor, without clients. The error is the system's.
     pub fn open(rt: &HostRuntime, reader: R, descriptor: i32) -> io::Result<FromDevice<R>>
-        ensures { IfOk result (λ d. d.log.octets ≡ []) }
+        ensures reader { IfOk result (λ d. d.reader.reader ≡ reader) }
+        ensures start { IfOk result (λ d. d.reader.start.value ≡ reader) }
+        ensures log { IfOk result (λ d. d.reader.log.octets ≡ []) }
     {
         Ok(FromDevice {
-            reader,
             waiting: Waiting::open(rt, descriptor, Interest::READABLE)?,
-            log: Log::new(),
+            reader: LoggedReader::new(reader),
         })
     }
 }
 
-impl<W: Drop> ToDevice<W> {
+impl<W: DeviceWriter + Drop> ToDevice<W> {
     /// A trunk's output to a writer with this descriptor. The error is the system's.
     pub fn open(rt: &HostRuntime, writer: W, descriptor: i32) -> io::Result<ToDevice<W>>
-        ensures { IfOk result (λ d. d.log.octets ≡ []) }
+        ensures writer { IfOk result (λ d. d.writer ≡ writer) }
+        ensures start { IfOk result (λ d. d.start.value ≡ writer) }
+        ensures log { IfOk result (λ d. d.log.octets ≡ []) }
     {
+        let waiting = Waiting::open(rt, descriptor, Interest::WRITABLE)?;
+        let start = AtStart::of(&writer);
         Ok(ToDevice {
             writer,
-            waiting: Waiting::open(rt, descriptor, Interest::WRITABLE)?,
+            waiting,
             is_slow: false,
             was_slow: false,
+            start,
             log: Log::new(),
         })
     }
 }
 
-/// Whether an error says only that a call is to be repeated.
-pub fn is_for_later(error: &io::Error) -> bool {
-    matches!(error.kind(), ErrorKind::WouldBlock | ErrorKind::Interrupted)
-}
-
-impl<R: Read> TrunkInput for FromDevice<R> {
-    ghost came = { λ d. d.log.octets };
+impl<R: DeviceReader> TrunkInput for FromDevice<R> {
+    ghost came = { λ d. d.reader.log.octets };
 
     ghost asked = { λ _. [] };
+
+    ghost has_ended = { λ d. IsAtEnd (R.remaining d.reader.reader) };
+
+    ghost has_none = { λ d. IsForLater (R.fails d.reader.reader) };
+
+    ghost has_failed = { λ d. HasFailed (R.fails d.reader.reader) };
 
     fn read(&mut self, room: &mut [u8]) -> Result<DeviceRead, DeviceFault> {
         match self.reader.read(room) {
             Ok(0) => Ok(DeviceRead::Ended),
-            Ok(n) => {
-                self.log.append(room, n);
-                Ok(DeviceRead::Octets(n))
-            }
-            Err(error) if is_for_later(&error) => Ok(DeviceRead::NoneNow),
+            Ok(n) => Ok(DeviceRead::Octets(n)),
+            Err(kind) if is_for_later(kind) => Ok(DeviceRead::NoneNow),
             Err(_) => Err(DeviceFault),
         }
     }
@@ -201,19 +227,23 @@ impl<R: Read> TrunkInput for FromDevice<R> {
     }
 }
 
-impl<W: Write> TrunkOutput for ToDevice<W> {
+impl<W: DeviceWriter> TrunkOutput for ToDevice<W> {
     ghost went = { λ d. d.log.octets };
+
+    ghost is_full = { λ d. IsForLater (W.fails d.writer) };
+
+    ghost has_failed = { λ d. HasFailed (W.fails d.writer) };
 
     ghost was_slow = { λ d. d.was_slow };
 
     fn write(&mut self, octets: &[u8]) -> Result<Option<usize>, DeviceFault> {
-        match self.writer.write(octets) {
+        match self.writer.write_now(octets) {
             Ok(n) => {
                 self.log.append(octets, n);
                 self.is_slow = false;
                 Ok(Some(n))
             }
-            Err(error) if is_for_later(&error) => Ok(None),
+            Err(kind) if is_for_later(kind) => Ok(None),
             Err(_) => Err(DeviceFault),
         }
     }

@@ -4,7 +4,9 @@
 mod client;
 mod clients;
 mod device;
+mod device_calls;
 mod door;
+mod logged_reader;
 mod multiframe_dropper;
 mod serving;
 mod sink;
@@ -15,6 +17,7 @@ mod with_clients;
 pub use device::{
     DeviceFault, DeviceRead, FromDevice, NoClients, ToDevice, TrunkInput, TrunkOutput,
 };
+pub use device_calls::{DeviceReader, DeviceWriter};
 pub use door::open_door;
 pub use multiframe_dropper::MultiframeDropper;
 pub use serving::serve_trunk;

@@ -3,15 +3,17 @@
 ghost use Rattle.std.specs.Prelude.{◌≡◌, ◌||◌, ◌&&◌, [], true, IfOk};
 ghost use Rattle.std.specs.List.{list_all};
 ghost use Rattle.gw_trunk.specs.Clients.{is_quiet};
+ghost use Rattle.gw_trunk.specs.Device.{HasFailed};
 
 use crate::client::ClientPoll;
 use crate::clients::Clients;
-use crate::device::{DeviceFault, DeviceRead, ToDevice, TrunkInput, is_for_later};
+use crate::device::{DeviceFault, DeviceRead, ToDevice, TrunkInput};
+use crate::device_calls::{DeviceReader, is_for_later};
 use crate::door::open_door;
+use crate::logged_reader::LoggedReader;
 use gw_records::Log;
 use mio::net::{UnixListener, UnixStream};
 use std::io;
-use std::io::Read;
 use std::os::fd::AsRawFd;
 
 /// A reader of std over a descriptor, and the clients of a Unix socket. The reader is read only if octets
@@ -22,8 +24,8 @@ use std::os::fd::AsRawFd;
 /// nothing comes any more then. A client that goes, sends something else, or does not take an answer at once
 /// loses its connection, and nothing else happens.
 #[derive(Drop)]
-pub struct WithClients<R> {
-    reader: R,
+pub struct WithClients<R: DeviceReader> {
+    reader: LoggedReader<R>,
     clients: Clients,
     // Whether the trunk was read since the last record of a client.
     turn: bool,
@@ -31,11 +33,10 @@ pub struct WithClients<R> {
     empty: bool,
     // Whether nothing will come any more.
     ended: bool,
-    log: Log,
     asked: Log,
 }
 
-impl<R: Drop> WithClients<R> {
+impl<R: DeviceReader + Drop> WithClients<R> {
     /// What comes from the reader, whose descriptor this is, and from those who connect to `door`. The
     /// answers to them come from `answers`, which never waits. The error is the system's.
     pub fn open(
@@ -45,16 +46,16 @@ impl<R: Drop> WithClients<R> {
         door: UnixListener,
         answers: UnixStream,
     ) -> io::Result<WithClients<R>>
-        ensures { IfOk result (λ d. (d.log.octets ≡ []) × (d.asked.octets ≡ [])) }
+        ensures reader { IfOk result (λ d. (d.reader.reader ≡ reader) × (d.reader.start.value ≡ reader)) }
+        ensures logs { IfOk result (λ d. (d.reader.log.octets ≡ []) × (d.asked.octets ≡ [])) }
     {
         let clients = Clients::open(rt, descriptor, door, answers)?;
         Ok(WithClients {
-            reader,
+            reader: LoggedReader::new(reader),
             clients,
             turn: false,
             empty: false,
             ended: false,
-            log: Log::new(),
             asked: Log::new(),
         })
     }
@@ -63,13 +64,13 @@ impl<R: Drop> WithClients<R> {
 /// What comes from the reader, whose descriptor this is, and from the clients of the Unix socket at a path;
 /// and what takes the answers to them. An old socket there at which nobody listens is replaced. The error is
 /// the system's.
-pub fn open_clients<R: Drop>(
+pub fn open_clients<R: DeviceReader + Drop>(
     rt: &HostRuntime,
     reader: R,
     descriptor: i32,
     path: &str,
 ) -> io::Result<(WithClients<R>, ToDevice<UnixStream>)>
-    ensures incoming { IfOk result (λ both. (both.0.log.octets ≡ []) × (both.0.asked.octets ≡ [])) }
+    ensures incoming { IfOk result (λ both. (both.0.reader.log.octets ≡ []) × (both.0.asked.octets ≡ [])) }
     ensures answers { IfOk result (λ both. both.1.log.octets ≡ []) }
 {
     let door = open_door(rt, path)?;
@@ -80,7 +81,7 @@ pub fn open_clients<R: Drop>(
     Ok((incoming, answers))
 }
 
-impl<R: Read> WithClients<R> {
+impl<R: DeviceReader> WithClients<R> {
     // Notes what a read of the trunk came to.
     fn note(&mut self, turn: bool, empty: bool, ended: bool)
         ensures { self.new ≡ record self.old { turn = turn; empty = empty; ended = ended } }
@@ -91,12 +92,14 @@ impl<R: Read> WithClients<R> {
     }
 }
 
-impl<R: Read> TrunkInput for WithClients<R> {
-    ghost came = { λ d. d.log.octets };
+impl<R: DeviceReader> TrunkInput for WithClients<R> {
+    ghost came = { λ d. d.reader.log.octets };
 
     ghost asked = { λ d. d.asked.octets };
 
     ghost has_ended = { λ d. d.ended ≡ true };
+
+    ghost has_failed = { λ d. HasFailed (R.fails d.reader.reader) };
 
     ghost is_turn = { λ d. d.turn };
 
@@ -120,13 +123,12 @@ impl<R: Read> TrunkInput for WithClients<R> {
             }
             Ok(n) => {
                 self.note(true, false, false);
-                self.log.append(room, n);
                 if n < room.len() {
                     self.clients.note_drained();
                 }
                 Ok(DeviceRead::Octets(n))
             }
-            Err(error) if is_for_later(&error) => {
+            Err(kind) if is_for_later(kind) => {
                 self.note(true, true, false);
                 Ok(DeviceRead::NoneNow)
             }

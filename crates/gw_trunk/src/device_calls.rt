@@ -1,0 +1,75 @@
+//! Reads and writes that say how they failed (`DeviceReader`, `DeviceWriter`).
+
+ghost use Rattle.std.specs.Prelude.{◌≡◌, ◌≤◌, ℕ, List, length, IfOk, IfErr, Option, ⊤};
+ghost use Rattle.std.specs.Io.KnownBytes.{ReadConsumes, WriteAppends};
+ghost use Rattle.std.specs.declared.io.ErrorKind.{ErrorKind};
+ghost use Rattle.gw_trunk.specs.Device.{is_for_later};
+
+use std::io::{ErrorKind, Read, Write};
+
+/// Reads octets without waiting for them.
+///
+/// The relation is the type's own: a caller that does not know the type has it of a call alone.
+pub trait DeviceReader {
+    /// The octets that are to come, if they are known.
+    ghost remaining: { Self → Option (List ℕ) };
+
+    /// Relates a reader to the error with which its last read ended.
+    ghost fails: { Self → ErrorKind → Type 0 };
+
+    /// Reads octets to the front of `room`, and returns how many; 0 for a room that is not empty only at the end.
+    fn read_now(&mut self, room: &mut [u8]) -> Result<usize, ErrorKind>
+        ensures bound { IfOk result (λ n. n ≤ length room.new) }
+        ensures octets { ReadConsumes (remaining self.old) (remaining self.new) result room.new }
+        ensures fails { IfErr result (fails self.new) };
+}
+
+/// Writes octets without waiting for room.
+///
+/// The relation is the type's own: a caller that does not know the type has it of a call alone.
+pub trait DeviceWriter {
+    /// The octets that the writer holds, if they are known.
+    ghost contents: { Self → Option (List ℕ) };
+
+    /// Relates a writer to the error with which its last write ended.
+    ghost fails: { Self → ErrorKind → Type 0 };
+
+    /// Writes octets from the front of `octets`, and returns how many.
+    fn write_now(&mut self, octets: &[u8]) -> Result<usize, ErrorKind>
+        ensures bound { IfOk result (λ n. n ≤ length octets.now) }
+        ensures octets { WriteAppends (contents self.old) (contents self.new) result octets.now }
+        ensures fails { IfErr result (fails self.new) };
+}
+
+impl<R: Read> DeviceReader for R {
+    ghost remaining = { λ r. R.remaining r };
+
+    ghost fails = { λ _ _. ⊤ };
+
+    fn read_now(&mut self, room: &mut [u8]) -> Result<usize, ErrorKind> {
+        match self.read(room) {
+            Ok(n) => Ok(n),
+            Err(error) => Err(error.kind()),
+        }
+    }
+}
+
+impl<W: Write> DeviceWriter for W {
+    ghost contents = { λ w. W.contents w };
+
+    ghost fails = { λ _ _. ⊤ };
+
+    fn write_now(&mut self, octets: &[u8]) -> Result<usize, ErrorKind> {
+        match self.write(octets) {
+            Ok(n) => Ok(n),
+            Err(error) => Err(error.kind()),
+        }
+    }
+}
+
+/// Whether an error says only that a call is to be repeated.
+pub fn is_for_later(kind: ErrorKind) -> bool
+    ensures { result ≡ is_for_later kind }
+{
+    matches!(kind, ErrorKind::WouldBlock | ErrorKind::Interrupted)
+}
