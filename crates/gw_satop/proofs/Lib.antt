@@ -2,3 +2,4 @@ pub mod Packets
 pub mod Ones
 pub mod Arriving
 pub mod Turning
+pub mod FarEnd

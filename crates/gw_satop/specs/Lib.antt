@@ -8,3 +8,4 @@ pub mod Line
 pub mod Turns
 pub mod Session
 pub mod Opening
+pub mod FarEnd

@@ -48,10 +48,11 @@ abbrev pub FailsToJoin : List ℕ → List ℕ → Error → Type 0
 FailsToJoin local peer error = (LacksAddress peer ⊎ LacksAddress local)
     ⊎ (RefusesSocket local error ⊎ RefusesPeer peer error)
 
--- a socket at the address of the first text, and the address of the second
-pub record IsJoined {S : Type 0} (is_bound : Bound S) (local peer : List ℕ) (socket : S) (there : SocketAddr)
-    : Type 0 where
+-- a socket at the address of the first text, which takes datagrams from the address of the second alone
+pub record IsJoined {S : Type 0} (is_bound is_joined : Bound S) (local peer : List ℕ) (socket : S)
+    (there : SocketAddr) : Type 0 where
   pub here : SocketAddr
   pub here_is : HasAddress local here
   pub bound : is_bound socket here
   pub there_is : HasAddress peer there
+  pub joined : is_joined socket there

@@ -1,11 +1,13 @@
 //! The far end of an emulated circuit: its UDP address, and the socket that hears it alone (`Peer`).
 
 ghost use Rattle.std.specs.Prelude.{◌≡◌, ◌≤◌, ◌++◌, ◌∷◌, ℕ, List, [], length, take, IfSome, IfNone, IfOk};
-ghost use Rattle.std.specs.Prelude.{IfErr};
+ghost use Rattle.std.specs.Prelude.{IfErr, OnOk};
+ghost use Rattle.gw_satop.specs.FarEnd.{IsBySocket};
 ghost use Rattle.gw_satop.specs.Opening.{FailsToJoin, HasAddress, IsJoined, LacksAddress, SystemFinds};
 ghost use Rattle.gw_satop.specs.Opening.{SystemRefusesPeer, SystemRefusesSocket};
 
 use crate::log::History;
+use gw_records::AtStart;
 use gw_udp::Socket;
 use mio::{Registry, Token};
 use std::io;
@@ -45,18 +47,22 @@ pub trait Peer {
 /// The far end at a UDP address, by a socket that takes datagrams from there alone. What came and was sent is
 /// what the calls of the socket gave and took.
 #[derive(Drop)]
-pub struct UdpPeer<S> {
+pub struct UdpPeer<S: Socket> {
     socket: S,
     address: SocketAddr,
+    opened: AtStart<S>,
     received: History,
     sent: History,
+    ghost by: { ∥ IsBySocket S.is_bound S.receives S.sends address opened.value socket received.datagrams
+        sent.datagrams ∥₁ },
 }
 
 impl<S: Socket> UdpPeer<S> {
     /// The far end at the address of `peer`, by a socket at that of `local`; each text is a host and a port.
     /// The error is the system's, or says that one has no address.
     pub fn open<N: Net>(net: &N, local: &str, peer: &str) -> io::Result<UdpPeer<S>>
-        ensures ok { IfOk result (λ p. IsJoined S.is_bound local.now peer.now p.socket p.address) }
+        ensures ok { IfOk result (λ p. IsJoined S.is_bound S.is_joined local.now peer.now
+            p.opened.value p.address) }
         ensures err { IfErr result (FailsToJoin local.now peer.now) }
         ensures received { IfOk result (λ p. p.received.datagrams ≡ []) }
         ensures sent { IfOk result (λ p. p.sent.datagrams ≡ []) }
@@ -65,9 +71,11 @@ impl<S: Socket> UdpPeer<S> {
         let here = address_of(net, local)?;
         let socket: S = socket_at(net, here)?;
         take_from(&socket, address)?;
+        let opened = AtStart::of(&socket);
         Ok(UdpPeer {
             socket,
             address,
+            opened,
             received: History::new(),
             sent: History::new(),
         })
@@ -115,6 +123,7 @@ fn socket_at<S: Socket, N: Net>(net: &N, here: SocketAddr) -> io::Result<S>
 // Connects the socket, so that it takes datagrams of the peer alone.
 #[tactic(auto, unfolding(crate::specs::Opening::SystemRefusesPeer))]
 fn take_from<S: Socket>(socket: &S, peer: SocketAddr) -> io::Result<()>
+    ensures ok { OnOk result (S.is_joined socket.now peer) }
     ensures err { IfErr result (SystemRefusesPeer peer) }
 {
     socket.connect(peer)
@@ -131,7 +140,8 @@ impl<S: Socket> Peer for UdpPeer<S> {
                 self.received.datagram(room, n);
                 Some(n)
             }
-            _ => None,
+            Ok(None) => None,
+            Err(_) => None,
         }
     }
 

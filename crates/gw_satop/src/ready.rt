@@ -3,10 +3,11 @@
 ghost use Rattle.std.specs.Prelude.{◌≡◌, [], IfOk, IfErr};
 ghost use Rattle.gw_satop.specs.Opening.{SystemRefusesTrunk};
 
-use gw_trunk::{DeviceFault, DeviceRead, FromDevice, ToDevice, TrunkInput, Waiting};
+use gw_trunk::{
+    DeviceFault, DeviceRead, DeviceReader, DeviceWriter, FromDevice, ToDevice, TrunkInput, Waiting,
+};
 use mio::Interest;
 use std::io;
-use std::io::Read;
 use std::time::Duration;
 
 /// Octets of a trunk from a descriptor, which is read only if the system says that something has come; so a
@@ -33,20 +34,26 @@ impl<I: TrunkInput + Drop> WhenReady<I> {
 
 // A trunk's input from a reader with this descriptor.
 #[tactic(auto, unfolding(crate::specs::Opening::SystemRefusesTrunk))]
-fn device<R: Drop>(rt: &HostRuntime, reader: R, descriptor: i32) -> io::Result<FromDevice<R>>
-    ensures ok { IfOk result (λ d. d.log.octets ≡ []) }
+fn device<R: DeviceReader + Drop>(
+    rt: &HostRuntime,
+    reader: R,
+    descriptor: i32,
+) -> io::Result<FromDevice<R>>
+    ensures reader { IfOk result (λ d. d.reader.start.value ≡ reader) }
+    ensures ok { IfOk result (λ d. d.reader.log.octets ≡ []) }
     ensures err { IfErr result SystemRefusesTrunk }
 {
     FromDevice::open(rt, reader, descriptor)
 }
 
 /// A trunk's input from a reader, only when its descriptor is ready. The error is the system's.
-pub fn open_input<R: Read + Drop>(
+pub fn open_input<R: DeviceReader + Drop>(
     rt: &HostRuntime,
     reader: R,
     descriptor: i32,
 ) -> io::Result<WhenReady<FromDevice<R>>>
-    ensures ok { IfOk result (λ r. r.incoming.log.octets ≡ []) }
+    ensures reader { IfOk result (λ r. r.incoming.reader.start.value ≡ reader) }
+    ensures ok { IfOk result (λ r. r.incoming.reader.log.octets ≡ []) }
     ensures err { IfErr result SystemRefusesTrunk }
 {
     let incoming = device(rt, reader, descriptor)?;
@@ -55,7 +62,12 @@ pub fn open_input<R: Read + Drop>(
 
 /// A trunk's output to a writer with this descriptor. The error is the system's.
 #[tactic(auto, unfolding(crate::specs::Opening::SystemRefusesTrunk))]
-pub fn open_output<W: Drop>(rt: &HostRuntime, writer: W, descriptor: i32) -> io::Result<ToDevice<W>>
+pub fn open_output<W: DeviceWriter + Drop>(
+    rt: &HostRuntime,
+    writer: W,
+    descriptor: i32,
+) -> io::Result<ToDevice<W>>
+    ensures writer { IfOk result (λ d. d.start.value ≡ writer) }
     ensures ok { IfOk result (λ d. d.log.octets ≡ []) }
     ensures err { IfErr result SystemRefusesTrunk }
 {
@@ -68,6 +80,8 @@ impl<I: TrunkInput> TrunkInput for WhenReady<I> {
     ghost asked = { λ r. I.asked r.incoming };
 
     ghost has_ended = { λ r. I.has_ended r.incoming };
+
+    ghost has_failed = { λ r. I.has_failed r.incoming };
 
     fn read(&mut self, room: &mut [u8]) -> Result<DeviceRead, DeviceFault> {
         if !self.waiting.wait_for(Duration::ZERO) {

@@ -1,6 +1,7 @@
 //! A trunk with clients: when it is read, when a client is asked, and what ends it (`WithClients`).
 
-ghost use Rattle.std.specs.Prelude.{◌≡◌, ◌||◌, ◌&&◌, [], true, IfOk};
+ghost use Rattle.std.specs.Prelude.{◌≡◌, ◌||◌, ◌&&◌, ℕ, List, [], true, false, IfOk, Some};
+ghost use Rattle.std.specs.Io.KnownBytes.{IsAtEnd};
 ghost use Rattle.std.specs.List.{list_all};
 ghost use Rattle.gw_trunk.specs.Clients.{is_quiet};
 ghost use Rattle.gw_trunk.specs.Device.{HasFailed};
@@ -31,9 +32,12 @@ pub struct WithClients<R: DeviceReader> {
     turn: bool,
     // Whether the last read of the trunk found none, or the one before took all.
     empty: bool,
-    // Whether nothing will come any more.
+    // Whether nothing will come any more, and whether a client asked for that.
     ended: bool,
+    end_asked: bool,
     asked: Log,
+    ghost ends: { (rest : List ℕ) → ended ≡ true → end_asked ≡ false
+        → R.remaining reader.reader ≡ Some rest → rest ≡ [] },
 }
 
 impl<R: DeviceReader + Drop> WithClients<R> {
@@ -56,6 +60,7 @@ impl<R: DeviceReader + Drop> WithClients<R> {
             turn: false,
             empty: false,
             ended: false,
+            end_asked: false,
             asked: Log::new(),
         })
     }
@@ -81,23 +86,12 @@ pub fn open_clients<R: DeviceReader + Drop>(
     Ok((incoming, answers))
 }
 
-impl<R: DeviceReader> WithClients<R> {
-    // Notes what a read of the trunk came to.
-    fn note(&mut self, turn: bool, empty: bool, ended: bool)
-        ensures { self.new ≡ record self.old { turn = turn; empty = empty; ended = ended } }
-    {
-        self.turn = turn;
-        self.empty = empty;
-        self.ended = ended;
-    }
-}
-
 impl<R: DeviceReader> TrunkInput for WithClients<R> {
     ghost came = { λ d. d.reader.log.octets };
 
     ghost asked = { λ d. d.asked.octets };
 
-    ghost has_ended = { λ d. d.ended ≡ true };
+    ghost has_ended = { λ d. d.end_asked ≡ false → IsAtEnd (R.remaining d.reader.reader) };
 
     ghost has_failed = { λ d. HasFailed (R.fails d.reader.reader) };
 
@@ -112,24 +106,25 @@ impl<R: DeviceReader> TrunkInput for WithClients<R> {
         if self.ended {
             return Ok(DeviceRead::Ended);
         }
+        self.turn = true;
+        self.empty = false;
         if !self.clients.can_read() {
-            self.note(true, true, false);
+            self.empty = true;
             return Ok(DeviceRead::NoneNow);
         }
         match self.reader.read(room) {
             Ok(0) => {
-                self.note(true, false, true);
+                self.ended = true;
                 Ok(DeviceRead::Ended)
             }
             Ok(n) => {
-                self.note(true, false, false);
                 if n < room.len() {
                     self.clients.note_drained();
                 }
                 Ok(DeviceRead::Octets(n))
             }
             Err(kind) if is_for_later(kind) => {
-                self.note(true, true, false);
+                self.empty = true;
                 Ok(DeviceRead::NoneNow)
             }
             Err(_) => Err(DeviceFault),
@@ -150,6 +145,7 @@ impl<R: DeviceReader> TrunkInput for WithClients<R> {
             }
             ClientPoll::End => {
                 self.ended = true;
+                self.end_asked = true;
                 None
             }
             ClientPoll::Nothing | ClientPoll::Gone => None,

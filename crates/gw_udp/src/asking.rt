@@ -34,6 +34,8 @@ fn rests_after<X>(most: u16, answer: &Result<Option<X>, PortFault>) -> u16
 impl<S: Socket> Socket for Resting<S> {
     ghost is_bound = { RestingIsBound S.is_bound };
 
+    ghost is_joined = { λ s peer. S.is_joined s.socket peer };
+
     ghost refuses = { S.refuses };
 
     ghost receives = { RestingReceives S.receives };

@@ -1,7 +1,7 @@
 //! The trait of a non-blocking datagram socket, and std's as one (`Socket`).
 
 ghost use Rattle.std.specs.Prelude.{◌≡◌, ◌≤◌, ℕ, List, length, Ok, None, IfOk, IfErr, IfSome, IsTrue};
-ghost use Rattle.std.specs.Prelude.{IsFalse, ⊤};
+ghost use Rattle.std.specs.Prelude.{IsFalse, OnOk, ⊤};
 ghost use Rattle.gw_udp.specs.Socket.{Bound, KeepsBound, BindRefused, Received, ReceivesAny, Sent};
 
 use crate::outcome::{received, sent, was_refused};
@@ -19,6 +19,9 @@ use std::os::fd::AsRawFd;
 pub trait Socket: Drop {
     /// Relates a socket and the address that it is bound to.
     ghost is_bound: { Bound Self } = { λ _ _. ⊤ };
+
+    /// Relates a socket and the address of the only sender that it takes datagrams from.
+    ghost is_joined: { Bound Self } = { λ _ _. ⊤ };
 
     /// Relates an address at which the system refused a socket, and its error.
     ghost refuses: { BindRefused } = { λ _ _. ⊤ };
@@ -41,7 +44,8 @@ pub trait Socket: Drop {
     /// Restricts the system's socket to one sender.
     ///
     /// The error is the system's; then all senders are accepted.
-    fn connect(&self, peer: SocketAddr) -> io::Result<()>;
+    fn connect(&self, peer: SocketAddr) -> io::Result<()>
+        ensures { OnOk result (is_joined self.now peer) };
 
     /// Asks the system to keep this many octets of datagrams that wait. It may keep fewer.
     fn make_room(&self, octets: i32);
