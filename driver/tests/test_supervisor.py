@@ -7,7 +7,6 @@ import unittest
 from unittest import mock
 
 from . import support
-from .world import SECONDS
 from e1gw import supervisor
 
 # Keeps the end of a pipe at its first start; at the next one reads what was written into it, and forgets it.
@@ -34,11 +33,7 @@ class PartsTests(support.FolderCase):
     def ready(self, part: supervisor.Part) -> None:
         """Starts it, and waits until it is ready."""
         part.begin(time.monotonic())
-        until, told = time.monotonic() + SECONDS, list[str]()
-        while 'READY=1' not in told:
-            told += part.hear()
-            self.assertLess(time.monotonic(), until)
-            time.sleep(0.01)
+        support.until(lambda: 'READY=1' in part.hear())
 
     def kill(self, part: supervisor.Part) -> None:
         process = part.process
