@@ -133,7 +133,7 @@ class FilterTests(unittest.TestCase):
     def test_a_process_that_closes_its_output_and_stays(self) -> None:
         with tempfile.NamedTemporaryFile('w', delete=False) as script:
             self.addCleanup(os.unlink, script.name)
-            script.write('#!/bin/sh\nexec sleep 60 >&-\n')
+            script.write('#!/bin/sh\nexec sleep 1000 >&-\n')
             os.fchmod(script.fileno(), 0o700)
         trunk, _ = self.opened(program=script.name)
         with mock.patch.object(filters, 'GRACE', 0.0), \

@@ -275,7 +275,7 @@ class ReopenedTrunkTests(RestartedKeeperCase):
 class RunNumberTests(unittest.TestCase):
     def test_a_number_that_another_process_has(self) -> None:
         """A process is known by its number and when it was started."""
-        with subprocess.Popen(['sleep', '60']) as process:
+        with subprocess.Popen(['sleep', str(SECONDS)]) as process:
             when = started(process.pid)
             self.assertFalse(Adopted((process.pid, when)).ended())
             self.assertTrue(Adopted((process.pid, when + 1)).ended())

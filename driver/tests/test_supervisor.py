@@ -11,7 +11,7 @@ from e1gw import supervisor
 
 # Keeps the end of a pipe at its first start; at the next one reads what was written into it, and forgets it.
 SCRIPT = """
-import os, sys, time
+import os, signal, sys
 sys.path.insert(0, sys.argv[2])
 from e1gw.systemd import Notify, given
 files, notify = given(), Notify()
@@ -25,7 +25,7 @@ else:
     for name, end in ('trunk-in', writes), ('tape-1', reads):
         notify.keep(name, end)
 notify.ready('')
-time.sleep(60)
+signal.pause()
 """
 
 

@@ -176,11 +176,9 @@ class ServedTrunkTests(ServedTrunkCase):
     def emptied(self, pipe: int) -> None:
         """Returns once all was read that was written to a pipe."""
         held = array.array('i', [1])
-        until = time.monotonic() + SECONDS
-        while held[0] > 0 and time.monotonic() < until:
+        while held[0] > 0:
             fcntl.ioctl(pipe, termios.FIONREAD, held)
             time.sleep(0.001)
-        self.assertEqual(held[0], 0)
 
 
 class TrunkProcess:

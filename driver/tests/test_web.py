@@ -1,6 +1,8 @@
 """What is seen from outside: pages over HTTP, the text of Prometheus, the file of metrics, and the rules of alerts."""
 from __future__ import annotations
 
+import contextlib
+import http.client
 import json
 import os
 import re
@@ -54,8 +56,10 @@ class PictureRequestTests(unittest.TestCase):
                     return page.headers['Content-Type'], page.read().decode()
 
             def drawn() -> tuple[str, str] | None:
-                found = get('/')
-                return found if '1 answered' in found[1] else None
+                with contextlib.suppress(OSError, http.client.HTTPException):   # (ten seconds were not enough)
+                    found = get('/')
+                    return found if '1 answered' in found[1] else None
+                return None
             kind, page = support.until(drawn, 1.0)          # what is kept may be late
             self.assertEqual((kind, '</html>' in page, 'west' in page), ('text/html; charset=utf-8', True, True))
             self.assertEqual(get('/table')[0], 'text/plain; charset=utf-8')
