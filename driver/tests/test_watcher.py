@@ -300,7 +300,7 @@ class WatcherConnectionTests(WatcherCase):
         status = world.told()
         self.assertEqual((status['program'], status['trunk_up'], status['program_since'] > 1e9), (False, False, True))
         self.assertIn('no connection to the program since', world.ask('status'))
-        world.program = StandInProgram(world.path('program'))
+        world.program = StandInProgram(world.path('program'), world.shadow)
         world.connected()
         self.assertEqual(world.program.taken, [])
         self.assertEqual(world.ask('seize 1'), 'seize 1: done')
