@@ -21,7 +21,9 @@ LIMITS: dict[str, Any] = {
     'control.IDLE': LONG, 'ctl_all.PATIENCE': LONG, 'pages.PATIENCE': LONG, 'pages.PATIENCE_DRAWN': LONG,
     'programs.PATIENCE': LONG, 'watcher.FIRST': LONG, 'watcher.STALLED': 100_000,
     'writers.OPENS': LONG,
-    'standby.APART': 0.0, 'tie.client.PATIENCE': LONG}
+    'standby.APART': 0.0, 'tie.client.PATIENCE': LONG,
+    # (A process that gets what others leave gets next to nothing on a loaded machine.)
+    'archive.put_last': lambda process: None, 'pages.put_behind': lambda process, nice: None}
 
 
 def around(limits: Mapping[str, Any]) -> dict[str, str]:
