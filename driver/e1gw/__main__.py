@@ -4,6 +4,7 @@ The names are {names}."""
 import importlib
 import os
 import sys
+from types import ModuleType
 from typing import NoReturn
 
 # The module that has main(), by the command's name without e1gw-.
@@ -21,13 +22,18 @@ def refuse(what: str) -> NoReturn:
     sys.exit(2)
 
 
-def start(name: str) -> NoReturn:
-    """Runs a command with the words of the command line."""
+def load(name: str) -> ModuleType:
+    """The module of a command."""
     if name in SERVICES:
         import signal
         for number in (signal.SIGINT, signal.SIGTERM):
             signal.signal(number, lambda *_: os._exit(0))
-    sys.exit(importlib.import_module(f'e1gw.{COMMANDS[name]}').main())
+    return importlib.import_module(f'e1gw.{COMMANDS[name]}')
+
+
+def start(name: str) -> NoReturn:
+    """Runs a command with the words of the command line."""
+    sys.exit(load(name).main())
 
 
 def named(path: str) -> str:

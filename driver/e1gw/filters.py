@@ -110,17 +110,17 @@ class Filter:
     def has_ended(self) -> bool:
         return self._process.poll() is not None
 
-    def ended(self, grace: float = GRACE) -> int:
-        """The status of the process, whose output is closed; a negative one for a signal."""
+    def ended(self, grace: float | None = None) -> int:
+        """The status of the process, whose output is closed; a negative one for a signal. It has GRACE, or so long."""
         try:
-            return self._process.wait(grace)
+            return self._process.wait(GRACE if grace is None else grace)
         except subprocess.TimeoutExpired:
             self._process.kill()
             return -signal.SIGKILL
 
-    def end_words(self, grace: float = GRACE) -> str:
+    def end_words(self) -> str:
         """How it has ended."""
-        status = self.ended(grace)
+        status = self.ended()
         return f'{self.name} ended {f"with status {status}" if status >= 0 else f"by signal {-status}"}'
 
     def said(self) -> list[str]:
@@ -136,12 +136,12 @@ class Filter:
         *lines, self._unsaid = self._unsaid.split(b'\n')
         return [line.decode(errors='replace') for line in lines]
 
-    def close(self, grace: float = GRACE) -> None:
+    def close(self) -> None:
         self._process.kill()
         for pipe in (self._to, self._of, self._process.stderr):
             if pipe:
                 pipe.close()
         try:
-            self._process.wait(grace)
+            self._process.wait(GRACE)
         except subprocess.TimeoutExpired:
             pass                # it dies once the kernel lets it

@@ -41,9 +41,10 @@ class Pages:
         self._line, theirs = socket.socketpair(socket.AF_UNIX, socket.SOCK_SEQPACKET)
         given = {'line': theirs, 'listener': listener}
         files = {name: end.fileno() for name, end in given.items() if end}
+        words = words | files | {'patience': PATIENCE, 'patience_drawn': PATIENCE_DRAWN}
         try:
             self.process = subprocess.Popen(
-                [sys.executable, '-B', '-m', 'e1gw.pages', json.dumps(words | files)], stdin=subprocess.DEVNULL,
+                [sys.executable, '-B', '-m', 'e1gw.pages', json.dumps(words)], stdin=subprocess.DEVNULL,
                 stdout=None if words['top'] else subprocess.DEVNULL, stderr=subprocess.DEVNULL, start_new_session=True,
                 pass_fds=tuple(files.values()), env=os.environ | {'PYTHONPATH': PACKAGE})
         finally:
@@ -132,7 +133,7 @@ class DrawnPicture:
     def __init__(self, loop: Loop, words: PageRequest) -> None:
         self.loop, self._words = loop, ['--last', f'{words.picture}s', '--title', words.name, '--refresh', '10',
                                         *(['--program', words.program] if words.program else []), words.session or '']
-        self._page, self._until = bytearray(), 0.0
+        self._page, self._until, self._patience = bytearray(), 0.0, words.patience_drawn
         self._asked: list[Callable[[Page | None], None]] = []
 
     def ask(self, got: Callable[[Page | None], None]) -> None:
@@ -149,7 +150,7 @@ class DrawnPicture:
             put_behind(process.pid, 15)
             os.set_blocking(process.stdout.fileno(), False)
             self.loop.watch(process.stdout.fileno(), READ, lambda _: self._read(process))
-            self.loop.later(PATIENCE_DRAWN, process.kill)
+            self.loop.later(self._patience, process.kill)
 
     def _read(self, process: subprocess.Popen[bytes]) -> None:
         assert process.stdout
@@ -183,6 +184,8 @@ class PageRequest:
     picture: float | None = None        # seconds that are drawn, of the folder `session`
     session: str | None = None
     program: str | None = None
+    patience: float = PATIENCE
+    patience_drawn: float = PATIENCE_DRAWN
 
 
 class PageMaker:
@@ -210,15 +213,15 @@ class PageMaker:
             self.loop.turn()
 
     def ask(self, got: Callable[[SnapshotPages | None], None]) -> None:
-        """`got` is called with a snapshot: a fresh one, or after PATIENCE the last one, if there is one."""
+        """`got` is called with a snapshot: a fresh one, or after its patience the last one, if there is one."""
         now = time.monotonic()
         if self._seen and now < self._until:
             return got(self._seen)
         self._waiting.append(got)
-        if len(self._waiting) == 1 or now - self._asked_at > PATIENCE:
+        if len(self._waiting) == 1 or now - self._asked_at > self.words.patience:
             self._asked_at = now
             self._tell(WANTED)
-            self.loop.later(PATIENCE, self._answer_late)
+            self.loop.later(self.words.patience, self._answer_late)
 
     def _tell(self, octets: bytes) -> None:
         try:
@@ -240,7 +243,7 @@ class PageMaker:
         self._answer()
 
     def _answer_late(self) -> None:
-        if time.monotonic() - self._asked_at >= PATIENCE:
+        if time.monotonic() - self._asked_at >= self.words.patience:
             self._answer()
 
     def _answer(self) -> None:

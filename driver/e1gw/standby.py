@@ -15,6 +15,7 @@ from .running import Process, Run, Version, unlink
 from .trunks import Stream
 
 GRACE = 1.0                 # seconds for an orderly end, and for a state to be saved
+AGAIN = 1.0                 # seconds before another program waits where one could not
 APART, MOST_APART = 1.0, 60.0       # seconds between two handovers for a shadow that has ended
 QUICK = 5.0                 # seconds within which a shadow that ends has the next one wait longer
 REOPEN, MOST_REOPEN = 0.25, 30.0    # seconds before a trunk is opened again
@@ -70,12 +71,12 @@ class Standby:
         said = None
         if self.run and self.run.program.ended():
             said = self.run.last_words()
-            self.drop(now + GRACE)
+            self.drop(now + AGAIN)
         if not self.run and now >= self.due:
             try:
                 self.run = self._new_run(version, None, True)
             except OSError as fault:
-                self.due, said = now + GRACE, str(fault)
+                self.due, said = now + AGAIN, str(fault)
         return said
 
     def drop(self, due: float) -> None:

@@ -32,7 +32,8 @@ SHORT_REST = 0.01           # the same if somebody follows events, as a tie does
 FIRST = 2.0                 # seconds before it is told that somebody was never there
 PATIENCE = 0.3              # seconds that an answer of the program waits for the shadow
 QUIT = 3                    # the status by which e1gw-trunk knows that the trunk is to end
-EACH = 10                   # ticks between two looks whether octets flow, and in which one has to be answered
+EACH = 10                   # ticks between two looks whether octets flow
+STALLED = 10                # ticks without an answer to such a look, or without a first word: no octets come
 SOON = 2                    # ticks after which it is looked whether they still do, if no other place is told
 
 
@@ -76,7 +77,8 @@ class Program:
         threading.Thread(target=ask, name='version', daemon=True).start()
         self._reader = Reader((Kind.ANSWER,))
         self._stands('program', True, '')
-        self.give(HELLO, lambda answer: None, lambda why: None)     # who gives a record keeps its place
+        # (who gives a record keeps its place; nothing follows from this one)
+        self.give(HELLO, lambda answer: None, lambda why: None, True)
 
     def _gone(self, why: str) -> None:
         asked, self._asked = self._asked, deque()
@@ -84,10 +86,11 @@ class Program:
         for each in asked:
             each.failed('no answer, the connection to the program is lost')
 
-    def give(self, record: bytes, answered: Answered, failed: Reply) -> None:
+    def give(self, record: bytes, answered: Answered, failed: Reply, is_told: bool = False) -> None:
+        """Gives it a record; of one that `is_told` the shadow need not tell."""
         if not self.link.is_there():
             return failed('no connection to the program')
-        self._asked.append(Asked(record, answered, failed))
+        self._asked.append(Asked(record, answered, failed, is_told=is_told))
         self.link.send(record)
 
     def _took(self, octets: bytes) -> None:
@@ -249,12 +252,12 @@ class Watcher(Managed):
         if self.lines.live:
             self._pulse.look(self.lines.place)
         self._silent = self._silent + 1 if self._shadow.is_there() and not self.lines.live else 0
-        stalled = self._silent > EACH or self.lines.live and self._pulse.quiet > EACH
+        stalled = self._silent > STALLED or self.lines.live and self._pulse.quiet > STALLED
         if stalled and not self._stood:
             self._stands('shadow', True)
-            self._stood = now - EACH * TICK
+            self._stood = now - STALLED * TICK
             self._stalls += 1
-            self.tell({'event': 'stalled', 'seconds': EACH * TICK})
+            self.tell({'event': 'stalled', 'seconds': STALLED * TICK})
         elif self._stood and self.lines.live and not stalled:
             self.tell({'event': 'flows', 'seconds': round(now - self._stood, 3)})
             self._stood = 0.0

@@ -12,6 +12,7 @@ from dataclasses import dataclass
 from typing import Callable
 
 MOST_WAITING = 16 << 20     # octets for one place; more are not kept
+OPENS = 2.0                 # seconds in which somebody reads a FIFO
 
 
 class Writer:
@@ -84,9 +85,9 @@ def to_descriptor(name: str, file: int, ended: Callable[[str, str], None] | None
     return Writer(name, lambda octets: write_all(file, octets), ended)
 
 
-def open_to_append(path: str, seconds: float = 2.0) -> int:
-    """Opens a file behind what it has; a FIFO that nobody reads is waited for that long."""
-    until = time.monotonic() + seconds
+def open_to_append(path: str) -> int:
+    """Opens a file behind what it has; a FIFO that nobody reads is waited for OPENS."""
+    until = time.monotonic() + OPENS
     while True:
         try:
             flags = os.O_WRONLY | os.O_CREAT | os.O_APPEND | os.O_CLOEXEC | os.O_NOCTTY | os.O_NONBLOCK

@@ -8,7 +8,7 @@ import threading
 import tty
 
 from . import support
-from .world import SECONDS
+from .support import SECONDS
 from e1gw.trunks import Stream, Trunk, open_files, open_tcp, open_unix
 
 assert support.TOP

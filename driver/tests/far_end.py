@@ -1,17 +1,19 @@
 """The far end of an emulated circuit, for the tests of `e1gw satop`."""
 from __future__ import annotations
 
+import contextlib
 import os
 import select
+import signal
 import socket
 import struct
 import subprocess
+from typing import Iterator
 
 from e1gw.satop_process import counts_of
 
 from . import support
-
-PATIENCE = 30.0
+from .support import SECONDS
 
 
 class FarEnd:
@@ -20,7 +22,7 @@ class FarEnd:
     def __init__(self, *options: str, plays: bool = False) -> None:
         self.line = socket.socket(socket.AF_INET, socket.SOCK_DGRAM)
         self.line.bind(('127.0.0.1', 0))
-        self.line.settimeout(PATIENCE)
+        self.line.settimeout(SECONDS)
         near, host = socket.socket(socket.AF_INET, socket.SOCK_DGRAM), '127.0.0.1'
         near.bind((host, 0))
         ends = [f'{host}:{each.getsockname()[1]}' for each in (near, self.line)]
@@ -42,6 +44,14 @@ class FarEnd:
         """Sends a packet, with bits L (8) and R (4)."""
         self.send_datagram(struct.pack('>BBH', flags, 0, sequence % 65536) + octets)
 
+    @contextlib.contextmanager
+    def at_once(self) -> Iterator[None]:
+        """What is sent meanwhile has all come before the program goes on: no pause is one to it."""
+        self.program.send_signal(signal.SIGSTOP)
+        os.waitid(os.P_PID, self.program.pid, os.WSTOPPED)
+        yield
+        self.program.send_signal(signal.SIGCONT)
+
     def send_datagram(self, datagram: bytes) -> None:
         self.line.sendto(datagram, self.near)
 
@@ -49,7 +59,7 @@ class FarEnd:
         """Reads what it plays, when something is there."""
         assert self.program.stdout
         file = self.program.stdout.fileno()
-        if not select.select([file], [], [], PATIENCE)[0]:
+        if not select.select([file], [], [], SECONDS)[0]:
             raise TimeoutError(f'nothing comes after {len(self.out)} octets')
         octets = os.read(file, 65536)
         if not octets:
@@ -76,6 +86,6 @@ class FarEnd:
         self.program.stdin.close()
         if self.program.stdout:
             self.program.stdout.close()
-        self.program.wait(PATIENCE)
+        self.program.wait(SECONDS)
         self.program.stderr.close()
         self.line.close()

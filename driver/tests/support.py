@@ -1,7 +1,9 @@
 """What the tests share: the program that is looked at, an exchange, and a trunk in service."""
 from __future__ import annotations
 
+import atexit
 import fcntl
+import functools
 import os
 import socket
 import subprocess
@@ -10,14 +12,48 @@ import tempfile
 import termios
 import time
 import unittest
+from typing import Callable, TypeVar
 
+from . import limits
+from e1gw.__main__ import COMMANDS
 from e1gw.exchange import Exchange
+from e1gw.testing import service
+from e1gw.testing.limited import SECONDS
 from e1gw.testing.service import Service
 
 TOP = os.path.dirname(os.path.dirname(os.path.dirname(os.path.abspath(__file__))))
 sys.dont_write_bytecode = True
 
-__all__ = ['Exchange', 'FolderCase', 'Service', 'TOP', 'all_read', 'free_port', 'program', 'run', 'without']
+__all__ = ['Exchange', 'FolderCase', 'SECONDS', 'Service', 'TOP', 'all_read', 'free_port', 'launcher', 'program', 'run',
+           'until', 'without']
+
+T = TypeVar('T')
+
+
+def until(holds: Callable[[], T | None], pause: float = 0.005) -> T:
+    """Waits until something holds, and returns what it is."""
+    while not (found := holds()):
+        time.sleep(pause)
+    return found
+
+
+@functools.cache
+def launcher(name: str) -> str:
+    """The file that starts a command with the limits of tests. The other commands are beside it."""
+    return os.path.join(_launchers(), f'e1gw-{name}')
+
+
+@functools.cache
+def _launchers() -> str:
+    folder = tempfile.TemporaryDirectory()
+    atexit.register(folder.cleanup)
+    for name in COMMANDS:
+        os.symlink(os.path.join(TOP, 'driver', 'tests', 'start'), os.path.join(folder.name, f'e1gw-{name}'))
+    return folder.name
+
+
+service.LAUNCHER = launcher('trunk')
+limits.put_here()
 
 
 class FolderCase(unittest.TestCase):
@@ -46,13 +82,9 @@ def program() -> str:
     return path
 
 
-def all_read(line: socket.socket, seconds: float = 60.0) -> None:
+def all_read(line: socket.socket) -> None:
     """Returns once the other end of a Unix socket has read all that was sent."""
-    until = time.monotonic() + seconds
-    while int.from_bytes(fcntl.ioctl(line, termios.TIOCOUTQ, bytes(4)), sys.byteorder):
-        if time.monotonic() > until:
-            raise AssertionError('the trunk is not read')
-        time.sleep(0.001)
+    until(lambda: not int.from_bytes(fcntl.ioctl(line, termios.TIOCOUTQ, bytes(4)), sys.byteorder), 0.001)
 
 
 def free_port() -> int:
@@ -74,4 +106,4 @@ def without(sent: bytes, circuit: int) -> bytes:
 
 def run(*words: str, given: bytes = b'') -> bytes:
     """What the program writes of this input. Its status must be 0."""
-    return subprocess.run([program(), *words], input=given, stdout=subprocess.PIPE, check=True, timeout=60).stdout
+    return subprocess.run([program(), *words], input=given, stdout=subprocess.PIPE, check=True, timeout=SECONDS).stdout

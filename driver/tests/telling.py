@@ -6,16 +6,16 @@ import socket
 import subprocess
 import sys
 import threading
-import time
 from contextlib import suppress
-from typing import Any, Callable
+from typing import Any, Callable, Mapping
 
-from . import support
-from .world import SECONDS, ServedProgram
+from . import limits, support
+from .support import SECONDS
+from .world import ServedProgram
 from e1gw.running import HELLO
 from e1gw.session import CodecRefusal, Kind, Reader, Record, encode_record
 
-LAUNCHER = os.path.join(support.TOP, 'driver', 'e1gw-watch')
+LAUNCHER = support.launcher('watch')
 IDLE = ['{0:2} outgoing idle        10 10          0          0          0 pcma      8'.format(n) for n in range(1, 31)]
 
 
@@ -140,7 +140,8 @@ class StandInProgram(StandInListener):
 class WatchedTrunk(ServedProgram):
     """A watcher between the two."""
 
-    def __init__(self, config: str, *options: str, rows: list[str] | None = None, **streams: Any) -> None:
+    def __init__(self, config: str, *options: str, rows: list[str] | None = None, within: Mapping[str, Any] = {},
+                 **streams: Any) -> None:
         super().__init__(config)
         self.shadow = StandInShadow(self.path('tell'), rows)
         self.program = StandInProgram(self.path('program'), self.shadow)
@@ -148,7 +149,8 @@ class WatchedTrunk(ServedProgram):
         self.process = subprocess.Popen(
             [sys.executable, '-B', LAUNCHER, '--config', self.config, '--tell',
              self.shadow.path, '--program-control', self.program.path, '--control', self.path('ctl'),
-             *(word.replace('@', self.folder) for word in options)], **streams)
+             *(word.replace('@', self.folder) for word in options)],
+            env={**os.environ, **limits.around(limits.TELLS | within)}, **streams)
         try:
             self.connected()
         except BaseException:
@@ -164,12 +166,10 @@ class WatchedTrunk(ServedProgram):
 
     def until(self, holds: Callable[[], object]) -> Any:
         """Waits until something holds, and returns what it is."""
-        until = time.monotonic() + SECONDS
-        while not (found := holds()):
-            if time.monotonic() > until or self.process.poll() is not None:
-                raise AssertionError('it does not come to hold')
-            time.sleep(0.005)
-        return found
+        def found() -> object:
+            assert self.process.poll() is None, 'it has ended'
+            return holds()
+        return support.until(found)
 
     def connected(self) -> None:
         """Waits until it knows both."""

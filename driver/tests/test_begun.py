@@ -11,8 +11,8 @@ from typing import Iterator
 
 from . import support
 from .picture_made import MadeSession, PictureSender, coded, packets
+from .support import SECONDS
 from .test_archive import RingCase, octets_in
-from .world import SECONDS
 from e1gw.followed import CircuitState, FollowedTrunk
 from e1gw.kept import KeptSession, kept
 from e1gw.lines import State

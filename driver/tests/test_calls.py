@@ -4,12 +4,12 @@ from __future__ import annotations
 import csv
 import os
 import tempfile
-import time
 import unittest
 from typing import Any
 
+from . import support
 from .test_trunk import FOUR, aligned, call
-from .world import SECONDS, World, config_of
+from .world import World, config_of
 from e1gw.calls import FIELDS, KEPT, CallLog, RotatedFile
 from e1gw.counts import DatagramCounts
 from e1gw.lines import Line, Role
@@ -88,12 +88,11 @@ class CallFileTests(unittest.TestCase):
 
 class CallServiceTests(unittest.TestCase):
     def rows(self, path: str, count: int) -> list[dict[str, Any]]:
-        until, found = time.monotonic() + SECONDS, list[dict[str, Any]]()
-        while len(found) < count and time.monotonic() < until:
-            time.sleep(0.05)
+        def found() -> list[dict[str, Any]] | None:
             with open(path, encoding='utf-8', newline='') as file:
-                found = list(csv.DictReader(file))
-        return found
+                rows = list(csv.DictReader(file))
+            return rows if len(rows) >= count else None
+        return support.until(found)
 
     def test_a_call(self) -> None:
         with World(config_of(FOUR), '--calls', '@/calls.csv') as world:

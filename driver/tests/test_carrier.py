@@ -11,14 +11,13 @@ import stat
 import subprocess
 import sys
 import termios
-import time
 import unittest
 from typing import Any
 from unittest import mock
 
-from . import support
+from . import limits, support
+from .support import SECONDS
 from .test_clear import ClearDevice
-from .world import SECONDS
 from e1gw import carrier
 from e1gw.carrier import ONES, Carrier
 from e1gw.clear import Clear, Place
@@ -26,7 +25,7 @@ from e1gw.crc4 import Crc4
 from e1gw.session import FRAME, MULTIFRAME
 from e1gw.trunks import Stream, Trunk
 
-LAUNCHER = os.path.join(support.TOP, 'driver', 'e1gw-carry')
+LAUNCHER = support.launcher('carry')
 AIS = ONES * MULTIFRAME
 LATE_OCTETS = 1200 * MULTIFRAME     # more than the sockets both ways hold
 # Plays so many octets, and only then takes as many.
@@ -288,7 +287,8 @@ class CarrierCase(support.FolderCase):
     def starts(self, *words: str) -> None:
         self.process = subprocess.Popen(
             [sys.executable, '-B', LAUNCHER, '--listen', self.path('listen'), '--status', self.path('status'),
-             '--json', self.path('events'), '--unix', self.path('card'), *words], stderr=subprocess.PIPE)
+             '--json', self.path('events'), '--unix', self.path('card'), *words], stderr=subprocess.PIPE,
+            env={**os.environ, **limits.around({'carrying.GRACE': 0.1})})      # (a program may stay connected)
         self.addCleanup(self.ends)
         self.accept()
 
@@ -305,18 +305,18 @@ class CarrierCase(support.FolderCase):
         self.far.settimeout(SECONDS)
 
     def connects(self, name: str = 'listen') -> socket.socket:
-        until = time.monotonic() + SECONDS
-        while True:
+        def found() -> socket.socket | None:
             line = socket.socket(socket.AF_UNIX)
-            line.settimeout(SECONDS)
-            self.addCleanup(line.close)
             try:
                 line.connect(self.path(name))
                 return line
             except (FileNotFoundError, ConnectionRefusedError):
                 line.close()
-                self.assertLess(time.monotonic(), until)
-                time.sleep(.01)
+                return None
+        line = support.until(found)
+        line.settimeout(SECONDS)
+        self.addCleanup(line.close)
+        return line
 
     def status(self) -> dict[str, Any]:
         with self.connects('status') as line, line.makefile('rb') as file:
@@ -324,10 +324,7 @@ class CarrierCase(support.FolderCase):
             return found
 
     def until(self, name: str, value: object) -> None:
-        until = time.monotonic() + SECONDS
-        while self.status()[name] != value:
-            self.assertLess(time.monotonic(), until, name)
-            time.sleep(.01)
+        support.until(lambda: bool(self.status()[name] == value))
 
     def read(self, line: socket.socket, count: int) -> bytes:
         out = b''
@@ -350,10 +347,7 @@ class CarrierSatopTests(CarrierCase):
     def test_a_program_that_plays_before_it_takes_octets(self) -> None:
         """After a stall `e1gw satop` plays up to a second at once; it takes octets after that."""
         self.starts()
-        until = time.monotonic() + SECONDS
-        while not self.status()['transport'].get('received'):
-            self.assertLess(time.monotonic(), until)
-            time.sleep(.01)
+        support.until(lambda: 'received' in self.status()['transport'])
         self.assertEqual(self.status()['ones'], LATE_OCTETS)
 
 

@@ -10,14 +10,14 @@ import signal
 import socket
 import subprocess
 import sys
-import time
 from typing import Any, Callable
 
 from . import support
+from .support import SECONDS
 from .test_carrier import LAUNCHER, CarrierCase
 from .test_keeper import LAUNCHER as KEEPER
 from .test_satop_call import free_ports
-from .world import SECONDS, child_of
+from .world import child_of
 from e1gw.carrier import Carrier
 from e1gw.crc4 import Crc4, with_crc4
 from e1gw.exchange import ACKNOWLEDGED, SEIZED
@@ -62,15 +62,11 @@ class CarrierEnd:
         self.carrier.join(self.tapped)
         self.lines = FollowedTrunk(read_config(config), lambda event: None)
         self.client = socket.socket(socket.AF_UNIX)
-        until = time.monotonic() + SECONDS
-        while self.client.connect_ex(control):
-            if time.monotonic() > until:
-                raise AssertionError('the program does not listen')
-            time.sleep(0.01)
+        support.until(lambda: self.client.connect_ex(control) == 0)
 
     def turn(self) -> None:
         """All that has come is given and answered, and has gone through CRC-4 both ways."""
-        until, carrier = time.monotonic() + SECONDS, self.carrier
+        carrier = self.carrier
         while True:
             carrier.carry()
             while carrier.owed and select.select([self.tapped.fileno()], [], [], SECONDS)[0]:
@@ -78,8 +74,6 @@ class CarrierEnd:
             status = carrier.status()['transport']
             if not status['crc4_checking'] and not status['crc4_sending']:
                 break
-            if time.monotonic() > until:
-                raise AssertionError('it is not answered')
         self.lines.trunk(self.tapped.given, self.tapped.answered)
         self.tapped.given = self.tapped.answered = b''
 
@@ -205,12 +199,9 @@ class EmulatedCircuitTests(support.FolderCase):
              *words], stderr=subprocess.DEVNULL)
         self.addCleanup(process.wait, SECONDS)
         self.addCleanup(process.terminate)
-        until = time.monotonic() + SECONDS
         self.programs[name] = socket.socket(socket.AF_UNIX)
         self.addCleanup(self.programs[name].close)
-        while self.programs[name].connect_ex(self.path(name)):
-            self.assertLess(time.monotonic(), until)
-            time.sleep(0.01)
+        support.until(lambda: self.programs[name].connect_ex(self.path(name)) == 0)
         return process
 
     def answer(self) -> None:
@@ -231,18 +222,14 @@ class EmulatedCircuitTests(support.FolderCase):
 
     def aligned(self) -> None:
         """Goes on until both ends are."""
-        until = time.monotonic() + SECONDS
         while not all(self.aligned_at(name) for name in self.programs):
-            self.assertLess(time.monotonic(), until)
             self.answer()
 
     def test_a_filter_that_dies(self) -> None:
         """The trunk is opened again beside the same program."""
         self.aligned()
         os.kill(child_of(self.west.pid, 'crc4'), signal.SIGKILL)
-        until = time.monotonic() + SECONDS
         while 'trunk lost' not in self.told('west'):
-            self.assertLess(time.monotonic(), until)
             self.answer()
         self.aligned()
         events = [json.loads(line) for line in self.told('west').splitlines()]

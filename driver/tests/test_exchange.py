@@ -6,10 +6,10 @@ import socket
 import subprocess
 import sys
 import tempfile
-import time
 import unittest
 
 from . import support
+from .support import SECONDS
 
 IDLE, SEIZED = 2, 0
 
@@ -47,7 +47,7 @@ class TypedCommandTests(unittest.TestCase):
         """What is in the way is told, with what takes it away."""
         with tempfile.NamedTemporaryFile() as file:
             words = [sys.executable, '-B', os.path.join(support.TOP, 'examples', 'exchange'), file.name]
-            done = subprocess.run(words, capture_output=True, text=True, check=False, timeout=30)
+            done = subprocess.run(words, capture_output=True, text=True, check=False, timeout=SECONDS)
             self.assertEqual((done.returncode, done.stderr),
                              (1, f'exchange: {file.name}: Address already in use: another exchange waits there, or one '
                                  f'left it (rm {file.name})\n'))
@@ -74,16 +74,9 @@ class TypedCommandTests(unittest.TestCase):
 def connected(path: str) -> socket.socket:
     """A line to the exchange, once it is there."""
     line = socket.socket(socket.AF_UNIX)
-    line.settimeout(30)
-    until = time.monotonic() + 30
-    while True:
-        try:
-            line.connect(path)
-            return line
-        except OSError:
-            if time.monotonic() > until:
-                raise
-            time.sleep(0.02)
+    line.settimeout(SECONDS)
+    support.until(lambda: line.connect_ex(path) == 0)
+    return line
 
 
 def pairs(line: socket.socket) -> dict[int, int]:

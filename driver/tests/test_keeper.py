@@ -19,15 +19,15 @@ import threading
 import time
 import unittest
 
-from . import support
+from . import limits, support
+from .support import SECONDS
 from .world import free_ports
 from e1gw.exchange import ACKNOWLEDGED, ANSWERED, SEIZED
 from e1gw.running import HELLO
 from e1gw.session import MULTIFRAME, Command, Kind, command_record, packet_of, records_in, trunk_record
-from e1gw.standby import DEATHS, MOST_PAUSE, WITHIN, Deaths
+from e1gw.standby import DEATHS, MOST_PAUSE, Deaths
 
-LAUNCHER = os.path.join(support.TOP, 'driver', 'e1gw-keep')
-SECONDS = 60
+LAUNCHER = support.launcher('keep')
 LOOK = 4                    # multiframes from one look of the shadow at its clients to the next
 CIRCUITS = range(1, 31)
 GOES_ON = re.compile(r'program (\d+) (?:goes on|carries)(.*?); shadow (\d+)')
@@ -150,9 +150,8 @@ class KeeperCase(support.FolderCase):
 
     def awaits(self, pattern: str | re.Pattern[str]) -> re.Match[str]:
         """What the keeper says next that is so."""
-        until = time.monotonic() + SECONDS
         while not (found := re.compile(pattern).search(self.told(), self.told_from)):
-            if time.monotonic() > until or self.keeper.poll() is not None:
+            if self.keeper.poll() is not None:
                 raise AssertionError(f'not said: {pattern}\n{self.told()}')
             time.sleep(0.002)
         self.told_from = found.end()
@@ -297,13 +296,11 @@ class KeeperFailureTests(KeeperCase):
             self.device.line.settimeout(SECONDS)
 
     def test_program_killed(self) -> None:
-        self.starts()
+        self.starts(**limits.around({'standby.WITHIN': 0.0}))       # (else they are taken for a state that does harm)
         self.calls()
-        for _ in range(3):
-            for _ in range(DEATHS - 1):
-                self.killed(signal.SIGKILL)
-                self.step(self.chance.randrange(1, 60))
-            time.sleep(WITHIN)          # one more in this time is taken for a state that does harm
+        for _ in range(12):
+            self.killed(signal.SIGKILL)
+            self.step(self.chance.randrange(1, 60))
         self.as_uncut()
         self.ends()
 
@@ -332,7 +329,7 @@ class KeeperFailureTests(KeeperCase):
     def told_now(self, began: int) -> list[str]:
         """What a new client of --tell is told first, once the shadow has acted on all multiframes of its session, which
         began behind so many."""
-        until, least = time.monotonic() + SECONDS, MULTIFRAME * (len(self.heard) - began)
+        least = MULTIFRAME * (len(self.heard) - began)
         while True:
             with socket.socket(socket.AF_UNIX) as line:
                 line.settimeout(SECONDS)
@@ -343,7 +340,6 @@ class KeeperFailureTests(KeeperCase):
                         told = list(itertools.takewhile(lambda text: text != 'now\n', lines))
                     if any(text.startswith('at ') and int(text[3:]) >= least for text in told):
                         return told
-            self.assertLess(time.monotonic(), until)
 
     def test_shadow_that_tells(self) -> None:
         """Its clients see the calls, also at the next shadow."""

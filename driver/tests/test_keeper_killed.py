@@ -2,6 +2,8 @@
 from __future__ import annotations
 
 import contextlib
+import glob
+import json
 import os
 import signal
 import subprocess
@@ -12,7 +14,10 @@ import unittest
 
 from . import support
 from .manager import Manager
-from .test_keeper import LAUNCHER, SECONDS, KeeperCase
+from .support import SECONDS
+from .test_keeper import LAUNCHER, KeeperCase
+from e1gw.keeping import RUN_NAMES
+from e1gw.recovery import NOTE
 from e1gw.running import Adopted, started
 from e1gw.session import MULTIFRAME, Kind, records_in
 
@@ -52,12 +57,21 @@ class RestartedKeeperCase(KeeperCase):
         self.addCleanup(self._end)
 
     def settles(self) -> None:
-        """Until systemd has the descriptors of the run of now, and a program waits."""
-        until = time.monotonic() + SECONDS
-        while len([name for name in self.manager.files if '-' in name and name[-1].isdigit()]) != 3:
-            self.assertLess(time.monotonic(), until, self.manager.files)
-            time.sleep(0.005)
-        time.sleep(0.3)
+        """Until systemd has the descriptors of the run of now and no others, and a program waits."""
+        def settled() -> bool:
+            number = self.waits()
+            return number is not None and {name for name in self.manager.files if name[-1].isdigit()} == {
+                f'{name}-{number}' for name in RUN_NAMES}
+        support.until(settled)
+
+    def waits(self) -> str | None:
+        """The number of the run of now, once a program waits beside it, by what the keeper has noted."""
+        for path in glob.glob(os.path.join(self.memory, 'keep-*', NOTE)):
+            with contextlib.suppress(FileNotFoundError), open(path, encoding='utf-8') as file:
+                kept = json.load(file)
+                if kept['keeper'][0] == self.keeper.pid and kept['up'] and kept['others']:
+                    return os.path.basename(str(kept['run']['folder']))
+        return None
 
     def kill_keeper(self) -> None:
         self.keeper.kill()
@@ -138,7 +152,7 @@ class KilledKeeperTests(RestartedKeeperCase):
             self.told_from = len(self.told())       # what the next keeper says
             self.again()
             self.awaits('(the keeper was killed|behind octet).*')
-            time.sleep(0.3)
+            support.until(self.waits)
             found = [line for line in self.told().splitlines() if ' program ' in line]
             self.program = int(found[-1].split(' program ')[1].split()[0].rstrip(':;'))
             self.step(20)
@@ -193,10 +207,7 @@ class KilledKeeperTests(RestartedKeeperCase):
 
     def none_held(self) -> None:
         """Until systemd has taken what it was told last."""
-        until = time.monotonic() + SECONDS
-        while self.manager.files:
-            self.assertLess(time.monotonic(), until, self.manager.files)
-            time.sleep(0.005)
+        support.until(lambda: not self.manager.files)
 
 
 class ReopenedTrunkTests(RestartedKeeperCase):
@@ -207,7 +218,7 @@ class ReopenedTrunkTests(RestartedKeeperCase):
         super().again()
 
     def settles(self) -> None:
-        time.sleep(0.3)         # until a program waits
+        support.until(self.waits)
 
     def reopens(self) -> None:
         """The exchange's device takes another connection, and what is in the first one is lost with it."""
@@ -226,7 +237,7 @@ class ReopenedTrunkTests(RestartedKeeperCase):
             self.awaits('the keeper was killed: ')
             self.assertIn(f'behind octet {len(self.heard) * MULTIFRAME}', self.goes_on())
             self.step(40)
-            time.sleep(0.3)
+            self.settles()
         self.as_uncut()
         self.ends()
         self.assertEqual(os.listdir(self.memory), [])
@@ -264,7 +275,7 @@ class ReopenedTrunkTests(RestartedKeeperCase):
 class RunNumberTests(unittest.TestCase):
     def test_a_number_that_another_process_has(self) -> None:
         """A process is known by its number and when it was started."""
-        with subprocess.Popen(['sleep', '60']) as process:
+        with subprocess.Popen(['sleep', str(SECONDS)]) as process:
             when = started(process.pid)
             self.assertFalse(Adopted((process.pid, when)).ended())
             self.assertTrue(Adopted((process.pid, when + 1)).ended())
@@ -272,9 +283,7 @@ class RunNumberTests(unittest.TestCase):
             self.assertIsNone(process.poll())
             its = Adopted((process.pid, when))
             os.kill(process.pid, signal.SIGSTOP)
-            until = time.monotonic() + SECONDS
-            while not its.stopped():
-                self.assertLess(time.monotonic(), until)
+            support.until(its.stopped)
             its.kill()
             self.assertEqual((its.status, its.words()), (Adopted.UNKNOWN, 'ended while no keeper was there'))
 

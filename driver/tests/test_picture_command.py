@@ -10,7 +10,7 @@ import struct
 import subprocess
 import unittest
 
-from .support import TOP, FolderCase, program, run
+from .support import SECONDS, TOP, FolderCase, program, run
 
 from .picture_made import (BEGIN, CAPTURED, PEER, TROUBLES, MadeSession, PictureSender, answered, beside, captured,
                            icmp, pcap, recorded, udp)
@@ -48,7 +48,7 @@ class PictureCommandCase(FolderCase):
     def drawn(self, *words: str, status: int = 0, given: bytes = b'') -> tuple[str, str]:
         """Runs the command; returns the page and what it said."""
         done = subprocess.run([COMMAND, *words], input=given, stdout=subprocess.PIPE, stderr=subprocess.PIPE,
-                              check=False, timeout=120)
+                              check=False, timeout=SECONDS)
         self.assertEqual(done.returncode, status, done.stderr.decode())
         return done.stdout.decode(), done.stderr.decode()
 

@@ -3,12 +3,8 @@ from __future__ import annotations
 
 import os
 import socket
-import time
-from typing import Callable
 
 from . import support
-
-PATIENCE = 30
 
 
 def free_ports(count: int) -> list[int]:
@@ -52,32 +48,30 @@ class SatopCallTests(support.FolderCase):
         each.log.close()
         return status
 
-    def until(self, what: str, holds: Callable[[], bool]) -> None:
-        end = time.monotonic() + PATIENCE
-        while not holds():
+    def states(self) -> tuple[str, str]:
+        return self.west.state(), self.east.state()
+
+    def comes(self, *wanted: tuple[str, str]) -> bool:
+        """Waits for one of these states; whether it is the first one, and no other of them. (Where the machine stands
+        still, so does the circuit: octets are lost, and a seizure may be acknowledged too late.)"""
+        def found() -> tuple[str, str] | None:
             for each in (self.west, self.east):
-                if each.driver.poll() is not None or time.monotonic() > end:
-                    self.fail(f'{what}: {each.said()}')
-            time.sleep(.05)
+                self.assertIsNone(each.driver.poll(), each.said())
+            return states if (states := self.states()) in wanted else None
+        return support.until(found, .05) == wanted[0]
 
-    def seized(self) -> bool:
-        """Seizes, and again where a busy machine was too late for the acknowledgement."""
-        if self.west.state() == self.east.state() == 'idle':
-            self.west.ask('seize 1')
-        return self.west.state() == self.east.state() == 'acked'
-
-    def answered(self) -> None:
-        """A call that is answered."""
-        west, east = self.west, self.east
-        self.until('idle', lambda: west.state() == east.state() == 'idle')
-        self.until('acknowledged', self.seized)
-        self.assertEqual(east.ask('answer 1'), 'answer 1: done')
-        self.until('answered', lambda: west.state() == 'answered')
+    def called(self) -> bool:
+        """A call from its seizure to its end, if it comes to be answered."""
+        west, east, idle = self.west, self.east, ('idle', 'idle')
+        self.comes(idle)
+        answered = (west.ask('seize 1') == 'seize 1: done' and self.comes(('acked', 'acked'), idle)
+                    and east.ask('answer 1') == 'answer 1: done' and self.comes(('answered', 'answered'), idle))
+        west.ask('clear 1')
+        self.comes(idle)
+        return answered
 
     def test_a_call(self) -> None:
         west, east = self.west, self.east
-        self.answered()
-        self.until('counted', lambda: east.transport('received') > 0)
-        self.assertEqual(west.ask('clear 1'), 'clear 1: done')
-        self.until('idle again', lambda: west.state() == east.state() == 'idle')
+        support.until(self.called)
+        support.until(lambda: east.transport('received') > 0)
         self.assertEqual([self.end(west), self.end(east)], [0, 0])

@@ -18,8 +18,9 @@ class SatopCountTests(unittest.TestCase):
 
     def test_bits_of_the_far_end(self) -> None:
         far = self.far_end()
-        for at in range(20):
-            far.send(at, (8 if 5 <= at < 10 else 0) + (4 if at >= 17 else 0))
+        with far.at_once():
+            for at in range(20):
+                far.send(at, (8 if 5 <= at < 10 else 0) + (4 if at >= 17 else 0))
         far.played(16 * 256)        # all have come then
         counts = far.counts()
         self.assertEqual([counts[name] for name in ('received', 'with_l', 'with_r')], [20, 5, 3])

@@ -9,6 +9,7 @@ import unittest
 
 from . import support
 from .far_end import FarEnd
+from .support import SECONDS
 
 OCTETS = bytes(range(256)) * 16         # of the trunk
 FIELDS = ['pwsatop.cw.lbit', 'pwsatop.cw.rbit', 'pwsatop.cw.rsv', 'pwsatop.cw.frag', 'pwsatop.cw.length',
@@ -48,7 +49,7 @@ class SatopDissectedTests(support.FolderCase):
         """What tshark writes of these packets, a row each."""
         path = self.write('satop.pcap', capture(packets))
         run = subprocess.run(['tshark', '-r', path, '-d', f'udp.port=={PORT},{dissector}', *words], check=True,
-                             stdout=subprocess.PIPE, stderr=subprocess.DEVNULL, timeout=60)
+                             stdout=subprocess.PIPE, stderr=subprocess.DEVNULL, timeout=SECONDS)
         return [line.split('\t') for line in run.stdout.decode().splitlines()]
 
     def fields(self, packets: list[bytes], dissector: str, names: list[str]) -> list[list[str]]:
@@ -59,21 +60,27 @@ class SatopDissectedTests(support.FolderCase):
         self.assertEqual(self.tshark(packets, 'pwsatopcw', '-Y', NOTED), [])
         return [[int(each, 0) for each in row] for row in self.fields(packets, 'pwsatopcw', FIELDS)]
 
+    def numbers_but_r(self, packets: list[bytes]) -> list[list[int]]:
+        """The same without bit R, which is set once no packet has come for 100 ms."""
+        rows = self.numbers(packets)
+        self.assertEqual([row[1] for row in rows], sorted(row[1] for row in rows))
+        return [[row[0], *row[2:]] for row in rows]
+
     def in_order(self, first: int, at: int) -> int:
         return (first + at) % 65536
 
     def test_packets_of_256_octets(self) -> None:
         packets = self.sent(OCTETS, 16)
-        rows = self.numbers(packets)
-        first = rows[0][5]
-        self.assertEqual(rows, [[0, 0, 0, 0, 0, self.in_order(first, at), 256] for at in range(16)])
+        rows = self.numbers_but_r(packets)
+        first = rows[0][4]
+        self.assertEqual(rows, [[0, 0, 0, 0, self.in_order(first, at), 256] for at in range(16)])
         self.assertEqual(b''.join(each[4:] for each in packets), OCTETS)
 
     def test_short_packets_say_their_length(self) -> None:
         """LEN is that of the control word and the payload, below 64 octets (RFC 4553, 4.3)."""
-        rows = self.numbers(self.sent(OCTETS[:128], 4, '--size', '32'))
-        first = rows[0][5]
-        self.assertEqual(rows, [[0, 0, 0, 0, 36, self.in_order(first, at), 32] for at in range(4)])
+        rows = self.numbers_but_r(self.sent(OCTETS[:128], 4, '--size', '32'))
+        first = rows[0][4]
+        self.assertEqual(rows, [[0, 0, 0, 36, self.in_order(first, at), 32] for at in range(4)])
 
     def test_the_greatest_packets(self) -> None:
         rows = self.numbers(self.sent(OCTETS[:2560], 2, '--size', '1280'))

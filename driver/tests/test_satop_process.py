@@ -6,10 +6,9 @@ import sys
 import unittest
 from typing import Any
 
-from .support import FolderCase
+from .support import FolderCase, until
 from e1gw.satop_process import SatopCondition, SatopProcess, counts_of
 
-PATIENCE = 10.0
 WORDS = ['127.0.0.1:5000', '127.0.0.1:5001', '--size', '256']
 # Says its words, gives each octet back with its bits turned, says some counts, and ends at the end of its input.
 SCRIPT = '''
@@ -55,10 +54,10 @@ class SatopProcessTests(FolderCase):
         return SatopProcess(path, WORDS)
 
     def octets(self, trunk: SatopProcess, count: int) -> bytes:
-        """So many octets of the trunk, or those before PATIENCE is over."""
+        """So many octets of the trunk."""
         poll, out = select.poll(), b''
         poll.register(trunk.fileno(), select.POLLIN)
-        while len(out) < count and poll.poll(PATIENCE * 1000):
+        while len(out) < count and poll.poll():
             out += trunk.read(count - len(out))
         return out
 
@@ -81,11 +80,7 @@ class SatopProcessTests(FolderCase):
 
     def said(self, trunk: SatopProcess) -> None:
         """Waits until the program has said its counts."""
-        poll = select.poll()
-        assert trunk._process.stderr
-        poll.register(trunk._process.stderr.fileno(), select.POLLIN)
-        while not trunk.status().get('received') and poll.poll(PATIENCE * 1000):
-            pass
+        until(lambda: trunk.status().get('received'))
 
     def test_words_of_the_command_line(self) -> None:
         trunk = self.trunk()
@@ -115,7 +110,7 @@ class SatopProcessTests(FolderCase):
 
     def test_its_end_is_that_of_the_trunk(self) -> None:
         trunk = self.trunk(ENDS)
-        select.select([trunk.fileno()], [], [], PATIENCE)
+        select.select([trunk.fileno()], [], [])
         with self.assertRaises(OSError) as ended:
             trunk.read(256)
         self.assertEqual(str(ended.exception),

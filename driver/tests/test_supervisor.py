@@ -7,12 +7,11 @@ import unittest
 from unittest import mock
 
 from . import support
-from .world import SECONDS
 from e1gw import supervisor
 
 # Keeps the end of a pipe at its first start; at the next one reads what was written into it, and forgets it.
 SCRIPT = """
-import os, sys, time
+import os, signal, sys
 sys.path.insert(0, sys.argv[2])
 from e1gw.systemd import Notify, given
 files, notify = given(), Notify()
@@ -26,7 +25,7 @@ else:
     for name, end in ('trunk-in', writes), ('tape-1', reads):
         notify.keep(name, end)
 notify.ready('')
-time.sleep(60)
+signal.pause()
 """
 
 
@@ -34,11 +33,7 @@ class PartsTests(support.FolderCase):
     def ready(self, part: supervisor.Part) -> None:
         """Starts it, and waits until it is ready."""
         part.begin(time.monotonic())
-        until, told = time.monotonic() + SECONDS, list[str]()
-        while 'READY=1' not in told:
-            told += part.hear()
-            self.assertLess(time.monotonic(), until)
-            time.sleep(0.01)
+        support.until(lambda: 'READY=1' in part.hear())
 
     def kill(self, part: supervisor.Part) -> None:
         process = part.process

@@ -9,11 +9,11 @@ import subprocess
 import unittest
 
 from . import support
+from .support import SECONDS
 from e1gw.exchange import ACKNOWLEDGED, ANSWERED, IDLE
 from e1gw.session import Command, Kind, Reader, command_record, datagram_record, trunk_record
 
 CONFIG = 'law = "A"\n' + ''.join(f'[[circuit]]\nnumber = {c}\nrole = "outgoing"\n' for c in range(1, 31))
-SECONDS = 20
 LOOK = 4                    # multiframes from one look at clients to the next, where there are some
 NOT_OPEN = 20               # the path of a circuit without a call is not open
 SIGNALS = len('line ') + 29    # the columns of a line up to its pairs

@@ -1,5 +1,6 @@
 """The tie with played drivers: what is told, the connection and its certificates, and calls from end to end."""
 import asyncio
+import itertools
 import json
 import os
 import shutil
@@ -7,7 +8,6 @@ import socket
 import subprocess
 import sys
 import tempfile
-import time
 import unittest
 from contextlib import suppress
 from typing import Any, Callable
@@ -16,8 +16,10 @@ from unittest import mock
 from e1gw.lines import Role, State
 from e1gw.session import CIRCUITS, Command
 from e1gw.tie import site as site_module
+from e1gw.tie import tie as tie_module
 from e1gw.tie.circuit import CircuitEnd
 from e1gw.tie.coding import Coding, Codings
+from e1gw.tie.control import AGAIN
 from e1gw.tie.kept import KeptBlocks, read
 from e1gw.tie.main import ANYBODY, is_loopback, parser
 from e1gw.tie.messages import (BadMessage, CircuitChange, Greeting, KeepAlive, Message, OutOfService, SiteState,
@@ -26,11 +28,13 @@ from e1gw.tie.pairs import BadPairs, agreed, pairs_of
 from e1gw.tie.site import Site, context_of, has_name
 from e1gw.tie.strangers import Stranger, StrangerStage, Strangers, address_of
 from e1gw.tie.tie import Tie, TieOptions
-from tests.support import free_port
+from tests.loop_clock import LoopClock
+from tests.support import SECONDS, free_port
 from tests.test_tie_circuit import CALLED, COLUMN, DONE, INCOMING, OUTGOING
 
 HERE = os.path.dirname(os.path.dirname(os.path.abspath(__file__)))
 HOLD = 3.0                  # seconds
+RUNS = itertools.count()
 IDLE, SEIZED, ANSWER, HELD = 0b10, 0b00, 0b01, 0b11         # bits a and b
 PCMA, G726 = Coding('pcma', 8), Coding('g726-16', 96)
 
@@ -103,7 +107,7 @@ class TieAddressTests(unittest.TestCase):
             events.append(json.loads(line))
             if events[-1]['event'] == 'trunk gone':
                 process.terminate()
-        _, error = process.communicate(timeout=20)
+        _, error = process.communicate(timeout=SECONDS)
         return process.returncode, error, events
 
     def test_beyond_loopback(self) -> None:
@@ -318,6 +322,9 @@ class TieCase(unittest.IsolatedAsyncioTestCase):
         self.events: dict[str, list[dict[str, Any]]] = {'west': [], 'east': []}
         self.port = 0
         asyncio.get_running_loop().set_exception_handler(lambda *_: None)
+        clock = mock.patch.object(tie_module, 'time', LoopClock(asyncio.get_running_loop()))
+        clock.start()
+        self.addCleanup(clock.stop)
         for patched, value in ((site_module, {'GONE': 2.0, 'ALIVE': 0.2, 'AGAIN': 0.05}),):
             for name, number in value.items():
                 change = mock.patch.object(patched, name, number)
@@ -343,7 +350,7 @@ class TieCase(unittest.IsolatedAsyncioTestCase):
         told = self.events[name]
         options = TieOptions(driver.path, more.get('pairs'), HOLD, waits, more.get('until'))
         kept = KeptBlocks(os.path.join(self.folder.name, f'{name}.kept'))
-        made = Tie(options, f'run of {name} {time.monotonic()}', kept,
+        made = Tie(options, f'run {next(RUNS)} of {name}', kept,
                    lambda event, **fields: told.append({'event': event, **fields}))
         if not self.port:
             self.port = free_port()
@@ -376,10 +383,8 @@ class TieCase(unittest.IsolatedAsyncioTestCase):
     def told(self, name: str, event: str) -> list[dict[str, Any]]:
         return [each for each in self.events[name] if each['event'] == event]
 
-    async def until(self, holds: Callable[[], bool], seconds: float = 20.0) -> None:
-        end = time.monotonic() + seconds
+    async def until(self, holds: Callable[[], bool]) -> None:
         while not holds():
-            self.assertLess(time.monotonic(), end, 'it does not come')
             await asyncio.sleep(0.01)
             self.west.recognise()
             self.east.recognise()
@@ -421,7 +426,7 @@ class TieCallTests(TieCase):
         await self.until(lambda: self.east.states[1] is State.SEIZED)
         self.east.move(1, State.RELEASING)
         await self.until(self.at(1, State.CLEAREDBACK, State.IDLE))
-        await asyncio.sleep(0.3)
+        await asyncio.sleep(3 * AGAIN)
         self.assertEqual(self.east.asked.count('seize 1'), 1)
         self.assertEqual([each for each in self.west.asked if each.endswith(' 1')], ['answer 1', 'clear-back 1'])
         await self.sends(self.west, 1, IDLE, State.IDLE)
@@ -434,7 +439,7 @@ class TieCallTests(TieCase):
         await self.until(lambda: self.east.states[1] is State.SEIZED)
         self.east.move(1, State.RELEASING)
         await self.until(lambda: self.east.states[1] is State.IDLE)
-        await asyncio.sleep(0.3)
+        await asyncio.sleep(3 * AGAIN)
         self.assertIs(self.west.states[1], State.ACKED)
         self.assertNotIn('answer 1', self.west.asked)
 

@@ -7,10 +7,10 @@ import json
 import os
 import subprocess
 import tempfile
-import time
 import unittest
 from typing import Any, Callable
 
+from .limits import LONG
 from .telling import IDLE, WatchedTrunk, row
 from e1gw.lines import Line, Role, State
 from e1gw.naming import Naming
@@ -51,7 +51,7 @@ class TieKilledWatcherTests(unittest.IsolatedAsyncioTestCase):
         self.addCleanup(self.world.__exit__)
         self.events: list[dict[str, Any]] = []
         kept = KeptBlocks(os.path.join(self.world.folder, 'kept'))
-        self.tie = Tie(TieOptions(self.world.path('ctl'), None, 20.0, False), 'run', kept,
+        self.tie = Tie(TieOptions(self.world.path('ctl'), None, LONG, False), 'run', kept,
                        lambda event, **fields: self.events.append({'event': event, **fields}))
         self.far = self.tie.site = FarSite()        # type: ignore[assignment]
         self.tie.link.start()
@@ -64,9 +64,7 @@ class TieKilledWatcherTests(unittest.IsolatedAsyncioTestCase):
         await asyncio.gather(self.follows, return_exceptions=True)
 
     async def until(self, holds: Callable[[], Any]) -> None:
-        end = time.monotonic() + 20
         while not holds():
-            self.assertLess(time.monotonic(), end, f'it does not come: {self.events[-5:]}')
             await asyncio.sleep(0.01)
 
     def hear(self, one: State, two: State, call: str | None = '') -> None:
@@ -110,7 +108,9 @@ class TieKilledWatcherTests(unittest.IsolatedAsyncioTestCase):
         trunks = len([event for event in self.events if event['event'] == 'trunk'])
         self.begin_again(meanwhile)
         await self.until(lambda: len([event for event in self.events if event['event'] == 'trunk']) > trunks)
-        await asyncio.sleep(0.5)
+        for _ in range(3):      # what it does then comes before this
+            assert self.tie.control.client
+            await self.tie.control.client.ask('codec 3 pcma 8')
 
     async def test_calls_stay(self) -> None:
         """Two deaths, with another shadow between them."""

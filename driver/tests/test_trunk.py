@@ -17,8 +17,10 @@ from typing import Any, Sequence, TypeVar
 
 from . import support
 from .flowing import is_seized
-from .world import ANSWERED, IDLE, LAUNCHER, SECONDS, SEIZED, World, config_of, descendant, free_ports
+from .support import SECONDS
+from .world import ANSWERED, IDLE, LAUNCHER, SEIZED, World, config_of, descendant, free_ports
 from e1gw import session
+from e1gw.clearing import DisconnectPolicy, DisconnectWatch, OutageWatch
 from e1gw.recovery import NOTE, forget_folders, own_prefix
 from e1gw.trunk import options_of, parts_of
 
@@ -56,6 +58,12 @@ def is_there(pid: int) -> bool:
             return stat.read().rpartition(')')[2].split()[0] != 'Z'
     except OSError:
         return False
+
+
+def catches(pid: int, number: int) -> bool:
+    """Whether a process catches a signal (proc(5))."""
+    with open(f'/proc/{pid}/status', encoding='ascii', errors='replace') as file:
+        return any(int(line.split()[1], 16) >> number - 1 & 1 for line in file if line.startswith('SigCgt:'))
 
 
 def keepers(world: World) -> list[int]:
@@ -229,9 +237,7 @@ class BesideCallsTests(unittest.TestCase):
         a process or a thread of its own."""
         aligned(world)
         call(world, 1)
-        until = time.monotonic() + SECONDS
-        while what and world.told()['ended'][what] is None and time.monotonic() < until:
-            world.step()
+        world.until(lambda: not what or world.told()['ended'][what] is not None)
         ended = world.status()['ended']
         self.assertEqual([name for name, why in ended.items() if why is not None], [what] if what else [])
 
@@ -279,10 +285,7 @@ class BesideCallsTests(unittest.TestCase):
                 keeper = descendant(world.process.pid, 'e1gw-keep')
                 os.kill(keeper, signal.SIGKILL)
                 world.step(100)
-                until = time.monotonic() + SECONDS
-                while not any(has_taken_over(world, other) for other in keepers(world) if other != keeper):
-                    self.assertLess(time.monotonic(), until)
-                    world.step(1)
+                world.until(lambda: any(has_taken_over(world, other) for other in keepers(world) if other != keeper))
                 world.step(200)
             self.assertTrue(is_there(program))
             self.assertEqual(world.state(1), 'answered')
@@ -338,10 +341,7 @@ class BesideCallsTests(unittest.TestCase):
             aligned(world)
             left = [descendant(world.process.pid, name) for name in ('e1gw-keep', 'e1gw-carry', 'e1gw-watch', 'trunk')]
             os.kill(world.process.pid, signal.SIGKILL)
-            until = time.monotonic() + SECONDS
-            while any(map(is_there, left)) and time.monotonic() < until:
-                time.sleep(0.02)
-            self.assertEqual([pid for pid in left if is_there(pid)], [])
+            support.until(lambda: not any(map(is_there, left)))
 
     def test_what_ends_with_e1gw_trunk_while_it_opens(self) -> None:
         with tempfile.TemporaryDirectory() as folder:
@@ -393,13 +393,11 @@ class BesideCallsTests(unittest.TestCase):
         with World(config_of(FOUR), '--top', stdout=subprocess.PIPE) as world:
             aligned(world)
             assert world.process.stdout
-            until, shown = time.monotonic() + SECONDS, ''
-            while shown.count('\x1b[H\x1b[2J') < 3 and time.monotonic() < until:
+            shown = ''
+            while shown.count('\x1b[H\x1b[2J') < 3 or ' 4 outgoing idle ' not in shown:
                 shown += os.read(world.process.stdout.fileno(), 65536).decode()
             world.quit()
             world.process.stdout.close()
-            self.assertGreaterEqual(shown.count('\x1b[H\x1b[2J'), 2)
-            self.assertIn(' 4 outgoing idle ', shown)
 
     def test_a_line_typed_while_it_is_in_the_background(self) -> None:
         keyboard, terminal = os.openpty()
@@ -407,7 +405,6 @@ class BesideCallsTests(unittest.TestCase):
         with World(config_of(FOUR), front=front) as world:
             aligned(world)
             os.write(keyboard, b'quit\n')
-            time.sleep(0.2)
             self.goes_on(world)
             self.assertEqual(world.quit()[0], 0)
         os.close(keyboard)
@@ -425,7 +422,7 @@ class BesideCallsTests(unittest.TestCase):
             def reloaded() -> bool:
                 with open(told.name, encoding='utf-8') as file:
                     return 'e1gw-keep: reload: program' in file.read()
-            world.until(reloaded, 1_000_000)
+            world.until(reloaded)
             world.connected()
             self.assertEqual(world.state(2), 'answered')
             self.goes_on(world)
@@ -441,13 +438,12 @@ class BesideCallsTests(unittest.TestCase):
                          '/dev/zero', '--out', '/dev/null', '--control', os.path.join(folder, 'ctl')]
                 with subprocess.Popen(words, stdin=subprocess.DEVNULL, stderr=subprocess.PIPE,
                                       env={**os.environ, 'RUNTIME_DIRECTORY': folder}) as process:
-                    time.sleep(0.1 + 0.12 * number)
+                    support.until(lambda: catches(process.pid, signal.SIGTERM))     # (else it ends Python itself)
+                    time.sleep(0.12 * number)
                     process.send_signal((signal.SIGTERM, signal.SIGINT)[number % 2])
                     assert process.stderr
                     said = process.stderr.read().decode()       # up to the end of all that it has started
-                    # (Python itself may not have begun: then the signal ends it)
-                    self.assertIn(process.wait(SECONDS), (0,) if said else (0, -signal.SIGTERM, -signal.SIGINT))
-                    self.assertNotIn('Traceback', said)
+                    self.assertEqual((process.wait(SECONDS), 'Traceback' in said), (0, False), said)
                 self.assertFalse(os.path.exists(os.path.join(folder, 'ctl')))
 
     def test_the_trunk_ends(self) -> None:
@@ -679,48 +675,73 @@ class OnLossTests(unittest.TestCase):
         self.assertEqual(line.recv(100), b'on-loss: done\n\n')
         return line
 
-    def test_calls_are_cleared_when_the_last_one_is_gone(self) -> None:
-        with World(config_of(FOUR)) as world:
-            aligned(world)
-            call(world, 1)
-            first, second = self.guard(world, 'clear 0.1'), self.guard(world, 'clear 0.1')
-            first.close()
-            time.sleep(0.3)
-            world.step(5)
-            self.assertEqual(world.state(1), 'answered')
-            second.close()
-            time.sleep(0.3)
-            world.step(30)
-            self.assertEqual(world.state(1), 'idle')
-
-    def test_idle_circuits_are_blocked_too(self) -> None:
+    def test_calls_are_cleared_and_idle_circuits_blocked(self) -> None:
         with World(config_of(FOUR, incoming=(2, 4))) as world:
             aligned(world)
-            self.guard(world, 'block 0.1').close()
-            time.sleep(0.3)
-            world.step(30)
-            self.assertEqual([world.state(n) for n in FOUR], ['idle', 'blocked', 'idle', 'blocked'])
+            call(world, 1)
+            self.guard(world, 'block 0').close()
+            world.until(lambda: [row['state'] for row in world.told()['circuits'][:4]] == ['idle', 'blocked'] * 2)
+
+
+class DisconnectWatchTests(unittest.TestCase):
+    """When calls are cleared, by a clock of its own."""
+
+    def setUp(self) -> None:
+        self.cleared: list[bool] = []
+        self.watch = DisconnectWatch(DisconnectPolicy(5.0), lambda why, blocks: self.cleared.append(blocks))
+
+    def test_when_the_last_one_is_gone(self) -> None:
+        for client, words in (('first', ['clear', '3']), ('second', ['block', '3']), ('third', ['keep'])):
+            self.assertEqual(self.watch.asked(client, words), 'on-loss: done')
+        for client, now in (('third', 100.0), ('first', 101.0)):
+            self.watch.left(client, now)
+            self.watch.look(now + 1000)
+        self.assertEqual(self.cleared, [])
+        self.watch.left('second', 2000.0)
+        self.watch.look(2002.9)
+        self.assertEqual(self.cleared, [])
+        for now in (2003.0, 2010.0):
+            self.watch.look(now)
+        self.assertEqual(self.cleared, [True])
+
+    def test_who_comes_again_in_time(self) -> None:
+        for client, now in (('first', 100.0), ('second', 104.0)):
+            self.watch.asked(client, [])
+            self.watch.look(now + 1000)
+            self.watch.left(client, now)
+        self.watch.look(108.9)
+        self.assertEqual(self.cleared, [])
+        self.watch.look(109.0)
+        self.assertEqual(self.cleared, [False])
 
     def test_calls_are_kept(self) -> None:
-        with World(config_of(FOUR)) as world:
-            aligned(world)
-            call(world, 1)
-            line = self.guard(world, 'clear 0')
-            line.sendall(b'on-loss keep\n')
-            self.assertEqual(line.recv(100), b'on-loss: done\n\n')
-            line.close()
-            time.sleep(0.2)
-            world.step(5)
-            self.assertEqual(world.state(1), 'answered')
+        self.watch.asked('client', ['clear', '0'])
+        self.watch.asked('client', ['keep'])
+        self.watch.left('client', 100.0)
+        self.watch.look(1000.0)
+        self.assertEqual(self.cleared, [])
+
+
+class OutageWatchTests(unittest.TestCase):
+    def test_seconds(self) -> None:
+        """Once in each outage that lasts so long."""
+        cleared: list[str] = []
+        watch, never = OutageWatch(3.0, cleared.append), OutageWatch(None, cleared.append)
+        for now, outage in ((100.0, 'dark'), (102.0, None), (103.0, 'dark'), (105.9, 'dark')):
+            watch.look(now, outage)
+            never.look(now + 1000 * now, outage)
+        self.assertEqual(cleared, [])
+        for now in (106.0, 120.0):
+            watch.look(now, 'dark')
+        self.assertEqual(cleared, ['the trunk has been dark for 3 s'])
 
 
 class DarkTrunkTests(unittest.TestCase):
     def test_calls_of_a_dark_trunk_are_cleared(self) -> None:
-        with World(config_of(FOUR), '--dark', '1') as world:
+        with World(config_of(FOUR), '--dark', '0') as world:
             aligned(world)
             call(world, 1)
-            until = time.monotonic() + 10
-            while world.state(1) == 'answered' and time.monotonic() < until:
+            while world.state(1) == 'answered':
                 world.give(b'\xFF' * 512)
             self.assertEqual(world.ask('seize 2'), 'seize 2: no alignment')
             self.assertEqual(world.state(1), 'releasing')

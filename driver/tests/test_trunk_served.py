@@ -18,6 +18,7 @@ from types import TracebackType
 from typing import Iterator, Sequence
 
 from . import support
+from .support import SECONDS
 from e1gw.exchange import ACKNOWLEDGED, ANSWERED, IDLE, SEIZED
 from e1gw.session import Codec, Command, CommandRefusal, Kind, codec_record, command_record, encode_record, records_in
 from e1gw.session import trunk_record
@@ -28,7 +29,6 @@ MULTIFRAME = 512
 PIPE = 65_536               # the octets that a pipe of Linux holds
 END = encode_record(0x45, 0, b'')   # asks for the end of the session
 ANSWER_LENGTH = 6
-SECONDS = 20
 
 
 def octets_in(session: bytes) -> bytes:
@@ -176,11 +176,9 @@ class ServedTrunkTests(ServedTrunkCase):
     def emptied(self, pipe: int) -> None:
         """Returns once all was read that was written to a pipe."""
         held = array.array('i', [1])
-        until = time.monotonic() + SECONDS
-        while held[0] > 0 and time.monotonic() < until:
+        while held[0] > 0:
             fcntl.ioctl(pipe, termios.FIONREAD, held)
             time.sleep(0.001)
-        self.assertEqual(held[0], 0)
 
 
 class TrunkProcess:

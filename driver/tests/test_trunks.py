@@ -7,7 +7,7 @@ import unittest
 
 from . import devices, support
 from .test_trunk import FOUR, aligned, call
-from .world import SECONDS, World, config_of
+from .world import World, config_of
 from e1gw.trunks import Stream, Trunk, host_and_port, open_files
 
 OCTETS = bytes(range(256)) * 2
@@ -31,7 +31,7 @@ class TrunkKindTests(support.FolderCase):
         for file in {reads, writes}:
             os.close(file)
         with self.assertRaises(EOFError):
-            for _ in range(100):
+            while True:
                 trunk.read(100)
                 time.sleep(0.01)
         trunk.close()
@@ -88,11 +88,9 @@ class TrunkKindTests(support.FolderCase):
 
 class TrunkKindServiceTests(unittest.TestCase):
     def test_a_seizure_while_no_octets_come(self) -> None:
-        with World(config_of(FOUR)) as world:
+        with World(config_of(FOUR), within={'watcher.STALLED': 10}) as world:
             aligned(world)
-            until = time.monotonic() + SECONDS
-            while not world.told()['clock']['stalled'] and time.monotonic() < until:
-                time.sleep(0.02)
+            support.until(lambda: bool(world.told()['clock']['stalled']))
             self.assertEqual(world.ask('seize 2'), 'seize 2: the trunk is stalled')
             self.assertEqual(world.state(2), 'idle')
 
@@ -101,9 +99,7 @@ class TrunkKindServiceTests(unittest.TestCase):
             aligned(world)
             call(world, 1)
             world.line.close()
-            until = time.monotonic() + SECONDS
-            while world.known()['trunk_up'] and time.monotonic() < until:
-                time.sleep(0.05)
+            support.until(lambda: not world.known()['trunk_up'])
             self.assertEqual(world.ask_at_once('seize 2'), 'seize 2: no connection to the program')
             world.comes_again()
             world.step(50)
@@ -121,7 +117,6 @@ class TrunkKindServiceTests(unittest.TestCase):
                 pass
             for _ in range(3):
                 self.assertEqual(world.ask('codec 1 pcma 8'), 'codec 1: done')
-                time.sleep(0.1)
 
 
 if __name__ == '__main__':

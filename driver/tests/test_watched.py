@@ -7,17 +7,18 @@ import csv
 import json
 import os
 import signal
+import socket
 import subprocess
 import sys
-import time
 import unittest
-from typing import Any, Callable
+from typing import Any, Callable, Mapping
 
-from . import support
+from . import limits, support
+from .support import SECONDS
 from .telling import LAUNCHER as WATCHER
 from .test_keeper import GOES_ON
 from .test_keeper import LAUNCHER as KEEPER
-from .world import SECONDS, ServedProgram, config_of
+from .world import ServedProgram, config_of
 
 EXCHANGE = os.path.join(support.TOP, 'examples', 'exchange')
 
@@ -32,8 +33,9 @@ class FourProcesses(ServedProgram):
 
     process: subprocess.Popen[bytes]
 
-    def __init__(self) -> None:
+    def __init__(self, within: Mapping[str, Any] = {}) -> None:
         super().__init__(config_of(range(1, 5), incoming=(2, 4)))
+        self.around = os.environ | limits.around(within)
         self.process = self.exchange = self.start(EXCHANGE, 'card', stdin=subprocess.PIPE, name='exchange')
         self.until(lambda: os.path.exists(self.path('card')))
         self.keeper = self.start(KEEPER, '--program', support.program(), '--config', 'trunk.toml', '--unix', 'card',
@@ -51,7 +53,7 @@ class FourProcesses(ServedProgram):
     def start(self, *words: str, name: str, stdin: int = subprocess.DEVNULL) -> subprocess.Popen[bytes]:
         with open(self.path(name), 'ab') as told:
             return subprocess.Popen([sys.executable, '-B', *words], cwd=self.folder, stdout=subprocess.DEVNULL,
-                                    stderr=told, stdin=stdin)
+                                    stderr=told, stdin=stdin, env=self.around)
 
     def close(self) -> None:
         for process in (self.process, self.keeper, self.exchange):
@@ -66,13 +68,10 @@ class FourProcesses(ServedProgram):
 
     def until(self, holds: Callable[[], Any]) -> Any:
         """Waits until something holds, and returns what it is."""
-        until = time.monotonic() + SECONDS
-        while time.monotonic() < until:
+        def found() -> Any:
             with contextlib.suppress(ConnectionRefusedError, FileNotFoundError, ConnectionResetError, EOFError):
-                if found := holds():
-                    return found
-            time.sleep(0.02)
-        raise AssertionError({name: self.said(name) for name in ('exchange', 'keeper', 'watcher')})
+                return holds()
+        return support.until(found, 0.02)
 
     def stands(self, **values: Any) -> dict[str, Any] | None:
         """The status, if it has these values; those of a number are the states of circuits."""
@@ -84,7 +83,7 @@ class FourProcesses(ServedProgram):
         self.until(lambda: self.stands(shadow=True, program=True) and self.state(circuit) == state)
 
     def do(self, command: str) -> None:
-        """Gives a command until it is done: a machine that stands still is a trunk that does."""
+        """Gives a command until it is done: another program may be about to follow."""
         self.until(lambda: self.ask(command).endswith(': done'))
 
     def type(self, line: str) -> None:
@@ -92,6 +91,15 @@ class FourProcesses(ServedProgram):
         assert self.exchange.stdin
         self.exchange.stdin.write(f'{line}\n'.encode())
         self.exchange.stdin.flush()
+
+    def type_and_see(self, line: str, circuit: int, state: str) -> None:
+        """To the exchange, until the shadow tells that a circuit is in this state."""
+        self.type(line)
+        with socket.socket(socket.AF_UNIX) as client:
+            client.settimeout(SECONDS)
+            client.connect(self.path('tell'))
+            with client.makefile() as lines:
+                next(each for each in lines if each.split()[:2] == ['line', str(circuit)] and each.split()[3] == state)
 
     def kill(self, what: str) -> None:
         """Kills the program or the shadow of now, and waits for the next one."""
@@ -101,14 +109,15 @@ class FourProcesses(ServedProgram):
 
 
 class WatchedTrunkTests(unittest.TestCase):
-    def setUp(self) -> None:
+    def begun(self, **within: Any) -> FourProcesses:
         if not tells():
             raise unittest.SkipTest('the program has no --tell')
-        self.trunk = FourProcesses()
-        self.addCleanup(self.trunk.__exit__)
+        trunk = FourProcesses({f'watcher.{name}': value for name, value in within.items()})
+        self.addCleanup(trunk.__exit__)
+        return trunk
 
     def test_calls(self) -> None:
-        trunk = self.trunk
+        trunk = self.begun()
         trunk.is_in(1, 'idle')
         trunk.do('seize 1')
         trunk.is_in(1, 'answered')
@@ -142,23 +151,22 @@ class WatchedTrunkTests(unittest.TestCase):
 
     def test_names_of_calls(self) -> None:
         """Another watcher counts seizures as the one before it, and one that happened in between."""
-        trunk = self.trunk
+        trunk = self.begun()
         trunk.is_in(1, 'idle')
         trunk.type('seize 2')
         trunk.is_in(2, 'acked')
         life = trunk.told()['life']
-        for line, seizures in ((), 1), (('clear 2', 'seize 2'), 2):
+        for lines, seizures in ((), 1), ((('clear 2', 'idle'), ('seize 2', 'acked')), 2):
             trunk.process.kill()
             trunk.process.wait(SECONDS)
-            for each in line:
-                trunk.type(each)
-                time.sleep(1.0)
+            for line, state in lines:
+                trunk.type_and_see(line, 2, state)
             trunk.begin()
             trunk.is_in(2, 'acked')
             self.assertEqual((trunk.told()['life'], trunk.told()['circuits'][1]['seizures']), (life, seizures))
 
     def test_a_trunk_that_stops(self) -> None:
-        trunk = self.trunk
+        trunk = self.begun(STALLED=10)
         trunk.is_in(1, 'idle')
         os.kill(trunk.exchange.pid, signal.SIGSTOP)
         trunk.until(lambda: trunk.told()['clock']['stalled'])
@@ -167,7 +175,7 @@ class WatchedTrunkTests(unittest.TestCase):
         trunk.until(lambda: not trunk.told()['clock']['stalled'])
 
     def test_status(self) -> None:
-        trunk = self.trunk
+        trunk = self.begun()
         trunk.is_in(1, 'idle')
         before = json.loads(trunk.ask('status json'))
         trunk.until(lambda: trunk.told()['octets'] > before['octets'])

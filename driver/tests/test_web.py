@@ -1,18 +1,20 @@
 """What is seen from outside: pages over HTTP, the text of Prometheus, the file of metrics, and the rules of alerts."""
 from __future__ import annotations
 
+import contextlib
+import http.client
 import json
+import os
 import re
 import socket
-import time
 import unittest
 import urllib.error
 import urllib.request
 
 from . import support
-from .support import free_port
+from .support import SECONDS, free_port
 from .test_trunk import FOUR, aligned, call
-from .world import SECONDS, World, config_of
+from .world import World, config_of
 from e1gw.crc4 import Crc4
 from e1gw.metrics import exposition, family
 
@@ -52,12 +54,14 @@ class PictureRequestTests(unittest.TestCase):
             def get(path: str) -> tuple[str, str]:
                 with urllib.request.urlopen(f'http://127.0.0.1:{port}{path}', timeout=SECONDS) as page:
                     return page.headers['Content-Type'], page.read().decode()
-            until = time.monotonic() + SECONDS
-            while '1 answered' not in (found := get('/'))[1] and time.monotonic() < until:
-                time.sleep(1)           # what is kept may be late on a busy machine
-            kind, page = found
+
+            def drawn() -> tuple[str, str] | None:
+                with contextlib.suppress(OSError, http.client.HTTPException):   # (ten seconds were not enough)
+                    found = get('/')
+                    return found if '1 answered' in found[1] else None
+                return None
+            kind, page = support.until(drawn, 1.0)          # what is kept may be late
             self.assertEqual((kind, '</html>' in page, 'west' in page), ('text/html; charset=utf-8', True, True))
-            self.assertIn('1 answered', page)
             self.assertEqual(get('/table')[0], 'text/plain; charset=utf-8')
             call(world, 2)
 
@@ -112,15 +116,10 @@ class WebTests(unittest.TestCase):
         self.assertLessEqual(named, declared)
 
     def test_a_file_of_metrics(self) -> None:
-        until = time.monotonic() + SECONDS
         path = self.world.path('prom')
-        text = ''
-        while not text and time.monotonic() < until:
-            try:
-                with open(path, encoding='utf-8') as file:
-                    text = file.read()
-            except FileNotFoundError:
-                time.sleep(0.05)
+        support.until(lambda: os.path.exists(path))
+        with open(path, encoding='utf-8') as file:
+            text = file.read()
         self.assertIn('e1gw_uptime_seconds{trunk="west"}', samples(text))
         self.world.quit()
         with self.assertRaises(FileNotFoundError):
@@ -138,7 +137,6 @@ class WebTests(unittest.TestCase):
         aligned(self.world)
         for line in lines:
             line.close()
-        time.sleep(0.1)
         self.assertIn('e1gw_trunk_up', self.get('/metrics'))
 
 

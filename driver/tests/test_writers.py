@@ -7,11 +7,13 @@ import stat
 import threading
 import time
 import unittest
+from unittest import mock
 
 from . import support
 from .test_trunk import FOUR, aligned, call
-from .world import SECONDS, World, config_of
-from e1gw.writers import Journal, Writer, open_to_append, to_file
+from .world import World, config_of
+from e1gw import writers
+from e1gw.writers import Journal, Writer, to_file
 
 
 class WriterOpeningTests(support.FolderCase):
@@ -22,17 +24,14 @@ class WriterOpeningTests(support.FolderCase):
         self.ended: list[str] = []
 
     def until_ended(self) -> str:
-        until = time.monotonic() + SECONDS
-        while not self.ended and time.monotonic() < until:
-            time.sleep(0.01)
+        support.until(lambda: self.ended)
         return self.ended[0]
 
     def test_a_fifo_that_nobody_reads(self) -> None:
-        with self.assertRaises(OSError):
-            open_to_append(self.fifo, 0.1)
-        writer = to_file('session', self.fifo, lambda what, why: self.ended.append(f'{what}: {why}'))
-        writer.put(b'abc')
-        self.assertEqual(self.until_ended(), f'session: nobody reads it: {self.fifo}')
+        with mock.patch.object(writers, 'OPENS', 0.1):
+            writer = to_file('session', self.fifo, lambda what, why: self.ended.append(f'{what}: {why}'))
+            writer.put(b'abc')
+            self.assertEqual(self.until_ended(), f'session: nobody reads it: {self.fifo}')
 
     def test_a_fifo_that_somebody_reads_in_time(self) -> None:
         writer = to_file('session', self.fifo, lambda what, why: self.ended.append(why))
@@ -59,12 +58,10 @@ class WriterOpeningTests(support.FolderCase):
         none = os.path.join(self.fifo, 'none')
         for options, what in ((('--json', self.fifo), 'json'), (('--json', none), 'json'),
                               (('--calls', none), 'calls')):
-            with self.subTest(options), World(config_of(FOUR), *options) as world:
+            with self.subTest(options), World(config_of(FOUR), *options, within={'writers.OPENS': 0.1}) as world:
                 aligned(world)
                 call(world, 1)
-                until = time.monotonic() + SECONDS
-                while world.told()['ended'][what] is None and time.monotonic() < until:
-                    world.step()
+                world.until(lambda: world.told()['ended'][what] is not None)
                 self.assertEqual([name for name, why in world.status()['ended'].items() if why is not None], [what])
                 self.assertEqual(world.state(1), 'answered')
                 status, said = world.quit()
@@ -101,6 +98,7 @@ class JournalTests(unittest.TestCase):
 
     def test_a_storm_on_a_trunk(self) -> None:
         support.program()
+        began = time.monotonic()
         with World(config_of(FOUR), '--json', '@/told') as world:
             for _ in range(15):
                 aligned(world)
@@ -112,8 +110,7 @@ class JournalTests(unittest.TestCase):
         self.assertEqual((status, len(lost)), (0, 15))
         # one line for a loss, and not one for the alarm and one for the alignment
         self.assertNotIn('alignment lost', said)
-        self.assertLessEqual(said.count('alarm: loss of '), 20)
-        self.assertIn('alarm: .. and ', said)
+        self.assertLessEqual(said.count('alarm: loss of '), 20 * (1 + (time.monotonic() - began) // Journal.MINUTE))
 
 
 if __name__ == '__main__':

@@ -2,6 +2,7 @@
 from __future__ import annotations
 
 import contextlib
+import itertools
 import json
 import os
 import socket
@@ -9,14 +10,15 @@ import subprocess
 import sys
 import tempfile
 import time
-from typing import Any, Callable, Self
+from math import inf
+from typing import Any, Callable, Mapping, Self
 
-from . import support
+from . import limits, support
+from .support import SECONDS
 from e1gw.testing.service import ask
 
 IDLE, SEIZED, ACKNOWLEDGED, ANSWERED = 2, 0, 3, 1
-LAUNCHER = os.path.join(support.TOP, 'driver', 'e1gw-trunk')
-SECONDS = 60
+LAUNCHER = support.launcher('trunk')
 ANSWERS_AFTER = 20          # multiframes
 
 
@@ -166,7 +168,7 @@ class World(ServedProgram):
     comes behind all of that."""
 
     def __init__(self, config: str, *options: str, answers: bool = True, front: tuple[str, ...] = (),
-                 **streams: Any) -> None:
+                 within: Mapping[str, Any] = {}, **streams: Any) -> None:
         super().__init__(config)
         self.exchange = support.Exchange()
         self.answers = answers
@@ -182,7 +184,8 @@ class World(ServedProgram):
                 [*front, sys.executable, '-B', LAUNCHER, '--program', support.program(), '--config', self.config,
                  '--unix', self.path('card'), '--control', self.path('ctl'),
                  *(word.replace('@', self.folder) for word in options)],
-                env={**os.environ, 'RUNTIME_DIRECTORY': self.path('run')}, **streams)
+                env={**os.environ, 'RUNTIME_DIRECTORY': self.path('run'), **limits.around(limits.TELLS | within)},
+                **streams)
             try:
                 self.take(listener)
                 self.connected()
@@ -192,8 +195,7 @@ class World(ServedProgram):
 
     def connected(self) -> None:
         """Waits until the watcher knows how the trunk stands. It is told that at the first octets that come."""
-        until = time.monotonic() + SECONDS
-        while time.monotonic() < until and self.process.poll() is None:
+        while self.process.poll() is None:
             try:
                 if self.ask_at_once(NO_EFFECT) == NO_EFFECT_ANSWER and self.known()['shadow']:
                     return
@@ -279,10 +281,10 @@ class World(ServedProgram):
             elif pair == IDLE and ages.pop(circuit, 0):
                 pairs[circuit] = IDLE
 
-    def until(self, holds: Callable[[], bool], most: int = 2000) -> None:
-        """Steps until something holds."""
-        for _ in range(most):
+    def until(self, holds: Callable[[], object], most: float = inf) -> None:
+        """Steps until something holds, at most so many times."""
+        for number in itertools.count():
             if holds():
                 return
+            assert number < most, 'it does not come to hold'
             self.step()
-        raise AssertionError('it does not come to hold')

@@ -16,10 +16,11 @@ from functools import partial
 from typing import Any
 
 from ..exchange import ACKNOWLEDGED, Exchange, ServeProcess
+from . import limited
 
 Wrongs = Iterator[str]      # what is not as it must be
 
-SECONDS = 20                # for one session
+SECONDS = limited.SECONDS   # for one session
 PCMA = 8
 IDLE = 0xD5
 PACKET = 80                 # octets of a packet of 10 ms

@@ -77,5 +77,5 @@ class OpenR2:
 
     def end(self) -> None:
         self._input.close()
-        self._process.wait(10)
+        self._process.wait()
         self._output.close()

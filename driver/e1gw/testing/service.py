@@ -9,15 +9,16 @@ import subprocess
 import sys
 from typing import Any
 
+from .limited import SECONDS
+
 LAUNCHER = os.path.join(os.path.dirname(os.path.dirname(os.path.dirname(os.path.realpath(__file__)))), 'e1gw-trunk')
-PATIENCE = 60               # seconds
 
 
 def ask(path: str, command: bytes) -> str:
     """What a trunk answers to a command at the socket of its control. EOFError if it ends before that."""
     with socket.socket(socket.AF_UNIX) as line:
         line.connect(path)                              # waits for a place; with a time limit it would be refused
-        line.settimeout(PATIENCE)
+        line.settimeout(SECONDS)
         with contextlib.suppress(BrokenPipeError):      # who has no seat is told so at once
             line.sendall(command + b'\n')
         answer = b''
@@ -65,4 +66,4 @@ class Service:
         """Ends it, where that was not done yet; its status."""
         if self.driver.poll() is None:
             self.driver.terminate()
-        return self.driver.wait(PATIENCE)
+        return self.driver.wait(SECONDS)
