@@ -79,6 +79,16 @@ pub saved_at : {X : Type 0} (f : X → List ℕ) (path : Option X) (saved : Resu
 saved_at f None saved is = is
 saved_at f (Some path) saved is = is
 
+-- this was done with a gateway that was begun so
+with_gateway : {load : Option (List ℕ)} {asks : Option ℕ → Type 0} {does : Gateway → Gateway → Type 0}
+    (config : Config) (gateway gateway' : Gateway) → BeginsWaiting config.gateway load asks gateway
+    → does gateway gateway' → HasConfig (λ _. ⊤) (λ config. HasGateway (BeginsWaiting config.gateway load asks) does)
+with_gateway config gateway gateway' begun done = record {
+  config = config;
+  read = tt;
+  done = record { gateway = gateway; gateway' = gateway'; begun = begun; done = done };
+}
+
 module _ (s s' : SourceState) (k k' : SinkState) {P T : Type 0} (reads : Config → Type 0) (lacks : ProgramFault
     → Type 0)
     (lacks_gateway lacks_more : Config → ProgramFault → Type 0) (load save : Option (List ℕ)) (asks : Option ℕ → Type 0)
@@ -103,6 +113,13 @@ module _ (s s' : SourceState) (k k' : SinkState) {P T : Type 0} (reads : Config 
       };
     }
 
+    -- nothing was begun on new streams
+    stopped : {why : ProgramFault → Type 0} {does : SessionStreams → SessionStreams → Gateway → Gateway → Type 0}
+        → NotBegun s s' k k' why told
+        → s.reads ≡ 0 → s.given ≡ Some [] → s.failures ≡ 0 → k.failures ≡ 0
+        → OnNewStreams (λ a a'. ByGateway a a' told load asks (does a a'))
+    stopped n = on_new s s' k k' (inl (told_untouched (λ e. e) (λ e. e) n))
+
     -- a session that was done on new streams
     pub session_done : (lacks_watch : ProgramFault → Type 0) (session : SessionKind) → NotBegun s s' k k' lacks told
         ⊎ HasConfig reads (λ config. NotBegun s s' k k' (lacks_gateway config) told
@@ -115,80 +132,33 @@ module _ (s s' : SourceState) (k k' : SinkState) {P T : Type 0} (reads : Config 
         EndedSaved (λ end. Serves (around s k (ports_tell ports) (tape_tells tape))
         (around s' k' (ports_tell ports') (tape_tells tape')) end gateway gateway') (saves config gateway') told))))
         → s.reads ≡ 0 → s.given ≡ Some [] → s.failures ≡ 0 → k.failures ≡ 0 → DoesSession load save asks session told
-    session_done lacks_watch session (inl n) a b c d =
-        on_new s s' k k' (inl (told_untouched (λ e. e) (λ e. e) n)) a b c d
-    session_done lacks_watch session (inr h) a b c d = with_config session h.config h.done a b c d
-      where
-        with_gateway : (session : SessionKind) (config : Config) (gateway gateway' : Gateway) → starts config gateway
-            → by_session session
-            (NotBegun s s' k k' lacks_watch told
-            ⊎ EndedSaved (λ end. Runs s s' k k' end gateway gateway') (saves config gateway') told)
-            (EndedSaved (λ end. Checks s s' k k' end gateway gateway') (saves config gateway') told)
-            (NotBegun s s' k k' (lacks_more config) told
-            ⊎ HasServed (opens config) begins (λ ports ports' tape tape'.
-            EndedSaved (λ end. Serves (around s k (ports_tell ports) (tape_tells tape))
-            (around s' k' (ports_tell ports') (tape_tells tape')) end gateway gateway') (saves config gateway') told))
-            → s.reads ≡ 0 → s.given ≡ Some [] → s.failures ≡ 0 → k.failures ≡ 0
-            → DoesSession load save asks session told
-        with_gateway Replay config gateway gateway' new (inl n) a b c d =
-            on_new s s' k k' (inl (told_untouched (λ e. e) (λ e. e) n)) a b c d
-        with_gateway Replay config gateway gateway' new (inr e) a b c d = on_new s s' k k' (inr (record {
-          config = config;
-          read = tt;
-          done = record {
-            gateway = gateway;
-            gateway' = gateway';
-            begun = begun config gateway new;
-            done = saved_told
-                config gateway' e;
-          };
-        })) a b c d
-        with_gateway Check config gateway gateway' new e a b c d = on_new s s' k k' (inr (record {
-          config = config;
-          read = tt;
-          done = record {
-            gateway = gateway;
-            gateway' = gateway';
-            begun = begun config gateway new;
-            done = saved_told
-                config gateway' e;
-          };
-        })) a b c d
-        with_gateway Serve config gateway gateway' new (inl n) a b c d =
-            on_new s s' k k' (inl (told_untouched (λ e. e) (λ e. e) n)) a b c d
-        with_gateway Serve config gateway gateway' new (inr v) a b c d = record {
+    session_done lacks_watch session (inl n) a b c d = stopped n a b c d
+    session_done lacks_watch Replay (inr h) a b c d = elim h.done [
+      | inl n ↦ stopped n a b c d
+      | inr w ↦ elim w.done [
+        | inl n ↦ stopped n a b c d
+        | inr e ↦ on_new s s' k k' (inr (with_gateway h.config w.gateway w.gateway' (begun h.config w.gateway w.begun)
+            (saved_told h.config w.gateway' e))) a b c d
+      ]
+    ]
+    session_done lacks_watch Check (inr h) a b c d = elim h.done [
+      | inl n ↦ stopped n a b c d
+      | inr w ↦ on_new s s' k k' (inr (with_gateway h.config w.gateway w.gateway' (begun h.config w.gateway w.begun)
+          (saved_told h.config w.gateway' w.done))) a b c d
+    ]
+    session_done lacks_watch Serve (inr h) a b c d = elim h.done [
+      | inl n ↦ stopped n a b c d
+      | inr w ↦ elim w.done [
+        | inl n ↦ stopped n a b c d
+        | inr v ↦ record {
           before = around s k (ports_tell v.ports) (tape_tells v.tape);
           after = around s' k' (ports_tell v.ports') (tape_tells v.tape');
           new = record { unread = a; no_octet = b; no_failed_read = c; no_failed_write = d };
-          done = inr (record {
-            config = config;
-            read = tt;
-            done = record {
-              gateway = gateway;
-              gateway' = gateway';
-              begun = begun config gateway new;
-              done = saved_told
-                  config gateway' v.done;
-            };
-          });
+          done = inr (with_gateway h.config w.gateway w.gateway' (begun h.config w.gateway w.begun)
+              (saved_told h.config w.gateway' v.done));
         }
-
-        with_config : (session : SessionKind) (config : Config)
-            → NotBegun s s' k k' (lacks_gateway config) told
-            ⊎ HasGateway (starts config) (λ gateway gateway'. by_session session
-            (NotBegun s s' k k' lacks_watch told
-            ⊎ EndedSaved (λ end. Runs s s' k k' end gateway gateway') (saves config gateway') told)
-            (EndedSaved (λ end. Checks s s' k k' end gateway gateway') (saves config gateway') told)
-            (NotBegun s s' k k' (lacks_more config) told
-            ⊎ HasServed (opens config) begins (λ ports ports' tape tape'.
-            EndedSaved (λ end. Serves (around s k (ports_tell ports) (tape_tells tape))
-            (around s' k' (ports_tell ports') (tape_tells tape')) end gateway gateway') (saves config gateway') told)))
-            → s.reads ≡ 0 → s.given ≡ Some [] → s.failures ≡ 0 → k.failures ≡ 0
-            → DoesSession load save asks session told
-        with_config session config (inl n) a b c d =
-            on_new s s' k k' (inl (told_untouched (λ e. e) (λ e. e) n)) a b c d
-        with_config session config (inr h) a b c d =
-            with_gateway session config h.gateway h.gateway' h.begun h.done a b c d
+      ]
+    ]
 
     -- a trunk that was served on new streams, and what was sent went in time
     pub trunk_served : {S K : Type 0} {x x' : S} {y y' : K} (passed : Traffic) (went : List ℕ) (discarded : ℕ)
@@ -210,23 +180,14 @@ module _ (s s' : SourceState) (k k' : SinkState) {P T : Type 0} (reads : Config 
           before = around s k (ports_tell v.ports) (tape_tells v.tape);
           after = around s' k' (ports_tell v.ports') (tape_tells v.tape');
           new = record { unread = a; no_octet = b; no_failed_read = c; no_failed_write = d };
-          done = inr (record {
-            config = h.config;
-            read = tt;
-            done = record {
-              gateway = w.gateway;
-              gateway' = w.gateway';
-              begun = begun h.config w.gateway w.begun;
-              done = record {
-                passed = passed;
-                done = saved_told h.config w.gateway' v.done;
-                went = went;
-                discarded = discarded;
-                was_slow = was_slow;
-                goes = goes;
-              };
-            };
-          });
+          done = inr (with_gateway h.config w.gateway w.gateway' (begun h.config w.gateway w.begun) (record {
+            passed = passed;
+            done = saved_told h.config w.gateway' v.done;
+            went = went;
+            discarded = discarded;
+            was_slow = was_slow;
+            goes = goes;
+          }));
         }
       ]
     ]

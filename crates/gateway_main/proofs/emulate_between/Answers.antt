@@ -1,0 +1,18 @@
+use Rattle.std.proofs.Common.{inl, inr, refl, rules}
+use Rattle.gateway_main.proofs.SetUp.{set_up, stops}
+use Rattle.gateway_main.proofs.emulate_between.Goals as goal
+
+pub returns-in_err-receiver : goal.returns-in_err-receiver
+returns-in_err-receiver g c = λ command is. inl (stops command c.from_residual.result (search rules))
+
+pub returns : goal.returns
+returns g c = λ command is. inr (record {
+  traffic = _;
+  set_up = set_up command _ _ _ _ _ _ _ _ _ is
+      (rw c.new-circuit.ensures.receiver c.in_ok-receiver.ensures.settings)
+      (rw (c.new-circuit.ensures.receiver, c.in_ok-receiver.ensures.rtp) c.is_some.ensures)
+      (rw (c.new-circuit.ensures.sender, c.new-sender.ensures.start) c.start_at_random.ensures.size)
+      (rw (c.new-circuit.ensures.sender, c.new-sender.ensures.start) c.start_at_random.ensures.rtp)
+      (rw (c.new-circuit.ensures.pace, c.new-pace.ensures) refl) c.perform_satop.ensures.same;
+  carried = c.perform_satop.ensures.carries;
+})
