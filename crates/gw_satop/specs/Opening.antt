@@ -1,6 +1,6 @@
--- Why an emulated circuit cannot be opened (modules `peer`, `ready`, `system`). Std says nothing of the system's
--- answers, so each of the four first relations holds of every one; but they are unfolded only in the functions
--- that ask the system, so for all others they hold only of answers received.
+-- Why an emulated circuit cannot be opened (modules `peer`, `ready`, `system`). Std says nothing of the
+-- system's answers, so each of the four first relations holds of every one; but they are unfolded only in the
+-- functions that ask the system, so for all others they hold only of answers received.
 use Rattle.std.specs.Prelude.{◌⊎◌, ⊤, ℕ, List, Option, Some, None, Result, Ok, Err}
 use Rattle.std.specs.declared.io.Error.{Error}
 use Rattle.std.specs.declared.net.socket_addr.SocketAddr.{SocketAddr}

@@ -10,11 +10,13 @@ consumed None b octets gave known = tt
 consumed (Some x) None octets gave known = absurd (known x refl refl)
 consumed (Some x) (Some y) octets gave known = gave x y refl refl
 
+-- std's one as the first of the two
 gave-consumed : (a b : Option (List ℕ)) (octets : List ℕ) → Consumes a b octets → Gave a b octets
 gave-consumed None b octets c all rest e f = cc
 gave-consumed (Some x) None octets c all rest e f = absurd c
 gave-consumed (Some x) (Some y) octets c all rest e f = cc
 
+-- std's one as the second
 known-consumed : (a b : Option (List ℕ)) (octets : List ℕ) → Consumes a b octets → StaysKnown a b
 known-consumed None b octets c all e f = cc
 known-consumed (Some x) None octets c all e f = c
@@ -26,6 +28,7 @@ pub gave-more : (a b c : Option (List ℕ)) (octets more : List ℕ) → Gave a 
 gave-more a b c octets more gave known read =
     gave-consumed a c _ (Consumes-trans a b c octets more (consumed a b octets gave known) read)
 
+-- .. and what is to come stays known
 pub known-more : (a b c : Option (List ℕ)) (octets more : List ℕ) → Gave a b octets → StaysKnown a b
     → Consumes b c more → StaysKnown a c
 known-more a b c octets more gave known read =
@@ -37,6 +40,7 @@ pub gave-kept : (a b c : Option (List ℕ)) (octets : List ℕ) → Gave a b oct
 gave-kept a b c octets gave known kept =
     gave-consumed a c _ (Consumes-kept a b c octets (consumed a b octets gave known) kept)
 
+-- .. and what is to come stays known
 pub known-kept : (a b c : Option (List ℕ)) (octets : List ℕ) → Gave a b octets → StaysKnown a b → Keeps b c
     → StaysKnown a c
 known-kept a b c octets gave known kept =

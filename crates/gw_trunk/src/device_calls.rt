@@ -17,7 +17,7 @@ pub trait DeviceReader {
     /// Relates a reader to the error with which its last read ended.
     ghost fails: { Self → ErrorKind → Type 0 };
 
-    /// Reads octets to the front of `room`, and returns how many; 0 for a room that is not empty only at the end.
+    /// Reads octets to the front of `room`, and returns how many: 0 only at the end, or if there is no room.
     fn read_now(&mut self, room: &mut [u8]) -> Result<usize, ErrorKind>
         ensures bound { IfOk result (λ n. n ≤ length room.new) }
         ensures octets { ReadConsumes (remaining self.old) (remaining self.new) result room.new }

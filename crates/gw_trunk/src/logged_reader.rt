@@ -9,8 +9,8 @@ use crate::device_calls::DeviceReader;
 use gw_records::{AtStart, Log};
 use std::io::ErrorKind;
 
-/// A reader, and what its calls gave: if it is known what the reader was to give, that is what it gave and what
-/// is still to come.
+/// A reader, and what its calls gave: if it is known what the reader was to give, that is what it gave and
+/// what is still to come.
 #[derive(Drop)]
 pub struct LoggedReader<R: DeviceReader> {
     reader: R,

@@ -10,5 +10,5 @@ invariant_of-self g c =
     take_all _ _ (omega arith) in
     record {
       by = ∥∥₁_map c.args.self.now.by (λ by. rw (c.datagram.ensures, whole)
-          (by_sent _ _ _ _ _ _ _ _ _ _ _ by c.send.ensures));
+          (by_sent _ _ _ _ _ _ _ _ _ by c.send.ensures));
     }
