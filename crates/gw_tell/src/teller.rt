@@ -89,21 +89,36 @@ fn take_room(place: &mut ClientSlot) -> Option<Backlog>
     place.room.take()
 }
 
-// Eight free places, with the room of each. The error is that memory was refused.
+// Two free places, with the room of each. The error is that memory was refused.
+fn open_two(alloc: Global) -> io::Result<(ClientSlot, ClientSlot)>
+    ensures first { IfOk result (λ two. two.0.client ≡ None) }
+    ensures second { IfOk result (λ two. two.1.client ≡ None) }
+{
+    let first = ClientSlot::open(alloc)?;
+    let second = ClientSlot::open(alloc)?;
+    Ok((first, second))
+}
+
+// Four free places.
+fn open_four(alloc: Global) -> io::Result<(ClientSlot, ClientSlot, ClientSlot, ClientSlot)>
+    ensures first { IfOk result (λ four. four.0.client ≡ None) }
+    ensures second { IfOk result (λ four. four.1.client ≡ None) }
+    ensures third { IfOk result (λ four. four.2.client ≡ None) }
+    ensures fourth { IfOk result (λ four. four.3.client ≡ None) }
+{
+    let (a, b) = open_two(alloc)?;
+    let (c, d) = open_two(alloc)?;
+    Ok((a, b, c, d))
+}
+
+// Eight free places.
 #[tactic(auto, using(crate::proofs::Letting::all_free))]
 fn open_places(alloc: Global) -> io::Result<[ClientSlot; 8]>
     ensures { IfOk result (λ places. AllFree places) }
 {
-    Ok([
-        ClientSlot::open(alloc)?,
-        ClientSlot::open(alloc)?,
-        ClientSlot::open(alloc)?,
-        ClientSlot::open(alloc)?,
-        ClientSlot::open(alloc)?,
-        ClientSlot::open(alloc)?,
-        ClientSlot::open(alloc)?,
-        ClientSlot::open(alloc)?,
-    ])
+    let (a, b, c, d) = open_four(alloc)?;
+    let (e, f, g, h) = open_four(alloc)?;
+    Ok([a, b, c, d, e, f, g, h])
 }
 
 impl Teller {
