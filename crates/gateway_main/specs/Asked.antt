@@ -1,8 +1,11 @@
 -- What the command line asks of an emulated circuit.
-use Rattle.std.specs.Prelude.{◌≡◌, ◌*◌, ◌/◌, ℕ, true, Option, Some, MatchOption, codes}
+use Rattle.std.specs.Prelude.{◌≡◌, ◌≢◌, ◌⊎◌, ◌*◌, ◌/◌, ℕ, true, Option, Some, MatchOption, codes}
 use Rattle.gw_command.specs.Command.{SaysNumberIn, text_in}
 use Rattle.gw_satop.specs.declared.timing.Timing.{Timing}
 use Rattle.gw_program.specs.Satop.{CommandLine, window_for}
+use Rattle.gw_udp.specs.SourceFilter.{senders_name}
+use Rattle.gw_udp.specs.declared.source_filter.SourceFilter.{SourceFilter}
+use Rattle.gw_udp.specs.declared.source_filter.SourceFilter.TheVariants as filters
 use Rattle.satop_playout.specs.declared.Settings.{Settings}
 use Rattle.satop_playout.specs.declared.Replacement.TheVariants as fills
 
@@ -19,3 +22,14 @@ pub record IsAsked (command : CommandLine) (settings : Settings) (timing : Timin
   pub packet : timing.packet ≡ 125 * (settings.size / 32)
   pub own : text_in (codes "clock") command ≡ Some (codes "own") → timing.own_clock ≡ true
   pub by_packets : timing.own_clock ≡ true → text_in (codes "clock") command ≡ Some (codes "own")
+
+-- the senders are those that the command names, and any where it names none or none of that name
+abbrev pub AreSenders : CommandLine → SourceFilter → Type 0
+AreSenders command senders = MatchOption (text_in (codes "senders") command) (senders ≡ filters.Any)
+    (λ name. (name ≡ senders_name senders)
+    ⊎ (((other : SourceFilter) → name ≢ senders_name other) × (senders ≡ filters.Any)))
+
+-- datagrams are sent again behind so many, the number that the command says; 0 where it says none
+abbrev pub IsRepeat : CommandLine → ℕ → Type 0
+IsRepeat command count = SaysNumberIn 8 (codes "repeat") command count
+    ⊎ (((n : ℕ) → ¬ SaysNumberIn 8 (codes "repeat") command n) × (count ≡ 0))

@@ -19,7 +19,10 @@ use Rattle.gw_program.specs.Sessions.{HasGateway, Runs, Serves, Checks}
 use Rattle.gw_program.specs.State.{HasBegun, BeginsWaiting, IsSaved}
 use Rattle.gw_trunk.specs.Serving.{Traffic}
 use Rattle.gw_program.specs.Trunks.{CarriesTrunk}
-use Rattle.gw_program.specs.Requests.{OnNewStreams, ByGateway, DoesSession, ServesTrunk}
+use Rattle.gw_program.specs.Requests.{OnNewStreams, ByGateway, DoesSession, ServesTrunk, config_in, load_in, save_in}
+use Rattle.gw_program.specs.Requests.{AsksWait}
+use Rattle.gw_program.specs.Satop.{CommandLine}
+use Rattle.gw_program.specs.Setup.{IsConfigAt, IsMeant, SystemGives}
 use Rattle.gw_trunk.specs.Multiframes.{GoesInTime}
 
 -- what was done on streams to which nothing had happened was done on new streams
@@ -34,10 +37,10 @@ on_new s s' k k' done reads given failures writes = record {
 }
 
 -- a fault is told of streams that nothing was done with
-pub untouched : (load : Option (List ℕ)) (asks : Option ℕ → Type 0)
+pub untouched : (command : CommandLine)
     (does : SessionStreams → SessionStreams → Gateway → Gateway → Type 0) (program_fault : ProgramFault)
-    → OnNewStreams (λ a a'. ByGateway a a' (Err program_fault) load asks (does a a'))
-untouched load asks does program_fault =
+    → OnNewStreams (λ a a'. ByGateway a a' command (Err program_fault) (does a a'))
+untouched command does program_fault =
     let source : SourceState = record { failures = 0; reads = 0; given = Some []; to_come = None } in
     let sink : SinkState = record { failures = 0; taken = None } in on_new source source sink sink
     (inl (record { program_fault = program_fault; why = tt; told_is = refl; unread = refl; unwritten = refl })) refl
@@ -54,6 +57,11 @@ told_untouched f g n = record {
   unread = f n.unread;
   unwritten = g n.unwritten;
 }
+
+-- what the file at the named path means
+pub config_at : (named : Option (List ℕ)) (path : List ℕ) (config : Config) → named ≡ Some path
+    → IsMeant (SystemGives path) config → IsConfigAt named config
+config_at named path config is meant = rw is meant
 
 -- the path that is named is told as its text
 begun_at : {X : Type 0} (f : X → List ℕ) (path : Option X) (config : GatewayConfig) (gateway : Gateway)
@@ -80,29 +88,32 @@ saved_at f None saved is = is
 saved_at f (Some path) saved is = is
 
 -- this was done with a gateway that was begun so
-with_gateway : {load : Option (List ℕ)} {asks : Option ℕ → Type 0} {does : Gateway → Gateway → Type 0}
-    (config : Config) (gateway gateway' : Gateway) → BeginsWaiting config.gateway load asks gateway
-    → does gateway gateway' → HasConfig (λ _. ⊤) (λ config. HasGateway (BeginsWaiting config.gateway load asks) does)
-with_gateway config gateway gateway' begun done = record {
+with_gateway : {command : CommandLine} {does : Gateway → Gateway → Type 0} (config : Config) (gateway gateway' : Gateway)
+    → IsConfigAt (config_in command) config
+    → BeginsWaiting config.gateway (load_in command) (AsksWait command) gateway → does gateway gateway'
+    → HasConfig (IsConfigAt (config_in command)) (λ config.
+    HasGateway (BeginsWaiting config.gateway (load_in command) (AsksWait command)) does)
+with_gateway config gateway gateway' read begun done = record {
   config = config;
-  read = tt;
+  read = read;
   done = record { gateway = gateway; gateway' = gateway'; begun = begun; done = done };
 }
 
 module _ (s s' : SourceState) (k k' : SinkState) {P T : Type 0} (reads : Config → Type 0) (lacks : ProgramFault
     → Type 0)
-    (lacks_gateway lacks_more : Config → ProgramFault → Type 0) (load save : Option (List ℕ)) (asks : Option ℕ → Type 0)
+    (lacks_gateway lacks_more : Config → ProgramFault → Type 0) (command : CommandLine)
+    (is_read : (config : Config) → reads config → IsConfigAt (config_in command) config)
     (starts : Config → Gateway → Type 0) (saves : Config → Gateway → Result (Unit {0}) ProgramFault → Type 0)
     (begun : (config : Config) (gateway : Gateway) → starts config gateway
-    → BeginsWaiting config.gateway load asks gateway)
+    → BeginsWaiting config.gateway (load_in command) (AsksWait command) gateway)
     (is_saved : (config : Config) (gateway : Gateway) (saved : Result (Unit {0}) ProgramFault)
-    → saves config gateway saved → IsSaved save saved)
+    → saves config gateway saved → IsSaved (save_in command) saved)
     (opens : Config → P → Type 0) (begins : T → Type 0)
     (ports_tell : P → PortsState) (tape_tells : T → TapeState) {told : Result Totals ProgramFault}
   where
     -- how the state was saved is told of its path
     saved_told : {ends : Result Totals RunFault → Type 0} (config : Config) (gateway : Gateway)
-        → EndedSaved ends (saves config gateway) told → EndedSaved ends (IsSaved save) told
+        → EndedSaved ends (saves config gateway) told → EndedSaved ends (IsSaved (save_in command)) told
     saved_told config gateway e = record {
       end = e.end;
       done = e.done;
@@ -117,7 +128,7 @@ module _ (s s' : SourceState) (k k' : SinkState) {P T : Type 0} (reads : Config 
     stopped : {why : ProgramFault → Type 0} {does : SessionStreams → SessionStreams → Gateway → Gateway → Type 0}
         → NotBegun s s' k k' why told
         → s.reads ≡ 0 → s.given ≡ Some [] → s.failures ≡ 0 → k.failures ≡ 0
-        → OnNewStreams (λ a a'. ByGateway a a' told load asks (does a a'))
+        → OnNewStreams (λ a a'. ByGateway a a' command told (does a a'))
     stopped n = on_new s s' k k' (inl (told_untouched (λ e. e) (λ e. e) n))
 
     -- a session that was done on new streams
@@ -131,19 +142,21 @@ module _ (s s' : SourceState) (k k' : SinkState) {P T : Type 0} (reads : Config 
         ⊎ HasServed (opens config) begins (λ ports ports' tape tape'.
         EndedSaved (λ end. Serves (around s k (ports_tell ports) (tape_tells tape))
         (around s' k' (ports_tell ports') (tape_tells tape')) end gateway gateway') (saves config gateway') told))))
-        → s.reads ≡ 0 → s.given ≡ Some [] → s.failures ≡ 0 → k.failures ≡ 0 → DoesSession load save asks session told
+        → s.reads ≡ 0 → s.given ≡ Some [] → s.failures ≡ 0 → k.failures ≡ 0 → DoesSession command session told
     session_done lacks_watch session (inl n) a b c d = stopped n a b c d
     session_done lacks_watch Replay (inr h) a b c d = elim h.done [
       | inl n ↦ stopped n a b c d
       | inr w ↦ elim w.done [
         | inl n ↦ stopped n a b c d
-        | inr e ↦ on_new s s' k k' (inr (with_gateway h.config w.gateway w.gateway' (begun h.config w.gateway w.begun)
+        | inr e ↦ on_new s s' k k' (inr (with_gateway h.config w.gateway w.gateway'
+            (is_read h.config h.read) (begun h.config w.gateway w.begun)
             (saved_told h.config w.gateway' e))) a b c d
       ]
     ]
     session_done lacks_watch Check (inr h) a b c d = elim h.done [
       | inl n ↦ stopped n a b c d
-      | inr w ↦ on_new s s' k k' (inr (with_gateway h.config w.gateway w.gateway' (begun h.config w.gateway w.begun)
+      | inr w ↦ on_new s s' k k' (inr (with_gateway h.config w.gateway w.gateway'
+            (is_read h.config h.read) (begun h.config w.gateway w.begun)
           (saved_told h.config w.gateway' w.done))) a b c d
     ]
     session_done lacks_watch Serve (inr h) a b c d = elim h.done [
@@ -154,7 +167,8 @@ module _ (s s' : SourceState) (k k' : SinkState) {P T : Type 0} (reads : Config 
           before = around s k (ports_tell v.ports) (tape_tells v.tape);
           after = around s' k' (ports_tell v.ports') (tape_tells v.tape');
           new = record { unread = a; no_octet = b; no_failed_read = c; no_failed_write = d };
-          done = inr (with_gateway h.config w.gateway w.gateway' (begun h.config w.gateway w.begun)
+          done = inr (with_gateway h.config w.gateway w.gateway'
+            (is_read h.config h.read) (begun h.config w.gateway w.begun)
               (saved_told h.config w.gateway' v.done));
         }
       ]
@@ -169,7 +183,7 @@ module _ (s s' : SourceState) (k k' : SinkState) {P T : Type 0} (reads : Config 
         (around s k (ports_tell ports) (tape_tells tape)) (around s' k' (ports_tell ports') (tape_tells tape'))
         passed end gateway gateway') (saves config gateway') told)))
         → (x' ≡ x → s' ≡ s) → (y' ≡ y → k' ≡ k)
-        → s.reads ≡ 0 → s.given ≡ Some [] → s.failures ≡ 0 → k.failures ≡ 0 → ServesTrunk load save asks told
+        → s.reads ≡ 0 → s.given ≡ Some [] → s.failures ≡ 0 → k.failures ≡ 0 → ServesTrunk command told
     trunk_served passed went discarded was_slow goes (inl n) f g a b c d =
         on_new s s' k k' (inl (told_untouched f g n)) a b c d
     trunk_served passed went discarded was_slow goes (inr h) f g a b c d = elim h.done [
@@ -180,7 +194,8 @@ module _ (s s' : SourceState) (k k' : SinkState) {P T : Type 0} (reads : Config 
           before = around s k (ports_tell v.ports) (tape_tells v.tape);
           after = around s' k' (ports_tell v.ports') (tape_tells v.tape');
           new = record { unread = a; no_octet = b; no_failed_read = c; no_failed_write = d };
-          done = inr (with_gateway h.config w.gateway w.gateway' (begun h.config w.gateway w.begun) (record {
+          done = inr (with_gateway h.config w.gateway w.gateway'
+            (is_read h.config h.read) (begun h.config w.gateway w.begun) (record {
             passed = passed;
             done = saved_told h.config w.gateway' v.done;
             went = went;

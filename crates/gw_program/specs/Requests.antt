@@ -19,6 +19,7 @@ use Rattle.gw_program.specs.Filters.{DoesFilter, DoesFilterUntil, HasChecked, Ha
 use Rattle.gw_program.specs.Jobs.{Does, DoesUntil}
 use Rattle.gw_program.specs.Performing.{Ended, EndedSaved, NotBegun, HasConfig, by_session}
 use Rattle.gw_program.specs.Satop.{CommandLine, DoesSatop}
+use Rattle.gw_program.specs.Setup.{IsConfigAt}
 use Rattle.gw_program.specs.Sessions.{HasGateway, Runs, Serves, Checks}
 use Rattle.gw_program.specs.State.{BeginsWaiting, IsSaved}
 use Rattle.gw_trunk.specs.Serving.{Traffic}
@@ -101,23 +102,37 @@ ChecksCrc4 named told = LacksReports named told ⊎ OnNewStreams (λ a a'.
     IfOk told (HasChecked a.source a'.source a.sink a'.sink)
     × IfErr told (HasCheckedUntil a.source a'.source a.sink a'.sink))
 
--- a fault is returned, and nothing was read or written; or this was done with a gateway that was begun by a
--- configuration, from a state if one is named, and with the wait that is asked for
-abbrev pub ByGateway : SessionStreams → SessionStreams → Result Totals ProgramFault → Option (List ℕ)
-    → (Option ℕ → Type 0)
-    → (Gateway → Gateway → Type 0) → Type 0
-ByGateway a a' told load asks does = NotBegun a.source a'.source a.sink a'.sink (λ _. ⊤) told
-    ⊎ HasConfig (λ _. ⊤) (λ config. HasGateway (BeginsWaiting config.gateway load asks) does)
+-- the file of the configuration, the state to load and the state to save that the command names
+abbrev pub config_in : CommandLine → Option (List ℕ)
+config_in command = text_in (codes "config") command
 
--- the session ended with this result; the states to load and to save are those that are named, and the wait
--- is the one that is asked for
-abbrev pub DoesSession : Option (List ℕ) → Option (List ℕ) → (Option ℕ → Type 0) → SessionKind
-    → Result Totals ProgramFault → Type 0
-DoesSession load save asks session told = OnNewStreams (λ a a'. ByGateway a a' told load asks
+abbrev pub load_in : CommandLine → Option (List ℕ)
+load_in command = text_in (codes "load") command
+
+abbrev pub save_in : CommandLine → Option (List ℕ)
+save_in command = text_in (codes "save") command
+
+-- the wait of a seizure that the command asks for, in signals; none if it asks for none
+abbrev pub AsksWait : CommandLine → Option ℕ → Type 0
+AsksWait command wait = MatchOption wait ((signals : ℕ) → ¬ SaysWait command signals) (SaysWait command)
+
+-- a fault is returned, and nothing was read or written; or this was done with a gateway that was begun by the
+-- configuration in the file that is named, from a state if one is named, and with the wait that is asked for
+abbrev pub ByGateway : SessionStreams → SessionStreams → CommandLine → Result Totals ProgramFault
+    → (Gateway → Gateway → Type 0) → Type 0
+ByGateway a a' command told does = NotBegun a.source a'.source a.sink a'.sink (λ _. ⊤) told
+    ⊎ HasConfig (IsConfigAt (config_in command)) (λ config.
+    HasGateway (BeginsWaiting config.gateway (load_in command) (AsksWait command)) does)
+
+-- the session that the command names ended with this result
+abbrev pub DoesSession : CommandLine → SessionKind → Result Totals ProgramFault → Type 0
+DoesSession command session told = OnNewStreams (λ a a'. ByGateway a a' command told
     (λ gateway gateway'. by_session session
-    (EndedSaved (λ end. Runs a.source a'.source a.sink a'.sink end gateway gateway') (IsSaved save) told)
-    (EndedSaved (λ end. Checks a.source a'.source a.sink a'.sink end gateway gateway') (IsSaved save) told)
-    (EndedSaved (λ end. Serves a a' end gateway gateway') (IsSaved save) told)))
+    (EndedSaved (λ end. Runs a.source a'.source a.sink a'.sink end gateway gateway')
+        (IsSaved (save_in command)) told)
+    (EndedSaved (λ end. Checks a.source a'.source a.sink a'.sink end gateway gateway')
+        (IsSaved (save_in command)) told)
+    (EndedSaved (λ end. Serves a a' end gateway gateway') (IsSaved (save_in command)) told)))
 
 -- Octets came from a trunk and were sent to it, clients asked and were answered, and this was done of it.
 -- What was sent went to the device in time: all of it, except for whole multiframes if the device was slow.
@@ -129,29 +144,15 @@ pub record HasTrunk (does : Traffic → Type 0) : Type 0 where
   pub was_slow : Bool
   pub goes : ∥ GoesInTime passed.went went discarded was_slow ∥₁
 
--- the trunk was served with this result; the states to load and to save are those that are named, and the
--- wait is the one that is asked for
-abbrev pub ServesTrunk : Option (List ℕ) → Option (List ℕ) → (Option ℕ → Type 0) → Result Totals ProgramFault
-    → Type 0
-ServesTrunk load save asks told = OnNewStreams (λ a a'. ByGateway a a' told load asks (λ gateway gateway'.
+-- the trunk that the command names was served with this result
+abbrev pub ServesTrunk : CommandLine → Result Totals ProgramFault → Type 0
+ServesTrunk command told = OnNewStreams (λ a a'. ByGateway a a' command told (λ gateway gateway'.
     HasTrunk (λ passed. EndedSaved (λ end. CarriesTrunk a a' passed end gateway gateway')
-    (IsSaved save) told)))
-
--- the state to load and the state to save that the command names
-abbrev pub load_in : CommandLine → Option (List ℕ)
-load_in command = text_in (codes "load") command
-
-abbrev pub save_in : CommandLine → Option (List ℕ)
-save_in command = text_in (codes "save") command
-
--- the wait of a seizure that the command asks for, in signals; none if it asks for none
-abbrev pub AsksWait : CommandLine → Option ℕ → Type 0
-AsksWait command wait = MatchOption wait ((signals : ℕ) → ¬ SaysWait command signals) (SaysWait command)
+    (IsSaved (save_in command)) told)))
 
 -- what the command asks for was done, and this is returned
 abbrev pub Performs : CommandLine → Result Totals ProgramFault → Type 0
 Performs command told = HasRequest command (by_request (λ job. DoesJob job told)
     (λ filter. RunsFilter (reports_in command) filter told) (ChecksCrc4 (reports_in command) told)
-    (λ session. DoesSession (load_in command) (save_in command) (AsksWait command) session told)
-    (ServesTrunk (load_in command) (save_in command) (AsksWait command) told) (DoesSatop command told))
+    (λ session. DoesSession command session told) (ServesTrunk command told) (DoesSatop command told))
     ⊎ NoRequest command told

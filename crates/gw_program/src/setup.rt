@@ -1,9 +1,9 @@
 //! How the file of a configuration is read: at most 65,537 octets, then `gw_config` (`read_config`).
 
-ghost use Rattle.std.specs.Prelude.{◌≡◌, ◌++◌, IfSome, IfErr, OnOk, Option, List, ℕ, ⊤, option_map, take};
+ghost use Rattle.std.specs.Prelude.{◌≡◌, ◌++◌, IfSome, IfOk, IfErr, OnOk, Option, List, ℕ, ⊤, option_map, take};
 ghost use Rattle.std.specs.declared.io.Error.{Error};
 ghost use Rattle.gw_config.specs.Octets.{meaning_of_octets};
-ghost use Rattle.gw_program.specs.Setup.{Says, FailsToRead};
+ghost use Rattle.gw_program.specs.Setup.{Says, FailsToRead, IsMeant, SystemGives};
 
 use crate::program_fault::ProgramFault;
 use gw_config::Config;
@@ -28,6 +28,9 @@ trait Text: Drop {
     /// The octets up to the end, where they are known.
     ghost holds: { Self → Option (List ℕ) };
 
+    /// Holds of a text and the octets that a read of it gave.
+    ghost gives: { Self → List ℕ → Type 0 } = { λ _ _. ⊤ };
+
     /// Holds of a text and the system's error that ended its reading.
     ghost fails: { Self → Error → Type 0 } = { λ _ _. ⊤ };
 
@@ -37,6 +40,8 @@ trait Text: Drop {
         Self: Sized,
         ensures bytes { OnOk result (IfSome (option_map (take most) (holds self))
             (λ xs. octets.new.items ≡ octets.old.items ++ xs)) }
+        ensures gives { OnOk result ((given : List ℕ) × gives self given
+            × (octets.new.items ≡ octets.old.items ++ given)) }
         ensures err { IfErr result (λ e. fails self e) };
 }
 
@@ -52,6 +57,7 @@ impl<R: Read + Drop> Text for R {
 // The configuration in the octets of a text, up to its end.
 fn config_of<T: Text>(alloc: Global, text: T) -> Result<Config, ProgramFault>
     ensures says { IfSome (T.holds text) (λ octets. Says result (meaning_of_octets octets)) }
+    ensures meant { IfOk result (IsMeant (T.gives text)) }
     ensures unread { IfErr result (FailsToRead (T.fails text)) }
 {
     let mut octets = Vec::new(alloc);
@@ -63,7 +69,10 @@ fn config_of<T: Text>(alloc: Global, text: T) -> Result<Config, ProgramFault>
 
 /// The configuration in a file.
 #[inline(never)]
-pub fn read_config(rt: &HostRuntime, path: &str) -> Result<Config, ProgramFault> {
+#[tactic(auto, unfolding(crate::specs::Setup::SystemGives))]
+pub fn read_config(rt: &HostRuntime, path: &str) -> Result<Config, ProgramFault>
+    ensures { IfOk result (IsMeant (SystemGives path.now)) }
+{
     match fs::open(rt, path) {
         Ok(file) => config_of(rt.alloc(), file),
         Err(error) => Err(ProgramFault::of(&error, ProgramFault::File)),
