@@ -88,7 +88,8 @@ saved_at f None saved is = is
 saved_at f (Some path) saved is = is
 
 -- this was done with a gateway that was begun so
-with_gateway : {command : CommandLine} {does : Gateway → Gateway → Type 0} (config : Config) (gateway gateway' : Gateway)
+with_gateway : {command : CommandLine} {does : Gateway → Gateway → Type 0} (config : Config)
+    (gateway gateway' : Gateway)
     → IsConfigAt (config_in command) config
     → BeginsWaiting config.gateway (load_in command) (AsksWait command) gateway → does gateway gateway'
     → HasConfig (IsConfigAt (config_in command)) (λ config.
@@ -156,7 +157,7 @@ module _ (s s' : SourceState) (k k' : SinkState) {P T : Type 0} (reads : Config 
     session_done lacks_watch Check (inr h) a b c d = elim h.done [
       | inl n ↦ stopped n a b c d
       | inr w ↦ on_new s s' k k' (inr (with_gateway h.config w.gateway w.gateway'
-            (is_read h.config h.read) (begun h.config w.gateway w.begun)
+          (is_read h.config h.read) (begun h.config w.gateway w.begun)
           (saved_told h.config w.gateway' w.done))) a b c d
     ]
     session_done lacks_watch Serve (inr h) a b c d = elim h.done [
@@ -168,7 +169,7 @@ module _ (s s' : SourceState) (k k' : SinkState) {P T : Type 0} (reads : Config 
           after = around s' k' (ports_tell v.ports') (tape_tells v.tape');
           new = record { unread = a; no_octet = b; no_failed_read = c; no_failed_write = d };
           done = inr (with_gateway h.config w.gateway w.gateway'
-            (is_read h.config h.read) (begun h.config w.gateway w.begun)
+              (is_read h.config h.read) (begun h.config w.gateway w.begun)
               (saved_told h.config w.gateway' v.done));
         }
       ]
@@ -195,14 +196,14 @@ module _ (s s' : SourceState) (k k' : SinkState) {P T : Type 0} (reads : Config 
           after = around s' k' (ports_tell v.ports') (tape_tells v.tape');
           new = record { unread = a; no_octet = b; no_failed_read = c; no_failed_write = d };
           done = inr (with_gateway h.config w.gateway w.gateway'
-            (is_read h.config h.read) (begun h.config w.gateway w.begun) (record {
-            passed = passed;
-            done = saved_told h.config w.gateway' v.done;
-            went = went;
-            discarded = discarded;
-            was_slow = was_slow;
-            goes = goes;
-          }));
+              (is_read h.config h.read) (begun h.config w.gateway w.begun) (record {
+                passed = passed;
+                done = saved_told h.config w.gateway' v.done;
+                went = went;
+                discarded = discarded;
+                was_slow = was_slow;
+                goes = goes;
+              }));
         }
       ]
     ]

@@ -129,9 +129,9 @@ abbrev pub DoesSession : CommandLine → SessionKind → Result Totals ProgramFa
 DoesSession command session told = OnNewStreams (λ a a'. ByGateway a a' command told
     (λ gateway gateway'. by_session session
     (EndedSaved (λ end. Runs a.source a'.source a.sink a'.sink end gateway gateway')
-        (IsSaved (save_in command)) told)
+    (IsSaved (save_in command)) told)
     (EndedSaved (λ end. Checks a.source a'.source a.sink a'.sink end gateway gateway')
-        (IsSaved (save_in command)) told)
+    (IsSaved (save_in command)) told)
     (EndedSaved (λ end. Serves a a' end gateway gateway') (IsSaved (save_in command)) told)))
 
 -- Octets came from a trunk and were sent to it, clients asked and were answered, and this was done of it.

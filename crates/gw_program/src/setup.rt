@@ -1,6 +1,7 @@
 //! How the file of a configuration is read: at most 65,537 octets, then `gw_config` (`read_config`).
 
-ghost use Rattle.std.specs.Prelude.{◌≡◌, ◌++◌, IfSome, IfOk, IfErr, OnOk, Option, List, ℕ, ⊤, option_map, take};
+ghost use Rattle.std.specs.Prelude.{◌≡◌, ◌++◌, IfSome, IfOk, IfErr, OnOk, Option, List, ℕ, ⊤, option_map};
+ghost use Rattle.std.specs.Prelude.{take};
 ghost use Rattle.std.specs.declared.io.Error.{Error};
 ghost use Rattle.gw_config.specs.Octets.{meaning_of_octets};
 ghost use Rattle.gw_program.specs.Setup.{Says, FailsToRead, IsMeant, SystemGives};

@@ -53,8 +53,8 @@ pub struct UdpPeer<S: Socket> {
     opened: AtStart<S>,
     received: History,
     sent: History,
-    ghost by: { ∥ IsBySocket (record { is_bound = S.is_bound; receives = S.receives; sends = S.sends }) address
-        opened.value socket received.datagrams sent.datagrams ∥₁ },
+    ghost by: { ∥ IsBySocket (record { is_bound = S.is_bound; receives = S.receives; sends = S.sends })
+        address opened.value socket received.datagrams sent.datagrams ∥₁ },
 }
 
 impl<S: Socket> UdpPeer<S> {

@@ -8,7 +8,8 @@ returns-in_default c = untouched _ _ _
 pub returns : goal.returns
 returns c =
     session_done _ _ _ _ _ _ _ _ _ (λ config meant.
-    config_at _ _ config (sym c.in-Some.ensures) (rw c.local_of-system.ensures.path at meant)) _ _ (λ config gateway begun. rw (← c.local_of-system.ensures.load)
+    config_at _ _ config (sym c.in-Some.ensures) (rw c.local_of-system.ensures.path at meant)) _ _
+    (λ config gateway begun. rw (← c.local_of-system.ensures.load)
     (waiting_at (λ path. path.now) c.local_of-system.result.load c.local_of-system.result.wait _ config.gateway gateway
     c.local_of-system.ensures.wait begun)) (λ config gateway saved is. rw (← c.local_of-system.ensures.save)
     (saved_at (λ path. path.now) c.local_of-system.result.save saved is)) _ _ _ _ _ _ c.perform_session.ensures
