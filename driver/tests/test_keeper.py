@@ -111,6 +111,7 @@ class KeeperCase(support.FolderCase):
         self.addCleanup(self.peers.socket.close)
         self.config = self.write('trunk.toml', self.peers.config())
         self.given: list[bytes] = []            # what the gateway was given, in the order in which it took it
+        self.unknown = 0                        # how many records a killed program had in hand, which nobody knows of
         self.heard: list[bytes | None] = []     # the answer to each record of the trunk, or None where it is lost
         self.told_from = 0
         self.program = self.shadow = 0
@@ -243,10 +244,15 @@ class KeeperCase(support.FolderCase):
         lost = self.heard.count(None)
         self.peers.take()
         for circuit in sorted({*CIRCUITS} - {but}):
-            got, due = self.peers.packets[circuit], packets[circuit]
+            due = packets[circuit]
+            got = [packet for packet in self.peers.packets[circuit] if packet in set(due)]
             self.assertLessEqual(len(due) - len(got), lost)
             self.assertEqual(got, [packet for packet in due if packet in set(got)], f'circuit {circuit}')
             numbers = [packet_of(packet).sequence for packet in due]
+            # A packet of a record in hand may have left before the program was killed: its number is sent again.
+            early = [packet_of(packet).sequence for packet in self.peers.packets[circuit] if packet not in set(due)]
+            self.assertLessEqual(len(early), self.unknown, f'circuit {circuit}')
+            self.assertLessEqual({*early}, {*numbers}, f'circuit {circuit}')
             self.assertEqual(numbers, list(range(numbers[0], numbers[0] + len(numbers))))
         self.assertEqual({**self.device.exchange.signals, but: 0}, {**self.up(), but: 0})
         self.assertFalse(self.device.exchange.remote_alarms)
@@ -278,6 +284,7 @@ class KeeperFailureTests(KeeperCase):
             self.device.exchange.hear(back)
         elif taken == before:
             self.given.pop()            # it was read and never known
+            self.unknown += 1
         else:
             self.heard.append(None)     # it was known, and its answer is lost
 
