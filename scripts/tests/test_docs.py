@@ -81,8 +81,8 @@ class Tree(unittest.TestCase):
         self.put('crates/bare/src/lib.rt', '//! No end\n\npub fn f() {}\n')
         self.put('crates/small/must-fail/three.edit', '')
         self.assertEqual([*self.docs.wrong_names(), *self.docs.wrong_heads()], [
-            'crates/small/must-fail/three: its name is no sentence of words',
-            'docs/PROVED.md: no section of bare', 'crates/bare: no wrong body in must-fail',
+            'crates/small: the wrong body three: its name is no sentence of words',
+            'docs/PROVED.md: no section of bare', 'crates/bare: no wrong body',
             'crates/bare/src/lib.rt: does not begin with a sentence'])
 
     def test_what_a_crate_has(self) -> None:
