@@ -207,7 +207,7 @@ class SatopClockTests(SatopPlayedCase):
         self.see(far, packets(*range(56)), received=60, lost=0, late=0)
 
     def stalled(self, far: FarEnd) -> bool:
-        """Its process stands still for longer than a silence while packets come; whether it was not silent before."""
+        """Stops its process for longer than a silence while packets come. Returns whether there was none before."""
         begun = time.monotonic()
         self.send(far, *range(10))
         far.played(6 * SIZE)

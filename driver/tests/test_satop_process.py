@@ -54,7 +54,7 @@ class SatopProcessTests(FolderCase):
         return SatopProcess(path, WORDS)
 
     def octets(self, trunk: SatopProcess, count: int) -> bytes:
-        """So many octets of the trunk."""
+        """A number of octets of the trunk."""
         poll, out = select.poll(), b''
         poll.register(trunk.fileno(), select.POLLIN)
         while len(out) < count and poll.poll():

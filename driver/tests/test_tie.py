@@ -33,8 +33,7 @@ from tests.support import SECONDS, free_port
 from tests.test_tie_circuit import CALLED, COLUMN, DONE, INCOMING, OUTGOING
 
 HERE = os.path.dirname(os.path.dirname(os.path.abspath(__file__)))
-HOLD = 3.0                  # seconds
-RUNS = itertools.count()
+HOLD, RUNS = 3.0, itertools.count()         # seconds, and the numbers of runs
 IDLE, SEIZED, ANSWER, HELD = 0b10, 0b00, 0b01, 0b11         # bits a and b
 PCMA, G726 = Coding('pcma', 8), Coding('g726-16', 96)
 
@@ -325,11 +324,10 @@ class TieCase(unittest.IsolatedAsyncioTestCase):
         clock = mock.patch.object(tie_module, 'time', LoopClock(asyncio.get_running_loop()))
         clock.start()
         self.addCleanup(clock.stop)
-        for patched, value in ((site_module, {'GONE': 2.0, 'ALIVE': 0.2, 'AGAIN': 0.05}),):
-            for name, number in value.items():
-                change = mock.patch.object(patched, name, number)
-                change.start()
-                self.addCleanup(change.stop)
+        for name, number in {'GONE': 2.0, 'ALIVE': 0.2, 'AGAIN': 0.05}.items():
+            change = mock.patch.object(site_module, name, number)
+            change.start()
+            self.addCleanup(change.stop)
         self.west, self.east = (StandInDriver(os.path.join(self.folder.name, name), {
             n: Role.INCOMING if n % 2 == odd else Role.OUTGOING for n in CIRCUITS})
             for name, odd in (('west.ctl', 1), ('east.ctl', 0)))

@@ -26,8 +26,8 @@ fn alignment_after_three_frames(rt: HostRuntime) {
     );
 }
 
-// An octet that comes so many times; the place of the last, which all have if it is Hunting; and whether the
-// alarm stands after it.
+// An octet and how often it comes; the place of the last one, which all have if it is Hunting; and whether the
+// there is an alarm after it.
 type Run = (u32, u8, Place, bool);
 
 // alignment_misled_first: octets 0 to 160 are hunted over.
@@ -137,7 +137,7 @@ const MISLED_BY_A_SLOT: [Run; 8] = [
     ),
 ];
 
-// Gives an octet so many times: the place of the last, and how many were hunted over.
+// Gives an octet a number of times: the place of the last one, and at how many there was no alignment.
 fn given(aligner: &mut Aligner, times: u32, octet: u8) -> (Place, u32) {
     let (mut place, mut hunted) = (Hunting, 0u32);
     for _time in 0..times {

@@ -2,7 +2,7 @@ use g704_cas::MfPlace::{Frame, Hunting};
 use g704_cas::{MfAligner, MfPlace};
 use std::process::Abort;
 
-// An octet that comes so many times in slot 16, the place of the last, and whether the alarm stands after it.
+// An octet, how often it comes in slot 16, the place of the last one, and whether there is an alarm after it.
 type Run = (u32, u8, MfPlace, bool);
 
 const MULTIFRAME_FOUND: [Run; 4] = [
@@ -29,7 +29,7 @@ const MULTIFRAME_AFTER_LOST: [Run; 3] = [
     (1, 0x0B, Frame(0), false),
 ];
 
-// Gives an octet so many times, and tells the place of the last.
+// Gives an octet a number of times, and returns the place of the last one.
 fn given(aligner: &mut MfAligner, times: u32, octet: u8) -> MfPlace {
     let mut place = Hunting;
     for _time in 0..times {

@@ -3,7 +3,7 @@ use g726_codec::AnyCodec;
 use g726_codec::CodecKind::{self, G16, G24, G32, G40};
 use std::process::Abort;
 
-// An octet that comes so many times from reset, the word of the last, and the octet of that word.
+// An octet, how often it comes from reset, the word of the last one, and the octet of that word.
 type Row = (Law, CodecKind, u8, u8, u8, u8);
 
 // idle_words

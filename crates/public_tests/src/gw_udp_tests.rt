@@ -53,7 +53,7 @@ fn first_call_over_udp(rt: HostRuntime) -> Result<(), Fail> {
 }
 
 // The timestamps of datagrams that are sent, and of those that arrive where each is sent again behind the
-// next one. The fourth begins anew, so the third is not sent again.
+// next one. There is a gap before the fourth, so the third is not sent again.
 const SENT: [u32; 5] = [0, 160, 320, 1_000, 1_160];
 
 const ARRIVED: [u32; 8] = [0, 160, 0, 320, 160, 1_000, 1_160, 1_000];

@@ -5,7 +5,7 @@ use g704_cas::Nibble;
 use q421_line::{Cmd, Line, Role, State};
 use std::process::Abort;
 
-// What a line is given in a test: a nibble, so many times, or a command.
+// What a line is given in a test: a nibble a number of times, or a command.
 #[derive(Clone, Copy)]
 enum Step {
     Heard(u8, u8),

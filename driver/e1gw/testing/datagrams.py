@@ -84,7 +84,7 @@ class UdpCalls:
         return self.held.enter_context(bound(host, port))
 
     def multiframes(self, count: int) -> None:
-        """So many multiframes of the trunk, each way. Each circuit hears its own octet."""
+        """A number of multiframes of the trunk, each way. Each circuit hears its own octet."""
         for _ in range(count):
             for c in self.circuits:
                 self.exchange.speech[c] = bytearray([spoken(c)] * 16)

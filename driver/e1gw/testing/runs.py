@@ -42,12 +42,12 @@ def of_trunk(bits: int, start: int, end: int) -> bytes:
 
 
 def multiframes(bits: int, count: int) -> bytes:
-    """So many multiframes, each a record."""
+    """A number of multiframes, each a record."""
     return trunk_record(of_trunk(bits, 0, 512)) * count
 
 
 def in_line(*heard: tuple[int, int]) -> bytes:
-    """Multiframes of these bits; nothing is heard in the first one."""
+    """Multiframes of these bits; the first one gives no line signal."""
     return multiframes(IDLE, 1) + b''.join(multiframes(*each) for each in heard)
 
 
@@ -64,7 +64,7 @@ AT_RESET = bytes((2, 32, 0, 0, 136, *bytes(8), *bytes(16), *(0, 32) * 8, 0, 0))
 
 def replay(program: str, room: str, given: bytes, *options: str, role: str = 'outgoing',
            ptime: int = 20) -> tuple[bytes, str, int]:
-    """What a session is answered, what is told of it, and the status."""
+    """The answers of a session, its error lines and its status."""
     path = os.path.join(room, 'runs.toml')
     with open(path, 'w', encoding='ascii') as text:
         text.write(CONFIG.format(role=role, ptime=ptime))
