@@ -23,13 +23,13 @@ pub record IsAsked (command : CommandLine) (settings : Settings) (timing : Timin
   pub own : text_in (codes "clock") command ≡ Some (codes "own") → timing.own_clock ≡ true
   pub by_packets : timing.own_clock ≡ true → text_in (codes "clock") command ≡ Some (codes "own")
 
--- the senders are those that the command names, and any where it names none or none of that name
+-- the senders that the command names; any if it names none, or no known ones
 abbrev pub AreSenders : CommandLine → SourceFilter → Type 0
 AreSenders command senders = MatchOption (text_in (codes "senders") command) (senders ≡ filters.Any)
     (λ name. (name ≡ senders_name senders)
     ⊎ (((other : SourceFilter) → name ≢ senders_name other) × (senders ≡ filters.Any)))
 
--- datagrams are sent again behind so many, the number that the command says; 0 where it says none
+-- a datagram is sent again after this number of datagrams, which the command names; 0 if it names none
 abbrev pub IsRepeat : CommandLine → ℕ → Type 0
 IsRepeat command count = SaysNumberIn 8 (codes "repeat") command count
     ⊎ (((n : ℕ) → ¬ SaysNumberIn 8 (codes "repeat") command n) × (count ≡ 0))

@@ -63,6 +63,7 @@ impl<S: Socket> UdpPeer<S> {
     pub fn open<N: Net>(net: &N, local: &str, peer: &str) -> io::Result<UdpPeer<S>>
         ensures ok { IfOk result (λ p. IsJoined S.is_bound S.is_joined local.now peer.now
             p.opened.value p.address) }
+        ensures socket { IfOk result (λ p. p.socket ≡ p.opened.value) }
         ensures err { IfErr result (FailsToJoin local.now peer.now) }
         ensures received { IfOk result (λ p. p.received.datagrams ≡ []) }
         ensures sent { IfOk result (λ p. p.sent.datagrams ≡ []) }

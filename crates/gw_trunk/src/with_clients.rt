@@ -91,7 +91,8 @@ impl<R: DeviceReader> TrunkInput for WithClients<R> {
 
     ghost asked = { λ d. d.asked.octets };
 
-    ghost has_ended = { λ d. d.end_asked ≡ false → IsAtEnd (R.remaining d.reader.reader) };
+    ghost has_ended = { λ d. (d.ended ≡ true)
+        × (d.end_asked ≡ false → IsAtEnd (R.remaining d.reader.reader)) };
 
     ghost has_failed = { λ d. HasFailed (R.fails d.reader.reader) };
 
