@@ -16,7 +16,7 @@ words_from_more r law s (octet ∷ octets) later =
     ap (λ (rest : List ℕ). word ∷ rest) (words_from_more r law (stepped r s word) octets later)
 
 -- the octets of later words are those from the state after the words before
-octets_from_more : (r : RateTables) (law : Law) (s : Variables) (words later : List ℕ)
+pub octets_from_more : (r : RateTables) (law : Law) (s : Variables) (words later : List ℕ)
     → octets_from r law s (words ++ later)
     ≡ octets_from r law s words ++ octets_from r law (state_after r s words) later
 octets_from_more r law s [] later = refl

@@ -10,13 +10,13 @@ use Rattle.g726_codec.specs.Codec.{Variables, word_for, stepped, words_from, sta
 use Rattle.g726_codec.proofs.Histories.{words_from_more, state_after_more}
 
 -- what is not yet coded stays
-rest_kept : (now old : List ℕ) (i word : ℕ) → drop i now ≡ drop i old
+pub rest_kept : (now old : List ℕ) (i word : ℕ) → drop i now ≡ drop i old
     → drop (i + 1) (slice_set now i word) ≡ drop (i + 1) old
 rest_kept now old i word e =
     drop-set-lt (i + 1) now i word (omega arith) ∙ sym (drop-drop 1 i now) ∙ ap (drop 1) e ∙ drop-drop 1 i old
 
 -- the next octet to code is unchanged
-same_octet : (now old : List ℕ) (i : ℕ) → drop i now ≡ drop i old → get_or now i 0 ≡ get_or old i 0
+pub same_octet : (now old : List ℕ) (i : ℕ) → drop i now ≡ drop i old → get_or now i 0 ≡ get_or old i 0
 same_octet now old i e =
     let none : i + 0 ≡ i = omega arith in
     ap (λ (n : ℕ). get_or now n 0) (sym none) ∙ sym (get_or-drop i now 0 0) ∙ ap (λ (xs : List ℕ). get_or xs 0 0) e

@@ -40,6 +40,23 @@ fn adjusted(law: Law, code: u8, id: u8, im: u8) -> u8
 }
 
 impl<R: Rate> Decoder<R> {
+    /// The decoder that has this state.
+    pub fn of_state(state: State) -> Decoder<R>
+        ensures { result ≡ state }
+    {
+        Decoder {
+            state,
+            rate: PhantomData,
+        }
+    }
+
+    /// Its state.
+    pub fn state(&self) -> &State
+        ensures { result.now ≡ self.now }
+    {
+        &self.state
+    }
+
     /// A decoder at reset (ITU-T G.726, initialization).
     pub fn reset() -> Decoder<R>
         ensures state { result ≡ at_reset }

@@ -30,6 +30,23 @@ impl<R: Rate> Model for Encoder<R> {
 }
 
 impl<R: Rate> Encoder<R> {
+    /// The encoder that has this state.
+    pub fn of_state(state: State) -> Encoder<R>
+        ensures { result ≡ state }
+    {
+        Encoder {
+            state,
+            rate: PhantomData,
+        }
+    }
+
+    /// Its state.
+    pub fn state(&self) -> &State
+        ensures { result.now ≡ self.now }
+    {
+        &self.state
+    }
+
     /// An encoder at reset (ITU-T G.726, initialization).
     pub fn reset() -> Encoder<R>
         ensures state { result ≡ at_reset }

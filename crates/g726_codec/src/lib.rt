@@ -15,6 +15,7 @@ pub use any::AnyCodec;
 pub use decoder::Decoder;
 pub use encoder::Encoder;
 pub use names::CodecName;
+pub use state::State;
 
 /// The codec of a circuit's speech in RTP.
 #[derive(Clone, Copy, Debug, PartialEq, Eq)]

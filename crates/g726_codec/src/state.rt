@@ -26,9 +26,11 @@ pub(crate) struct EstimateAndScale {
     ghost y_high: { y ≤ 5120 },
 }
 
-// The variables of an encoder or of a decoder.
+/// The state of an encoder or of a decoder, which both have alike.
+///
+/// Contracts see the variables of ITU-T G.726.
 #[derive(Drop)]
-pub(crate) struct State {
+pub struct State {
     adapt: Adapt,
     predictor: Predictor,
 }
@@ -42,6 +44,27 @@ impl Model for State {
 }
 
 impl State {
+    /// The state of an adaptation and a predictor.
+    pub fn new(adapt: Adapt, predictor: Predictor) -> State
+        ensures { result ≡ record { adaptation = adapt; prediction = predictor } }
+    {
+        State { adapt, predictor }
+    }
+
+    /// The adaptation: YU, YL, DMS, DML, AP and TD.
+    pub fn adapt(&self) -> &Adapt
+        ensures { result.now ≡ self.now.adaptation }
+    {
+        &self.adapt
+    }
+
+    /// The predictor: A1, A2, B1 to B6, DQ1 to DQ6, SR1, SR2, PK1 and PK2.
+    pub fn predictor(&self) -> &Predictor
+        ensures { result.now ≡ self.now.prediction }
+    {
+        &self.predictor
+    }
+
     pub(crate) fn reset() -> State
         ensures { result ≡ at_reset }
     {

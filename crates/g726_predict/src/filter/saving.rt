@@ -38,7 +38,7 @@ impl Filter {
     }
 
     // B1 to B6, A1 and A2 in two's complement, then the words.
-    fn numbers(&self) -> [u16; 16]
+    pub(crate) fn numbers(&self) -> [u16; 16]
         ensures value { result ≡ saved_numbers self.now }
         ensures fits { PredictionFits self.now }
     {
@@ -63,7 +63,7 @@ impl Filter {
     }
 
     // The variables with these numbers; None if a number is not that of a word.
-    fn of_numbers(numbers: [u16; 16], pk1: bool, pk2: bool) -> Option<Filter>
+    pub(crate) fn of_numbers(numbers: [u16; 16], pk1: bool, pk2: bool) -> Option<Filter>
         ensures loaded { (s : Prediction) → PredictionFits s → numbers ≡ saved_numbers s → pk1 ≡ s.pk1
             → pk2 ≡ s.pk2 → result ≡ Some s }
         ensures read { IfSome result (λ s. (numbers ≡ saved_numbers s) × (pk1 ≡ s.pk1) × (pk2 ≡ s.pk2)) }

@@ -1,0 +1,16 @@
+use Rattle.std.proofs.Common.{rules}
+use Rattle.g726_predict.proofs.Lanes.{eight, all_lanes}
+use Rattle.g726_lanes.specs.Lanes.{lane}
+use Rattle.g726_lanes.proofs.Each.{each_lane}
+use Rattle.g726_lanes.proofs.FilterLanes.{p_is}
+use Rattle.g726_lanes.proofs.filter.addc.Goals as goal
+
+pub returns : goal.returns
+returns c =
+    rw (
+      eight 0 c.args.negative (search rules),
+      eight 0 c.args.magnitudes (search rules),
+      eight 0 c.args.zeros (search rules),
+    )
+    (each_lane _ (all_lanes (λ i h. p_is (lane c.args.negative i) (lane c.args.magnitudes i) (lane c.args.zeros
+    i) (c.requires i h) (search rules))))

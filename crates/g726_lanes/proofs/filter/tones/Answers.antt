@@ -1,0 +1,11 @@
+use Rattle.std.proofs.Common.{rules}
+use Rattle.g726_predict.proofs.Lanes.{eight, all_lanes}
+use Rattle.g726_lanes.specs.Lanes.{lane}
+use Rattle.g726_lanes.proofs.Each.{each_lane}
+use Rattle.g726_lanes.proofs.FilterLanes.{tone_is}
+use Rattle.g726_lanes.proofs.filter.tones.Goals as goal
+
+pub returns : goal.returns
+returns c =
+    rw (eight 0 c.args.a2 (search rules))
+    (each_lane _ (all_lanes (λ i h. tone_is (lane c.args.a2 i) (search rules))))

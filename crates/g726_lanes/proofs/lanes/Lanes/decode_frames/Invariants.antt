@@ -1,0 +1,10 @@
+use Rattle.g726_lanes.proofs.Frames.{IsDecodedTo}
+use Rattle.g726_lanes.specs.Lanes.{EachLane, column}
+use Rattle.g726_lanes.specs.States.{variables}
+use Rattle.g726_lanes.proofs.lanes.Lanes.decode_frames.Given as goal
+
+-- the frames up to the index are coded in each lane, the others are unchanged
+abbrev pub invariant-loop-frame : goal.invariant-loop-frame
+invariant-loop-frame g l =
+    EachLane (λ k. IsDecodedTo g.R.Rate.tables l.fn.law (variables l.initial.self k) (variables l.self k)
+    (column l.fn.frames k) (column l.frames k) l.frame-index)

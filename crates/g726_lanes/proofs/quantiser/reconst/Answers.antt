@@ -1,0 +1,17 @@
+use Rattle.g726_quant.proofs.Places.{places, ranges}
+use Rattle.g726_lanes.proofs.quantiser.reconst.Goals as goal
+
+pub entries-requires : goal.entries-requires
+entries-requires g c =
+    let laws = g.met.R.Rate.laws in
+    rw (c.log_levels.ensures, (places g.R.Rate.tables laws.places).log_levels) c.requires
+
+pub returns : goal.returns
+returns g c =
+    let laws = g.met.R.Rate.laws in
+    let is = rw c.log_levels.ensures at c.entries.ensures in
+    record {
+      value = is;
+      low = λ k h. rw (is k h) (ranges g.R.Rate.tables _ laws.places laws.ranges (c.requires k h)).log_level.low;
+      high = λ k h. rw (is k h) (ranges g.R.Rate.tables _ laws.places laws.ranges (c.requires k h)).log_level.high;
+    }
