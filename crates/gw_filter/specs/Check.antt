@@ -1,6 +1,6 @@
 -- The octets of a trunk, unchanged from a source to a sink, the counts of its CRC-4 multiframes, and the
 -- reports of its errored submultiframes.
-use Rattle.std.specs.Prelude.{◌≡◌, ◌+◌, ℕ, List, [], length, sum}
+use Rattle.std.specs.Prelude.{◌≡◌, ◌⊎◌, ◌+◌, ℕ, List, [], ◌∷◌, ◌++◌, length, min, sum}
 use Rattle.std.specs.Io.KnownBytes.{Appends, IsAtEnd}
 use Rattle.g704_crc4.specs.ReceiverCounts.{receiver_counts_of}
 use Rattle.g704_crc4.specs.Receivers.{ChecksTrunk}
@@ -53,3 +53,9 @@ abbrev pub ChecksMultiframesUntil : SourceState → SourceState → SinkState �
     → Type 0
 ChecksMultiframesUntil source source' sink sink' reports fault =
     FiltersUntil (IsChecked reports) source source' sink sink' fault
+
+-- Errored submultiframes that are not reported yet are reported, at most this many at once, unless there are
+-- none or the report was refused.
+abbrev pub ReportsUpTo : ℕ → ℕ → List ℕ → List ℕ → Type 0 → Type 0
+ReportsUpTo most unreported sent sent' Refused =
+    (unreported ≡ 0) ⊎ (sent' ≡ sent ++ min unreported most ∷ []) ⊎ Refused

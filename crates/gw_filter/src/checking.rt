@@ -5,6 +5,7 @@ ghost use Rattle.g704_crc4.specs.ReceiverCounts.{receiver_counts_of};
 ghost use Rattle.g704_crc4.specs.Receivers.{ChecksTrunk};
 ghost use Rattle.gw_records.specs.Streams.{CanBegin};
 ghost use Rattle.gw_filter.specs.Check.{same_octet, HasReported, ChecksMultiframes, ChecksMultiframesUntil};
+ghost use Rattle.gw_filter.specs.Check.{ReportsUpTo};
 
 use crate::reports::{CountsTeller, ReportSink};
 use crate::through::{BufferFilter, OctetFilter, filter_all, octets_through};
@@ -69,11 +70,14 @@ impl<R: ReportSink, T: CountsTeller + Drop> ReportingChecker<R, T> {
         }
     }
 
-    // Reports the errored submultiframes of one buffer, at most 255.
+    // Reports the errored submultiframes that are not reported yet, at most 255.
     fn report(&mut self)
-        ensures { (octets returned : List ℕ) → HasReported self.old.checker self.old.reported
+        ensures stands { (octets returned : List ℕ) → HasReported self.old.checker self.old.reported
             (R.sent self.old.reports) octets returned
             → HasReported self.new.checker self.new.reported (R.sent self.new.reports) octets returned }
+        ensures reports { (history : List ℕ) → ChecksTrunk self.old.checker history
+            → ReportsUpTo 255 ((receiver_counts_of history).errored - self.old.reported)
+            (R.sent self.old.reports) (R.sent self.new.reports) (R.has_refused self.new.reports) }
     {
         let unreported = self
             .checker
@@ -94,6 +98,8 @@ impl<R: ReportSink, T: CountsTeller + Drop> ReportingChecker<R, T> {
         ensures checker { self.new.checker ≡ self.old.checker }
         ensures reported { self.new.reported ≡ self.old.reported }
         ensures reports { self.new.reports ≡ self.old.reports }
+        ensures told { 256000 ≤ self.old.untold + len → (history : List ℕ)
+            → ChecksTrunk self.old.checker history → T.has_told self.new.teller (receiver_counts_of history) }
     {
         self.untold = self.untold.saturating_add(len);
         if self.untold >= SECOND {

@@ -1,25 +1,39 @@
 //! To whom errored submultiframes are reported (`ReportSink`), and counts told (`CountsTeller`).
 
-ghost use Rattle.std.specs.Prelude.{◌≡◌, ◌∷◌, ◌++◌, ℕ, List, [], Some, None, if◌then◌else◌};
+ghost use Rattle.std.specs.Prelude.{◌≡◌, ◌∷◌, ◌++◌, ℕ, List, [], Some, None, false, if◌then◌else◌, ⊤};
 
 use g704_crc4::ReceiverCounts;
-use gw_records::{Log, Source, SourceFault};
+use gw_records::{AtStart, Log, Source, SourceFault};
 use std::io::Write;
 
 /// A receiver of reports.
+///
+/// The relation is the type's own: a caller that does not know the type has it of a call alone.
 pub trait ReportSink {
     /// The reports that were sent.
     ghost sent: { Self → List ℕ };
 
+    /// Holds if the last report was not sent.
+    ghost has_refused: { Self → Type 0 } = { λ _. ⊤ };
+
     /// Sends a number of errored submultiframes, and returns whether it was sent. It never waits.
     fn send(&mut self, count: u8) -> bool
-        ensures { sent self.new ≡ (if result then sent self.old ++ count ∷ [] else sent self.old) };
+        ensures sent { sent self.new ≡ (if result then sent self.old ++ count ∷ [] else sent self.old) }
+        ensures refused { result ≡ false → has_refused self.new };
 }
 
 /// A receiver of counts.
+///
+/// The relation is the type's own: a caller that does not know the type has it of a call alone.
 pub trait CountsTeller {
+    ghost use Rattle.g704_crc4.specs.declared.counting.ReceiverCounts.{ReceiverCounts};
+
+    /// Holds of the counts that it received last.
+    ghost has_told: { Self → ReceiverCounts → Type 0 } = { λ _ _. ⊤ };
+
     /// Receives the counts up to now.
-    fn tell(&mut self, counts: &ReceiverCounts);
+    fn tell(&mut self, counts: &ReceiverCounts)
+        ensures { has_told self.new counts.now };
 }
 
 /// No reports: none come, and none can be sent.
@@ -54,20 +68,27 @@ impl ReportSink for NoReports {
     }
 }
 
-/// A writer of std to which reports go, an octet each. It must never wait.
+/// A writer of std to which reports go, an octet each. It must never wait. If it is known what the writer
+/// holds, that is what it held at the start and the reports.
 #[derive(Drop)]
-pub struct ToReports<W> {
+pub struct ToReports<W: Write> {
     writer: W,
+    start: AtStart<W>,
     log: Log,
+    ghost holds: { (before : List ℕ) → W.contents start.value ≡ Some before
+        → W.contents writer ≡ Some (before ++ log.octets) },
 }
 
-impl<W: Drop> ToReports<W> {
+impl<W: Write + Drop> ToReports<W> {
     /// A receiver of reports at the writer, before the first one.
     pub fn new(writer: W) -> ToReports<W>
-        ensures { result.log.octets ≡ [] }
+        ensures log { result.log.octets ≡ [] }
+        ensures start { result.start.value ≡ writer }
     {
+        let start = AtStart::of(&writer);
         ToReports {
             writer,
+            start,
             log: Log::new(),
         }
     }

@@ -9,7 +9,7 @@ use Rattle.gw_records.specs.Streams.{SourceState, GivesOctets, at_most}
 
 -- the octets read and not consumed
 unfoldable pub held : Reader → List ℕ
-held r = drop r.start (take r.filled r.buffer.items)
+held r = drop r.start (take r.filled r.buffer.value)
 
 -- the distance of a reader from its end: each read and each octet consumed reduces it
 abbrev pub work_left : Reader → ℕ

@@ -1,5 +1,5 @@
 //! When a session reads on, and where the octets that it has not used are kept (`Reader`).
-ghost use Rattle.std.specs.Prelude.{◌≡◌, ◌+◌, ◌<◌, ◌≤◌, [], vec_len, length, take, IfOk, OnErr};
+ghost use Rattle.std.specs.Prelude.{◌≡◌, ◌+◌, ◌<◌, ◌≤◌, [], length, take, IfOk, OnErr};
 ghost use Rattle.gw_records.specs.Streams.{CountsRead, CountsTurn, Refills, GivesOctets};
 ghost use Rattle.gw_records.specs.Records.{is_open};
 
@@ -19,11 +19,11 @@ pub const MAX_READS: u64 = 1 << 62;
 /// The octets read and not yet consumed.
 #[derive(Drop)]
 pub struct Reader {
-    buffer: Vec<u8>,
+    buffer: Box<[u8; BUFFER_LEN]>,
     start: usize,
     filled: usize,
     reads_left: u64,
-    ghost room: { vec_len buffer ≡ 131078 },
+    ghost room: { length buffer.value ≡ 131078 },
     ghost order: { start ≤ filled },
     ghost within: { filled ≤ 131078 },
 }
@@ -71,7 +71,7 @@ impl Reader {
         ensures turns { IfOk result (λ r. r.reads_left ≡ 2 ^ 62) }
     {
         Ok(Reader {
-            buffer: vec![in alloc; 0u8; BUFFER_LEN]?,
+            buffer: Box::new(alloc, [0; BUFFER_LEN])?,
             start: 0,
             filled: 0,
             reads_left: MAX_READS,

@@ -115,7 +115,7 @@ receive_quiet circuit (Err e) room c = refl
 held_next : (n words : ℕ) (datagram : List ℕ) (datagrams : List (List ℕ)) (old new : RecentDatagrams) → 0 < n
     → IsHeld n words datagrams old
     → held_octets new.packets.items ≡ take n (with_next words datagram (held_octets old.packets.items))
-    → n ≤ deque_capacity new.packets → IsHeld n words (datagram ∷ datagrams) new
+    → deque_capacity new.packets ≡ n → IsHeld n words (datagram ∷ datagrams) new
 held_next n words datagram datagrams old new some is next room = record {
   last = rw (next, is.last) (kept n words datagram (last_run words datagrams) some);
   room = room;
@@ -127,7 +127,7 @@ pub held_more : (n : ℕ) (words : List ℕ) (circuit : ℕ) (datagram : List �
     → ((d : RecentDatagrams) → held_octets (slice_index_or new (circuit - 1) d).packets.items
     ≡ take n (with_next (words_at words circuit) datagram
     (held_octets (slice_index_or old (circuit - 1) d).packets.items)))
-    → ((d : RecentDatagrams) → n ≤ deque_capacity (slice_index_or new (circuit - 1) d).packets)
+    → ((d : RecentDatagrams) → deque_capacity (slice_index_or new (circuit - 1) d).packets ≡ n)
     → KeepsOthers circuit old new → AreHeld n words (calls ++ send_call circuit datagram r ∷ []) new
 held_more n words circuit datagram r calls old new some from are own room others = λ i d below.
     rw (latest_first calls (send_call circuit datagram r), sent_here circuit datagram r (i + 1))

@@ -1,5 +1,5 @@
 -- The calls of the ports below, by those of a session.
-use Rattle.std.specs.Prelude.{◌≡◌, ◌≢◌, ◌==◌, ◌+◌, ◌-◌, ◌≤◌, ◌<◌, ◌++◌, if◌then◌else◌, ℕ, List, [], ◌∷◌}
+use Rattle.std.specs.Prelude.{◌≡◌, ◌≢◌, ◌==◌, ◌+◌, ◌-◌, ◌<◌, ◌++◌, if◌then◌else◌, ℕ, List, [], ◌∷◌}
 use Rattle.std.specs.Prelude.{map, flat_map, reverse, take, slice_index, slice_index_or, Some}
 use Rattle.std.specs.VecDeque.{deque_capacity}
 use Rattle.gw_records.specs.Ports.{PortCall, PortsState, Extends, given_by_call, taken_by_call, KeepsReceives}
@@ -55,10 +55,10 @@ held_of circuit held d = held_octets (slice_index_or held (circuit - 1) d).packe
 abbrev pub run_with : List ℕ → ℕ → List ℕ → List RecentDatagrams → RecentDatagrams → List (List ℕ)
 run_with words circuit datagram held d = with_next (words_at words circuit) datagram (held_of circuit held d)
 
--- the queue of a circuit has room for n datagrams
+-- the queue of a circuit has memory for n datagrams
 abbrev pub HasRoom : ℕ → ℕ → List RecentDatagrams → Type 0
 HasRoom n circuit held = (d : RecentDatagrams)
-    → n ≤ deque_capacity (slice_index_or held (circuit - 1) d).packets
+    → deque_capacity (slice_index_or held (circuit - 1) d).packets ≡ n
 
 -- the calls below grew by those of one of the session's
 pub record HasRepeated (n : ℕ) (words : List ℕ) (calls old new : List PortCall) : Type 0 where
@@ -66,10 +66,10 @@ pub record HasRepeated (n : ℕ) (words : List ℕ) (calls old new : List PortCa
   pub grew : new ≡ old ++ more
   pub repeats : Repeats n (words_at words) (reverse calls) (reverse more)
 
--- the last n consecutive datagrams of a circuit are in the queue, the latest first
+-- the last n consecutive datagrams of a circuit are in the queue, the latest first, which has memory for n
 pub record IsHeld (n words : ℕ) (datagrams : List (List ℕ)) (held : RecentDatagrams) : Type 0 where
   pub last : held_octets held.packets.items ≡ take n (last_run words datagrams)
-  pub room : n ≤ deque_capacity held.packets
+  pub room : deque_capacity held.packets ≡ n
 
 -- .. of each circuit, after these calls
 abbrev pub AreHeld : ℕ → List ℕ → List PortCall → List RecentDatagrams → Type 0

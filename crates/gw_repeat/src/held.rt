@@ -29,7 +29,7 @@ fn timestamp_of(datagram: &[u8]) -> u32
 impl RecentDatagrams {
     // An empty queue with room for this many datagrams.
     pub(crate) fn open(alloc: Global, count: u8) -> Result<RecentDatagrams, AllocError>
-        ensures { IfOk result (λ h. (h.packets.items ≡ []) × (count ≤ deque_capacity h.packets)) }
+        ensures { IfOk result (λ h. (h.packets.items ≡ []) × (deque_capacity h.packets ≡ count)) }
     {
         let packets = VecDeque::with_capacity(alloc, usize::from(count))?;
         Ok(RecentDatagrams { packets })
@@ -70,12 +70,12 @@ impl RecentDatagrams {
     pub(crate) fn keep(&mut self, count: u8, words: u8, datagram: &[u8]) -> Option<Packet>
         requires some { 0 < count }
         requires few { length self.old.packets.items ≤ count }
-        requires room { count ≤ deque_capacity self.old.packets }
+        requires room { deque_capacity self.old.packets ≡ count }
         ensures kept { held_octets self.new.packets.items
             ≡ take count (with_next words datagram.now (held_octets self.old.packets.items)) }
         ensures due { held_octets (option_to_list result)
             ≡ drop count (with_next words datagram.now (held_octets self.old.packets.items)) }
-        ensures room { count ≤ deque_capacity self.new.packets }
+        ensures room { deque_capacity self.new.packets ≡ count }
     {
         let Some(packet) = Packet::of(datagram) else {
             self.packets.clear();

@@ -1,7 +1,7 @@
 //! When a datagram of a circuit is sent again, behind a later one (`Repeating`).
 
 ghost use Rattle.std.specs.Prelude.{◌≡◌, ◌<◌, ◌≤◌, ◌-◌, ◌+◌, [], length, drop, vec_len, slice_index};
-ghost use Rattle.std.specs.Prelude.{slice_index_or, take, ℕ, IfOk, IfSome};
+ghost use Rattle.std.specs.Prelude.{slice_index_or, take, ℕ, IfOk, IfSome, vec_capacity};
 ghost use Rattle.gw_records.specs.Ports.{Receives, Sends, CountsFault, KeepsSends, KeepsReceives, IfKnown};
 ghost use Rattle.gw_repeat.specs.declared.held.RecentDatagrams.{RecentDatagrams};
 ghost use Rattle.gw_repeat.specs.Words.{HasPacketWords};
@@ -34,6 +34,7 @@ pub struct Repeating<P: Ports> {
     pub(crate) opened: AtStart<P>,
     pub(crate) log: Log,
     ghost thirty: { vec_len held ≡ 30 },
+    ghost memory: { vec_capacity held ≡ 30 },
     ghost are_held: { AreHeld count words log.calls held.items },
     ghost repeated: { ∥ IfKnown (P.tells opened.value).calls (P.tells ports).calls
         (HasRepeated count words log.calls) ∥₁ },
@@ -45,24 +46,23 @@ pub struct Repeating<P: Ports> {
 #[inline(never)]
 fn send_due<P: Ports>(
     ports: &mut P,
-    held: &mut Vec<RecentDatagrams>,
+    held: &mut [RecentDatagrams],
     count: u8,
     words: &[u8; 30],
     circuit: CircuitNo,
     datagram: &[u8],
 )
-    requires thirty { vec_len held.old ≡ 30 }
+    requires thirty { length held.old ≡ 30 }
     requires some { 0 < count }
     requires few { (d : RecentDatagrams)
-        → length (slice_index_or held.old.items (circuit - 1) d).packets.items ≤ count }
-    requires room { HasRoom count circuit held.old.items }
+        → length (slice_index_or held.old (circuit - 1) d).packets.items ≤ count }
+    requires room { HasRoom count circuit held.old }
     ensures sends { (d : RecentDatagrams) → SendsAgain (P.tells ports.old) (P.tells ports.new) circuit
-        (drop count (run_with words.now circuit datagram.now held.old.items d)) }
-    ensures own { (d : RecentDatagrams) → held_of circuit held.new.items d
-        ≡ take count (run_with words.now circuit datagram.now held.old.items d) }
-    ensures room { HasRoom count circuit held.new.items }
-    ensures others { KeepsOthers circuit held.old.items held.new.items }
-    ensures thirty { vec_len held.new ≡ 30 }
+        (drop count (run_with words.now circuit datagram.now held.old d)) }
+    ensures own { (d : RecentDatagrams) → held_of circuit held.new d
+        ≡ take count (run_with words.now circuit datagram.now held.old d) }
+    ensures room { HasRoom count circuit held.new }
+    ensures others { KeepsOthers circuit held.old held.new }
     ensures in_range { (1 ≤ circuit) × (circuit ≤ 30) }
 {
     let place = usize::from(circuit.get()) - 1;
@@ -98,7 +98,7 @@ impl<P: Ports + Drop> Repeating<P> {
     {
         let mut held = Vec::with_capacity(alloc, CIRCUITS)?;
         for _circuit in 0..CIRCUITS {
-            held.push(RecentDatagrams::open(alloc, count)?)?;
+            held.push_reserved(RecentDatagrams::open(alloc, count)?);
         }
         let opened = AtStart::of(&ports);
         Ok(Repeating {
@@ -152,7 +152,7 @@ impl<P: Ports> Ports for Repeating<P> {
         if self.count > 0 {
             send_due(
                 &mut self.ports,
-                &mut self.held,
+                self.held.as_mut_slice(),
                 self.count,
                 &self.words,
                 circuit,

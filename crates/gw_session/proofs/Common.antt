@@ -72,4 +72,4 @@ pub use Rattle.std.proofs.lemmas.List.Concat.{flat_map-append}
 pub use Rattle.std.proofs.lemmas.Result.{IfOk-weaker, IfErr-weaker, err_from_is_err_and}
 pub use Rattle.std.specs.Io.KnownBytes.{Appends}
 pub use Rattle.std.specs.List.{AllByRecursion}
-pub use Rattle.std.specs.Prelude.{IfOk, ◌≢◌, replicate, MatchResult, vec_len}
+pub use Rattle.std.specs.Prelude.{IfOk, ◌≢◌, replicate, MatchResult}

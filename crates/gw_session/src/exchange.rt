@@ -8,6 +8,7 @@ ghost use Rattle.gw_session.specs.Answers.{code_of};
 ghost use Rattle.gw_session.specs.Exchange.{IsGiven};
 
 use crate::packet_ports::PacketPorts;
+use crate::receive_room::ReceiveRoom;
 use crate::tape::{Batch, OnTape, Tape, batch_arrival, record_octets};
 use g704_cas::CircuitNo;
 use gw_circuit::Datagram;
@@ -53,11 +54,11 @@ pub struct SessionBuffers {
     recorded: usize,
     // What the tape is still to take of the record that is acted on.
     batch: Batch,
-    room: Vec<u8>,
+    room: ReceiveRoom,
 }
 
 impl SessionBuffers {
-    ghost use Rattle.std.specs.Prelude.{◌≡◌, ◌+◌, ◌<◌, ◌≤◌, ◌^◌, ◌++◌, [], length, vec_len, OnOk, OnErr};
+    ghost use Rattle.std.specs.Prelude.{◌≡◌, ◌+◌, ◌<◌, ◌≤◌, ◌^◌, ◌++◌, [], length, OnOk, OnErr};
     ghost use Rattle.gw_records.specs.Outcome.{nothing_counted};
     ghost use Rattle.gw_records.specs.Streams.{CanCount, Puts};
     ghost use Rattle.gw_session.specs.Exchange.{ComesInTurn, SendsPacket, Hearing, ExchangingAll};
@@ -65,11 +66,10 @@ impl SessionBuffers {
     ghost use Rattle.gw_session.specs.World.{state_of, output_of, world_of};
 
     /// Before the first record; a session that answers `at_once` lets nothing wait behind a record.
-    pub fn new(room: Vec<u8>, at_once: bool) -> SessionBuffers
+    pub fn new(room: ReceiveRoom, at_once: bool) -> SessionBuffers
         ensures totals { result.totals ≡ nothing_counted }
         ensures waiting { result.waiting.items ≡ [] }
         ensures at_once { result.at_once ≡ at_once }
-        ensures room { vec_len result.room ≡ vec_len room }
     {
         SessionBuffers {
             totals: NO_TOTALS,
@@ -149,7 +149,6 @@ impl SessionBuffers {
         tape: &mut T,
         heard: &[u8],
     )
-        requires room { O.place ≤ vec_len self.old.room }
         requires short { length heard.now < 2 ^ 16 }
         requires within { self.old.recorded ≤ length heard.now }
         ensures comes { ComesInTurn
@@ -157,7 +156,6 @@ impl SessionBuffers {
             (state_of (O.tells packet_ports.new) gateway.new self.new.totals)
             (taping (T.tells tape.old) self.old.batch.items) (taping (T.tells tape.new) self.new.batch.items)
             heard.now self.old.recorded self.new.recorded }
-        ensures room { vec_len self.new.room ≡ vec_len self.old.room }
         ensures others { self.new ≡ record self.old {
           totals = self.new.totals;
           recorded = self.new.recorded;
@@ -169,12 +167,14 @@ impl SessionBuffers {
             return;
         };
         'receiving: for _turn in 0..MOST_DATAGRAMS {
-            match packet_ports.receive_datagram(circuit, self.room.as_mut_slice()) {
+            match packet_ports.receive_datagram(circuit, self.room.octets.as_mut_slice()) {
                 Ok(Some(n)) => {
                     let fresh = &heard[self.recorded..];
-                    batch_arrival(tape, &mut self.batch, fresh, circuit, &self.room[..n]);
+                    let room = &self.room;
+                    let octets = &room.octets[..n];
+                    batch_arrival(tape, &mut self.batch, fresh, circuit, octets);
                     self.recorded = heard.len();
-                    let _ = give_datagram(gateway, circuit, &self.room[..n], &mut self.totals);
+                    let _ = give_datagram(gateway, circuit, octets, &mut self.totals);
                 }
                 Ok(None) => return,
                 Err(_) => {
@@ -198,7 +198,6 @@ impl SessionBuffers {
     ) -> Result<OnTape, RunFault>
         requires fits { length self.old.answer.items + length octets.now ≤ 65539 }
         requires short { length octets.now < 2 ^ 16 }
-        requires room { O.place ≤ vec_len self.old.room }
         requires writes { CanCount (K.tells sink.old).failures }
         ensures exchanges { ExchangingAll O.spells
             (world_of (O.tells packet_ports.old) gateway.old self.old.totals (T.tells tape.old)
@@ -207,7 +206,6 @@ impl SessionBuffers {
             (K.tells sink.new) self.new.waiting.items)
             octets.now self.old.answer.items self.new.answer.items result }
         ensures at_once { self.new.at_once ≡ self.old.at_once }
-        ensures room { vec_len self.new.room ≡ vec_len self.old.room }
     {
         self.recorded = 0;
         self.batch.clear();

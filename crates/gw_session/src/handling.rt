@@ -89,7 +89,7 @@ fn put_out<K: Sink>(
 }
 
 impl SessionBuffers {
-    ghost use Rattle.std.specs.Prelude.{◌≡◌, ◌+◌, ◌^◌, ◌<◌, ◌≤◌, ◌++◌, length, vec_len, OnOk};
+    ghost use Rattle.std.specs.Prelude.{◌≡◌, ◌+◌, ◌^◌, ◌<◌, ◌≤◌, ◌++◌, length, OnOk};
     ghost use Rattle.gw_records.specs.Records.{Record, IsGood, named};
     ghost use Rattle.gw_records.specs.Streams.{CanCount, Puts, at_most};
     ghost use Rattle.gw_session.specs.Answers.{written_out};
@@ -109,7 +109,6 @@ impl SessionBuffers {
         tape: &mut T,
     ) -> Result<(), RunFault>
         requires short { length body.now < 2 ^ 16 }
-        requires room { O.place ≤ vec_len self.old.room }
         requires writes { CanCount (K.tells sink.old).failures }
         ensures inputs { Inputs O.spells
             (world_of (O.tells packet_ports.old) gateway.old self.old.totals (T.tells tape.old)
@@ -120,7 +119,6 @@ impl SessionBuffers {
         ensures code { OnOk result (self.new.code ≡ 0) }
         ensures few { OnOk result (length self.new.waiting.items ≤ most_waiting self.old.at_once) }
         ensures at_once { self.new.at_once ≡ self.old.at_once }
-        ensures room { vec_len self.new.room ≡ vec_len self.old.room }
     {
         self.totals.records = self.totals.records.saturating_add(1);
         self.totals.octets = self.totals.octets.saturating_add(body.len() as u64);
@@ -152,7 +150,6 @@ impl SessionBuffers {
             ≡ record self.old.totals { records = at_most (self.old.totals.records + 1) } }
         ensures few { OnOk result (length self.new.waiting.items ≤ most_waiting self.old.at_once) }
         ensures at_once { self.new.at_once ≡ self.old.at_once }
-        ensures room { vec_len self.new.room ≡ vec_len self.old.room }
     {
         self.totals.records = self.totals.records.saturating_add(1);
         self.code = code;
@@ -171,7 +168,6 @@ impl SessionBuffers {
         tape: &mut T,
     ) -> Result<(), RunFault>
         requires good { IsGood all_kinds (named head body.now) }
-        requires room { O.place ≤ vec_len self.old.room }
         requires writes { CanCount (K.tells sink.old).failures }
         ensures inputs { Inputs O.spells
             (world_of (O.tells packet_ports.old) gateway.old self.old.totals (T.tells tape.old)
@@ -182,7 +178,6 @@ impl SessionBuffers {
         ensures code { OnOk result (IsCodeAfter gateway.old (named head body.now) self.new.code) }
         ensures few { OnOk result (length self.new.waiting.items ≤ most_waiting self.old.at_once) }
         ensures at_once { self.new.at_once ≡ self.old.at_once }
-        ensures room { vec_len self.new.room ≡ vec_len self.old.room }
     {
         match head {
             RecordHead::Trunk => self.handle_trunk_record(gateway, packet_ports, body, sink, tape),

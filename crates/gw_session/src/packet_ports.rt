@@ -13,8 +13,6 @@ pub trait PacketPorts {
     ghost tells: { Self → PortsState };
     /// What a packet puts in front of the answer.
     ghost spells: { PacketOutput };
-    /// The length of the room that it is lent.
-    ghost place: { ℕ };
 
     /// Takes out the first datagram that waits at a circuit, as [`Ports::receive`] does.
     fn receive_datagram(
@@ -22,7 +20,7 @@ pub trait PacketPorts {
         circuit: CircuitNo,
         room: &mut [u8],
     ) -> Result<Option<usize>, PortFault>
-        requires { place ≤ length room.old }
+        requires { 65536 ≤ length room.old }
         ensures bound { IfOk result (λ got. IfSome got (λ n. n ≤ length room.new)) }
         ensures receives { Receives (tells self.old) (tells self.new) circuit result room.new }
         ensures counts { CountsFault (tells self.old).receive_failures (tells self.new).receive_failures
@@ -57,8 +55,6 @@ impl PacketPorts for InRecords {
 
     ghost spells = { in_record };
 
-    ghost place = { 0 };
-
     #[inline(always)]
     fn receive_datagram(
         &mut self,
@@ -87,8 +83,6 @@ impl<P: Ports> PacketPorts for P {
     ghost tells = { P.tells };
 
     ghost spells = { silent };
-
-    ghost place = { 65536 };
 
     fn receive_datagram(
         &mut self,

@@ -1,5 +1,5 @@
 //! The loop of a session over the records of its source, and how it ends (`process_records`).
-ghost use Rattle.std.specs.Prelude.{◌≡◌, ◌^◌, ◌≤◌, [], vec_len, IfOk, IfErr};
+ghost use Rattle.std.specs.Prelude.{◌≡◌, ◌^◌, ◌≤◌, [], IfOk, IfErr};
 ghost use Rattle.std.specs.Io.KnownBytes.{Appends};
 ghost use Rattle.gw_records.specs.Streams.{CanBegin};
 ghost use Rattle.gw_records.specs.Reader.{held};
@@ -38,7 +38,6 @@ pub fn process_records<O: PacketPorts, S: Source, K: Sink, T: Tape, W: Watch>(
     requires turns { reader.old.reads_left ≡ 2 ^ 62 }
     requires totals { session.old.totals ≡ nothing_counted }
     requires waiting { session.old.waiting.items ≡ [] }
-    requires room { O.place ≤ vec_len session.old.room }
     ensures ok { IfOk result (EndsAll kinds.now
         (S.tells source.old) (S.tells source.new) (K.tells sink.old) (K.tells sink.new)
         (λ totals. WatchedTrace (written_by O.spells)

@@ -6,14 +6,12 @@ ghost use Rattle.gw_session.specs.Serve.{ServesAll, ServesUntil, around};
 
 use crate::exchange::SessionBuffers;
 use crate::processing::process_records;
+use crate::receive_room::ReceiveRoom;
 use crate::tape::{NoTape, Tape};
 use crate::watch::NoWatch;
 use gw_records::{AcceptedKinds, Ports, Reader, RunFault, Sink, Source, Totals};
 use gw_switch::Gateway;
 use std::alloc::Global;
-
-// The octets that any datagram has place in.
-const ROOM_LEN: usize = 65_536;
 
 // The trunk, commands and codecs are read.
 const SERVED: AcceptedKinds = AcceptedKinds {
@@ -95,7 +93,7 @@ pub fn serve_recorded<S: Source, P: Ports, K: Sink, T: Tape>(
     let Ok(mut reader) = Reader::new(alloc) else {
         return Err(RunFault::OutOfMemory);
     };
-    let Ok(room) = vec![in alloc; 0u8; ROOM_LEN] else {
+    let Ok(room) = ReceiveRoom::new(alloc) else {
         return Err(RunFault::OutOfMemory);
     };
     let mut session = SessionBuffers::new(room, true);

@@ -71,6 +71,7 @@ loaded configures apart config octets inner l whole read = record {
   saved = read.saved;
   file = whole ∙ ap (λ (os : List ℕ). summed (mark ++ 1 ∷ os)) read.whole;
   more = read.more;
+  renewals = read.renewals;
   goes_on = λ first old other events stands fits e.
       let same : inner ≡ saved_config old ++ saved_gateway other =
       inner-same octets inner (saved_config old ++ saved_gateway other) whole e in

@@ -1,3 +1,4 @@
 pub mod Layout
 pub mod Loaded
+pub mod Laws
 pub mod Faults

@@ -51,6 +51,7 @@ pub record IsLoaded (config : GatewayConfig) (octets : List ℕ) (loaded : Loade
   pub saved : Gateway
   pub file : octets ≡ state_file loaded.old saved
   pub more : List Event
+  pub renewals : AreRenewals loaded.old config 30 more
   pub goes_on : (first old : GatewayConfig) (other : Gateway) (events : List Event)
       → StandsAs first other events old → ConfigFits old → octets ≡ state_file old other
       → (old ≡ loaded.old) × HasGoneOn first config events more loaded

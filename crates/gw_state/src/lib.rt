@@ -3,6 +3,7 @@
 
 mod fault;
 mod head;
+pub mod laws;
 mod loading;
 mod saving;
 mod settings;

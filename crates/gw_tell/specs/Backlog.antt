@@ -4,4 +4,4 @@ use Rattle.gw_tell.specs.declared.backlog.Backlog.{Backlog}
 
 -- the octets that wait
 unfoldable pub waiting : Backlog → List ℕ
-waiting b = drop b.start (take b.filled b.room.items)
+waiting b = drop b.start (take b.filled b.room.value)

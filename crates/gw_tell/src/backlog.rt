@@ -1,6 +1,6 @@
 //! The octets that a client of `--tell` has not taken yet, and when their room is full (`Backlog`).
 
-ghost use Rattle.std.specs.Prelude.{◌≡◌, ◌+◌, ◌≤◌, ◌++◌, length, take, vec_len};
+ghost use Rattle.std.specs.Prelude.{◌≡◌, ◌+◌, ◌≤◌, ◌++◌, length, take};
 
 use std::alloc::{AllocError, Global};
 
@@ -10,10 +10,10 @@ pub const BACKLOG_LEN: usize = 65_536;
 /// Octets in their order, in room that is taken once.
 #[derive(Drop)]
 pub struct Backlog {
-    room: Vec<u8>,
+    room: Box<[u8; BACKLOG_LEN]>,
     start: usize,
     filled: usize,
-    ghost len: { vec_len room ≡ 65536 },
+    ghost len: { length room.value ≡ 65536 },
     ghost order: { start ≤ filled },
     ghost within: { filled ≤ 65536 },
 }
@@ -41,7 +41,7 @@ impl Backlog {
         ensures { IfOk result (λ b. waiting b ≡ []) }
     {
         Ok(Backlog {
-            room: vec![in alloc; 0u8; BACKLOG_LEN]?,
+            room: Box::new(alloc, [0; BACKLOG_LEN])?,
             start: 0,
             filled: 0,
         })
@@ -90,7 +90,7 @@ impl Backlog {
         requires { self.old.filled + length octets.now ≤ 65536 }
         ensures { waiting self.new ≡ waiting self.old ++ octets.now }
     {
-        put_behind(&mut self.room, self.filled, octets);
+        put_behind(self.room.as_mut_slice(), self.filled, octets);
         self.filled += octets.len();
     }
 

@@ -1,7 +1,7 @@
 //! How each circuit's socket is opened, receives from accepted senders and sends (`UdpPorts`).
 
-ghost use Rattle.std.specs.Prelude.{◌≡◌, ◌≤◌, ℕ, List, vec_len, length, Ok, None, IfOk, IfErr, IfSome};
-ghost use Rattle.std.specs.Prelude.{IsSomeAnd};
+ghost use Rattle.std.specs.Prelude.{◌≡◌, ◌≤◌, ℕ, List, vec_len, vec_capacity, length, Ok, None};
+ghost use Rattle.std.specs.Prelude.{IfOk, IfErr, IfSome, IsSomeAnd};
 ghost use Rattle.std.specs.Prelude.{IsTrue, IsFalse, string_bytes};
 ghost use Rattle.std.specs.IoError.{error_kind};
 ghost use Rattle.gw_records.specs.Ports.{Receives, Sends, CountsFault, KeepsSends, KeepsReceives};
@@ -59,6 +59,7 @@ pub struct UdpPorts<S: Socket> {
     pub(crate) opened: AtStart<Vec<Option<Endpoint<S>>>>,
     pub(crate) log: Log,
     ghost thirty: { vec_len endpoints ≡ 30 },
+    ghost memory: { vec_capacity endpoints ≡ 30 },
     ghost bound: { ∥ AreBound S.is_bound opened.value.items ∥₁ },
     ghost called: { ∥ HasCalled S.receives S.sends log.calls opened.value.items endpoints.items ∥₁ },
 }
@@ -201,16 +202,15 @@ fn receive_from<S: Socket>(
 // it does.
 #[inline]
 fn rests_at<S: Socket>(
-    endpoints: &mut Vec<Option<Endpoint<S>>>,
+    endpoints: &mut [Option<Endpoint<S>>],
     circuit: CircuitNo,
     came: bool,
 ) -> bool
-    requires { vec_len endpoints.old ≡ 30 }
+    requires { length endpoints.old ≡ 30 }
     ensures rests { IsTrue result → (room : List ℕ)
-        → EndpointReceives S.receives circuit endpoints.old.items endpoints.new.items (Ok None) room }
-    ensures stays { IsFalse result → endpoints.new.items ≡ endpoints.old.items }
-    ensures others { KeepsOthers circuit endpoints.old.items endpoints.new.items }
-    ensures thirty { vec_len endpoints.new ≡ 30 }
+        → EndpointReceives S.receives circuit endpoints.old endpoints.new (Ok None) room }
+    ensures stays { IsFalse result → endpoints.new ≡ endpoints.old }
+    ensures others { KeepsOthers circuit endpoints.old endpoints.new }
     ensures some { 1 ≤ circuit }
 {
     match &mut endpoints[usize::from(circuit.get()) - 1] {
@@ -222,16 +222,15 @@ fn rests_at<S: Socket>(
 // Receives at a circuit's socket, by a call of the system.
 #[inline(never)]
 fn ask_at<S: Socket>(
-    endpoints: &mut Vec<Option<Endpoint<S>>>,
+    endpoints: &mut [Option<Endpoint<S>>],
     circuit: CircuitNo,
     room: &mut [u8],
 ) -> Result<Option<usize>, PortFault>
-    requires { vec_len endpoints.old ≡ 30 }
+    requires { length endpoints.old ≡ 30 }
     ensures bound { IfOk result (λ got. IfSome got (λ n. n ≤ length room.new)) }
-    ensures own { EndpointReceives S.receives circuit endpoints.old.items endpoints.new.items
+    ensures own { EndpointReceives S.receives circuit endpoints.old endpoints.new
         result room.new }
-    ensures others { KeepsOthers circuit endpoints.old.items endpoints.new.items }
-    ensures thirty { vec_len endpoints.new ≡ 30 }
+    ensures others { KeepsOthers circuit endpoints.old endpoints.new }
 {
     let at = usize::from(circuit.get()) - 1;
     match &mut endpoints[at] {
@@ -248,17 +247,16 @@ fn ask_at<S: Socket>(
 // Receives at the socket of a circuit. (What asks the system is apart, since most receives do not.)
 #[inline]
 fn receive_at<S: Socket>(
-    endpoints: &mut Vec<Option<Endpoint<S>>>,
+    endpoints: &mut [Option<Endpoint<S>>],
     circuit: CircuitNo,
     came: bool,
     room: &mut [u8],
 ) -> Result<Option<usize>, PortFault>
-    requires { vec_len endpoints.old ≡ 30 }
+    requires { length endpoints.old ≡ 30 }
     ensures bound { IfOk result (λ got. IfSome got (λ n. n ≤ length room.new)) }
-    ensures own { EndpointReceives S.receives circuit endpoints.old.items endpoints.new.items
+    ensures own { EndpointReceives S.receives circuit endpoints.old endpoints.new
         result room.new }
-    ensures others { KeepsOthers circuit endpoints.old.items endpoints.new.items }
-    ensures thirty { vec_len endpoints.new ≡ 30 }
+    ensures others { KeepsOthers circuit endpoints.old endpoints.new }
     ensures some { 1 ≤ circuit }
 {
     if rests_at(endpoints, circuit, came) {
@@ -270,14 +268,13 @@ fn receive_at<S: Socket>(
 // Sends by the socket of a circuit, to its peer.
 #[inline(never)]
 fn send_from<S: Socket>(
-    endpoints: &mut Vec<Option<Endpoint<S>>>,
+    endpoints: &mut [Option<Endpoint<S>>],
     circuit: CircuitNo,
     datagram: &[u8],
 ) -> Result<(), PortFault>
-    requires { vec_len endpoints.old ≡ 30 }
-    ensures own { EndpointSends S.sends circuit endpoints.old.items endpoints.new.items datagram.now result }
-    ensures others { KeepsOthers circuit endpoints.old.items endpoints.new.items }
-    ensures thirty { vec_len endpoints.new ≡ 30 }
+    requires { length endpoints.old ≡ 30 }
+    ensures own { EndpointSends S.sends circuit endpoints.old endpoints.new datagram.now result }
+    ensures others { KeepsOthers circuit endpoints.old endpoints.new }
     ensures some { 1 ≤ circuit }
 {
     let number = usize::from(circuit.get());
@@ -318,10 +315,7 @@ impl<S: Socket> UdpPorts<S> {
                 &ports[usize::from(number) - 1],
                 senders,
             )?;
-            match endpoints.push(endpoint) {
-                Ok(()) => {}
-                Err(_) => return Err(OpenFault::OutOfMemory),
-            }
+            endpoints.push_reserved(endpoint);
         }
         let opened = AtStart::of(&endpoints);
         Ok(UdpPorts {
@@ -358,7 +352,7 @@ impl<S: Socket> Ports for UdpPorts<S> {
         ensures others { KeepsOthers circuit self.old.endpoints.items self.new.endpoints.items }
     {
         let came = self.readiness.came(circuit);
-        let received = receive_at(&mut self.endpoints, circuit, came, room);
+        let received = receive_at(self.endpoints.as_mut_slice(), circuit, came, room);
         self.log.received(circuit, &received, room);
         if received.is_err() {
             self.receive_failed = self.receive_failed.saturating_add(1);
@@ -382,7 +376,7 @@ impl<S: Socket> Ports for UdpPorts<S> {
             datagram.now result }
         ensures others { KeepsOthers circuit self.old.endpoints.items self.new.endpoints.items }
     {
-        let sent = send_from(&mut self.endpoints, circuit, datagram);
+        let sent = send_from(self.endpoints.as_mut_slice(), circuit, datagram);
         self.log.sent(circuit, datagram, &sent);
         if sent.is_err() {
             self.send_failed = self.send_failed.saturating_add(1);

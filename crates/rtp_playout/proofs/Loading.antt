@@ -2,8 +2,9 @@
 use Rattle.std.proofs.Common.{◌≡◌, ℕ, zero, suc, ◌-◌, ◌≤◌, ◌<◌, List, [], ◌∷◌, ◌++◌, length, drop}
 use Rattle.std.proofs.Common.{Option, Some, None, refl, sym, ap, ◌∙◌, arith, append_assoc, slice_index_or}
 use Rattle.std.proofs.Common.{All, IfSome}
+use Rattle.std.proofs.Props.{props}
+use mathlib.Core.HLevel.{is_prop→PathP}
 use Rattle.rtp_playout.specs.declared.playout.Playout.{Playout}
-use Rattle.rtp_playout.specs.declared.playout.RtpStream.{RtpStream}
 use Rattle.circular_buffer.specs.Buffer.{Buffer, buffer, keep_last}
 use Rattle.rtp_playout.specs.Saved.{saved_place}
 use Rattle.saved_octets.proofs.Items.{Tells}
@@ -55,9 +56,11 @@ each-below bound items below = λ k d less.
     (λ word e. below k word (sym (within-same items k d less) ∙ e))
 
 -- a playout by its parts
-pub same-playout : (one other : Playout) (window : Buffer (Option ℕ)) → one.stream ≡ other.stream
-    → one.window ≡ buffer other.window.items other.window.capacity → one.prefill ≡ other.prefill → one ≡ other
-same-playout one other window s w p =
-    ap (λ (n : ℕ). record { window = one.window; prefill = n; stream = one.stream }) p
-    ∙ ap (λ (b : Buffer (Option ℕ)). record { window = b; prefill = other.prefill; stream = one.stream }) w
-    ∙ ap (λ (t : Option RtpStream). record { window = other.window; prefill = other.prefill; stream = t }) s
+pub same-playout : (one other : Playout) → one.stream ≡ other.stream → one.window ≡ other.window
+    → one.prefill ≡ other.prefill → one ≡ other
+same-playout one other stream window prefill = λ i. record {
+  window = window i;
+  prefill = prefill i;
+  stream = stream i;
+  memory = is_prop→PathP (λ j. (window j).capacity ≡ 3200) (λ j. Prim.hlevel props) one.memory other.memory i;
+}

@@ -1,10 +1,10 @@
 -- A playout with a history, one call later.
-use Rattle.std.proofs.Common.{◌≡◌, inl, inr, ℕ, suc, ◌+◌, ◌-◌, ◌%◌, ◌^◌, ◌≤◌, ◌<◌, Bool, true, cond}
-use Rattle.std.proofs.Common.{List, [], ◌∷◌, ◌++◌, length, take, drop, min, max, replicate, Option, Some, None, is_some}
+use Rattle.std.proofs.Common.{◌≡◌, inl, inr, ℕ, zero, suc, ◌+◌, ◌-◌, ◌%◌, ◌^◌, ◌≤◌, ◌<◌, Bool, true, cond}
+use Rattle.std.proofs.Common.{List, [], ◌∷◌, ◌++◌, length, take, drop, min, max, Option, Some, None, is_some}
 use Rattle.std.proofs.Common.{slice_set, get_or, refl, sym, ap, subst, ◌∙◌, arith, length-set, length-drop}
 use Rattle.std.proofs.Common.{length-append, append_assoc}
 use Rattle.std.proofs.lemmas.Bool.{cases_lt}
-use Rattle.std.proofs.lemmas.List.{take-append-drop, get_or-replicate, length-replicate, length-take-le}
+use Rattle.std.proofs.lemmas.List.{take-append-drop, length-take-le}
 use Rattle.std.proofs.lemmas.Option.{slice_get-get_or, slice_get_past}
 use Rattle.std.proofs.Math.Seq.{drop-append-add, take-append_seam}
 use Rattle.circular_buffer.specs.Buffer.{Buffer, buffer, keep_last}
@@ -49,16 +49,14 @@ slot-read size slots p slot e h = ap (packet_from size) (slice_get-get_or slots 
 abbrev pub AllEmpty : List PacketSlot → Type 0
 AllEmpty slots = (size p : ℕ) → packet_of size slots p ≡ None
 
--- as many slots as are asked for hold nothing
-pub empty-slots : (count : ℕ) (slot : PacketSlot) → ((size : ℕ) → packet_in size slot ≡ None)
-    → AllEmpty (replicate count slot)
-empty-slots count slot none size p =
-    let many = length-replicate count slot in
-    elim (cases_lt p count) as (λ _. packet_of size (replicate count slot) p ≡ None) [
-      | inl h ↦ ap (packet_from size) (slice_get-get_or (replicate count slot) p slot (omega arith)
-          ∙ ap Some (get_or-replicate count p slot slot h)) ∙ none size
-      | inr h ↦ ap (packet_from size) (slice_get_past (replicate count slot) p (omega arith))
-    ]
+-- with one more that holds nothing they hold nothing
+pub empty-push : (slots : List PacketSlot) (slot : PacketSlot) → ((size : ℕ) → packet_in size slot ≡ None)
+    → AllEmpty slots → AllEmpty (slots ++ slot ∷ [])
+empty-push [] slot none all size zero = none size
+empty-push [] slot none all size (suc p) = refl
+empty-push (first ∷ slots) slot none all size zero = all size 0
+empty-push (first ∷ slots) slot none all size (suc p) =
+    empty-push slots slot none (λ n q. all n (suc q)) size p
 
 -- .. and so do those that were emptied one by one
 pub emptied-all : (slots : List PacketSlot) (i : ℕ) → length slots ≤ i
@@ -95,7 +93,6 @@ keeps-begun playout after s sequence k settings room empty head fits next reach 
       next_is = next ∙ ap Some number;
       reach_is = reach;
       recent = ap (λ (b : Buffer ℕ). b.items) given ∙ k.recent;
-      capacity = ap (λ (b : Buffer ℕ). b.capacity) given ∙ k.capacity;
       filled_is = filled ∙ k.filled_is;
     }
 
@@ -113,7 +110,6 @@ keeps-new playout room empty start next reach given filled = record {
   next_is = (next, refl);
   reach_is = reach;
   recent = ap (λ (b : Buffer ℕ). b.items) given;
-  capacity = ap (λ (b : Buffer ℕ). b.capacity) given;
   filled_is = filled;
 }
 
@@ -153,7 +149,6 @@ keeps-put playout after s place p slot octets k settings slots head next reach g
           next begun;
       reach_is = omega arith;
       recent = ap (λ (b : Buffer ℕ). b.items) given ∙ k.recent;
-      capacity = ap (λ (b : Buffer ℕ). b.capacity) given ∙ k.capacity;
       filled_is = filled ∙ k.filled_is;
     }
 
@@ -209,10 +204,9 @@ keeps-play playout after s slot k settings slots empty moved next reach given fi
       next_is = rw next (next-moved playout.next s.first s.placed s.now k.next_is);
       reach_is = omega arith;
       recent = ap (λ (b : Buffer ℕ). b.items) given
-          ∙ ap (λ (n : ℕ). keep_last n (playout.given.items ++ octets_now playout.settings s)) k.capacity
+          ∙ ap (λ (n : ℕ). keep_last n (playout.given.items ++ octets_now playout.settings s)) playout.memory.1
           ∙ ap (λ (xs : List ℕ). keep_last 512 (xs ++ octets_now playout.settings s)) k.recent
           ∙ keep-more 512 s.given (octets_now playout.settings s);
-      capacity = ap (λ (b : Buffer ℕ). b.capacity) given ∙ k.capacity;
       filled_is = filled;
     }
 

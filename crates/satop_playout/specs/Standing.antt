@@ -42,7 +42,6 @@ pub record Represents (playout : SatopPlayout) (settings : Settings) (s : Playou
   pub reach_is : playout.reach ≡ reach_from s.placed s.now
   -- the last multiframe of octets, and how many are filled in a row
   pub recent : playout.given.items ≡ keep_last 512 s.given
-  pub capacity : playout.given.capacity ≡ 512
   pub filled_is : playout.filled ≡ min s.filled 2048
 
 -- the playout has these settings and this history of calls

@@ -1,10 +1,10 @@
 //! Whether a SAToP packet is late, a repeat or accepted, and what is played (`SatopPlayout`).
 
-ghost use Rattle.std.specs.Prelude.{◌≡◌, ◌≤◌, ◌<◌, length};
+ghost use Rattle.std.specs.Prelude.{◌≡◌, ◌≤◌, ◌<◌, length, vec_capacity};
 ghost use Rattle.satop_playout.specs.Plays.{number_after};
 
 use crate::filling::{MOST_REPEATED, MULTIFRAME, replace};
-use crate::slot::PacketSlot;
+use crate::slot::{PacketSlot, empty_slots};
 use crate::{ArrivalFault, Settings};
 use circular_buffer::HeapCircularBuffer;
 use std::alloc::{AllocError, Global};
@@ -34,6 +34,7 @@ pub struct SatopPlayout {
     ghost start: { head < settings.window },
     ghost near: { reach ≤ settings.window },
     ghost few: { filled ≤ 2048 },
+    ghost memory: { (vec_capacity slots ≡ settings.window) × (given.capacity ≡ 512) },
 }
 
 impl SatopPlayout {
@@ -53,7 +54,7 @@ impl SatopPlayout {
     {
         Ok(SatopPlayout {
             settings,
-            slots: vec![in alloc; PacketSlot::empty(); settings.window]?,
+            slots: empty_slots(alloc, settings.window)?,
             head: 0,
             next: None,
             reach: 0,

@@ -1,10 +1,11 @@
 //! A slot of the SAToP jitter buffer, with the octets of a packet or nothing (`PacketSlot`).
 
-ghost use Rattle.std.specs.Prelude.{◌≡◌, ◌≤◌, ℕ, length, None, Some, is_some};
+ghost use Rattle.std.specs.Prelude.{◌≡◌, ◌≤◌, ℕ, length, None, Some, is_some, IfOk, vec_capacity};
 ghost use Rattle.satop_playout.specs.Plays.{octets_or_fill};
-ghost use Rattle.satop_playout.specs.Standing.{packet_in};
+ghost use Rattle.satop_playout.specs.Standing.{packet_in, packet_of};
 
 use crate::MAX_SIZE;
+use std::alloc::{AllocError, Global};
 
 // The octets of a packet, if one is held.
 #[derive(Clone, Copy)]
@@ -61,4 +62,17 @@ impl PacketSlot {
         room.copy_from_slice(&self.octets[..room.len()]);
         true
     }
+}
+
+// As many slots that hold nothing, in memory for just these.
+pub(crate) fn empty_slots(alloc: Global, count: usize) -> Result<Vec<PacketSlot>, AllocError>
+    ensures many { IfOk result (λ slots. length slots.items ≡ count) }
+    ensures empty { IfOk result (λ slots. (size p : ℕ) → packet_of size slots.items p ≡ None) }
+    ensures memory { IfOk result (λ slots. vec_capacity slots ≡ count) }
+{
+    let mut slots = Vec::with_capacity(alloc, count)?;
+    for _ in 0..count {
+        slots.push_reserved(PacketSlot::empty());
+    }
+    Ok(slots)
 }

@@ -17,7 +17,6 @@ attending-init g c = (
     none_waits = λ none. ap length c.requires.waiting;
     few = omega (arith, ap length c.requires.waiting);
     at_once = refl;
-    room = c.requires.room;
   },
 )
 
@@ -57,7 +56,6 @@ attending-preserved-in-Ok g c =
         none_waits = λ none. absurd (omega (arith, none, more));
         few = rw w.2.at_once at c.in_ok-handle_record-in-Ok.ensures.few;
         at_once = c.handle_record.ensures.at_once ∙ w.2.at_once;
-        room = omega (arith, w.2.room, c.handle_record.ensures.room);
       },
     )
 
@@ -85,7 +83,6 @@ attending-preserved g c =
         none_waits = λ none. ap length flushed.empty;
         few = omega (arith, ap length flushed.empty);
         at_once = w.2.at_once;
-        room = w.2.room;
       },
     )
 

@@ -1,4 +1,4 @@
-use Rattle.gw_session.proofs.Common.{◌≡◌, ◌≤◌, List, ℕ, length, vec_len, Record, TakesAllButWaiting, written_by}
+use Rattle.gw_session.proofs.Common.{◌≡◌, ◌≤◌, List, ℕ, length, Record, TakesAllButWaiting, written_by}
 use Rattle.gw_session.proofs.Common.{most_waiting}
 use Rattle.gw_session.proofs.Common.{WatchedTrace, InputsShown, nothing_counted, state_of, work_left, Stage}
 use Rattle.gw_session.proofs.processing.process_records.Given as goal
@@ -17,7 +17,6 @@ invariant-attending g l = (octets : List ℕ) × (records : List Record) × reco
   none_waits : length records ≡ 0 → length l.session.waiting.items ≡ 0;
   few : length l.session.waiting.items ≤ most_waiting l.initial.session.at_once;
   at_once : l.session.at_once ≡ l.initial.session.at_once;
-  room : g.O.PacketPorts.place ≤ vec_len l.session.room;
 }
 
 abbrev pub decreases-attending : goal.decreases-attending

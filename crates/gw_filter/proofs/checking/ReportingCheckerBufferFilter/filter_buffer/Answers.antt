@@ -5,5 +5,5 @@ pub returns-clause-stands : goal.returns-clause-stands
 returns-clause-stands g c taken returned s =
     let more = more_checked _ c.filter_all.new.filter _ _ taken returned _ _ s
     (c.filter_all.ensures.stands taken s.checks) (c.filter_all.ensures.replies taken s.checks) in
-    let done = c.report.ensures _ _ more in
+    let done = c.report.ensures.stands _ _ more in
     rw (c.tell.ensures.checker, c.tell.ensures.reported, c.tell.ensures.reports) done

@@ -6,5 +6,6 @@ pub returns-clause-holds : goal.returns-clause-holds
 unfolding held
 returns-clause-holds c =
     let s = c.args.self.now in
-    ap (λ (xs : List ℕ). drop 0 (take (s.filled - s.start) xs)) c.copy_within.ensures.items
-    ∙ moved s.buffer.items s.start s.filled _ (omega arith) (omega (arith, s.room)) refl
+    ap (λ (xs : List ℕ). drop 0 (take (s.filled - s.start) xs))
+    (rw c.deref_mut.ensures.value at c.copy_within.ensures.after)
+    ∙ moved s.buffer.value s.start s.filled _ (omega arith) (omega (arith, s.room)) refl

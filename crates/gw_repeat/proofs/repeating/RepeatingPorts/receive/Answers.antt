@@ -6,6 +6,7 @@ use Rattle.gw_repeat.proofs.repeating.RepeatingPorts.receive.Goals as goal
 pub invariant_of-self : goal.invariant_of-self
 invariant_of-self g c = record {
   thirty = c.args.self.now.thirty;
+  memory = c.args.self.now.memory;
   are_held = rw c.received.ensures (held_still c.args.self.now.count c.args.self.now.words
       (receive_call c.args.circuit c.receive-received.result c.receive-received.new.room) c.args.self.now.log.calls
       c.args.self.now.held.items (receive_quiet c.args.circuit c.receive-received.result c.receive-received.new.room)

@@ -1,6 +1,6 @@
 use Rattle.gw_session.proofs.Common.{◌≡◌, ◌+◌, ◌<◌, ◌++◌, ◌∷◌, [], ap, sym, refl, ◌∙◌, ℕ, List, length, take, drop}
 use Rattle.gw_session.proofs.Common.{get_or, length-append, arith, length-take, take_rest, take_more}
-use Rattle.gw_session.proofs.Common.{err_from_is_err_and, vec_len, take-append-drop}
+use Rattle.gw_session.proofs.Common.{err_from_is_err_and, take-append-drop}
 use Rattle.gw_session.specs.declared.exchange.SessionBuffers.{SessionBuffers}
 use Rattle.gw_session.proofs.PacketsSent.{exchange_is, stops_once}
 use Rattle.gw_session.proofs.Exchanging.{heard_none, heard_more, heard_all, stops_after}
@@ -13,7 +13,7 @@ split_at xs i h =
     sym (take-append-drop (i + 1) xs) ∙ ap (λ (ys : List ℕ). ys ++ drop (i + 1) xs) (take_more xs i 0 h)
 
 pub loop-i-init : goal.loop-i-init
-loop-i-init g c = record { heard = heard_none _ _ _ _ _ c.clear.ensures; at_once = refl; room = refl }
+loop-i-init g c = record { heard = heard_none _ _ _ _ _ c.clear.ensures; at_once = refl }
 
 pub push-requires : goal.push-requires
 push-requires g c =
@@ -55,8 +55,6 @@ loop-i-preserved g c =
           c.loop-i.invariant.heard c.loop-i-test.true q (rw kept at c.push.ensures.items));
       at_once = ap (λ (s : SessionBuffers). s.at_once) c.receive_octet.ensures.others
           ∙ ap (λ (s : SessionBuffers). s.at_once) c.receive_next.ensures.others ∙ c.loop-i.invariant.at_once;
-      room = ap (λ (s : SessionBuffers). vec_len s.room) c.receive_octet.ensures.others ∙ c.receive_next.ensures.room
-          ∙ c.loop-i.invariant.room;
     }
 
 pub returns-in_err-sent-clause-at_once : goal.returns-in_err-sent-clause-at_once

@@ -1,4 +1,4 @@
-use Rattle.gw_session.proofs.Common.{◌≡◌, vec_len, world_of}
+use Rattle.gw_session.proofs.Common.{◌≡◌, world_of}
 use Rattle.gw_session.proofs.Exchanging.{HeardSo}
 use Rattle.gw_session.proofs.exchange.SessionBuffers.exchange_all.Given as goal
 
@@ -11,5 +11,4 @@ invariant-loop-i g l = record {
       (g.T.Tape.tells l.tape) (g.K.Sink.tells l.sink) l.self.waiting.items)
       l.self.batch.items l.octets l.i l.self.recorded l.initial.self.answer.items l.self.answer.items;
   at_once : l.self.at_once ≡ l.initial.self.at_once;
-  room : vec_len l.self.room ≡ vec_len l.initial.self.room;
 }

@@ -1,6 +1,5 @@
-use Rattle.gw_session.proofs.Common.{◌≡◌, inl, inr, ◌<◌, ◌++◌, ◌∷◌, [], refl, ap, ◌∙◌, length, take, arith, ◌-◌, drop}
+use Rattle.gw_session.proofs.Common.{◌≡◌, inl, inr, ◌<◌, ◌++◌, ◌∷◌, [], refl, length, take, arith, ◌-◌, drop}
 use Rattle.gw_session.proofs.Common.{length-append, take_rest, Stop, rules}
-use Rattle.gw_records.proofs.Buffers.{kept}
 use Rattle.gw_session.proofs.Turns.{Extends-none}
 use Rattle.gw_session.proofs.Receiving.{receiving_none, receiving_more, comes_so, comes_nothing}
 use Rattle.gw_session.proofs.Taping.{behind_none, behind_more}
@@ -13,7 +12,6 @@ returns-in_default-clause-comes g c =
 pub receiving-init : goal.receiving-init
 receiving-init g c = record {
   receiving = ([], refl, receiving_none _ _, behind_none _ _ _ c.requires.within);
-  room = refl;
   others = refl;
 }
 
@@ -21,18 +19,11 @@ pub receiving-preserved : goal.receiving-preserved
 receiving-preserved g c =
     let w = c.receiving.invariant.receiving in
     let recorded = c.receiving.self.recorded in
-    let room = c.receiving.self.room in
     let items = c.receive_datagram.new.room in
     let n = c.in-Ok-Some.n in
     let r = rw c.in-Ok-Some.field-0-is at c.in-Ok-Some.ensures.receives in
-    let whole = kept room.len items (drop (length items) room.items) (omega (
-      arith,
-      room.ok.0,
-      c.receive_datagram.auto.room,
-      ap length c.as_mut_slice.ensures.value,
-    )) in
-    let said = rw (c.deref.ensures.value ∙ whole) at c.batch_arrival.ensures in
-    let given = rw (c.deref-in-Ok-Some.ensures.value ∙ whole) at c.give_datagram.ensures.given in
+    let said = rw c.deref.ensures at c.batch_arrival.ensures in
+    let given = rw c.deref.ensures at c.give_datagram.ensures.given in
     let fresh : take (length c.args.heard.now - recorded) (drop recorded c.args.heard.now)
     ≡ drop recorded c.args.heard.now = take_rest c.args.heard.now recorded in
     record {
@@ -44,7 +35,6 @@ receiving-preserved g c =
             c.give_datagram.ensures.others,
         behind_more _ _ _ _ _ _ _ _ _ w.0 _ w.3 fresh refl said,
       );
-      room = c.receiving.invariant.room;
       others = search rules;
     }
 

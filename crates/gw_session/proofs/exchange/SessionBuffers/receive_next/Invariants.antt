@@ -1,4 +1,4 @@
-use Rattle.gw_session.proofs.Common.{◌≡◌, ℕ, List, length, Some, vec_len, of_circuit, coming, Receiving, RecordsBehind}
+use Rattle.gw_session.proofs.Common.{◌≡◌, ℕ, List, length, Some, of_circuit, coming, Receiving, RecordsBehind}
 use Rattle.gw_session.proofs.Common.{state_of, taping}
 use Rattle.gw_session.proofs.exchange.SessionBuffers.receive_next.Given as goal
 
@@ -10,7 +10,6 @@ invariant-receiving g l = record {
       × RecordsBehind (taping (g.T.Tape.tells l.initial.tape) l.initial.self.batch.items)
       (taping (g.T.Tape.tells l.tape) l.self.batch.items) l.heard l.initial.self.recorded l.self.recorded
       (coming (of_circuit (Some l.circuit) came));
-  room : vec_len l.self.room ≡ vec_len l.initial.self.room;
   others : l.self ≡ record l.initial.self {
     totals = l.self.totals;
     recorded = l.self.recorded;

@@ -26,7 +26,8 @@ loop-number-preserved g c =
     record {
       some = omega arith;
       len = search rules;
-      own = rw (count, c.in-Ok-push.ensures.items) (one_more g.S.Socket.is_bound SystemLooksUp c.args.host.now
+      memory = search rules;
+      own = rw (count, c.push_reserved.ensures.items) (one_more g.S.Socket.is_bound SystemLooksUp c.args.host.now
           c.args.senders c.args.ports.now c.loop-number.endpoints.items _ _ (c.loop-number.number - 1)
           (omega (arith, c.loop-number.invariant.len, c.loop-number.endpoints.ok))
           (λ d. rw (← c.from.ensures) (get_or_default c.args.ports.now (c.from.result - 1) d
@@ -37,6 +38,7 @@ loop-number-preserved g c =
 pub invariant_of-result : goal.invariant_of-result
 invariant_of-result g c = record {
   thirty = omega (arith, c.loop-number.invariant.len, c.loop-number-test.false, c.loop-number.auto.number-end);
+  memory = c.loop-number.invariant.memory;
   bound = ∣ rw c.of-opened.ensures (are_bound g.S.Socket.is_bound SystemLooksUp c.args.host.now c.args.senders
       c.args.ports.now c.loop-number.endpoints.items (c.loop-number.number - 1) (search rules)
       c.loop-number.invariant.own) ∣₁;

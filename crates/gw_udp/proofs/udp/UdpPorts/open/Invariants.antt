@@ -1,5 +1,5 @@
 use Rattle.std.proofs.Common.{◌≡◌, ◌+◌, ◌-◌, ◌≤◌}
-use Rattle.std.specs.Prelude.{vec_len}
+use Rattle.std.specs.Prelude.{vec_len, vec_capacity}
 use Rattle.gw_udp.specs.Names.{SystemLooksUp}
 use Rattle.gw_udp.specs.Udp.{HasEndpoints}
 use Rattle.gw_udp.proofs.udp.UdpPorts.open.Given as goal
@@ -9,5 +9,6 @@ abbrev pub invariant-loop-number : goal.invariant-loop-number
 invariant-loop-number g l = record {
   some : 1 ≤ l.number;
   len : vec_len l.endpoints + 1 ≡ l.number;
+  memory : vec_capacity l.endpoints ≡ 30;
   own : HasEndpoints g.S.Socket.is_bound SystemLooksUp l.host l.senders l.ports l.endpoints.items (l.number - 1);
 }

@@ -15,9 +15,8 @@ pub returns-then-is_none-clause-loaded : goal.returns-then-is_none-clause-loaded
 unfolding saved_playout
 returns-then-is_none-clause-loaded c = λ other prefill calls before rest stood below fits stands e.
     let one = keeps-of other prefill calls stood in
-    let mine = keeps-of c.args.self.now prefill before stands in
     let told = c.load_parts-loaded.ensures.loaded other.stream other.window.items rest fits
-    (one.places ∙ sym mine.room) (each-below c.args.bound other.window.items below.each) e in
+    (one.places ∙ sym c.args.self.now.memory) (each-below c.args.bound other.window.items below.each) e in
     absurd (not-none c.load_parts-loaded.result c.is_none.result told.0 c.is_none.ensures c.if-is_none.true)
 
 -- a result that is none says so of what was emptied
@@ -30,8 +29,7 @@ returns-then-is_none-clause-none c = λ prefill before stands.
     let mine = keeps-of c.args.self.now prefill before stands in
     if-emptied c.load_parts-loaded.result _
     (stands-nothing _ prefill c.load_parts-loaded.new.self.window.capacity
-    (c.load_parts-loaded.ensures.prefill ∙ mine.prefill_is) (c.load_parts-loaded.ensures.room ∙ mine.room)
-    c.empty.ensures refl)
+    (c.load_parts-loaded.ensures.prefill ∙ mine.prefill_is) c.empty.ensures refl)
 
 pub returns-then-is_none-clause-none_below : goal.returns-then-is_none-clause-none_below
 returns-then-is_none-clause-none_below c = λ any.
@@ -45,10 +43,10 @@ returns-else-is_none-clause-loaded c = λ other prefill calls before rest stood 
     let one = keeps-of other prefill calls stood in
     let mine = keeps-of c.args.self.now prefill before stands in
     let told = c.load_parts-loaded.ensures.loaded other.stream other.window.items rest fits
-    (one.places ∙ sym mine.room) (each-below c.args.bound other.window.items below.each) e in
-    let room : c.args.self.now.window.capacity ≡ other.window.capacity = mine.room ∙ sym one.room in (
+    (one.places ∙ sym c.args.self.now.memory) (each-below c.args.bound other.window.items below.each) e in
+    let room : c.args.self.now.window.capacity ≡ other.window.capacity = c.args.self.now.memory ∙ sym other.memory in (
       told.0,
-      same-playout c.load_parts-loaded.new.self other other.window told.1
+      same-playout c.load_parts-loaded.new.self other told.1
           (told.2 ∙ ap (λ (n : ℕ). buffer other.window.items n) room)
           (c.load_parts-loaded.ensures.prefill ∙ mine.prefill_is ∙ sym one.prefill_is),
       told.3,
