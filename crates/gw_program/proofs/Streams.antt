@@ -1,5 +1,5 @@
 -- Commands on new streams.
-use Rattle.std.proofs.Common.{◌≡◌, ◌⊎◌, inl, inr, ℕ, Bool, List, [], Option, None, Some, Result, Err, refl, sym, subst}
+use Rattle.std.proofs.Common.{◌≡◌, ◌⊎◌, inl, inr, ℕ, List, [], Option, None, Some, Result, Err, refl, sym, subst}
 use Rattle.std.specs.Prelude.{⊤, option_map}
 use Rattle.gw_config.specs.declared.config.Config.{Config}
 use Rattle.gw_records.specs.declared.outcome.Totals.{Totals}
@@ -177,7 +177,7 @@ module _ (s s' : SourceState) (k k' : SinkState) {P T : Type 0} (reads : Config 
 
     -- a trunk that was served on new streams, and what was sent went in time
     pub trunk_served : {S K : Type 0} {x x' : S} {y y' : K} (passed : Traffic) (went : List ℕ) (discarded : ℕ)
-        (was_slow : Bool) → ∥ GoesInTime passed.went went discarded was_slow ∥₁
+        (slow_waits : ℕ) → ∥ GoesInTime passed.went went discarded slow_waits ∥₁
         → NotBegun x x' y y' lacks told ⊎ HasConfig reads (λ config. NotBegun x x' y y' (lacks_gateway config) told
         ⊎ HasGateway (starts config) (λ gateway gateway'. NotBegun x x' y y' (lacks_more config) told
         ⊎ HasServed (opens config) begins (λ ports ports' tape tape'. EndedSaved (λ end. CarriesTrunk
@@ -185,9 +185,9 @@ module _ (s s' : SourceState) (k k' : SinkState) {P T : Type 0} (reads : Config 
         passed end gateway gateway') (saves config gateway') told)))
         → (x' ≡ x → s' ≡ s) → (y' ≡ y → k' ≡ k)
         → s.reads ≡ 0 → s.given ≡ Some [] → s.failures ≡ 0 → k.failures ≡ 0 → ServesTrunk command told
-    trunk_served passed went discarded was_slow goes (inl n) f g a b c d =
+    trunk_served passed went discarded slow_waits goes (inl n) f g a b c d =
         on_new s s' k k' (inl (told_untouched f g n)) a b c d
-    trunk_served passed went discarded was_slow goes (inr h) f g a b c d = elim h.done [
+    trunk_served passed went discarded slow_waits goes (inr h) f g a b c d = elim h.done [
       | inl n ↦ on_new s s' k k' (inl (told_untouched f g n)) a b c d
       | inr w ↦ elim w.done [
         | inl n ↦ on_new s s' k k' (inl (told_untouched f g n)) a b c d
@@ -201,7 +201,7 @@ module _ (s s' : SourceState) (k k' : SinkState) {P T : Type 0} (reads : Config 
                 done = saved_told h.config w.gateway' v.done;
                 went = went;
                 discarded = discarded;
-                was_slow = was_slow;
+                slow_waits = slow_waits;
                 goes = goes;
               }));
         }

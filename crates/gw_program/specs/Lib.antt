@@ -10,3 +10,4 @@ pub mod Filters
 pub mod Trunks
 pub mod Satop
 pub mod Requests
+pub mod Continuing

@@ -1,5 +1,5 @@
 -- What was done of what the command line asks for (module `requests`).
-use Rattle.std.specs.Prelude.{◌≡◌, ◌≢◌, ◌⊎◌, ⊤, ℕ, List, [], Option, Some, None, Bool, Result, Err, IfOk}
+use Rattle.std.specs.Prelude.{◌≡◌, ◌≢◌, ◌⊎◌, ⊤, ℕ, List, [], Option, Some, None, Result, Ok, Err, IfOk}
 use Rattle.std.specs.Prelude.{IfErr}
 use Rattle.std.specs.Prelude.{MatchResult, MatchOption, codes}
 use Rattle.clap.specs.Words.{Row}
@@ -22,6 +22,7 @@ use Rattle.gw_program.specs.Satop.{CommandLine, DoesSatop}
 use Rattle.gw_program.specs.Setup.{IsConfigAt}
 use Rattle.gw_program.specs.Sessions.{HasGateway, Runs, Serves, Checks}
 use Rattle.gw_program.specs.State.{BeginsWaiting, IsSaved}
+use Rattle.gw_program.specs.Status.{program_fault_status}
 use Rattle.gw_trunk.specs.Serving.{Traffic}
 use Rattle.gw_program.specs.Trunks.{CarriesTrunk}
 use Rattle.gw_trunk.specs.Multiframes.{GoesInTime}
@@ -141,8 +142,8 @@ pub record HasTrunk (does : Traffic → Type 0) : Type 0 where
   pub done : does passed
   pub went : List ℕ
   pub discarded : ℕ
-  pub was_slow : Bool
-  pub goes : ∥ GoesInTime passed.went went discarded was_slow ∥₁
+  pub slow_waits : ℕ
+  pub goes : ∥ GoesInTime passed.went went discarded slow_waits ∥₁
 
 -- the trunk that the command names was served with this result
 abbrev pub ServesTrunk : CommandLine → Result Totals ProgramFault → Type 0
@@ -156,3 +157,14 @@ Performs command told = HasRequest command (by_request (λ job. DoesJob job told
     (λ filter. RunsFilter (reports_in command) filter told) (ChecksCrc4 (reports_in command) told)
     (λ session. DoesSession command session told) (ServesTrunk command told) (DoesSatop command told))
     ⊎ NoRequest command told
+
+-- the status at a result
+abbrev pub told_status : Result Totals ProgramFault → ℕ
+told_status (Ok totals) = 0
+told_status (Err program_fault) = program_fault_status program_fault
+
+-- what the command asks for was done, and this is the status of its result
+pub record ExitsWith (command : CommandLine) (status : ℕ) : Type 0 where
+  pub told : Result Totals ProgramFault
+  pub performs : Performs command told
+  pub status_is : status ≡ told_status told

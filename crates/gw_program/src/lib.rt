@@ -3,6 +3,7 @@
 
 mod filters;
 mod jobs;
+pub mod laws;
 mod listing;
 mod performing;
 mod program_fault;

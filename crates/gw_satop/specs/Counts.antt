@@ -1,5 +1,5 @@
 -- What an emulated circuit counts (module `counts`).
-use Rattle.std.specs.Prelude.{ℕ, ◌+◌, ◌-◌, ◌^◌, ◌&&◌, not, nat_lt, min, Bool, if◌then◌else◌}
+use Rattle.std.specs.Prelude.{◌≡◌, ◌⊎◌, ◌<◌, ℕ, ◌+◌, ◌-◌, ◌^◌, ◌&&◌, not, nat_lt, min, Bool, if◌then◌else◌}
 use Rattle.std.specs.Prelude.{Option, Some, None}
 use Rattle.satop_packet.specs.declared.Control.{Control}
 use Rattle.satop_playout.specs.declared.ArrivalFault.{ArrivalFault}
@@ -88,3 +88,9 @@ counts_by_sending c taken = record c {
   sent = more_if taken c.sent;
   unsent = more_if (not taken) c.unsent;
 }
+
+-- Counts are reported if they are others than those that were reported last, and a second has passed since.
+abbrev pub ReportsChanges : ℕ → Counts → Counts × ℕ → (Counts → Type 0) → Counts × ℕ → Type 0
+ReportsChanges now counts last has_told result =
+    ((result ≡ last) × ((counts ≡ last.0) ⊎ (now - last.1 < 1000000)))
+    ⊎ ((result ≡ (counts, now)) × has_told counts)

@@ -1,5 +1,6 @@
 -- What the socket of a far end did (module `peer`).
-use Rattle.std.specs.Prelude.{◌≡◌, ℕ, List, [], ◌∷◌, take, flat_map, Option, Some, None, Result, Ok, Err}
+use Rattle.std.specs.Prelude.{◌≡◌, ◌⊎◌, ℕ, Bool, List, [], ◌∷◌, take, flat_map, Option, Some, None}
+use Rattle.std.specs.Prelude.{Result, Ok, Err, is_ok}
 use Rattle.std.specs.declared.net.socket_addr.SocketAddr.{SocketAddr}
 use Rattle.gw_records.specs.declared.ports.PortFault.{PortFault}
 use Rattle.gw_udp.specs.Socket.{Bound, KeepsBound, Received, ReceivesAny, Sent}
@@ -44,6 +45,18 @@ IsCalled how there SocketCall.Failed old new =
 IsCalled how there (SocketCall.Given octets) old new =
     (answer : Result (Unit {0}) PortFault) × how.sends old new there octets answer
 IsCalled how there SocketCall.Watched old new = KeepsBound how.is_bound old new
+
+-- the last call of a socket was a receive that found none, or failed
+abbrev pub HasFoundNone : {S : Type 0} → Received S → S → Type 0
+HasFoundNone {S} receives socket = (before : S) × (room : List ℕ)
+    × (ReceivesAny receives before socket (Ok None) room
+    ⊎ ((fault : PortFault) × ReceivesAny receives before socket (Err fault) room))
+
+-- the last call of a socket sent a datagram to this address, and this is whether the system took it
+abbrev pub WasTaken : {S : Type 0} → Sent S → SocketAddr → S → Bool → Type 0
+WasTaken {S} sends there socket taken = (before : S) × (octets : List ℕ)
+    × (answer : Result (Unit {0}) PortFault)
+    × sends before socket there octets answer × (taken ≡ is_ok answer)
 
 -- .. one call after another
 abbrev pub AreCalled : {S : Type 0} → Relations S → SocketAddr → List SocketCall → S → S

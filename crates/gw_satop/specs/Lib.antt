@@ -7,5 +7,6 @@ pub mod Sending
 pub mod Line
 pub mod Turns
 pub mod Session
+pub mod Doing
 pub mod Opening
 pub mod FarEnd

@@ -1,6 +1,8 @@
 //! The loop of `satop` until its trunk ends, and when its counts are reported (`carry_satop`).
 
-ghost use Rattle.std.specs.Prelude.{◌≡◌, ◌++◌, [], IfOk};
+ghost use Rattle.std.specs.Prelude.{◌≡◌, ◌++◌, [], ℕ, IfOk, ⊤};
+ghost use Rattle.gw_satop.specs.Counts.{ReportsChanges};
+ghost use Rattle.gw_satop.specs.Doing.{HearsAll};
 ghost use Rattle.gw_satop.specs.Session.{HasSettings, PlaysAll, SendsAll};
 
 use crate::circuit::SatopCircuit;
@@ -11,16 +13,29 @@ use gw_trunk::{DeviceFault, TrunkInput, TrunkOutput};
 // Counts are reported so often at most.
 const REPORT_US: u64 = 1_000_000;
 
-/// What an emulated circuit has of the system besides its devices. Nothing that is proved rests on it.
+/// What an emulated circuit has of the system besides its devices.
+///
+/// The relations are the type's own: a caller that does not know the type has them of a call alone.
 pub trait Clock {
+    ghost use Rattle.gw_satop.specs.declared.counts.Counts.{Counts};
+
+    /// The time that it told last.
+    ghost time: { Self → ℕ };
+
+    /// Holds of the counts that it reported last.
+    ghost has_told: { Self → Counts → Type 0 } = { λ _ _. ⊤ };
+
     /// The time, in microseconds of one clock.
-    fn now(&mut self) -> u64;
+    fn now(&mut self) -> u64
+        ensures { result ≡ time self.new };
 
     /// Waits until something may have come, or for this time.
     fn wait(&mut self, until: u64);
 
     /// Reports counts. It never waits.
-    fn report(&mut self, counts: &Counts);
+    fn report(&mut self, counts: &Counts)
+        ensures time { time self.new ≡ time self.old }
+        ensures told { has_told self.new counts.now };
 }
 
 // Reports the counts if they have changed, at most once a second. Returns those reported last, and when.
@@ -29,7 +44,10 @@ fn report_changes<M: Clock>(
     now: u64,
     counts: Counts,
     last: (Counts, u64),
-) -> (Counts, u64) {
+) -> (Counts, u64)
+    ensures reports { ReportsChanges now counts last (M.has_told moments.new) result }
+    ensures time { M.time moments.new ≡ M.time moments.old }
+{
     if counts == last.0 || now.saturating_sub(last.1) < REPORT_US {
         return last;
     }
@@ -59,6 +77,9 @@ pub fn carry_satop<I: TrunkInput, O: TrunkOutput, P: Peer, M: Clock>(
         circuit.old.sender circuit.new.sender circuit.old.pace circuit.new.pace }
     ensures whole { IfOk result (λ _. circuit.new.left.items ≡ []) }
     ensures ended { IfOk result (λ _. I.has_ended circuit.new.incoming) }
+    ensures hears { IfOk result (λ _. (before : P) × HearsAll P.received P.has_none before circuit.new.peer) }
+    ensures told { IfOk result (λ _. M.has_told moments.new circuit.new.counts) }
+    ensures time { IfOk result (λ _. circuit.new.pace.counted ≡ M.time moments.new) }
 {
     let mut last = (circuit.counts(), moments.now());
     for _turn in 0..u64::MAX {

@@ -1,8 +1,10 @@
 //! A turn of an emulated circuit: receives, plays what is due, sends (`SatopCircuit`).
 
-ghost use Rattle.std.specs.Prelude.{◌≡◌, ◌++◌, ◌<◌, ◌≤◌, [], ℕ, Bool, List, length, drop, true, nat_lt, IfOk};
+ghost use Rattle.std.specs.Prelude.{◌≡◌, ◌++◌, ◌∷◌, ◌+◌, ◌<◌, ◌≤◌, [], ℕ, Bool, List, length, drop};
+ghost use Rattle.std.specs.Prelude.{true, false, nat_lt, IfOk, IfErr};
 ghost use Rattle.gw_satop.specs.declared.line.Receiver.{Receiver};
 ghost use Rattle.gw_satop.specs.declared.pace.PlayClock.{PlayClock};
+ghost use Rattle.gw_satop.specs.Doing.{HasReadTrunk, HearsAll, PlaysDue};
 ghost use Rattle.gw_satop.specs.Session.{HasSettings, PlaysAll, SendsAll};
 ghost use Rattle.gw_satop.specs.Counts.{counts_by_play, no_counts};
 ghost use Rattle.gw_satop.specs.Line.{HasPlayed};
@@ -95,6 +97,8 @@ fn play_into(
     ensures settings { receiver.new.settings ≡ receiver.old.settings }
     ensures rtp { receiver.new.rtp ≡ receiver.old.rtp }
     ensures timing { pace.new.timing ≡ pace.old.timing }
+    ensures time { pace.new.counted ≡ pace.old.counted }
+    ensures left { length left.new.items ≡ length room.new }
     ensures plays { (flags : List Bool) (received : List (List ℕ)) (went : List ℕ)
         → PlaysAll receiver.old pace.old counts.old flags received (went ++ left.old.items)
         → PlaysAll receiver.new pace.new counts.new flags received (went ++ left.new.items) }
@@ -191,6 +195,11 @@ impl<I: TrunkInput, O: TrunkOutput, P: Peer> SatopCircuit<I, O, P> {
     fn advance(&mut self, now: u64)
         ensures same { HasSettings self.old.receiver self.new.receiver self.old.sender self.new.sender
             self.old.pace self.new.pace }
+        ensures time { self.new.pace.counted ≡ now }
+        ensures peer { self.new.peer ≡ self.old.peer }
+        ensures incoming { self.new.incoming ≡ self.old.incoming }
+        ensures octets { O.went self.new.outgoing ++ self.new.left.items
+            ≡ O.went self.old.outgoing ++ self.old.left.items }
     {
         self.pace.advance(now);
     }
@@ -199,6 +208,14 @@ impl<I: TrunkInput, O: TrunkOutput, P: Peer> SatopCircuit<I, O, P> {
     fn hear(&mut self) -> bool
         ensures same { HasSettings self.old.receiver self.new.receiver self.old.sender self.new.sender
             self.old.pace self.new.pace }
+        ensures heard { result ≡ true → (datagram : List ℕ)
+            × (P.received self.new.peer ≡ P.received self.old.peer ++ datagram ∷ []) }
+        ensures none { result ≡ false → P.has_none self.new.peer
+            × (P.received self.new.peer ≡ P.received self.old.peer) }
+        ensures time { self.new.pace.counted ≡ self.old.pace.counted }
+        ensures incoming { self.new.incoming ≡ self.old.incoming }
+        ensures octets { O.went self.new.outgoing ++ self.new.left.items
+            ≡ O.went self.old.outgoing ++ self.old.left.items }
     {
         let mut room = [0u8; ROOM_LEN];
         let Some(n) = self.peer.receive(&mut room) else {
@@ -220,6 +237,10 @@ impl<I: TrunkInput, O: TrunkOutput, P: Peer> SatopCircuit<I, O, P> {
         ensures incoming { self.new.incoming ≡ self.old.incoming }
         ensures receiver { self.new.receiver ≡ self.old.receiver }
         ensures pace { self.new.pace ≡ self.old.pace }
+        ensures counts { self.new.counts ≡ self.old.counts }
+        ensures peer { self.new.peer ≡ self.old.peer }
+        ensures octets { O.went self.new.outgoing ++ self.new.left.items
+            ≡ O.went self.old.outgoing ++ self.old.left.items }
     {
         put_out(&mut self.outgoing, &mut self.left)
     }
@@ -241,6 +262,11 @@ impl<I: TrunkInput, O: TrunkOutput, P: Peer> SatopCircuit<I, O, P> {
             self.old.pace.counted (reach_after self.old.receiver.settings calls) read_all ≡ true }
         ensures same { HasSettings self.old.receiver self.new.receiver self.old.sender self.new.sender
             self.old.pace self.new.pace }
+        ensures time { self.new.pace.counted ≡ self.old.pace.counted }
+        ensures peer { self.new.peer ≡ self.old.peer }
+        ensures incoming { self.new.incoming ≡ self.old.incoming }
+        ensures outgoing { self.new.outgoing ≡ self.old.outgoing }
+        ensures left { length self.new.left.items ≡ self.old.receiver.settings.size }
     {
         let mut room = [0u8; MAX_SIZE];
         let size = self.receiver.size();
@@ -260,6 +286,11 @@ impl<I: TrunkInput, O: TrunkOutput, P: Peer> SatopCircuit<I, O, P> {
             self.old.pace.counted (reach_after self.old.receiver.settings calls) read_all ≡ true }
         ensures same { HasSettings self.old.receiver self.new.receiver self.old.sender self.new.sender
             self.old.pace self.new.pace }
+        ensures time { self.new.pace.counted ≡ self.old.pace.counted }
+        ensures peer { self.new.peer ≡ self.old.peer }
+        ensures incoming { self.new.incoming ≡ self.old.incoming }
+        ensures octets { IfOk result (λ _. length (O.went self.new.outgoing ++ self.new.left.items)
+            ≡ length (O.went self.old.outgoing ++ self.old.left.items) + self.old.receiver.settings.size) }
     {
         self.flush()?;
         self.play_next(read_all);
@@ -270,6 +301,14 @@ impl<I: TrunkInput, O: TrunkOutput, P: Peer> SatopCircuit<I, O, P> {
     fn play_due(&mut self, read_all: bool) -> Result<(), DeviceFault>
         ensures same { HasSettings self.old.receiver self.new.receiver self.old.sender self.new.sender
             self.old.pace self.new.pace }
+        ensures time { self.new.pace.counted ≡ self.old.pace.counted }
+        ensures peer { self.new.peer ≡ self.old.peer }
+        ensures incoming { self.new.incoming ≡ self.old.incoming }
+        ensures plays { IfOk result (λ _. PlaysDue self.new.receiver self.new.pace read_all
+            self.old.receiver.settings.size (O.went self.old.outgoing ++ self.old.left.items)
+            (O.went self.new.outgoing ++ self.new.left.items)) }
+        ensures grows { IfOk result (λ _. length (O.went self.old.outgoing ++ self.old.left.items)
+            ≤ length (O.went self.new.outgoing ++ self.new.left.items)) }
     {
         for _play in 0..MOST_PLAYS {
             if !self.is_due(read_all) {
@@ -285,6 +324,13 @@ impl<I: TrunkInput, O: TrunkOutput, P: Peer> SatopCircuit<I, O, P> {
         ensures same { HasSettings self.old.receiver self.new.receiver self.old.sender self.new.sender
             self.old.pace self.new.pace }
         ensures ended { IfOk result (λ ended. ended ≡ true → I.has_ended self.new.incoming) }
+        ensures reads { IfOk result (HasReadTrunk I.came I.has_none self.old.incoming self.new.incoming) }
+        ensures fault { IfErr result (λ _. I.has_failed self.new.incoming) }
+        ensures received { P.received self.new.peer ≡ P.received self.old.peer }
+        ensures receiver { self.new.receiver ≡ self.old.receiver }
+        ensures pace { self.new.pace ≡ self.old.pace }
+        ensures octets { O.went self.new.outgoing ++ self.new.left.items
+            ≡ O.went self.old.outgoing ++ self.old.left.items }
     {
         let mut room = [0u8; ROOM_LEN];
         match self.incoming.read(&mut room)? {
@@ -307,6 +353,11 @@ impl<I: TrunkInput, O: TrunkOutput, P: Peer> SatopCircuit<I, O, P> {
     fn hear_all(&mut self) -> Result<(), DeviceFault>
         ensures same { HasSettings self.old.receiver self.new.receiver self.old.sender self.new.sender
             self.old.pace self.new.pace }
+        ensures time { self.new.pace.counted ≡ self.old.pace.counted }
+        ensures incoming { self.new.incoming ≡ self.old.incoming }
+        ensures hears { IfOk result (λ _. HearsAll P.received P.has_none self.old.peer self.new.peer) }
+        ensures grows { IfOk result (λ _. length (O.went self.old.outgoing ++ self.old.left.items)
+            ≤ length (O.went self.new.outgoing ++ self.new.left.items)) }
     {
         for _datagram in 0..MOST_DATAGRAMS {
             if !self.hear() {
@@ -321,18 +372,30 @@ impl<I: TrunkInput, O: TrunkOutput, P: Peer> SatopCircuit<I, O, P> {
     fn listen(&mut self)
         ensures same { HasSettings self.old.receiver self.new.receiver self.old.sender self.new.sender
             self.old.pace self.new.pace }
+        ensures time { self.new.pace.counted ≡ self.old.pace.counted }
+        ensures peer { self.new.peer ≡ self.old.peer }
+        ensures incoming { self.new.incoming ≡ self.old.incoming }
+        ensures octets { O.went self.new.outgoing ++ self.new.left.items
+            ≡ O.went self.old.outgoing ++ self.old.left.items }
     {
         let now = self.pace.now();
         let begins = self.pace.listen(now);
         self.counts.listen(begins);
     }
 
-    /// One turn at a time: receives what waits, plays what is due and sends what came from the trunk. Returns
-    /// whether no octet will come from the trunk any more.
+    /// One turn at a time: receives what waits, a thousand datagrams at most, plays what is due, 8192 packets
+    /// at most, and reads the trunk once and sends what came. Returns whether no octet will come from the
+    /// trunk any more.
     pub fn turn(&mut self, now: u64) -> Result<bool, DeviceFault>
         ensures same { HasSettings self.old.receiver self.new.receiver self.old.sender self.new.sender
             self.old.pace self.new.pace }
         ensures ended { IfOk result (λ ended. ended ≡ true → I.has_ended self.new.incoming) }
+        ensures time { IfOk result (λ _. self.new.pace.counted ≡ now) }
+        ensures hears { IfOk result (λ _. HearsAll P.received P.has_none self.old.peer self.new.peer) }
+        ensures plays { IfOk result (λ _. PlaysDue self.new.receiver self.new.pace true
+            self.old.receiver.settings.size (O.went self.old.outgoing ++ self.old.left.items)
+            (O.went self.new.outgoing ++ self.new.left.items)) }
+        ensures reads { IfOk result (HasReadTrunk I.came I.has_none self.old.incoming self.new.incoming) }
     {
         self.advance(now);
         self.hear_all()?;

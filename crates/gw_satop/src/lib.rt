@@ -21,7 +21,7 @@ pub use line::{DatagramOutcome, Receiver};
 pub use pace::PlayClock;
 pub use packet::PacketFault;
 pub use peer::{Peer, UdpPeer};
-pub use ready::{WhenReady, open_input, open_output};
+pub use ready::{Readiness, WhenReady, open_input, open_output};
 pub use sender::{Sender, SenderSettings};
 pub use system::SystemClock;
 pub use timing::Timing;

@@ -79,6 +79,7 @@ impl Receiver {
         ensures pace { pace.new ≡ after_outcome pace.old result
             (packet_in self.old.rtp self.old.settings.size datagram.now) now }
         ensures timing { pace.new.timing ≡ pace.old.timing }
+        ensures time { pace.new.counted ≡ pace.old.counted }
         ensures settings { self.new.settings ≡ self.old.settings }
         ensures rtp { self.new.rtp ≡ self.old.rtp }
     {
@@ -118,6 +119,7 @@ impl Receiver {
             (calls ++ calls_of_receipt result sequence octets.now) ≡ given_octets self.old.settings calls }
         ensures pace { pace.new ≡ after_packet_outcome pace.old result sequence now }
         ensures timing { pace.new.timing ≡ pace.old.timing }
+        ensures time { pace.new.counted ≡ pace.old.counted }
         ensures settings { self.new.settings ≡ self.old.settings }
         ensures rtp { self.new.rtp ≡ self.old.rtp }
     {

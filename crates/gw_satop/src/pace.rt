@@ -136,6 +136,7 @@ impl PlayClock {
     pub fn accept(&mut self, now: u64)
         ensures stands { self.new ≡ after_packet self.old now }
         ensures timing { self.new.timing ≡ self.old.timing }
+        ensures time { self.new.counted ≡ self.old.counted }
     {
         self.heard = now;
         self.silent = false;
@@ -163,6 +164,7 @@ impl PlayClock {
           run = run_left self.old.timing.packet (run_with self.old.run sequence now) now;
         } }
         ensures timing { self.new.timing ≡ self.old.timing }
+        ensures time { self.new.counted ≡ self.old.counted }
     {
         let run = run_with(self.run, sequence, now);
         if !is_long(run, now) {
@@ -182,6 +184,7 @@ impl PlayClock {
         ensures begins { result ≡ beginning self.old fault sequence now }
         ensures stands { self.new ≡ after_refusal self.old fault sequence now }
         ensures timing { self.new.timing ≡ self.old.timing }
+        ensures time { self.new.counted ≡ self.old.counted }
     {
         match fault {
             ArrivalFault::NotBegun => Some(self.first_number(sequence)),
@@ -219,6 +222,7 @@ impl PlayClock {
     pub fn play(&mut self)
         ensures stands { self.new ≡ after_play self.old }
         ensures timing { self.new.timing ≡ self.old.timing }
+        ensures time { self.new.counted ≡ self.old.counted }
     {
         if self.by_clock() {
             self.reached = self.reached.saturating_add(self.timing.packet);
@@ -231,6 +235,7 @@ impl PlayClock {
     pub fn advance(&mut self, now: u64)
         ensures stands { self.new ≡ at_time self.old now }
         ensures timing { self.new.timing ≡ self.old.timing }
+        ensures time { self.new.counted ≡ now }
     {
         let passed = now.saturating_sub(self.counted).min(MOST_BEHIND_US);
         self.credit = self
@@ -249,6 +254,7 @@ impl PlayClock {
         ensures begins { result ≡ falls_silent self.old now }
         ensures stands { self.new ≡ after_listening self.old now }
         ensures timing { self.new.timing ≡ self.old.timing }
+        ensures time { self.new.counted ≡ self.old.counted }
     {
         let begins = !self.silent
             && now.saturating_sub(self.heard) >= SILENCE_US
@@ -262,6 +268,7 @@ impl PlayClock {
         ensures time { result ≡ next_time self.old now reach }
         ensures stands { self.new ≡ after_plan self.old now reach }
         ensures timing { self.new.timing ≡ self.old.timing }
+        ensures counted { self.new.counted ≡ self.old.counted }
     {
         self.planned = self.next_time(now, reach);
         self.planned

@@ -1,8 +1,8 @@
 //! The far end of an emulated circuit: its UDP address, and the socket that hears it alone (`Peer`).
 
-ghost use Rattle.std.specs.Prelude.{◌≡◌, ◌≤◌, ◌++◌, ◌∷◌, ℕ, List, [], length, take, IfSome, IfNone, IfOk};
-ghost use Rattle.std.specs.Prelude.{IfErr, OnOk};
-ghost use Rattle.gw_satop.specs.FarEnd.{IsBySocket};
+ghost use Rattle.std.specs.Prelude.{◌≡◌, ◌≤◌, ◌++◌, ◌∷◌, ℕ, Bool, List, [], length, take, IfSome, IfNone};
+ghost use Rattle.std.specs.Prelude.{IfOk, IfErr, OnOk};
+ghost use Rattle.gw_satop.specs.FarEnd.{HasFoundNone, IsBySocket, WasTaken};
 ghost use Rattle.gw_satop.specs.Opening.{FailsToJoin, HasAddress, IsJoined, LacksAddress, SystemFinds};
 ghost use Rattle.gw_satop.specs.Opening.{SystemRefusesPeer, SystemRefusesSocket};
 
@@ -28,19 +28,27 @@ pub trait Peer {
     /// The datagrams that the system was given for the far end, in order.
     ghost sent: { Self → List (List ℕ) };
 
+    /// Holds of a far end if a receive found that no datagram waits, or failed.
+    ghost has_none: { Self → Type 0 };
+
+    /// Holds of a far end and whether the system took the datagram that it was given last.
+    ghost was_taken: { Self → Bool → Type 0 };
+
     /// Receives the first datagram that waits to the front of `room`, and returns its length; None if none
     /// waits. It never waits for one.
     fn receive(&mut self, room: &mut [u8]) -> Option<usize>
         ensures bound { IfSome result (λ n. n ≤ length room.new) }
         ensures received { IfSome result (λ n.
             received self.new ≡ received self.old ++ take n room.new ∷ []) }
-        ensures none { IfNone result (received self.new ≡ received self.old) }
+        ensures kept { IfNone result (received self.new ≡ received self.old) }
+        ensures none { IfNone result (has_none self.new) }
         ensures sent { sent self.new ≡ sent self.old };
 
     /// Gives the system a datagram for the far end, and returns whether it took it. One that it did not take
     /// the far end misses, like one that the network lost.
     fn send(&mut self, datagram: &[u8]) -> bool
         ensures sent { sent self.new ≡ sent self.old ++ datagram.now ∷ [] }
+        ensures taken { was_taken self.new result }
         ensures received { received self.new ≡ received self.old };
 }
 
@@ -134,6 +142,10 @@ impl<S: Socket> Peer for UdpPeer<S> {
     ghost received = { λ p. p.received.datagrams };
 
     ghost sent = { λ p. p.sent.datagrams };
+
+    ghost has_none = { λ p. HasFoundNone S.receives p.socket };
+
+    ghost was_taken = { λ p taken. WasTaken S.sends p.address p.socket taken };
 
     fn receive(&mut self, room: &mut [u8]) -> Option<usize> {
         match self.socket.receive_any(room) {

@@ -1,6 +1,6 @@
 //! The trunk of `satop` on standard input, read only if the system reports octets (`WhenReady`).
 
-ghost use Rattle.std.specs.Prelude.{◌≡◌, [], IfOk, IfErr};
+ghost use Rattle.std.specs.Prelude.{◌≡◌, ◌⊎◌, [], false, IfOk, IfErr, ⊤};
 ghost use Rattle.gw_satop.specs.Opening.{SystemRefusesTrunk};
 
 use gw_trunk::{
@@ -10,18 +10,44 @@ use mio::Interest;
 use std::io;
 use std::time::Duration;
 
+/// Whether a descriptor has something to read.
+///
+/// The relation is the type's own: a caller that does not know the type has it of a call alone.
+pub trait Readiness {
+    /// Holds if it was found last that nothing has come.
+    ghost is_unready: { Self → Type 0 } = { λ _. ⊤ };
+
+    /// Whether something may have come. It never waits.
+    fn is_ready(&mut self) -> bool
+        ensures { result ≡ false → is_unready self.new };
+
+    /// Waits until something may have come. What was found last stays.
+    fn sleep(&mut self)
+        ensures { is_unready self.old → is_unready self.new };
+}
+
+impl Readiness for Waiting {
+    fn is_ready(&mut self) -> bool {
+        self.wait_for(Duration::ZERO)
+    }
+
+    fn sleep(&mut self) {
+        self.wait();
+    }
+}
+
 /// Octets of a trunk from a descriptor, which is read only if the system says that something has come; so a
 /// read that would wait keeps no packet waiting. It has no clients.
 #[derive(Drop)]
-pub struct WhenReady<I: TrunkInput> {
+pub struct WhenReady<I: TrunkInput, W: Readiness> {
     incoming: I,
-    waiting: Waiting,
+    waiting: W,
 }
 
-impl<I: TrunkInput + Drop> WhenReady<I> {
+impl<I: TrunkInput + Drop> WhenReady<I, Waiting> {
     /// A trunk read from `incoming` only when its descriptor is ready. The error is the system's.
     #[tactic(auto, unfolding(crate::specs::Opening::SystemRefusesTrunk))]
-    pub fn open(rt: &HostRuntime, incoming: I, descriptor: i32) -> io::Result<WhenReady<I>>
+    pub fn open(rt: &HostRuntime, incoming: I, descriptor: i32) -> io::Result<WhenReady<I, Waiting>>
         ensures ok { IfOk result (λ r. r.incoming ≡ incoming) }
         ensures err { IfErr result SystemRefusesTrunk }
     {
@@ -51,7 +77,7 @@ pub fn open_input<R: DeviceReader + Drop>(
     rt: &HostRuntime,
     reader: R,
     descriptor: i32,
-) -> io::Result<WhenReady<FromDevice<R>>>
+) -> io::Result<WhenReady<FromDevice<R>, Waiting>>
     ensures reader { IfOk result (λ r. r.incoming.reader.start.value ≡ reader) }
     ensures ok { IfOk result (λ r. r.incoming.reader.log.octets ≡ []) }
     ensures err { IfErr result SystemRefusesTrunk }
@@ -74,17 +100,19 @@ pub fn open_output<W: DeviceWriter + Drop>(
     ToDevice::open(rt, writer, descriptor)
 }
 
-impl<I: TrunkInput> TrunkInput for WhenReady<I> {
+impl<I: TrunkInput, W: Readiness> TrunkInput for WhenReady<I, W> {
     ghost came = { λ r. I.came r.incoming };
 
     ghost asked = { λ r. I.asked r.incoming };
 
     ghost has_ended = { λ r. I.has_ended r.incoming };
 
+    ghost has_none = { λ r. W.is_unready r.waiting ⊎ I.has_none r.incoming };
+
     ghost has_failed = { λ r. I.has_failed r.incoming };
 
     fn read(&mut self, room: &mut [u8]) -> Result<DeviceRead, DeviceFault> {
-        if !self.waiting.wait_for(Duration::ZERO) {
+        if !self.waiting.is_ready() {
             return Ok(DeviceRead::NoneNow);
         }
         self.incoming.read(room)
@@ -95,6 +123,6 @@ impl<I: TrunkInput> TrunkInput for WhenReady<I> {
     }
 
     fn wait(&mut self) {
-        self.waiting.wait();
+        self.waiting.sleep();
     }
 }

@@ -73,6 +73,8 @@ fn micros_of(time: Duration) -> u64 {
 }
 
 impl Clock for SystemClock<'_> {
+    ghost time = { λ s. s.now };
+
     fn now(&mut self) -> u64 {
         if let Ok(passed) = self.started.elapsed(self.rt) {
             self.now = micros_of(passed);

@@ -1,8 +1,8 @@
 -- What reads and writes of a device do (module `device`).
-use Rattle.std.specs.Prelude.{◌≡◌, ◌≤◌, ◌<◌, ⊤, ℕ, Bool, true, false, List, [], take, Option, Some, None}
-use Rattle.std.specs.Prelude.{Result, Ok, Err}
+use Rattle.std.specs.Prelude.{◌≡◌, ◌≤◌, ◌<◌, ◌==◌, ◌++◌, ⊤, ℕ, Bool, true, false, List, [], take}
+use Rattle.std.specs.Prelude.{Option, Some, None, Result, Ok, Err, nat_lt}
 use Rattle.std.specs.declared.io.ErrorKind.{ErrorKind}
-use Rattle.std.specs.declared.io.ErrorKind.TheVariants.{WouldBlock, Interrupted}
+use Rattle.std.specs.declared.io.ErrorKind.TheVariants.{WouldBlock, Interrupted, BrokenPipe}
 use Rattle.gw_trunk.specs.declared.device.DeviceFault.{DeviceFault}
 use Rattle.gw_trunk.specs.declared.device.DeviceRead.{DeviceRead}
 use Rattle.gw_trunk.specs.declared.device.DeviceRead.TheVariants.{Octets, NoneNow, Ended}
@@ -50,3 +50,36 @@ IsForLater fails = (kind : ErrorKind) × fails kind × (is_for_later kind ≡ tr
 -- a call ended with any other error
 abbrev pub HasFailed : (ErrorKind → Type 0) → Type 0
 HasFailed fails = (kind : ErrorKind) × fails kind × (is_for_later kind ≡ false)
+
+-- a read returned this, and what it gave, the first octets of a room, is behind what others gave
+abbrev pub GaveBehind : (Result ℕ ErrorKind → Type 0) → List ℕ → List ℕ → Result ℕ ErrorKind → List ℕ → Type 0
+GaveBehind has_read before after read room = has_read read × (after ≡ before ++ octets_read read room)
+
+-- how many octets passed in a read or a write
+abbrev pub passed_count : Result ℕ ErrorKind → ℕ
+passed_count (Ok n) = n
+passed_count (Err kind) = 0
+
+-- a read gave octets
+abbrev pub has_octets : Result ℕ ErrorKind → Bool
+has_octets (Ok n) = nat_lt 0 n
+has_octets (Err kind) = false
+
+-- nothing comes any more after a read: it found the end, or failed otherwise than that nothing has come
+abbrev pub is_over : Result ℕ ErrorKind → Bool
+is_over (Ok n) = n == 0
+is_over (Err WouldBlock) = false
+is_over (Err kind) = true
+
+-- a write says that the other end has hung up
+abbrev pub is_broken_pipe : Result ℕ ErrorKind → Bool
+is_broken_pipe (Err BrokenPipe) = true
+is_broken_pipe read = false
+
+-- a read gave no octets
+abbrev pub FoundNone : (Result ℕ ErrorKind → Type 0) → Type 0
+FoundNone has_read = (read : Result ℕ ErrorKind) × has_read read × (has_octets read ≡ false)
+
+-- a read ended so that nothing comes any more
+abbrev pub IsOver : (Result ℕ ErrorKind → Type 0) → Type 0
+IsOver has_read = (read : Result ℕ ErrorKind) × has_read read × (is_over read ≡ true)

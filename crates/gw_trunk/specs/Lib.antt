@@ -1,6 +1,8 @@
 pub mod Device
+pub mod System
 pub mod Pieces
 pub mod Bodies
+pub mod Door
 pub mod Clients
 pub mod Serving
 pub mod Multiframes

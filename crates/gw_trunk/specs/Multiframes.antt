@@ -5,14 +5,27 @@ use Rattle.std.specs.List.{AllByRecursion}
 use Rattle.gw_records.specs.Streams.{at_most}
 use Rattle.gw_trunk.specs.declared.multiframe_dropper.MultiframePosition.{MultiframePosition}
 
--- a multiframe, or its first octets, and whether it is discarded
+-- a multiframe, or its first octets, whether it is discarded, and how many waits for room had ended without
+-- it before the multiframe and behind it
 pub record Multiframe : Type 0 where
   pub octets : List ℕ
   pub is_discarded : Bool
+  pub slow_before : ℕ
+  pub slow_after : ℕ
 
 -- all of a multiframe: sixteen frames of 32 octets (ITU-T G.704, 5.1.3.2)
 abbrev pub IsWhole : Multiframe → Type 0
 IsWhole m = length m.octets ≡ 512
+
+-- it comes when so many waits have ended without room, and if it is discarded one more does while it comes
+abbrev pub HasWaited : ℕ → Multiframe → Type 0
+HasWaited waits m = (m.slow_before ≡ waits) × (m.slow_before ≤ m.slow_after)
+    × (m.is_discarded ≡ true → m.slow_before < m.slow_after)
+
+-- so do multiframes, one behind the other, up to a number of such waits
+abbrev pub HaveWaited : ℕ → List Multiframe → ℕ → Type 0
+HaveWaited waits [] waits' = waits ≡ waits'
+HaveWaited waits (m ∷ ms) waits' = HasWaited waits m × HaveWaited m.slow_after ms waits'
 
 -- its octets, and what is left of them
 abbrev pub multiframe_octets : Multiframe → List ℕ
@@ -27,8 +40,9 @@ number_discarded [] = 0
 number_discarded (m ∷ ms) = (if m.is_discarded then 1 else 0) + number_discarded ms
 
 -- Octets are sent in multiframes, of which the last one has not come whole. What is left of them is these
--- multiframes without the discarded ones, of this number.
-pub record Thinned (sent left : List ℕ) (discarded : ℕ) : Type 0 where
+-- multiframes without the discarded ones, of this number. While each of these came a wait ended without room,
+-- of so many in all.
+pub record Thinned (sent left : List ℕ) (discarded slow_waits : ℕ) : Type 0 where
   pub multiframes : List Multiframe
   pub last : Multiframe
   pub whole : AllByRecursion IsWhole multiframes
@@ -36,10 +50,13 @@ pub record Thinned (sent left : List ℕ) (discarded : ℕ) : Type 0 where
   pub sent_are : sent ≡ flat_map multiframe_octets multiframes ++ last.octets
   pub left_are : left ≡ flat_map left_of multiframes ++ left_of last
   pub discarded_is : discarded ≡ at_most (number_discarded multiframes + (if last.is_discarded then 1 else 0))
+  pub begun : ℕ
+  pub have_waited : HaveWaited begun multiframes last.slow_before
+  pub last_has : HaveWaited last.slow_before (last ∷ []) slow_waits
 
 -- the same with what is known of the last multiframe, and the number of those that are discarded
-pub record IsThinned (position : MultiframePosition) (sent left : List ℕ) : Type 0 where
-  pub thinned : Thinned sent left position.discarded
+pub record IsThinned (position : MultiframePosition) (sent left : List ℕ) (slow_waits : ℕ) : Type 0 where
+  pub thinned : Thinned sent left position.discarded slow_waits
   pub place_is : position.place ≡ length thinned.last.octets
   pub discards_is : position.discards ≡ thinned.last.is_discarded
 
@@ -58,10 +75,12 @@ pub record PassesOn (position position' : MultiframePosition) (left left' octets
   pub position_is : position' ≡ position_after position (length octets)
   pub left_is : left' ≡ left ++ (if position.discards then [] else octets)
 
--- octets of a multiframe passed, or it is discarded from its first octet on, of which these are the first
-abbrev pub Steps : MultiframePosition → MultiframePosition → List ℕ → List ℕ → List ℕ → Type 0
-Steps position position' left left' octets = PassesOn position position' left left' octets
-    ⊎ ((position.place ≡ 0) × (position.discards ≡ false)
+-- octets of a multiframe passed, or a wait ended without room and it is discarded from its first octet on, of
+-- which these are the first
+abbrev pub Steps : MultiframePosition → MultiframePosition → List ℕ → List ℕ → List ℕ → ℕ → ℕ → Type 0
+Steps position position' left left' octets waits waits' =
+    ((waits ≤ waits') × PassesOn position position' left left' octets)
+    ⊎ ((waits < waits') × (position.place ≡ 0) × (position.discards ≡ false)
     × PassesOn (position_discarding position) position' left left' octets)
 
 -- nothing waits for the device, and no multiframe was discarded
@@ -75,9 +94,9 @@ abbrev pub HasRoom : List ℕ → MultiframePosition → Type 0
 HasRoom held position = position.discards ≡ false → position.place ≢ 0 → length held ≤ position.place
 
 -- Octets were sent to a device that may be slow. They went to it in order, except for discarded whole
--- multiframes, of this number, and for octets that it has not taken in the end. All of them went if it was
--- never slow.
-pub record GoesInTime (sent went : List ℕ) (discarded : ℕ) (was_slow : Bool) : Type 0 where
+-- multiframes, of this number, and for octets that it has not taken in the end. While each discarded one came
+-- a wait ended without room. All of them went if no wait did.
+pub record GoesInTime (sent went : List ℕ) (discarded slow_waits : ℕ) : Type 0 where
   pub untaken : List ℕ
-  pub thinned : Thinned sent (went ++ untaken) discarded
-  pub prompt : was_slow ≡ false → (went ≡ sent) × (discarded ≡ 0)
+  pub thinned : Thinned sent (went ++ untaken) discarded slow_waits
+  pub prompt : slow_waits ≡ 0 → (went ≡ sent) × (discarded ≡ 0)

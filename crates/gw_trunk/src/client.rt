@@ -1,12 +1,15 @@
 //! Whether a client's command has come whole, and when the client is disconnected (`Client`).
 
-ghost use Rattle.std.specs.Prelude.{◌≡◌, ◌⊎◌, ◌≤◌, ◌++◌, [], true, false, length, drop, OnOk, OnErr};
-ghost use Rattle.gw_trunk.specs.Clients.{HasNoRecord, IsAnswered, Replies, Stays};
+ghost use Rattle.std.specs.Prelude.{◌≡◌, ◌+◌, ◌<◌, ◌≤◌, ◌++◌, ◌||◌, ℕ, List, [], true, false, length, Some};
+ghost use Rattle.std.specs.Prelude.{is_ok};
+ghost use Rattle.gw_trunk.specs.KnownOctets.{Gave, StaysKnown, ReadsMore};
+ghost use Rattle.gw_trunk.specs.Device.{has_octets, is_over, passed_count, is_broken_pipe, FoundNone, IsOver};
 
+use crate::client_stream::ClientStream;
+use crate::held::drop_first;
 use arrayvec::ArrayVec;
-use gw_records::{AcceptedKinds, Log, RecordsEnd, first_record};
-use mio::net::UnixStream;
-use std::io::{ErrorKind, Read, Write};
+use gw_records::{AcceptedKinds, AtStart, Log, RecordsEnd, first_record};
+use std::io::ErrorKind;
 
 // How many octets of a client are held.
 const ROOM_LEN: usize = 64;
@@ -39,10 +42,12 @@ pub enum ClientPoll {
     Gone,
 }
 
-/// A connection that commands come from.
+/// A connection that commands come from. If it is known what the client was to give, that is the records
+/// that it gave, what is held of it, and what is still to come. If it is known what the client has, that is
+/// what it had at the start and the answers that it got.
 #[derive(Drop)]
-pub struct Client {
-    stream: UnixStream,
+pub struct Client<S: ClientStream> {
+    stream: S,
     held: ArrayVec<u8, 64>,
     // Whether something may have come since a read found nothing.
     pub ready: bool,
@@ -54,18 +59,91 @@ pub struct Client {
     pub left: bool,
     // Whether its end was read: nothing comes from it any more.
     ended: bool,
-    /// The records that it gave.
-    pub gave: Log,
-    /// The octets of the answers that it got.
-    pub got: Log,
+    start: AtStart<S>,
+    // The records that it gave.
+    gave: Log,
+    // The octets of the answers that it got.
+    got: Log,
+    ghost gives: { Gave (S.remaining start.value) (S.remaining stream) (gave.octets ++ held.items) },
+    ghost stays_known: { StaysKnown (S.remaining start.value) (S.remaining stream) },
+    ghost holds: { (before : List ℕ) → S.contents start.value ≡ Some before
+        → S.contents stream ≡ Some (before ++ got.octets) },
+    ghost quiet: { ready ≡ false → ∥ FoundNone (S.has_read stream) ∥₁ },
+    ghost over: { ended ≡ true → ∥ IsOver (S.has_read stream) ∥₁ },
 }
 
-impl Client {
+// Reads once what has come, behind the octets held.
+fn read_more<S: ClientStream>(
+    stream: &mut S,
+    held: &mut ArrayVec<u8, 64>,
+    want: usize,
+) -> Result<usize, ErrorKind>
+    requires { want + length held.old.items ≡ 64 }
+    ensures more { ReadsMore (S.remaining stream.old) (S.remaining stream.new) held.old.items held.new.items
+        (passed_count result) }
+    ensures contents { S.contents stream.new ≡ S.contents stream.old }
+    ensures read { S.has_read stream.new result }
+{
+    let mut room = [0u8; ROOM_LEN];
+    let read = stream.read_now(&mut room[..want]);
+    let _ = held.try_extend_from_slice(&room[..passed_count(read)]);
+    read
+}
+
+// How many octets passed in a read or a write.
+fn passed_count(passed: Result<usize, ErrorKind>) -> usize
+    ensures { result ≡ passed_count passed }
+{
+    match passed {
+        Ok(n) => n,
+        Err(_) => 0,
+    }
+}
+
+// Whether a read gave octets.
+fn has_octets(read: Result<usize, ErrorKind>) -> bool
+    ensures { result ≡ has_octets read }
+{
+    match read {
+        Ok(n) => n > 0,
+        Err(_) => false,
+    }
+}
+
+// Whether nothing comes any more after a read: it found the end, or failed for another reason than that
+// nothing has come.
+fn is_over(read: Result<usize, ErrorKind>) -> bool
+    ensures { result ≡ is_over read }
+{
+    match read {
+        Ok(n) => n == 0,
+        Err(ErrorKind::WouldBlock) => false,
+        Err(_) => true,
+    }
+}
+
+// Whether a write says that the client has hung up.
+fn is_broken_pipe(written: Result<usize, ErrorKind>) -> bool
+    ensures { result ≡ is_broken_pipe written }
+{
+    match written {
+        Err(ErrorKind::BrokenPipe) => true,
+        _ => false,
+    }
+}
+
+impl<S: ClientStream> Client<S> {
+    ghost use Rattle.gw_trunk.specs.Clients.{HasNoRecord, Replies, Stays, Takes};
+
     /// A client that may have sent something, and how many came before it.
-    pub fn new(stream: UnixStream, number: u64) -> Client
+    pub fn new(stream: S, number: u64) -> Client<S>
         ensures gave { result.gave.octets ≡ [] }
         ensures got { result.got.octets ≡ [] }
+        ensures known { result.known ≡ false }
+        ensures left { result.left ≡ false }
+        ensures start { result.start.value ≡ stream }
     {
+        let start = AtStart::of(&stream);
         Client {
             stream,
             held: ArrayVec::new(),
@@ -74,6 +152,7 @@ impl Client {
             known: false,
             left: false,
             ended: false,
+            start,
             gave: Log::new(),
             got: Log::new(),
         }
@@ -83,69 +162,47 @@ impl Client {
     pub fn wake(&mut self, has_left: bool)
         ensures stays { Stays self.old self.new }
         ensures ready { self.new.ready ≡ true }
+        ensures left { self.new.left ≡ (self.old.left || has_left) }
     {
         self.ready = true;
         self.left = self.left || has_left;
     }
 
-    // Notes that the client's end was read. What came before the end is still to be acted on.
-    fn end(&mut self)
-        ensures { Stays self.old self.new }
-    {
-        self.ready = false;
-        self.left = true;
-        self.ended = true;
-    }
-
-    // Reads once what has come, as far as there is room.
+    // Reads once what has come. What came before the client's end is still to be acted on.
     fn read_once(&mut self, want: usize)
-        requires { want ≤ 64 }
-        ensures { Stays self.old self.new }
+        requires room { want + length self.old.held.items ≡ 64 }
+        requires goes { self.old.ended ≡ false }
+        ensures stays { Stays self.old self.new }
+        ensures more { self.new.ready ≡ true → length self.old.held.items < length self.new.held.items }
     {
-        let mut room = [0u8; ROOM_LEN];
-        match self.stream.read(&mut room[..want]) {
-            Ok(0) => self.end(),
-            Ok(n) => {
-                let _ = self.held.try_extend_from_slice(&room[..n]);
-            }
-            Err(error) => match error.kind() {
-                ErrorKind::WouldBlock => self.ready = false,
-                ErrorKind::Interrupted => {}
-                _ => self.end(),
-            },
-        }
+        let read = read_more(&mut self.stream, &mut self.held, want);
+        self.ready = has_octets(read);
+        self.ended = is_over(read);
+        self.left = self.left || self.ended;
     }
 
     // Reads what has come, until there is nothing or no room.
     fn refill(&mut self)
-        ensures { Stays self.old self.new }
+        ensures stays { Stays self.old self.new }
+        ensures all { self.new.ready ≡ true → self.new.ended ≡ false → 64 ≤ length self.new.held.items }
     {
         for _turn in 0..ROOM_LEN {
             let want = self.held.remaining_capacity();
-            if want == 0 || want > ROOM_LEN || !self.ready {
+            if want == 0 || !self.ready || self.ended {
                 return;
             }
             self.read_once(want);
         }
     }
 
-    // Drops the first octets held from the client.
-    fn pass(&mut self, len: usize)
-        requires { len ≤ length self.old.held.items }
-        ensures { Stays self.old self.new }
-    {
-        let mut rest = ArrayVec::new();
-        let _ = rest.try_extend_from_slice(&self.held.as_slice()[len..]);
-        self.held = rest;
-    }
-
     // The poll of a client without a whole record: none yet, unless its end was read, or it has sent too
     // much.
     fn nothing(&self, room: &[u8]) -> ClientPoll
-        requires { HasNoRecord self.now.held.items }
-        ensures { Replies result self.now self.now room.now }
+        requires none { HasNoRecord self.now.held.items }
+        requires all { self.now.ready ≡ true → self.now.ended ≡ false → 64 ≤ length self.now.held.items }
+        ensures { Replies S.has_read result self.now self.now room.now }
     {
-        if self.ready || self.ended {
+        if self.ended || self.held.is_full() {
             ClientPoll::Gone
         } else {
             ClientPoll::Nothing
@@ -154,7 +211,8 @@ impl Client {
 
     // The client's next record, in the octets that are held.
     fn next_record(&mut self, room: &mut [u8]) -> ClientPoll
-        ensures { Replies result self.old self.new room.new }
+        requires { self.old.ready ≡ true → self.old.ended ≡ false → 64 ≤ length self.old.held.items }
+        ensures { Replies S.has_read result self.old self.new room.new }
     {
         let held = self.held.as_slice();
         match first_record(&KINDS, held) {
@@ -163,7 +221,7 @@ impl Client {
                     return ClientPoll::Gone;
                 }
                 room[..first.len].copy_from_slice(&held[..first.len]);
-                self.pass(first.len);
+                drop_first(&mut self.held, first.len);
                 self.gave.append(room, first.len);
                 self.known = true;
                 ClientPoll::Command(first.len)
@@ -176,7 +234,7 @@ impl Client {
     /// Takes the client's next record to `room`, if it is whole. A client that has hung up is disconnected
     /// only behind its last whole record.
     pub fn ask(&mut self, room: &mut [u8]) -> ClientPoll
-        ensures { Replies result self.old self.new room.new }
+        ensures { Replies S.has_read result self.old self.new room.new }
     {
         self.refill();
         let held = self.held.as_slice();
@@ -190,19 +248,18 @@ impl Client {
     }
 
     /// Gives the client an answer. A client that does not take it whole at once is to be disconnected, unless
-    /// it has hung up: then nobody gets the answer.
+    /// it has hung up: then nobody gets the rest.
     pub fn answer(&mut self, answer: &[u8]) -> Result<(), Away>
-        ensures gave { self.new.gave.octets ≡ self.old.gave.octets }
-        ensures ok { OnOk result (IsAnswered self.old self.new answer.now) }
+        ensures { Takes S.has_written (is_ok result) self.old self.new answer.now }
     {
-        match self.stream.write(answer) {
-            Ok(n) if n == answer.len() => {
-                self.got.append(answer, n);
-                return Ok(());
-            }
-            Ok(_) => {}
-            Err(error) => self.left = self.left || error.kind() == ErrorKind::BrokenPipe,
+        let written = self.stream.write_now(answer);
+        let n = passed_count(written);
+        self.got.append(answer, n);
+        self.left = self.left || is_broken_pipe(written);
+        if n == answer.len() || self.left {
+            Ok(())
+        } else {
+            Err(Away)
         }
-        if self.left { Ok(()) } else { Err(Away) }
     }
 }

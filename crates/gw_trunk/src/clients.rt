@@ -1,20 +1,22 @@
 //! Clients that give commands: accepted, asked in turn, disconnected; whether the trunk can be read now.
 
 ghost use Rattle.std.specs.Prelude.{◌≡◌, ◌⊎◌, ◌==◌, ◌||◌, ◌-◌, ◌<◌, ◌≤◌, Some, None, true, false, length};
-ghost use Rattle.std.specs.Prelude.{IfSome};
+ghost use Rattle.std.specs.Prelude.{IfSome, IfNone, IfOk};
 ghost use Rattle.std.specs.List.{list_all};
-ghost use Rattle.gw_trunk.specs.Clients.{Answers, Asks, AllKeep, Gets, HasAnswered, IsAwake, KeepsClient};
-ghost use Rattle.gw_trunk.specs.Clients.{OnlyAt};
-ghost use Rattle.gw_trunk.specs.Clients.{at};
-ghost use Rattle.gw_trunk.specs.Clients.{is_quiet};
+ghost use Rattle.gw_trunk.specs.Device.{GaveBehind};
+ghost use Rattle.gw_trunk.specs.System.{SystemHasNobody};
+ghost use Rattle.gw_trunk.specs.Clients.{Answers, Asks, AllStay, Gets, HasAnswered, IsAwake, StaysAt};
+ghost use Rattle.gw_trunk.specs.Clients.{OnlyAt, GetsRead, MakesRoom, AreAllKnown, LetsIn};
+ghost use Rattle.gw_trunk.specs.Clients.{at, is_quiet, rank};
 
 use crate::client::{Client, ClientPoll};
-use gw_records::Log;
+use crate::client_stream::ClientStream;
+use crate::device_calls::DeviceReader;
+use crate::logged_reader::LoggedReader;
 use mio::net::{UnixListener, UnixStream};
 use mio::unix::SourceFd;
 use mio::{Events, Interest, Poll, Token};
-use std::io;
-use std::io::Read;
+use std::io::{self, ErrorKind};
 use std::time::Duration;
 
 // How many clients there may be at once.
@@ -46,10 +48,9 @@ pub struct Clients {
     is_drained: bool,
     door: UnixListener,
     knocks: bool,
-    pub places: [Option<Client>; 8],
-    answers: UnixStream,
-    // The octets that came from there.
-    pub answered: Log,
+    pub places: [Option<Client<UnixStream>>; 8],
+    // What the answers come from.
+    answers: LoggedReader<UnixStream>,
     // The place of the client whose record was the last one, if its answer is to come.
     pub asker: Option<usize>,
     // The place that is asked first.
@@ -59,8 +60,8 @@ pub struct Clients {
 }
 
 // Asks the client at a place, and lets it go if it is to be.
-fn ask_one(place: &mut Option<Client>, room: &mut [u8]) -> ClientPoll
-    ensures { Answers result place.old place.new room.new }
+fn ask_one<S: ClientStream>(place: &mut Option<Client<S>>, room: &mut [u8]) -> ClientPoll
+    ensures { Answers S.has_read result place.old place.new room.new }
 {
     let Some(client) = place else {
         return ClientPoll::Nothing;
@@ -73,9 +74,13 @@ fn ask_one(place: &mut Option<Client>, room: &mut [u8]) -> ClientPoll
 }
 
 // Asks the client at the place of this number, and none else.
-fn ask_at(places: &mut [Option<Client>; 8], place: usize, room: &mut [u8]) -> ClientPoll
+fn ask_at<S: ClientStream>(
+    places: &mut [Option<Client<S>>; 8],
+    place: usize,
+    room: &mut [u8],
+) -> ClientPoll
     requires { place < 8 }
-    ensures answers { Answers result (at places.old place) (at places.new place) room.new }
+    ensures answers { Answers S.has_read result (at places.old place) (at places.new place) room.new }
     ensures others { OnlyAt place places.old places.new }
     ensures count { length places.new ≡ length places.old }
 {
@@ -83,8 +88,8 @@ fn ask_at(places: &mut [Option<Client>; 8], place: usize, room: &mut [u8]) -> Cl
 }
 
 // Gives the client at a place an answer, and lets it go if it does not take it.
-fn answer_one(place: &mut Option<Client>, answer: &[u8])
-    ensures { Gets place.old place.new answer.now }
+fn answer_one<S: ClientStream>(place: &mut Option<Client<S>>, answer: &[u8])
+    ensures { Gets S.has_written place.old place.new answer.now }
 {
     let Some(client) = place else {
         return;
@@ -94,10 +99,28 @@ fn answer_one(place: &mut Option<Client>, answer: &[u8])
     }
 }
 
+// Gives what a read of an answer came to, the first octets of `room`, to the client at the place of this
+// number, and to none else.
+fn answer_at<S: ClientStream>(
+    places: &mut [Option<Client<S>>; 8],
+    place: usize,
+    read: Result<usize, ErrorKind>,
+    room: &[u8],
+)
+    requires { IfOk read (λ n. n ≤ length room.now) }
+    ensures gets { GetsRead S.has_written read room.now (at places.old place) (at places.new place) }
+    ensures others { OnlyAt place places.old places.new }
+{
+    match read {
+        Ok(n) if n > 0 && place < MOST_CLIENTS => answer_one(&mut places[place], &room[..n]),
+        _ => {}
+    }
+}
+
 // Wakes the client at a place, who may have left.
-fn wake_one(place: &mut Option<Client>, has_left: bool)
-    ensures keeps { KeepsClient place.old place.new }
-    ensures awake { IsAwake place.new }
+fn wake_one<S: ClientStream>(place: &mut Option<Client<S>>, has_left: bool)
+    ensures stays { StaysAt place.old place.new }
+    ensures awake { IsAwake has_left place.old place.new }
 {
     if let Some(client) = place {
         client.wake(has_left);
@@ -105,17 +128,17 @@ fn wake_one(place: &mut Option<Client>, has_left: bool)
 }
 
 // Notes an event of this token; a client may have left.
-fn note(
+fn note<S: ClientStream>(
     token: usize,
     has_left: bool,
     octets: &mut bool,
     knocks: &mut bool,
-    places: &mut [Option<Client>; 8],
+    places: &mut [Option<Client<S>>; 8],
 )
     ensures octets { octets.new ≡ (token == 0 || octets.old) }
     ensures knocks { knocks.new ≡ (token == 1 || knocks.old) }
-    ensures keep { AllKeep places.old places.new }
-    ensures awake { 2 ≤ token → IsAwake (at places.new (token - 2)) }
+    ensures stay { AllStay places.old places.new }
+    ensures awake { 2 ≤ token → IsAwake has_left (at places.old (token - 2)) (at places.new (token - 2)) }
 {
     if token == TRUNK {
         *octets = true;
@@ -129,8 +152,14 @@ fn note(
 }
 
 // Notes events for the trunk, the door and clients, by their tokens.
-fn note_all(events: &Events, octets: &mut bool, knocks: &mut bool, places: &mut [Option<Client>; 8])
-    ensures { AllKeep places.old places.new }
+fn note_all<S: ClientStream>(
+    events: &Events,
+    octets: &mut bool,
+    knocks: &mut bool,
+    places: &mut [Option<Client<S>>; 8],
+)
+    ensures knocks { knocks.new ≡ false → knocks.old ≡ false }
+    ensures stay { AllStay places.old places.new }
 {
     for event in events.iter() {
         note(
@@ -145,7 +174,9 @@ fn note_all(events: &Events, octets: &mut bool, knocks: &mut bool, places: &mut 
 
 // The rank of a place: a new client takes the lowest, a free one, else that of a client that has left, else
 // that of the oldest client that never gave a record.
-fn rank(place: &Option<Client>) -> u64 {
+fn rank<S: ClientStream>(place: &Option<Client<S>>) -> u64
+    ensures { result ≡ rank place.now }
+{
     match place {
         None => 0,
         Some(client) if client.left => 1,
@@ -155,8 +186,9 @@ fn rank(place: &Option<Client>) -> u64 {
 }
 
 // The place of a new client; None if each has a client that is there and gave a record.
-fn place_for_one(places: &[Option<Client>; 8]) -> Option<usize>
-    ensures { IfSome result (λ place. place < 8) }
+fn place_for_one<S: ClientStream>(places: &[Option<Client<S>>; 8]) -> Option<usize>
+    ensures some { IfSome result (MakesRoom places.now) }
+    ensures none { IfNone result (AreAllKnown places.now) }
 {
     let mut found = None;
     let mut least = u64::MAX;
@@ -168,6 +200,17 @@ fn place_for_one(places: &[Option<Client>; 8]) -> Option<usize>
         }
     }
     found
+}
+
+// Accepts a connection that waits at a door, if one does.
+#[tactic(auto, unfolding(crate::specs::System::SystemHasNobody))]
+fn accept(door: &UnixListener) -> Option<UnixStream>
+    ensures { IfNone result (SystemHasNobody door.now) }
+{
+    match door.accept() {
+        Ok((stream, _)) => Some(stream),
+        Err(_) => None,
+    }
 }
 
 impl Clients {
@@ -195,8 +238,7 @@ impl Clients {
             door,
             knocks: true,
             places: [None, None, None, None, None, None, None, None],
-            answers,
-            answered: Log::new(),
+            answers: LoggedReader::new(answers),
             asker: None,
             next: 0,
             came: 0,
@@ -206,7 +248,9 @@ impl Clients {
     // Notes the events of trunk, door and clients; waits if asked to.
     fn look(&mut self, timeout: Option<Duration>)
         ensures asker { self.new.asker ≡ self.old.asker }
-        ensures keep { AllKeep self.old.places self.new.places }
+        ensures stay { AllStay self.old.places self.new.places }
+        ensures door { self.new.door ≡ self.old.door }
+        ensures knocks { self.new.knocks ≡ false → self.old.knocks ≡ false }
     {
         if self.poll.poll(&mut self.events, timeout).is_err() {
             return;
@@ -258,7 +302,7 @@ impl Clients {
     /// reports it. It never waits.
     pub fn can_read(&mut self) -> bool
         ensures asker { self.new.asker ≡ self.old.asker }
-        ensures keep { AllKeep self.old.places self.new.places }
+        ensures stay { AllStay self.old.places self.new.places }
     {
         if !self.is_waited_for {
             return true;
@@ -275,8 +319,10 @@ impl Clients {
 
     /// Gives the answer to the last record of a client to this client, and to no other.
     pub fn give_answer(&mut self)
-        ensures given { HasAnswered self.old.asker self.old.places self.new.places
-            self.old.answered.octets self.new.answered.octets }
+        ensures given { IfSome self.old.asker (HasAnswered ⟦<UnixStream as ClientStream>⟧.has_written
+            (GaveBehind (⟦<UnixStream as DeviceReader>⟧.has_read self.new.answers.reader)
+            self.old.answers.log.octets self.new.answers.log.octets) self.old.places self.new.places) }
+        ensures none { IfNone self.old.asker (self.new ≡ self.old) }
         ensures asker { self.new.asker ≡ None }
     {
         let Some(place) = self.asker else {
@@ -284,20 +330,18 @@ impl Clients {
         };
         self.asker = None;
         let mut room = [0u8; ANSWER_LEN];
-        let Ok(n) = self.answers.read(&mut room) else {
-            return;
-        };
-        if place < MOST_CLIENTS {
-            self.answered.append(&room, n);
-            answer_one(&mut self.places[place], &room[..n]);
-        }
+        let read = self.answers.read(&mut room);
+        answer_at(&mut self.places, place, read, &room);
     }
 
     // Accepts one connection, if one waits and there is a place.
     fn let_one_in(&mut self)
-        ensures { self.new.asker ≡ self.old.asker }
+        ensures asker { self.new.asker ≡ self.old.asker }
+        ensures door { self.new.door ≡ self.old.door }
+        ensures nobody { self.new.knocks ≡ self.old.knocks ⊎ SystemHasNobody self.new.door }
+        ensures place { LetsIn self.old.places self.new.places }
     {
-        let Ok((mut stream, _)) = self.door.accept() else {
+        let Some(mut stream) = accept(&self.door) else {
             self.knocks = false;
             return;
         };
@@ -318,7 +362,9 @@ impl Clients {
     /// Accepts the clients that wait at the door, without waiting. What has come was noted before the trunk
     /// was read; if that is a regular file, it is noted here.
     pub fn let_in(&mut self)
-        ensures { self.new.asker ≡ self.old.asker }
+        ensures asker { self.new.asker ≡ self.old.asker }
+        ensures door { self.new.door ≡ self.old.door }
+        ensures nobody { self.new.knocks ≡ false → (self.old.knocks ≡ false) ⊎ SystemHasNobody self.new.door }
     {
         if !self.is_waited_for {
             self.look(Some(Duration::ZERO));
@@ -333,7 +379,8 @@ impl Clients {
 
     /// The next record of a client. They are asked in turn, from behind the one whose record was the last.
     pub fn ask(&mut self, room: &mut [u8]) -> ClientPoll
-        ensures { Asks result self.old.places self.new.places self.new.asker room.new }
+        ensures { Asks ⟦<UnixStream as ClientStream>⟧.has_read result self.old.places self.new.places
+            self.new.asker room.new }
     {
         for turn in 0..MOST_CLIENTS {
             let place = (self.next % MOST_CLIENTS + turn) % MOST_CLIENTS;

@@ -1,11 +1,12 @@
 //! How a trunk's descriptor is read and written without waiting (`TrunkInput`, `TrunkOutput`).
 
 ghost use Rattle.std.specs.Prelude.{◌≡◌, ◌<◌, ◌≤◌, ◌++◌, ℕ, List, [], length, take, IfOk, IfErr, IfSome, ⊤};
-ghost use Rattle.std.specs.Prelude.{IfNone, Some, None};
+ghost use Rattle.std.specs.Prelude.{IfNone, Some, None, Ok, Err, ◌+◌};
 ghost use Rattle.std.specs.Prelude.{Bool, true, false, if◌then◌else◌};
 ghost use Rattle.std.specs.Io.KnownBytes.{IsAtEnd};
 ghost use Rattle.gw_trunk.specs.Device.{IsTaken, WasRead, octets_taken, written_of, IsForLater, HasFailed};
 ghost use Rattle.gw_trunk.specs.Pieces.{AsksRecord};
+ghost use Rattle.gw_trunk.specs.System.{SystemReportedNone};
 
 use crate::device_calls::{DeviceReader, DeviceWriter, is_for_later};
 use crate::logged_reader::LoggedReader;
@@ -49,7 +50,7 @@ pub trait TrunkInput {
     /// Holds of a device if a read reported that it has ended.
     ghost has_ended: { Self → Type 0 } = { λ _. ⊤ };
 
-    /// Holds of a device if a read found that no octet has come yet.
+    /// Holds of a device if its last read found that no octet has come yet.
     ghost has_none: { Self → Type 0 } = { λ _. ⊤ };
 
     /// Holds of a device if a read of it has failed.
@@ -60,6 +61,9 @@ pub trait TrunkInput {
 
     /// Whether the last read of the trunk found none.
     ghost is_empty: { Self → Bool } = { λ _. true };
+
+    /// Whether no client has anything.
+    ghost clients_are_quiet: { Self → Bool } = { λ _. true };
 
     /// Whether neither the trunk nor a client has anything.
     ghost is_idle: { Self → Bool } = { λ _. true };
@@ -84,13 +88,16 @@ pub trait TrunkInput {
         ensures bound { IfSome result (λ n. n ≤ length room.new) }
         ensures asked { IfSome result (λ n. AsksRecord (asked self.old) (asked self.new) (take n room.new)) }
         ensures none { IfNone result (asked self.new ≡ asked self.old) }
+        ensures quiet { IfNone result (clients_are_quiet self.new ≡ true) }
+        ensures found { has_none self.old → has_none self.new }
         ensures idle { IfNone result (is_empty self.old ≡ true → is_idle self.new ≡ true) };
 
     /// Waits until octets or a client may have come, when there is nothing.
     fn wait(&mut self)
         requires idle { is_idle self.old ≡ true }
         ensures came { came self.new ≡ came self.old }
-        ensures asked { asked self.new ≡ asked self.old };
+        ensures asked { asked self.new ≡ asked self.old }
+        ensures found { has_none self.old → has_none self.new };
 }
 
 /// What the octets of a trunk go to.
@@ -104,27 +111,38 @@ pub trait TrunkOutput {
     /// Holds of a device if a write to it has failed.
     ghost has_failed: { Self → Type 0 } = { λ _. ⊤ };
 
-    /// Whether it ever took none for as long as it is waited for a while.
-    ghost was_slow: { Self → Bool } = { λ _. false };
+    /// Relates a device to how many octets its last write took.
+    ghost has_taken: { Self → ℕ → Type 0 } = { λ _ _. ⊤ };
+
+    /// How many waits for a while ended without room.
+    ghost slow_waits: { Self → ℕ } = { λ _. 0 };
+
+    /// Whether a wait for a while ended without room since the last octets were taken.
+    ghost is_slow: { Self → Bool } = { λ _. false };
+
+    /// Holds of a device if it was waited for 20 ms, and no room was reported.
+    ghost has_waited: { Self → Type 0 } = { λ _. ⊤ };
 
     /// Takes octets from the front of `octets`, and returns how many; None if it can take none now. It never
     /// waits.
     fn write(&mut self, octets: &[u8]) -> Result<Option<usize>, DeviceFault>
         ensures bound { IfOk result (λ n. IfSome n (λ m. m ≤ length octets.now)) }
         ensures went { went self.new ≡ went self.old ++ written_of result octets.now }
-        ensures slow { was_slow self.new ≡ was_slow self.old }
+        ensures slow { slow_waits self.new ≡ slow_waits self.old }
+        ensures taken { IfOk result (λ n. IfSome n (λ m. has_taken self.new m × (is_slow self.new ≡ false))) }
         ensures full { IfOk result (λ n. IfNone n (is_full self.new)) }
         ensures err { IfErr result (λ _. has_failed self.new) };
 
     /// Waits until it may take octets.
     fn wait(&mut self)
         ensures went { went self.new ≡ went self.old }
-        ensures slow { was_slow self.new ≡ was_slow self.old };
+        ensures slow { slow_waits self.new ≡ slow_waits self.old };
 
     /// Waits until it may take octets, until it has taken none for 20 ms at most. Returns whether it may.
     fn wait_a_while(&mut self) -> bool
         ensures went { went self.new ≡ went self.old }
-        ensures slow { was_slow self.new ≡ (if result then was_slow self.old else true) };
+        ensures slow { slow_waits self.new ≡ slow_waits self.old + (if result then 0 else 1) }
+        ensures waited { result ≡ false → is_slow self.old ≡ false → has_waited self.new };
 }
 
 /// A reader over a descriptor. What came is what the calls of the reader gave.
@@ -140,9 +158,10 @@ pub struct FromDevice<R: DeviceReader> {
 pub struct ToDevice<W: DeviceWriter> {
     writer: W,
     waiting: Waiting,
-    // Whether a wait ended before it took octets, since the last ones or ever.
+    // Whether a wait ended before it took octets, since the last ones.
     is_slow: bool,
-    was_slow: bool,
+    // An octet for each wait that ended so.
+    slow_waits: Log,
     start: AtStart<W>,
     log: Log,
     ghost holds: { (before : List ℕ) → W.contents start.value ≡ Some before
@@ -191,7 +210,7 @@ impl<W: DeviceWriter + Drop> ToDevice<W> {
             writer,
             waiting,
             is_slow: false,
-            was_slow: false,
+            slow_waits: Log::new(),
             start,
             log: Log::new(),
         })
@@ -205,9 +224,9 @@ impl<R: DeviceReader> TrunkInput for FromDevice<R> {
 
     ghost has_ended = { λ d. IsAtEnd (R.remaining d.reader.reader) };
 
-    ghost has_none = { λ d. IsForLater (R.fails d.reader.reader) };
+    ghost has_none = { λ d. IsForLater (λ kind. R.has_read d.reader.reader (Err kind)) };
 
-    ghost has_failed = { λ d. HasFailed (R.fails d.reader.reader) };
+    ghost has_failed = { λ d. HasFailed (λ kind. R.has_read d.reader.reader (Err kind)) };
 
     fn read(&mut self, room: &mut [u8]) -> Result<DeviceRead, DeviceFault> {
         match self.reader.read(room) {
@@ -230,11 +249,17 @@ impl<R: DeviceReader> TrunkInput for FromDevice<R> {
 impl<W: DeviceWriter> TrunkOutput for ToDevice<W> {
     ghost went = { λ d. d.log.octets };
 
-    ghost is_full = { λ d. IsForLater (W.fails d.writer) };
+    ghost is_full = { λ d. IsForLater (λ kind. W.has_written d.writer (Err kind)) };
 
-    ghost has_failed = { λ d. HasFailed (W.fails d.writer) };
+    ghost has_failed = { λ d. HasFailed (λ kind. W.has_written d.writer (Err kind)) };
 
-    ghost was_slow = { λ d. d.was_slow };
+    ghost has_taken = { λ d n. W.has_written d.writer (Ok n) };
+
+    ghost slow_waits = { λ d. length d.slow_waits.octets };
+
+    ghost is_slow = { λ d. d.is_slow };
+
+    ghost has_waited = { λ d. SystemReportedNone d.waiting 20_000_000 };
 
     fn write(&mut self, octets: &[u8]) -> Result<Option<usize>, DeviceFault> {
         match self.writer.write_now(octets) {
@@ -258,7 +283,7 @@ impl<W: DeviceWriter> TrunkOutput for ToDevice<W> {
             return true;
         }
         self.is_slow = true;
-        self.was_slow = true;
+        self.slow_waits.append(&[0], 1);
         false
     }
 }

@@ -1,9 +1,10 @@
 //! Reads and writes that say how they failed (`DeviceReader`, `DeviceWriter`).
 
-ghost use Rattle.std.specs.Prelude.{◌≡◌, ◌≤◌, ℕ, List, length, IfOk, IfErr, Option, ⊤};
+ghost use Rattle.std.specs.Prelude.{◌≡◌, ◌≤◌, ℕ, List, length, IfOk, Option, Result};
 ghost use Rattle.std.specs.Io.KnownBytes.{ReadConsumes, WriteAppends};
 ghost use Rattle.std.specs.declared.io.ErrorKind.{ErrorKind};
 ghost use Rattle.gw_trunk.specs.Device.{is_for_later};
+ghost use Rattle.gw_trunk.specs.System.{SystemRead, SystemTook};
 
 use std::io::{ErrorKind, Read, Write};
 
@@ -14,14 +15,14 @@ pub trait DeviceReader {
     /// The octets that are to come, if they are known.
     ghost remaining: { Self → Option (List ℕ) };
 
-    /// Relates a reader to the error with which its last read ended.
-    ghost fails: { Self → ErrorKind → Type 0 };
+    /// Relates a reader to what its last read returned.
+    ghost has_read: { Self → Result ℕ ErrorKind → Type 0 };
 
     /// Reads octets to the front of `room`, and returns how many: 0 only at the end, or if there is no room.
     fn read_now(&mut self, room: &mut [u8]) -> Result<usize, ErrorKind>
         ensures bound { IfOk result (λ n. n ≤ length room.new) }
         ensures octets { ReadConsumes (remaining self.old) (remaining self.new) result room.new }
-        ensures fails { IfErr result (fails self.new) };
+        ensures read { has_read self.new result };
 }
 
 /// Writes octets without waiting for room.
@@ -31,21 +32,22 @@ pub trait DeviceWriter {
     /// The octets that the writer holds, if they are known.
     ghost contents: { Self → Option (List ℕ) };
 
-    /// Relates a writer to the error with which its last write ended.
-    ghost fails: { Self → ErrorKind → Type 0 };
+    /// Relates a writer to what its last write returned.
+    ghost has_written: { Self → Result ℕ ErrorKind → Type 0 };
 
     /// Writes octets from the front of `octets`, and returns how many.
     fn write_now(&mut self, octets: &[u8]) -> Result<usize, ErrorKind>
         ensures bound { IfOk result (λ n. n ≤ length octets.now) }
         ensures octets { WriteAppends (contents self.old) (contents self.new) result octets.now }
-        ensures fails { IfErr result (fails self.new) };
+        ensures written { has_written self.new result };
 }
 
 impl<R: Read> DeviceReader for R {
     ghost remaining = { λ r. R.remaining r };
 
-    ghost fails = { λ _ _. ⊤ };
+    ghost has_read = { SystemRead };
 
+    #[tactic(auto, unfolding(crate::specs::System::SystemRead))]
     fn read_now(&mut self, room: &mut [u8]) -> Result<usize, ErrorKind> {
         match self.read(room) {
             Ok(n) => Ok(n),
@@ -57,8 +59,9 @@ impl<R: Read> DeviceReader for R {
 impl<W: Write> DeviceWriter for W {
     ghost contents = { λ w. W.contents w };
 
-    ghost fails = { λ _ _. ⊤ };
+    ghost has_written = { SystemTook };
 
+    #[tactic(auto, unfolding(crate::specs::System::SystemTook))]
     fn write_now(&mut self, octets: &[u8]) -> Result<usize, ErrorKind> {
         match self.write(octets) {
             Ok(n) => Ok(n),

@@ -1,5 +1,9 @@
 //! Whether the clients' Unix socket can be opened, and an old one at its path replaced.
 
+ghost use Rattle.std.specs.Prelude.{◌≡◌, true, Option, OnOk};
+ghost use Rattle.gw_trunk.specs.System.{SystemShowsSocket, SystemConnects, SystemSetsMode};
+ghost use Rattle.gw_trunk.specs.Door.{IsLeftOver};
+
 use mio::net::{UnixListener, UnixStream};
 use std::fs::{self, Permissions};
 use std::io::{self, ErrorKind};
@@ -8,27 +12,65 @@ use std::os::unix::fs::{FileTypeExt, PermissionsExt};
 // The permissions of the socket: its owner and its group may connect.
 const MODE: u32 = 0o660;
 
-// Whether a socket stands at the path at which nobody listens.
-fn is_left_over(rt: &HostRuntime, path: &str) -> bool {
-    let Ok(found) = fs::symlink_metadata(rt, path) else {
-        return false;
-    };
-    if !found.file_type().is_socket() {
-        return false;
+// Whether a socket stands at the path.
+#[tactic(auto, unfolding(crate::specs::System::SystemShowsSocket))]
+fn is_socket(rt: &HostRuntime, path: &str) -> bool
+    ensures { SystemShowsSocket path.now result }
+{
+    match fs::symlink_metadata(rt, path) {
+        Ok(found) => found.file_type().is_socket(),
+        Err(_) => false,
     }
+}
+
+// The error of a connection to the path; None if somebody listens there.
+#[tactic(auto, unfolding(crate::specs::System::SystemConnects))]
+fn error_of_connection(rt: &HostRuntime, path: &str) -> Option<ErrorKind>
+    ensures { SystemConnects path.now result }
+{
     match UnixStream::connect(rt, path) {
-        Ok(_) => false,
-        Err(error) => error.kind() == ErrorKind::ConnectionRefused,
+        Ok(_) => None,
+        Err(error) => Some(error.kind()),
     }
+}
+
+// Gives the path these permissions. The error is the system's.
+#[tactic(auto, unfolding(crate::specs::System::SystemSetsMode))]
+fn set_mode(rt: &HostRuntime, path: &str, mode: u32) -> io::Result<()>
+    ensures { OnOk result (SystemSetsMode path.now mode) }
+{
+    fs::set_permissions(rt, path, Permissions::from_mode(mode))
+}
+
+// Whether a socket stands at the path at which nobody listens.
+fn is_left_over(rt: &HostRuntime, path: &str) -> bool
+    ensures { result ≡ true → IsLeftOver path.now }
+{
+    if !is_socket(rt, path) {
+        return false;
+    }
+    match error_of_connection(rt, path) {
+        Some(ErrorKind::ConnectionRefused) => true,
+        _ => false,
+    }
+}
+
+// Removes a socket at which nobody listens. The error is the system's.
+fn remove_left_over(rt: &HostRuntime, path: &str) -> io::Result<()>
+    requires { IsLeftOver path.now }
+{
+    fs::remove_file(rt, path)
 }
 
 /// Listens at a path. An old socket there at which nobody listens is replaced; anything else is left, and the
 /// call fails. Owner and group may connect. The error is the system's.
-pub fn open_door(rt: &HostRuntime, path: &str) -> io::Result<UnixListener> {
+pub fn open_door(rt: &HostRuntime, path: &str) -> io::Result<UnixListener>
+    ensures { OnOk result (SystemSetsMode path.now 432) }
+{
     if is_left_over(rt, path) {
-        fs::remove_file(rt, path)?;
+        remove_left_over(rt, path)?;
     }
     let door = UnixListener::bind(rt, path)?;
-    fs::set_permissions(rt, path, Permissions::from_mode(MODE))?;
+    set_mode(rt, path, MODE)?;
     Ok(door)
 }

@@ -2,10 +2,12 @@
 #![tactic(auto)]
 
 mod client;
+mod client_stream;
 mod clients;
 mod device;
 mod device_calls;
 mod door;
+mod held;
 mod logged_reader;
 mod multiframe_dropper;
 mod serving;

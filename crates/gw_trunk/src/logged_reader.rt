@@ -1,6 +1,6 @@
 //! A reader with a log of all octets that it gave (`LoggedReader`).
 
-ghost use Rattle.std.specs.Prelude.{◌≡◌, ◌<◌, ◌≤◌, ◌++◌, [], length, IfOk, IfErr};
+ghost use Rattle.std.specs.Prelude.{◌≡◌, ◌<◌, ◌≤◌, ◌++◌, [], length, IfOk};
 ghost use Rattle.std.specs.Io.KnownBytes.{IsAtEnd};
 ghost use Rattle.gw_trunk.specs.Device.{octets_read};
 ghost use Rattle.gw_trunk.specs.KnownOctets.{Gave, StaysKnown};
@@ -41,7 +41,7 @@ impl<R: DeviceReader> LoggedReader<R> {
         ensures start { self.new.start.value ≡ self.old.start.value }
         ensures log { self.new.log.octets ≡ self.old.log.octets ++ octets_read result room.new }
         ensures end { IfOk result (λ n. n ≡ 0 → 0 < length room.new → IsAtEnd (R.remaining self.new.reader)) }
-        ensures fails { IfErr result (R.fails self.new.reader) }
+        ensures read { R.has_read self.new.reader result }
     {
         match self.reader.read_now(room) {
             Ok(n) => {

@@ -1,12 +1,13 @@
 //! When octets for a slow device are discarded: whole multiframes, so that the far end keeps alignment.
 
-ghost use Rattle.std.specs.Prelude.{◌≡◌, ◌<◌, ◌≤◌, ◌+◌, ◌++◌, [], true, false, length, take, drop};
+ghost use Rattle.std.specs.Prelude.{◌≡◌, ◌<◌, ◌≤◌, ◌+◌, ◌++◌, ◌⊎◌, ℕ, [], true, false, length, take};
 ghost use Rattle.std.specs.Prelude.{IfOk, IfSome, IfNone, OnErr};
 ghost use Rattle.gw_trunk.specs.Device.{written_of};
 ghost use Rattle.gw_trunk.specs.Multiframes.{IsThinned, IsPrompt, HasRoom, Steps, GoesInTime};
 ghost use Rattle.gw_trunk.specs.Multiframes.{position_after, position_discarding};
 
 use crate::device::{DeviceFault, TrunkOutput};
+use crate::held::drop_first;
 use arrayvec::ArrayVec;
 use gw_records::Log;
 use std::io::Write;
@@ -65,8 +66,10 @@ fn position_discarding(position: MultiframePosition) -> MultiframePosition
 fn give<O: TrunkOutput>(outgoing: &mut O, octets: &[u8]) -> Result<Option<usize>, DeviceFault>
     ensures bound { IfOk result (λ n. IfSome n (λ m. m ≤ length octets.now)) }
     ensures went { O.went outgoing.new ≡ O.went outgoing.old ++ written_of result octets.now }
-    ensures slow { IfOk result (λ n. IfNone n (O.was_slow outgoing.new ≡ true)) }
-    ensures stays { O.was_slow outgoing.old ≡ true → O.was_slow outgoing.new ≡ true }
+    ensures slow { IfOk result (λ n. IfNone n (O.slow_waits outgoing.old < O.slow_waits outgoing.new)) }
+    ensures waits { O.slow_waits outgoing.old ≤ O.slow_waits outgoing.new }
+    ensures taken { IfOk result (λ n. IfSome n (O.has_taken outgoing.new)) }
+    ensures err { OnErr result (O.has_failed outgoing.new ⊎ O.is_full outgoing.new) }
 {
     for _turn in 0..u64::MAX {
         match outgoing.write(octets) {
@@ -79,17 +82,10 @@ fn give<O: TrunkOutput>(outgoing: &mut O, octets: &[u8]) -> Result<Option<usize>
             Err(fault) => return Err(fault),
         }
     }
-    Err(DeviceFault)
-}
-
-// Drops the first held octets, which the device has taken.
-fn drop_first(held: &mut Held, len: usize)
-    requires { len ≤ length held.old.items }
-    ensures { held.new.items ≡ drop len held.old.items }
-{
-    let mut rest = ArrayVec::new();
-    let _ = rest.try_extend_from_slice(&held.as_slice()[len..]);
-    *held = rest;
+    match outgoing.write(octets) {
+        Ok(Some(n)) => Ok(Some(n)),
+        _ => Err(DeviceFault),
+    }
 }
 
 // Gives a device what is held for it, and returns whether it took all; false if it was slow.
@@ -97,17 +93,21 @@ fn give_held<O: TrunkOutput>(outgoing: &mut O, held: &mut Held) -> Result<bool, 
     ensures all { IfOk result (λ all. all ≡ true → held.new.items ≡ []) }
     ensures went { O.went outgoing.new ++ held.new.items ≡ O.went outgoing.old ++ held.old.items }
     ensures shorter { length held.new.items ≤ length held.old.items }
-    ensures slow { IfOk result (λ all. all ≡ false → O.was_slow outgoing.new ≡ true) }
-    ensures stays { O.was_slow outgoing.old ≡ true → O.was_slow outgoing.new ≡ true }
+    ensures slow { IfOk result (λ all. all ≡ false → O.slow_waits outgoing.old < O.slow_waits outgoing.new) }
+    ensures waits { O.slow_waits outgoing.old ≤ O.slow_waits outgoing.new }
+    ensures err { OnErr result ((O.has_failed outgoing.new ⊎ O.is_full outgoing.new)
+        ⊎ O.has_taken outgoing.new 0) }
 {
-    for _turn in 0..u64::MAX {
+    let turns = held.len() + 1;
+    for _turn in 0..turns {
         if held.is_empty() {
             return Ok(true);
         }
         match give(outgoing, held.as_slice()) {
-            Ok(Some(n)) if n > 0 => drop_first(held, n),
+            Ok(Some(0)) => return Err(DeviceFault),
+            Ok(Some(n)) => drop_first(held, n),
             Ok(None) => return Ok(false),
-            _ => return Err(DeviceFault),
+            Err(fault) => return Err(fault),
         }
     }
     Err(DeviceFault)
@@ -125,8 +125,8 @@ fn give_behind<O: TrunkOutput>(
         ≡ (O.went outgoing.old ++ held.old.items) ++ written_of result octets.now }
     ensures shorter { length held.new.items ≤ length held.old.items }
     ensures all { IfOk result (λ n. IfSome n (λ _. held.new.items ≡ [])) }
-    ensures slow { IfOk result (λ n. IfNone n (O.was_slow outgoing.new ≡ true)) }
-    ensures stays { O.was_slow outgoing.old ≡ true → O.was_slow outgoing.new ≡ true }
+    ensures slow { IfOk result (λ n. IfNone n (O.slow_waits outgoing.old < O.slow_waits outgoing.new)) }
+    ensures waits { O.slow_waits outgoing.old ≤ O.slow_waits outgoing.new }
 {
     if give_held(outgoing, held)? {
         return give(outgoing, octets);
@@ -141,7 +141,8 @@ fn take_slow(held: &mut Held, position: &mut MultiframePosition, octets: &[u8])
     requires below { position.old.place < 512 }
     requires goes { position.old.discards ≡ false }
     requires room { HasRoom held.old.items position.old }
-    ensures steps { Steps position.old position.new held.old.items held.new.items octets.now }
+    ensures steps { (waits waits' : ℕ) → waits < waits'
+        → Steps position.old position.new held.old.items held.new.items octets.now waits waits' }
     ensures room { HasRoom held.new.items position.new }
     ensures below { position.new.place < 512 }
 {
@@ -165,15 +166,16 @@ fn pass<O: TrunkOutput>(
     requires room { HasRoom held.old.items position.old }
     ensures bound { IfOk result (λ n. n ≤ length octets.now) }
     ensures steps { IfOk result (λ n. Steps position.old position.new (O.went outgoing.old ++ held.old.items)
-        (O.went outgoing.new ++ held.new.items) (take n octets.now)) }
+        (O.went outgoing.new ++ held.new.items) (take n octets.now)
+        (O.slow_waits outgoing.old) (O.slow_waits outgoing.new)) }
     ensures err { OnErr result (position.new ≡ position.old) }
     ensures left { OnErr result (O.went outgoing.new ++ held.new.items
         ≡ O.went outgoing.old ++ held.old.items) }
     ensures room { HasRoom held.new.items position.new }
     ensures below { position.new.place < 512 }
-    ensures prompt { O.was_slow outgoing.new ≡ false → IsPrompt held.old.items position.old
+    ensures prompt { O.slow_waits outgoing.new ≡ 0 → IsPrompt held.old.items position.old
         → IsPrompt held.new.items position.new }
-    ensures stays { O.was_slow outgoing.old ≡ true → O.was_slow outgoing.new ≡ true }
+    ensures waits { O.slow_waits outgoing.old ≤ O.slow_waits outgoing.new }
 {
     if position.discards {
         *position = position_after(*position, octets.len());
@@ -198,10 +200,11 @@ pub struct MultiframeDropper<O: TrunkOutput, E> {
     held: Held,
     position: MultiframePosition,
     log: Log,
-    ghost thinned: { ∥ IsThinned position log.octets (O.went outgoing ++ held.items) ∥₁ },
+    ghost thinned: { ∥ IsThinned position log.octets (O.went outgoing ++ held.items)
+        (O.slow_waits outgoing) ∥₁ },
     ghost below: { position.place < 512 },
     ghost room: { HasRoom held.items position },
-    ghost prompt: { O.was_slow outgoing ≡ false → IsPrompt held.items position },
+    ghost prompt: { O.slow_waits outgoing ≡ 0 → IsPrompt held.items position },
 }
 
 impl<O: TrunkOutput, E: Write> MultiframeDropper<O, E> {
@@ -231,11 +234,16 @@ impl<O: TrunkOutput, E: Write> MultiframeDropper<O, E> {
     }
 
     /// Gives the device what is still held for it, and waits for it as before. What was sent goes to it in
-    /// time.
+    /// time. Something is held then only if the device was slow now, or its last write failed, found no room
+    /// or took nothing.
     pub fn finish(&mut self)
         ensures sent { self.new.log.octets ≡ self.old.log.octets }
         ensures goes { ∥ GoesInTime self.new.log.octets (O.went self.new.outgoing) self.new.position.discarded
-            (O.was_slow self.new.outgoing) ∥₁ }
+            (O.slow_waits self.new.outgoing) ∥₁ }
+        ensures given { (self.new.held.items ≡ [])
+            ⊎ ((O.slow_waits self.old.outgoing < O.slow_waits self.new.outgoing)
+            ⊎ ((O.has_failed self.new.outgoing ⊎ O.is_full self.new.outgoing)
+            ⊎ O.has_taken self.new.outgoing 0)) }
     {
         let _ = give_held(&mut self.outgoing, &mut self.held);
     }

@@ -1,9 +1,11 @@
 //! Whether octets of the trunk or a client's command are the next record (`TrunkRecordSource`).
 
 ghost use Rattle.std.specs.Prelude.{◌≡◌, ◌<◌, ◌≤◌, ◌^◌, ◌++◌, ◌∷◌, [], length, take, IfOk, IfSome, IfNone};
-ghost use Rattle.std.specs.Prelude.{Some, None, true, false};
+ghost use Rattle.std.specs.Prelude.{Some, None, true, false, OnErr};
+ghost use Rattle.std.specs.Io.KnownBytes.{ReadConsumes, WriteAppends};
+ghost use Rattle.gw_records.specs.Streams.{CountsRead, CountsTurn};
 ghost use Rattle.byteorder.specs.Endian.{big_bytes};
-ghost use Rattle.gw_trunk.specs.Pieces.{GivesWoven, ReadsRecord, AsksRecord};
+ghost use Rattle.gw_trunk.specs.Pieces.{GivesWoven, ReadsRecord, AsksRecord, LacksRecord};
 
 use crate::device::{DeviceRead, TrunkInput};
 use byteorder::{BigEndian, ByteOrder};
@@ -71,6 +73,8 @@ fn next_record<I: TrunkInput>(
         (I.asked incoming.old) (I.asked incoming.new) result room.new }
     ensures turn { turn.new ≡ true → I.is_turn incoming.new ≡ true }
     ensures ended { IfOk result (λ n. n ≡ 0 → I.has_ended incoming.new) }
+    ensures fails { OnErr result
+        (LacksRecord (I.has_failed incoming.new) (I.has_none incoming.new) room.new) }
 {
     let most = room.len().min(FRONT_LEN + MOST_OCTETS);
     if most <= FRONT_LEN {
@@ -125,7 +129,15 @@ impl<I: TrunkInput> Source for TrunkRecordSource<I> {
       to_come = None;
     } };
 
-    fn read(&mut self, buf: &mut [u8]) -> Result<usize, SourceFault> {
+    fn read(&mut self, buf: &mut [u8]) -> Result<usize, SourceFault>
+        ensures bound { IfOk result (λ n. n ≤ length buf.new) }
+        ensures gives { WriteAppends (Some self.old.log.octets) (Some self.new.log.octets) result buf.new }
+        ensures consumes { ReadConsumes None None result buf.new }
+        ensures counts { CountsRead self.old.failed self.new.failed result }
+        ensures turns { CountsTurn self.old.reads self.new.reads result }
+        ensures fails { OnErr result
+            (LacksRecord (I.has_failed self.new.incoming) (I.has_none self.new.incoming) buf.new) }
+    {
         match next_record(&mut self.incoming, &mut self.turn, buf) {
             Ok(n) => {
                 self.log.append(buf, n);

@@ -1,5 +1,9 @@
 //! How a descriptor is waited for, with or without a time limit (`Waiting`).
 
+ghost use Rattle.std.specs.Prelude.{◌≡◌, false};
+ghost use Rattle.std.specs.Duration.{as_nanos};
+ghost use Rattle.gw_trunk.specs.System.{SystemReportedNone};
+
 use mio::unix::SourceFd;
 use mio::{Events, Interest, Poll, Token};
 use std::io;
@@ -43,7 +47,10 @@ impl Waiting {
 
     /// Waits until the descriptor is ready, for so long at most, or a signal comes. Returns whether it may be
     /// ready.
-    pub fn wait_for(&mut self, limit: Duration) -> bool {
+    #[tactic(auto, unfolding(crate::specs::System::SystemReportedNone))]
+    pub fn wait_for(&mut self, limit: Duration) -> bool
+        ensures { result ≡ false → SystemReportedNone self.new (as_nanos limit) }
+    {
         let registry = self.poll.registry();
         let source = &mut SourceFd(&self.descriptor);
         if registry

@@ -1,6 +1,6 @@
 //! A trunk with clients: when it is read, when a client is asked, and what ends it (`WithClients`).
 
-ghost use Rattle.std.specs.Prelude.{◌≡◌, ◌||◌, ◌&&◌, ℕ, List, [], true, false, IfOk, Some};
+ghost use Rattle.std.specs.Prelude.{◌≡◌, ◌||◌, ◌&&◌, ℕ, List, [], true, false, IfOk, Some, Err};
 ghost use Rattle.std.specs.Io.KnownBytes.{IsAtEnd};
 ghost use Rattle.std.specs.List.{list_all};
 ghost use Rattle.gw_trunk.specs.Clients.{is_quiet};
@@ -94,11 +94,13 @@ impl<R: DeviceReader> TrunkInput for WithClients<R> {
     ghost has_ended = { λ d. (d.ended ≡ true)
         × (d.end_asked ≡ false → IsAtEnd (R.remaining d.reader.reader)) };
 
-    ghost has_failed = { λ d. HasFailed (R.fails d.reader.reader) };
+    ghost has_failed = { λ d. HasFailed (λ kind. R.has_read d.reader.reader (Err kind)) };
 
     ghost is_turn = { λ d. d.turn };
 
     ghost is_empty = { λ d. d.empty };
+
+    ghost clients_are_quiet = { λ d. d.ended || list_all is_quiet d.clients.places };
 
     ghost is_idle = { λ d. d.ended || d.empty && list_all is_quiet d.clients.places };
 

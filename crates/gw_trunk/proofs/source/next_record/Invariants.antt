@@ -10,4 +10,5 @@ invariant-loop-turn g l = record {
   some : 4 < l.most;
   few : l.most ≤ 2052;
   asked_first : l.turn ≡ false;
+  none : 0 < l._turn → g.I.TrunkInput.has_none l.incoming;
 }

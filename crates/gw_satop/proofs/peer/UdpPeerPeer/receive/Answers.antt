@@ -1,3 +1,4 @@
+use Rattle.std.proofs.Common.{inr}
 use Rattle.std.proofs.Math.Logic.{∥∥₁_map}
 use Rattle.gw_satop.proofs.FarEnd.{by_heard, by_none, by_failed}
 use Rattle.gw_satop.proofs.peer.UdpPeerPeer.receive.Goals as goal
@@ -20,3 +21,7 @@ invariant_of-self-in-Err g c = record {
   by = ∥∥₁_map c.args.self.now.by (λ by. by_failed _ _ _ _ c.receive_any.new.self _ _ _
       c.receive_any.new.room by c.in-Err.ensures.receives);
 }
+
+pub returns-in-Err-clause-none : goal.returns-in-Err-clause-none
+returns-in-Err-clause-none g c =
+    (c.args.self.now.socket, c.receive_any.new.room, inr (c.in-Err.field-0, c.in-Err.ensures.receives))

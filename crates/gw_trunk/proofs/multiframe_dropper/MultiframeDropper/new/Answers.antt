@@ -5,7 +5,7 @@ use Rattle.gw_trunk.proofs.multiframe_dropper.MultiframeDropper.new.Goals as goa
 
 pub invariant_of-result : goal.invariant_of-result
 invariant_of-result g c = record {
-  thinned = ∣ none-sent _ _ _ (ap (λ (l : Log). l.octets) c.new-2.ensures)
+  thinned = ∣ none-sent _ _ _ _ (ap (λ (l : Log). l.octets) c.new-2.ensures)
       (rw (c.new.ensures, c.requires) refl) refl refl refl ∣₁;
   below = omega arith;
   room = λ goes begun. absurd (begun refl);

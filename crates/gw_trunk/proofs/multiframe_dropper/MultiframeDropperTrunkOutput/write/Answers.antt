@@ -1,6 +1,6 @@
 use Rattle.std.proofs.Math.Logic.{∥∥₁_map}
 use Rattle.std.proofs.Common.{◌≤◌, length, arith}
-use Rattle.gw_trunk.proofs.Thinning.{stepped, was-prompt}
+use Rattle.gw_trunk.proofs.Thinning.{stepped, waited}
 use Rattle.gw_trunk.proofs.multiframe_dropper.MultiframeDropperTrunkOutput.write.Goals as goal
 
 pub invariant_of-self-then-self-gt0 : goal.invariant_of-self-then-self-gt0
@@ -9,11 +9,11 @@ invariant_of-self-then-self-gt0 g c =
     let fits : c.min-most.result ≤ length c.args.octets.now = omega (arith, c.min-most.ensures) in
     record {
       thinned = ∥∥₁_map s.thinned (λ t. rw (c.append.ensures)
-          (stepped s.position c.pass.new.position _ _ _ c.args.octets.now c.min-most.result c.in-Ok.n t
+          (stepped s.position c.pass.new.position _ _ _ c.args.octets.now c.min-most.result c.in-Ok.n _ _ t
           c.in-Ok.ensures.steps fits c.in-Ok.ensures.bound));
       below = c.in-Ok.ensures.below;
       room = c.in-Ok.ensures.room;
-      prompt = λ e. c.in-Ok.ensures.prompt e (s.prompt (was-prompt _ _ c.in-Ok.ensures.stays e));
+      prompt = λ e. c.in-Ok.ensures.prompt e (s.prompt (omega (arith, c.in-Ok.ensures.waits, e)));
     }
 
 pub invariant_of-self-else-self-gt0 : goal.invariant_of-self-else-self-gt0
@@ -22,11 +22,11 @@ invariant_of-self-else-self-gt0 g c =
     let fits : c.min-most.result ≤ length c.args.octets.now = omega (arith, c.min-most.ensures) in
     record {
       thinned = ∥∥₁_map s.thinned (λ t. rw (c.append.ensures)
-          (stepped s.position c.pass.new.position _ _ _ c.args.octets.now c.min-most.result c.in-Ok.n t
+          (stepped s.position c.pass.new.position _ _ _ c.args.octets.now c.min-most.result c.in-Ok.n _ _ t
           c.in-Ok.ensures.steps fits c.in-Ok.ensures.bound));
       below = c.in-Ok.ensures.below;
       room = c.in-Ok.ensures.room;
-      prompt = λ e. c.in-Ok.ensures.prompt e (s.prompt (was-prompt _ _ c.in-Ok.ensures.stays e));
+      prompt = λ e. c.in-Ok.ensures.prompt e (s.prompt (omega (arith, c.in-Ok.ensures.waits, e)));
     }
 
 pub invariant_of-self-else-before-eq0 : goal.invariant_of-self-else-before-eq0
@@ -35,9 +35,20 @@ invariant_of-self-else-before-eq0 g c =
     let fits : c.min-most.result ≤ length c.args.octets.now = omega (arith, c.min-most.ensures) in
     record {
       thinned = ∥∥₁_map s.thinned (λ t. rw (c.append.ensures)
-          (stepped s.position c.pass.new.position _ _ _ c.args.octets.now c.min-most.result c.in-Ok.n t
+          (stepped s.position c.pass.new.position _ _ _ c.args.octets.now c.min-most.result c.in-Ok.n _ _ t
           c.in-Ok.ensures.steps fits c.in-Ok.ensures.bound));
       below = c.in-Ok.ensures.below;
       room = c.in-Ok.ensures.room;
-      prompt = λ e. c.in-Ok.ensures.prompt e (s.prompt (was-prompt _ _ c.in-Ok.ensures.stays e));
+      prompt = λ e. c.in-Ok.ensures.prompt e (s.prompt (omega (arith, c.in-Ok.ensures.waits, e)));
+    }
+
+pub invariant_of-self : goal.invariant_of-self
+invariant_of-self g c =
+    let s = c.args.self.now in
+    let e = c.in-Err.ensures in
+    record {
+      thinned = ∥∥₁_map s.thinned (λ t. rw (e.err, e.left) (waited s.position s.log.octets _ _ _ t e.waits));
+      below = e.below;
+      room = e.room;
+      prompt = λ none. e.prompt none (s.prompt (omega (arith, e.waits, none)));
     }

@@ -1,0 +1,37 @@
+-- What the system answered (modules `device_calls`, `client_stream`, `clients`, `waiting`, `door`). Std says
+-- nothing of it, so each of these relations holds of every answer; but they are unfolded only in the
+-- functions that ask the system, so for all others they hold only of answers received.
+use Rattle.std.specs.Prelude.{⊤, ℕ, Bool, List, Option, Result}
+use Rattle.std.specs.declared.io.ErrorKind.{ErrorKind}
+
+-- the last read of a reader returned this
+unfoldable pub SystemRead : {S : Type 0} → S → Result ℕ ErrorKind → Type 0
+SystemRead reader read = ⊤
+
+-- the last write to a writer was of these octets, and returned this
+unfoldable pub SystemWrote : {S : Type 0} → S → List ℕ → Result ℕ ErrorKind → Type 0
+SystemWrote writer octets written = ⊤
+
+-- the last write to a device returned this
+unfoldable pub SystemTook : {S : Type 0} → S → Result ℕ ErrorKind → Type 0
+SystemTook writer written = ⊤
+
+-- nobody waited at a door that could be let in
+unfoldable pub SystemHasNobody : {S : Type 0} → S → Type 0
+SystemHasNobody door = ⊤
+
+-- the system was asked to wait for so many nanoseconds at most, and reported nothing
+unfoldable pub SystemReportedNone : {S : Type 0} → S → ℕ → Type 0
+SystemReportedNone waiting nanoseconds = ⊤
+
+-- whether what stands at a path is a socket
+unfoldable pub SystemShowsSocket : List ℕ → Bool → Type 0
+SystemShowsSocket path is_socket = ⊤
+
+-- a connection to a path was made, or had this error
+unfoldable pub SystemConnects : List ℕ → Option ErrorKind → Type 0
+SystemConnects path error = ⊤
+
+-- a path was given these permissions
+unfoldable pub SystemSetsMode : List ℕ → ℕ → Type 0
+SystemSetsMode path mode = ⊤
