@@ -250,7 +250,14 @@ def compare_totals(lines: list[str], folder: str) -> None:
         expect(f'totals of {" ".join(words)}', totals(*words, given=given), (list(zip(names, counts)), others))
 
 
+def compare_feet() -> None:
+    """Each page names the system whose page it is, and which would else be BSD, at its foot."""
+    for name in sorted(os.listdir(os.path.join(TOP, 'dist', 'man'))):
+        expect(f'the system of {name}', page(name)[2], '.Os e1gw')
+
+
 def main() -> None:
+    compare_feet()
     lines = page('e1gw.1')
     compare_options(lines)
     for option, about in described(lines).items():

@@ -1,5 +1,7 @@
-"""The scripts of the package that dpkg runs: what they ask systemd for."""
+"""The scripts of the package that dpkg runs: what they ask systemd for; and what its units do at a reload."""
 import os
+import re
+import shutil
 import subprocess
 import tempfile
 import unittest
@@ -62,11 +64,35 @@ class Units(unittest.TestCase):
         self.assertEqual(asked('postrm', 'upgrade', '0.2.0'), [])
         self.assertNotIn('stop', asked('postinst', 'configure', '0.1.0'))
 
+    def test_a_reload_checks_the_configuration_first(self) -> None:
+        """In each unit that is reloaded: with a file that is refused it fails before the signal."""
+        reloaded = []
+        with tempfile.TemporaryDirectory() as folder:
+            files = {name: os.path.join(folder, name) for name in ('good', 'bad', 'none')}
+            shutil.copyfile(os.path.join(TOP, 'dist', 'system', 'thirty.toml'), files['good'])
+            with open(files['bad'], 'w', encoding='ascii') as file:
+                file.write('law = "A"\n[[circuit]]\nnumber = 1\ncodecc = "pcma"\n')
+            for name in (unit.replace('@*', '@') for unit in self.units()):
+                with open(os.path.join(TOP, 'dist', 'system', name), encoding='utf-8') as unit:
+                    text = unit.read()
+                if not (found := re.findall('(?m)^ExecReload=(.*)$', text)):
+                    continue
+                reloaded.append(name)
+                self.assertEqual([*found[1:]], ['/bin/kill -HUP $MAINPID'], name)
+                *words, config = found[0].replace('/usr/bin/e1gw-', f'{TOP}/tools/').split()
+                self.assertIn(f'--config {config} ', text)
+                ends = {which: subprocess.run([*words, path], capture_output=True, check=False, timeout=20).returncode
+                        for which, path in files.items()}
+                self.assertEqual(ends, {'good': 0, 'bad': 2, 'none': 2}, name)
+        self.assertEqual(reloaded, ['e1gw-keep@.service', 'e1gw-trunk@.service'])
+
     def test_an_update_names_what_runs_on(self) -> None:
         """Only where there was a version before, and only while units run."""
         running = 'e1gw-tie@west.service loaded active running\ne1gw-trunk@west.service loaded active running\n'
         said = run('postinst', ('configure', '0.0.9'), running)[1]
         self.assertIn('before: e1gw-tie@west.service e1gw-trunk@west.service', said)
+        self.assertIn('end no call: systemctl reload e1gw-trunk@west.service \n', said)
+        self.assertNotIn('reload', run('postinst', ('configure', '0.0.9'), running.splitlines()[0])[1])
         self.assertEqual(run('postinst', ('configure', '0.0.9'), '')[1], '')
         self.assertEqual(run('postinst', ('configure', ''), running)[1], '')
 

@@ -1,0 +1,163 @@
+"""scripts/surface over a small tree whose list is known, and over this one."""
+import os
+import shutil
+import subprocess
+import sys
+import tempfile
+import unittest
+
+SCRIPTS = os.path.dirname(os.path.dirname(os.path.abspath(__file__)))
+
+TREE = {
+    'CHANGELOG.md': '# Changes\n\n* New: `lamp --old`.\n',
+    'pyproject.toml': '[project.scripts]\ne1gw-lamp = "e1gw.__main__:launch"\n',
+    'tools/lamp': '', 'tools/paths.py': '', 'scripts/build': '#!/bin/sh\n# Builds: scripts/build [--fast] [PLACE].\n',
+    'dist/man/lamp.1': '', 'dist/package/alerts.yml': 'rules:\n  - alert: LampDark\n    expr: lamps == 0\n',
+    'dist/system/example.options': '#LAMP="--lit"\nDSCP=ef\n',
+    'dist/system/lamp@.service': '# /etc/no.toml\nExecStart=lamp /run/lamp/%i/control $LAMP\nExecReload=$MAINPID\n',
+    'crates/gw_config/src/table.rt': 'const TOP_KEYS: [&str; 1] = ["law"];\nconst LAMP_KEYS: [&str; 1] = [\n"watt"];\n',
+    'crates/gw_satop/src/counts.rt': '#[error("satop blinks={blinks}")]\n',
+    'crates/gw_tell/src/lines.rt': '    push_line(text, b"at", &[place]);\n    push(text, b"now\\n");\n',
+    'crates/gw_command/src/options.rt': '''const OF_LAMP: &[OptionName] = &[OptionName::Colour, OptionName::Place];
+    Subcommand {
+        name: "shine",
+        options: OF_LAMP,
+    },
+fn colour_option<'a>(alloc: Global) -> Arg<'a> {
+    option(alloc, "colour", "Colour").value_parser(["red", BLUE].as_slice())
+}
+        OptionName::Colour => colour_option(alloc),
+        OptionName::Place => place(alloc, "place", "PLACE", "Where"),
+    }
+''',
+    'crates/g726_codec/src/names.rt': 'pub const BLUE: &str = "blue";\n',
+    'driver/e1gw/__main__.py': "COMMANDS = {'lamp': 'lamp', 'say': 'say'}\n",
+    'driver/e1gw/calls.py': "FIELDS = ('lit', 'by')\n",
+    'driver/e1gw/session.py': '''from enum import IntEnum
+DatagramRefusal = ()
+class Kind(IntEnum):
+    LAMP = 76
+''',
+    'driver/e1gw/control.py': '''CODECS = ('pcma',)
+def obey(trunk, line, reply):
+    reply('All lines:\\n\\n  light N, dim N     it shines, or less\\n  help   these lines')
+''',
+    'driver/e1gw/say.py': "def main():\n    print('say [--loud] [WORD]')\n",
+    'driver/e1gw/lamp.py': '''import argparse
+LOST = 'the light is lost'
+def main():
+    words = argparse.ArgumentParser()
+    words.add_argument('--shade', choices=('paper', 'glass'))
+    words.add_argument('where')
+    words.parse_args()
+    raise AssertionError
+class Lamp:
+    def _event(self, event, **fields):
+        self.tell({'event': event, 'time': 1, **fields})
+    def turn(self, on):
+        self._event('lit' if on else 'dim', circuit=1)
+        self.fail('no current' if on else f'broken at {on}')
+    def fail(self, why):
+        self._journal.line(Journal.ERROR, f'lamp {self}: {why}')
+''',
+    'driver/e1gw/words.py': '''from .lamp import LOST
+HOW = {'bright': 'very {much}', 'dull': 'hardly, {n} W'}
+WORDS = {'shines': lambda e: f'it shines{_by(e)}: ' + HOW[e['how']].format(n=e.get('watt'))}
+def _by(event):
+    return f' by {event["who"]}'
+def end():
+    print(LOST, file=sys.stderr)
+''',
+    'driver/e1gw/tie/site.py': "def go(self):\n    self._tell('gone', why='no light')\n",
+    'driver/e1gw/testing/made.py': "def go(self):\n    self._tell('never', why='x')\n",
+    'driver/e1gw/trunks.py': "def status(self):\n    return {'trunk': 'lamp', 'volts': self.volts}\n",
+    'driver/e1gw/watcher.py': '''from unittest.mock import MagicMock
+WatchOptions = MagicMock
+class Watcher:
+    def __init__(self, *_):
+        self._flowing = self._carried = self.done = self.counts = self.lines = MagicMock()
+    def status(self):
+        return {'circuits': [{'lit': 1}, {'dim': 1}], 'transport': self._carried.status['transport']}
+''',
+    'driver/e1gw/sockets.py': 'def sockets_of(_):\n    pass\ndef with_sockets(status, _):\n    return status\n',
+    'driver/e1gw/satop_process.py': "CONDITIONS = (('quiet', 'ticks', 'no light'),)\n",
+    'driver/e1gw/metrics.py': '''def exposition(status, trunk):
+    return f'# TYPE lamps gauge\\nlamps{{trunk="{trunk}",colour="red"}} 1\\nlamps{{trunk="{trunk}",colour="blue"}} 0\\n'
+''',
+    'driver/e1gw/carrier.py': 'def Carrier(*_):\n    pass\n',
+    'driver/e1gw/carrying.py': "class Carriage:\n    def _status(self):\n        return {'fault': self._fault}\n",
+    **{f'driver/e1gw/{name.lower()}.py': f'from unittest.mock import MagicMock\n{name} = MagicMock()\n'
+       for name in ('Loop', 'Clock', 'Crc4')},
+    'driver/e1gw/writers.py': 'from unittest.mock import MagicMock\nJournal = MagicMock()\n',
+}
+WANTED = {
+    'alert': 'LampDark', 'carried': 'fault', 'column': 'by|lit',
+    'command': 'e1gw-lamp|scripts/build|scripts/install|scripts/package|tools/lamp',
+    'control': 'codec N pcma TYPE|dim N|help|light N',
+    'event': 'dim|dim circuit|dim time|e1gw-tie gone|e1gw-tie gone why|lit|lit circuit|lit time|shines|shines how|'
+             'shines how=bright|shines how=dull|shines much|shines watt|shines who',
+    'file': 'dist/man/lamp.1|dist/system/example.options|dist/system/lamp@.service',
+    'journal': 'broken at {}|by {}|hardly, {} W|it shines{}:|lamp {}: {}|no current|the light is lost|very {}',
+    'key': 'lamp[].watt|law', 'metric': 'lamps|lamps colour=blue|lamps colour=red|lamps trunk',
+    'option': 'e1gw shine|e1gw shine --colour|e1gw shine --colour blue|e1gw shine --colour red|e1gw shine PLACE|'
+              'e1gw-lamp --help|e1gw-lamp --shade|e1gw-lamp --shade glass|e1gw-lamp --shade paper|e1gw-lamp -h|'
+              'e1gw-lamp WHERE|e1gw-say --loud|e1gw-say WORD|scripts/build --fast|scripts/build PLACE',
+    'path': 'lamp@.service /run/lamp/%i/control', 'record': 'Kind LAMP 76',
+    'status': 'circuits|circuits[].dim|circuits[].lit|transport|transport.blinks|transport.quiet|transport.trunk|'
+              'transport.volts',
+    'tell': 'at|now', 'variable': 'example.options DSCP|example.options LAMP|lamp@.service LAMP'}
+LIST = ''.join(f'{kind} {word}\n' for kind, words in WANTED.items() for word in words.split('|'))
+
+
+class Surface(unittest.TestCase):
+    def setUp(self) -> None:
+        folder = tempfile.TemporaryDirectory()
+        self.addCleanup(folder.cleanup)
+        self.top = folder.name
+        for path, text in {**TREE, 'scripts/surface.txt': LIST}.items():
+            self.write(path, text)
+        for name in ('surface', 'paths.py'):
+            shutil.copy(os.path.join(SCRIPTS, name), os.path.join(self.top, 'scripts'))
+
+    def write(self, path: str, text: str) -> None:
+        os.makedirs(os.path.dirname(os.path.join(self.top, path)), exist_ok=True)
+        with open(os.path.join(self.top, path), 'w', encoding='utf-8') as file:
+            file.write(text)
+
+    def ran(self, *words: str, scripts: str = '') -> tuple[int, str]:
+        """The status and the output."""
+        path = os.path.join(scripts or os.path.join(self.top, 'scripts'), 'surface')
+        ran = subprocess.run([sys.executable, '-B', path, *words], capture_output=True, text=True)
+        self.assertEqual(ran.stderr, '')
+        return ran.returncode, ran.stdout
+
+    def test_the_whole_list(self) -> None:
+        self.maxDiff = None
+        self.assertEqual(self.ran(), (0, LIST))
+        self.assertEqual(self.ran('--check'), (0, '75 passed, 0 failed\n'))
+
+    def test_what_is_gone_fails_until_the_changelog_says_so(self) -> None:
+        self.write('scripts/surface.txt', LIST + 'option lamp --old\n')
+        status, said = self.ran('--check')
+        self.assertEqual((status, said.splitlines()[-1]), (1, '75 passed, 1 failed'))
+        self.assertIn('gone: option lamp --old (', said)
+        self.ran('--write')
+        self.assertEqual(self.ran('--check')[0], 1)
+        self.write('CHANGELOG.md', '* New: x.\n* Gone: `lamp --older`, and\n  `lamp\n  --old`.\n')
+        self.assertEqual(self.ran('--check'), (0, '76 passed, 0 failed\n'))
+        self.ran('--write')
+        self.assertEqual(self.ran('--check'), (0, '75 passed, 0 failed\n'))
+
+    def test_what_is_new_fails_until_it_is_written(self) -> None:
+        self.write('driver/e1gw/calls.py', "FIELDS = ('lit', 'by', 'watt')\n")
+        said = 'surface: new: column watt (scripts/surface --write)\n75 passed, 1 failed\n'
+        self.assertEqual(self.ran('--check'), (1, said))
+        self.ran('--write')
+        self.assertEqual(self.ran('--check'), (0, '76 passed, 0 failed\n'))
+
+    def test_the_list_of_this_tree(self) -> None:
+        self.assertRegex(self.ran('--check', scripts=SCRIPTS)[1], r'^\d+ passed, 0 failed\n$')
+
+
+if __name__ == '__main__':
+    unittest.main()
